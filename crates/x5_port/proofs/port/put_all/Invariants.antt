@@ -1,0 +1,13 @@
+use Rattle.std.proofs.Common.{length, ◌-◌, ◌≡◌, ◌≤◌, take}
+use Rattle.x5_port.specs.Outside.{with_octets}
+use Rattle.x5_port.proofs.port.put_all.Given as goal
+
+abbrev pub invariant-loop-done : goal.invariant-loop-done
+invariant-loop-done g l = record {
+  within : l.done ≤ length l.bytes;
+  taken : g.K.Sink.octets l.sink ≡ with_octets (take l.done l.bytes) (g.K.Sink.octets l.initial.sink);
+  rising : g.K.Sink.fault_count l.initial.sink ≤ g.K.Sink.fault_count l.sink;
+}
+
+abbrev pub decreases-loop-done : goal.decreases-loop-done
+decreases-loop-done g l = length l.bytes - l.done

@@ -1,0 +1,67 @@
+// The faults of files and sinks, and want of memory.
+ghost use Rattle.std.specs.Prelude.{◌≡◌, ◌≤◌};
+ghost use Rattle.x5_port.specs.Outside.{Rose};
+ghost use Rattle.x5_port.specs.declared.fault.FileFault.TheVariants.{NoMemory as NoMemoryFault};
+
+use std::alloc::{AllocError, AllocFailed};
+
+/// Memory ran out. It is the one answer that may come in place of any other of a call that takes
+/// memory.
+#[derive(Clone, Copy, Debug, PartialEq, Eq, thiserror::Error)]
+#[error("out of memory")]
+pub struct NoMemory;
+
+impl From<AllocError> for NoMemory {
+    fn from(_: AllocError) -> Self {
+        NoMemory
+    }
+}
+
+impl<T: Drop> From<AllocFailed<T>> for NoMemory {
+    fn from(_: AllocFailed<T>) -> Self {
+        NoMemory
+    }
+}
+
+/// Why a file's octets weren't answered.
+#[derive(Clone, Copy, Debug, PartialEq, Eq, thiserror::Error)]
+pub enum FileFault {
+    /// The file is missing or can't be read. The files have counted it, and keep the file's name.
+    #[error("the file can't be read")]
+    Failed,
+    /// The file has more octets than the caller takes.
+    #[error("the file is too long")]
+    TooLong,
+    /// Memory ran out.
+    #[error("out of memory")]
+    NoMemory,
+}
+
+impl From<NoMemory> for FileFault {
+    ghost from_gives = { λ _ fault. fault ≡ NoMemoryFault };
+
+    fn from(_: NoMemory) -> Self {
+        FileFault::NoMemory
+    }
+}
+
+impl From<AllocError> for FileFault {
+    ghost from_gives = { λ _ fault. fault ≡ NoMemoryFault };
+
+    fn from(_: AllocError) -> Self {
+        FileFault::NoMemory
+    }
+}
+
+/// A sink didn't take a piece. The sink has counted it.
+#[derive(Clone, Copy, Debug, PartialEq, Eq, thiserror::Error)]
+#[error("the write failed")]
+pub struct Failed;
+
+// The count after one more fault. It stands still at the last value of u64.
+pub(crate) fn raised(count: u64) -> u64
+    ensures rose { Rose count result }
+    ensures rising { count ≤ result }
+{
+    count.saturating_add(1)
+}

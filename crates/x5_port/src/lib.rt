@@ -1,0 +1,14 @@
+// The outside: files that are read whole and a sink that takes octets, in memory and real.
+#![tactic(auto)]
+
+mod fault;
+mod memory;
+mod port;
+mod real;
+#[cfg(test)]
+mod tests;
+
+pub use fault::{Failed, FileFault, NoMemory};
+pub use memory::{MemoryFiles, MemorySink};
+pub use port::{Files, Sink, put_all};
+pub use real::{RealFiles, RealSink};
