@@ -80,3 +80,10 @@ pub record IsNewSink (sink : MemorySink) (room most : ℕ) (failing : List ℕ) 
   pub failing_is : sink.schedule.failing.items ≡ failing
   pub no_calls : sink.schedule.calls ≡ 0
   pub no_faults : sink.faults ≡ 0
+
+-- the call is counted, except where memory ran out before it
+abbrev pub CountsCall : {T : Type 0} → Result T FileFault → ℕ → ℕ → Type 0
+CountsCall (Err NoMemory) before now = ⊤
+CountsCall (Err Failed) before now = now ≡ next_number before
+CountsCall (Err TooLong) before now = now ≡ next_number before
+CountsCall (Ok octets) before now = now ≡ next_number before

@@ -1,5 +1,5 @@
 // Files and a sink in memory, whose calls fail where their maker says so.
-ghost use Rattle.std.specs.Prelude.{◌≡◌, ℕ, ◌+◌, ◌-◌, ◌<◌, ◌≤◌, [], ◌∷◌, length, take, min, Some, None, IfOk, OnOk, OnErr, IsErrOf, IsTrue, ◌⊎◌, string_bytes};
+ghost use Rattle.std.specs.Prelude.{◌≡◌, ℕ, ◌+◌, ◌-◌, ◌<◌, ◌≤◌, [], ◌∷◌, length, take, min, Some, None, IfOk, OnOk, OnErr, IsErrOf, IsTrue, ◌⊎◌, string_bytes, false};
 ghost use Rattle.std.specs.List.{find};
 ghost use Rattle.std.specs.Option.{option_map, option_copied};
 ghost use Rattle.std.specs.Str.{bytes_eq};
@@ -112,7 +112,7 @@ impl MemoryFiles {
 }
 
 impl Files for MemoryFiles {
-    ghost use Rattle.x5_port.specs.Memory.{files_in, failed_in, Answers, answer_of};
+    ghost use Rattle.x5_port.specs.Memory.{files_in, failed_in, Answers, answer_of, CountsCall};
 
     ghost contents = { λ files. Some (files_in files) };
 
@@ -135,6 +135,8 @@ impl Files for MemoryFiles {
 
         // Unless memory runs out, the answer is known before the call.
         ensures answer { Answers result (answer_of self.old name.now limit) }
+        ensures counted { CountsCall result self.old.schedule.calls self.new.schedule.calls }
+        ensures same_marks { self.new.schedule.failing.items ≡ self.old.schedule.failing.items }
     {
         let kept = String::from_str(alloc, name)?;
         let outcome = if self.schedule.next_fails() {
@@ -195,7 +197,7 @@ impl MemorySink {
 }
 
 impl Sink for MemorySink {
-    ghost use Rattle.x5_port.specs.Memory.{octets_in, next_is_marked, room_in};
+    ghost use Rattle.x5_port.specs.Memory.{octets_in, next_is_marked, next_number, room_in};
 
     ghost octets = { λ sink. Some (octets_in sink) };
 
@@ -215,6 +217,8 @@ impl Sink for MemorySink {
 
         // It takes what fits, unless this call is to fail.
         ensures count { IfOk result (λ count. count ≡ min (length piece.now) (min self.old.most (room_in self.old))) }
+        ensures unmarked { OnOk result (next_is_marked self.old ≡ false) }
+        ensures counted { self.new.schedule ≡ record self.old.schedule { calls = next_number self.old.schedule.calls } }
         ensures cause { OnErr result (IsTrue (next_is_marked self.old) ⊎ (room_in self.old ≡ 0)) }
     {
         let count = piece
