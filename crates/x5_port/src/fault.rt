@@ -1,27 +1,10 @@
-// The faults of files and sinks, and want of memory.
+// The faults of files and sinks.
 ghost use Rattle.std.specs.Prelude.{◌≡◌, ◌≤◌};
 ghost use Rattle.x5_port.specs.Outside.{Rose};
 ghost use Rattle.x5_port.specs.declared.fault.FileFault.TheVariants.{NoMemory as NoMemoryFault};
 
-use std::alloc::{AllocError, AllocFailed};
-
-/// Memory ran out. It is the one answer that may come in place of any other of a call that takes
-/// memory.
-#[derive(Clone, Copy, Debug, PartialEq, Eq, thiserror::Error)]
-#[error("out of memory")]
-pub struct NoMemory;
-
-impl From<AllocError> for NoMemory {
-    fn from(_: AllocError) -> Self {
-        NoMemory
-    }
-}
-
-impl<T: Drop> From<AllocFailed<T>> for NoMemory {
-    fn from(_: AllocFailed<T>) -> Self {
-        NoMemory
-    }
-}
+use std::alloc::AllocError;
+use x5_memory::NoMemory;
 
 /// Why a file's octets weren't answered.
 #[derive(Clone, Copy, Debug, PartialEq, Eq, thiserror::Error)]

@@ -8,7 +8,8 @@ mod real;
 #[cfg(test)]
 mod tests;
 
-pub use fault::{Failed, FileFault, NoMemory};
+pub use fault::{Failed, FileFault};
 pub use memory::{MemoryFiles, MemorySink};
 pub use port::{Files, Sink, put_all};
 pub use real::{RealFiles, RealSink};
+pub use x5_memory::NoMemory;

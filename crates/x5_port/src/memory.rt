@@ -5,9 +5,10 @@ ghost use Rattle.std.specs.Option.{option_map, option_copied};
 ghost use Rattle.std.specs.Str.{bytes_eq};
 ghost use Rattle.x5_port.specs.Outside.{IsContent, IsLonger, Rose, failed_after, with_octets};
 
-use crate::fault::{Failed, FileFault, NoMemory, raised};
+use crate::fault::{Failed, FileFault, raised};
 use crate::port::{Files, Sink};
 use std::alloc::Global;
+use x5_memory::NoMemory;
 
 /// Which calls are to fail, by their numbers from 1.
 #[derive(Drop)]
