@@ -1,0 +1,16 @@
+pub mod Keys
+pub mod Values
+pub mod Types
+pub mod Filters
+pub mod Entries
+pub mod Requests
+pub mod References
+pub mod Answers
+pub mod Words
+pub mod Problems
+pub mod Attributes
+pub mod Truth
+pub mod Selections
+pub mod Statics
+pub mod Changes
+pub mod Members

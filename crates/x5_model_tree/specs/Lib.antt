@@ -1,0 +1,10 @@
+pub mod World
+pub mod Tree
+pub mod Apply
+pub mod Ask
+pub mod Masters
+pub mod Consistent
+pub mod Described
+pub mod Conditions
+pub mod Good
+pub mod Reached

@@ -1,0 +1,55 @@
+-- The world as it is described: agents, the naming contexts that they master, what they know of others, and the
+-- shadowing agreements (X.501, section 22; X.518, section 9; X.525, section 7). An agent is its place in the list.
+-- Names of entries are whole: the context prefix as it is spelled for the context, then the RDNs of the entries on the way.
+use Rattle.std.specs.Prelude.{ℕ, List}
+use Rattle.std.specs.declared.option.Option.{Option}
+use Rattle.x5_model.specs.Values.{Text, Name}
+use Rattle.x5_model.specs.Entries.{Named}
+
+-- where a context can be asked for: its master, and agents that have a copy
+pub record Access : Type 0 where
+  pub master : ℕ
+  pub shadows : List ℕ
+
+-- a subordinate or cross reference
+pub record Specific : Type 0 where
+  pub pin : Name
+  pub access : Access
+
+-- a non-specific subordinate reference: agents that master something just below the entry
+pub record Nssr : Type 0 where
+  pub at : Name
+  pub agents : List ℕ
+
+-- a naming context: its prefix, its entries (the prefix's first), and its NSSRs
+pub record Context : Type 0 where
+  pub prefix : Name
+  pub entries : List Named
+  pub nssrs : List Nssr
+
+-- an agent without a superior is first-level
+pub record Agent : Type 0 where
+  pub name : Text
+  pub superior : Option ℕ
+  pub contexts : List Context
+  pub subordinate : List Specific
+  pub cross : List Specific
+
+pub record Agreement : Type 0 where
+  pub number : ℕ
+  pub supplier : ℕ
+  pub consumer : ℕ
+  pub context : Name
+
+-- agents that are down or refuse to chain, pairs that are cut, and the numbers of the messages and replies that are lost
+pub record Network : Type 0 where
+  pub down : List ℕ
+  pub refusing : List ℕ
+  pub cut : List (ℕ × ℕ)
+  pub lost_messages : List ℕ
+  pub lost_replies : List ℕ
+
+pub record World : Type 0 where
+  pub agents : List Agent
+  pub agreements : List Agreement
+  pub network : Network

@@ -1,0 +1,6 @@
+pub mod Literals
+pub mod BaseWorld
+pub mod Consistency
+pub mod OneTree
+pub mod Matching
+pub mod Updates
