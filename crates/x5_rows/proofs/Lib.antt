@@ -4,3 +4,14 @@ pub mod Consistency
 pub mod OneTree
 pub mod Matching
 pub mod Updates
+pub mod Messages
+pub mod Resolution
+pub mod Searching
+pub mod Probing
+pub mod Shadowing
+pub mod Refused
+pub mod Losing
+pub mod Placing
+pub mod Running
+pub mod Further
+pub mod Moving

@@ -1,0 +1,4 @@
+pub mod Licensing
+pub mod Opening
+pub mod Journals
+pub mod Growing

@@ -1,0 +1,163 @@
+-- Each message of a request has its cause (X.518, section 10 and sections 18 to 20: chaining, referrals and
+-- multi-chaining). A journal has the newest line first.
+use Rattle.std.specs.Prelude.{◌≡◌, ℕ, ◌+◌, ◌<◌, Bool, true, false, not, ◌&&◌, ◌||◌, ◌==◌, if◌then◌else◌, IsTrue, List, [], ◌∷◌, ◌++◌, length, slice_index, take, ⊤}
+use Rattle.std.specs.List.{list_any, list_all, Contains}
+use Rattle.std.specs.Cmp.Lexicographic.{pointwise}
+use Rattle.std.specs.declared.option.Option.{Option}
+use Rattle.std.specs.declared.option.Option.TheVariants.{None, Some}
+use Rattle.x5_model.specs.Words.{first_of}
+use Rattle.x5_model.specs.Values.{Name}
+use Rattle.x5_model.specs.Requests.{Subset, Base, OneLevel, WholeSubtree, Only, Body, Read, Compare, ListBelow, Search, AddEntry, RemoveEntry, ModifyEntry, ModifyDn, Request}
+use Rattle.x5_model.specs.References.{Start, Reference, Subordinate, Own, Chained}
+use Rattle.x5_model_tree.specs.World.{Network}
+use Rattle.x5_model_tree.specs.Ask.{is_update}
+use Rattle.x5_model_run.specs.Network.{arrives, is_unheard, is_sent, refuses, fate_of}
+use Rattle.x5_model_run.specs.Journal.{Line, depth, operation_of, same_sender, same_progress, same_name, same_spelled_rdn, same_message, is_done, is_wide, same_kind, item_of, settled, siblings}
+use Rattle.x5_model_run.specs.Holdings.{Holdings}
+use Rattle.x5_model_run.specs.Needs.{target_of, needs}
+use Rattle.x5_model_run.specs.History.{Point, network_at, sent_before, holdings_at}
+
+-- What the lines of a request are judged by: what each agent holds, the network, how many messages were sent before, the
+-- agent that the user asks, what it is asked, and whether the user follows referrals.
+pub record Scene : Type 0 where
+  pub holdings : ℕ → Holdings
+  pub network : Network
+  pub sent : ℕ
+  pub first : ℕ
+  pub message : Chained
+  pub follows : Bool
+
+-- what a user asks: nothing is resolved, and nobody passed it on
+abbrev pub opening : Request → Chained
+opening r = record { target = target_of r.body; progress = Start; kind = Own; exclusions = []; trace = []; request = r }
+
+-- over consistent knowledge, a request of a user who doesn't follow
+abbrev pub scene_at : Point → ℕ → Request → Scene
+scene_at p first r = record { holdings = holdings_at p; network = network_at p; sent = sent_before p.past; first = first; message = opening r; follows = false }
+
+abbrev pub is_prohibited : Scene → Bool
+is_prohibited s = s.message.request.controls.nochain
+
+-- A probe reads the new name of an update, without attributes, without copies, chained by whom it reaches. It is the one
+-- message of an update whose target isn't the update's.
+abbrev pub probe_request : Name → Request
+probe_request name = record { controls = record { nocopy = true; nochain = false; size = None }; body = Read name (Only []) }
+
+abbrev pub is_probe : Body → Name → Bool
+is_probe body target = is_update body && not (same_name (target_of body) target)
+
+-- what is asked of a part: its base is the reference's target. What was asked just below an entry is asked of the pin
+-- itself; by a nonSpecific reference it stays.
+abbrev pub part_subset : Bool → Subset → Subset
+part_subset wide Base = Base
+part_subset true OneLevel = OneLevel
+part_subset false OneLevel = Base
+part_subset wide WholeSubtree = WholeSubtree
+
+abbrev pub part_body : Bool → Name → Body → Body
+part_body wide base (Read name selection) = Read name selection
+part_body wide base (Compare name assertion) = Compare name assertion
+part_body wide base (ListBelow name) = ListBelow base
+part_body wide base (Search old subset f selection) = Search base (part_subset wide subset) f selection
+part_body wide base (AddEntry name attributes) = AddEntry name attributes
+part_body wide base (RemoveEntry name) = RemoveEntry name
+part_body wide base (ModifyEntry name changes) = ModifyEntry name changes
+part_body wide base (ModifyDn name rdn drops) = ModifyDn name rdn drops
+
+-- a part of a list or search has no size limit, and chainingProhibited only where the user asks for it
+abbrev pub part_request : Bool → Bool → Name → Request → Request
+part_request by_user wide base r =
+    record { controls = record { nocopy = r.controls.nocopy; nochain = by_user && r.controls.nochain; size = None }; body = part_body wide base r.body }
+
+-- by a reference to a pin, or to the parts below an entry
+abbrev pub asks_part : Reference → Bool
+asks_part r = is_done r.progress && (same_kind r.kind Subordinate || is_wide r.kind)
+
+-- the request that goes with a reference, for a message that carried this one
+abbrev pub request_for : Bool → Request → Name → Reference → Request
+request_for by_user asked target r =
+    if is_probe asked.body target then probe_request target
+    else (if asks_part r then part_request by_user (is_wide r.kind) target asked else asked)
+
+abbrev pub is_user : Option ℕ → Bool
+is_user None = true
+is_user (Some a) = false
+
+-- what is carried by a reference that the owner of a line needs: its trace is the line's and the owner's item
+pub record IsCarried (sender : Option ℕ) (opener : Line) (r : Reference) (m : Chained) : Type 0 where
+  pub target_is : IsTrue (same_name r.target m.target)
+  pub progress_is : m.progress ≡ r.progress
+  pub kind_is : m.kind ≡ r.kind
+  pub exclusions_are : IsTrue (pointwise same_spelled_rdn r.exclusions m.exclusions)
+  pub trace_is : m.trace ≡ opener.message.trace ++ item_of opener.receiver opener.message ∷ []
+  pub request_is : m.request ≡ request_for (is_user sender) opener.message.request m.target r
+
+-- an earlier line of the same sender for the same reference; where the reference isn't nonSpecific it heard nothing
+abbrev pub is_attempt : Bool → Line → ℕ → Line → Bool
+is_attempt wide l agent e =
+    (e.receiver == agent)
+    && (same_sender e.sender l.sender
+    && (same_progress e.message.progress l.message.progress && (same_name e.message.target l.message.target && (wide || is_unheard e.fate))))
+
+-- the receiver stands in the reference, and those that stand before it were asked
+pub record Turn (wide : Bool) (tried : List Line) (l : Line) (agents : List ℕ) : Type 0 where
+  pub place : ℕ
+  pub inside : place < length agents
+  pub here : slice_index agents place ≡ l.receiver
+  pub earlier : IsTrue (list_all (λ a. list_any (is_attempt wide l a) tried) (take place agents))
+
+-- Who sends: the owner; or, where the owner refuses to chain, the agent from which its message came, and that heard the
+-- owner's referral; or the user who follows, where the owner refuses or chaining is prohibited.
+abbrev pub may_send : Scene → Line → Option ℕ → Bool
+may_send s o (Some a) =
+    (a == o.receiver) || (refuses s.network o.receiver && (same_sender o.sender (Some a) && is_sent o.fate))
+may_send s o None = s.follows && (is_user o.sender && (is_sent o.fate && (refuses s.network o.receiver || is_prohibited s)))
+
+-- a read in the journal of an update is a probe's
+abbrev pub is_probe_line : Scene → Line → Bool
+is_probe_line s l = is_update s.message.request.body && (operation_of l.message.request.body == 1)
+
+-- who sends doesn't refuse to chain, and chaining isn't prohibited; the user may send, and so may who sends a probe
+abbrev pub may_chain : Scene → Line → Option ℕ → Bool
+may_chain s l None = true
+may_chain s l (Some a) = is_probe_line s l || (not (refuses s.network a) && not (is_prohibited s))
+
+-- The line is sent for the message of an earlier line, the last one whose t is one less and that no less deep line
+-- follows: its receiver, the owner, needs a reference, and the line asks the next of its agents.
+pub record Follows (s : Scene) (before : List Line) (l : Line) : Type 0 where
+  pub above : ℕ
+  pub opener : Line
+  pub reference : Reference
+  pub deeper : depth l ≡ above + 1
+  pub opens : first_of (settled above before) ≡ Some opener
+  pub at_above : depth opener ≡ above
+  pub arrived : IsTrue (arrives opener.fate)
+  pub needed : Contains (needs (s.holdings opener.receiver) opener.message) reference
+  pub carried : IsCarried l.sender opener reference l.message
+  pub sender_is : IsTrue (may_send s opener l.sender)
+  pub chains : IsTrue (may_chain s l l.sender)
+  pub turn : Turn (is_wide reference.kind) (siblings above before) l reference.agents
+
+-- the user's message, or the raw message that was brought
+pub record IsFirst (s : Scene) (l : Line) : Type 0 where
+  pub sender_is : l.sender ≡ None
+  pub receiver_is : l.receiver ≡ s.first
+  pub message_is : l.message ≡ s.message
+
+-- none of the lines for the same message asks the same of the same agent
+abbrev pub is_fresh : List Line → Line → Bool
+is_fresh tried l = not (list_any (same_message l) tried)
+
+pub data Caused (s : Scene) : List Line → Line → Type 0 where
+  begins : {l : Line} → IsFirst s l → Caused s [] l
+  later : {before : List Line} {l : Line} (f : Follows s before l) → IsTrue (is_fresh (siblings f.above before) l) → Caused s before l
+
+pub record Licensed (s : Scene) (before : List Line) (l : Line) : Type 0 where
+  pub number_is : l.number ≡ s.sent + length before + 1
+  pub fate_is : l.fate ≡ fate_of s.network l.number l.sender l.receiver
+  pub cause : Caused s before l
+
+-- each line of the journal is licensed by what came before it
+abbrev pub AllLicensed : Scene → List Line → Type 0
+AllLicensed s [] = ⊤
+AllLicensed s (l ∷ before) = Licensed s before l × AllLicensed s before

@@ -1,0 +1,15 @@
+pub mod Network
+pub mod Journal
+pub mod Holdings
+pub mod Needs
+pub mod Replant
+pub mod History
+pub mod Chain
+pub mod Covers
+pub mod Blocked
+pub mod Right
+pub mod Thorough
+pub mod Refresh
+pub mod Stage
+pub mod Placed
+pub mod Run

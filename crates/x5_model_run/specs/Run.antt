@@ -1,0 +1,62 @@
+-- Whole runs: one block for each line of a script, each right at the point that the blocks before it lead to.
+use Rattle.std.specs.Prelude.{◌≡◌, ℕ, Bool, List, [], ◌∷◌, ◌++◌, length, map, reverse, ⊤}
+use Rattle.x5_model.specs.Requests.{Request}
+use Rattle.x5_model.specs.Answers.{Reply}
+use Rattle.x5_model_tree.specs.World.{World}
+use Rattle.x5_model_run.specs.Network.{Outage}
+use Rattle.x5_model_run.specs.Journal.{Journal}
+use Rattle.x5_model_run.specs.History.{Deed, Nothing, Outs, Loses, Accepts, Refreshes, Did, Point}
+use Rattle.x5_model_run.specs.Refresh.{RefreshOutcome, Done, RefreshBlock, refresh_block}
+
+-- a line of a script: a comment or an empty one; a request to an agent; what happens to the network; a refresh by an
+-- agreement's number, pushed or pulled, total or incremental
+pub data Command : Type 0 where
+  Blank : Command
+  Asks : ℕ → Request → Command
+  Changes : Outage → Command
+  Drops : Bool → ℕ → Command
+  Updates : ℕ → Bool → Bool → Command
+
+-- what a line brings about: nothing that is told; a changed network; the messages and the reply of a request; those of a
+-- refresh
+pub data Block : Type 0 where
+  Silent : Block
+  Set : Block
+  Replies : Journal → Reply → Block
+  Refreshing : RefreshBlock → Block
+
+-- How a request's block is judged. Over consistent knowledge that is `AnswersRight`.
+abbrev pub Judge : Type 1
+Judge = Point → ℕ → Request → Journal → Reply → Type 0
+
+abbrev pub IsBlock : Judge → Point → Command → Block → Type 0
+IsBlock judge p Blank Silent = ⊤
+IsBlock judge p (Asks to r) (Replies j reply) = judge p to r j reply
+IsBlock judge p (Changes o) Set = ⊤
+IsBlock judge p (Drops reply k) Set = ⊤
+IsBlock judge p (Updates number pushes total) (Refreshing b) = b ≡ refresh_block p number pushes total
+IsBlock judge p other block = ⊥
+
+-- what later lines see of it
+abbrev pub accepted_by : Request → Journal → Deed
+accepted_by r j = by (reverse j.accepted)
+  where
+    by : List ℕ → Deed
+    by [] = Nothing
+    by (a ∷ more) = Accepts (map (λ x. record { agent = x; request = r }) (a ∷ more))
+
+abbrev pub refreshed_by : RefreshOutcome → Deed
+refreshed_by (Done f) = Refreshes f
+refreshed_by other = Nothing
+
+abbrev pub did_by : Command → Block → Did
+did_by (Changes o) block = record { deed = Outs o; sent = 0 }
+did_by (Drops reply k) block = record { deed = Loses reply k; sent = 0 }
+did_by (Asks to r) (Replies j reply) = record { deed = accepted_by r j; sent = length j.lines }
+did_by (Updates number pushes total) (Refreshing b) = record { deed = refreshed_by b.outcome; sent = length b.lines }
+did_by other block = record { deed = Nothing; sent = 0 }
+
+-- the lines so far with their blocks, and what they did, the newest first
+pub data IsRun (judge : Judge) (w : World) : List Command → List Block → List Did → Type 0 where
+  begin : IsRun judge w [] [] []
+  next : {commands : List Command} {blocks : List Block} {past : List Did} (command : Command) (block : Block) → IsRun judge w commands blocks past → IsBlock judge (record { described = w; past = past }) command block → IsRun judge w (commands ++ command ∷ []) (blocks ++ block ∷ []) (did_by command block ∷ past)

@@ -1,0 +1,78 @@
+-- Lost replies: an update whose reply is lost is done, at the master that the user asks and at one that an NSSR names.
+use Rattle.std.specs.Prelude.{true, [], ◌∷◌}
+use Rattle.std.specs.declared.option.Option.TheVariants.{None, Some}
+use Rattle.std.proofs.Common.{refl, arith}
+use lib.Chars.{codes}
+use Rattle.x5_model.specs.Values.{Known, TextValue}
+use Rattle.x5_model.specs.Requests.{Request, Read, ModifyEntry, AddValues, Only}
+use Rattle.x5_model.specs.References.{Start, Next, Own, NonSpecific}
+use Rattle.x5_model.specs.Answers.{Answered, Failed, EntryFound, ServiceProblem}
+use Rattle.x5_model.specs.Problems.{unavailable}
+use Rattle.x5_model_run.specs.Network.{NoReply, Sent}
+use Rattle.x5_model_run.specs.Journal.{Line, Journal}
+use Rattle.x5_model_run.specs.Needs.{reference}
+use Rattle.x5_model_run.specs.History.{Point, Loses}
+use Rattle.x5_model_run.specs.Chain.{scene_at}
+use Rattle.x5_model_run.specs.Blocked.{user, asked}
+use Rattle.x5_model_run.specs.Right.{AnswersRight, result, unheard}
+use Rattle.x5_model_run.specs.Thorough.{Thorough}
+use Rattle.x5_model_run.proofs.Licensing.{licensed_by, licensed_first}
+use Rattle.x5_rows.proofs.Literals.{plainly, give, text}
+use Rattle.x5_rows.proofs.BaseWorld.{base_world, acme, lab}
+use Rattle.x5_rows.proofs.Messages.{takes, asks, passes, journal, accepted_journal, did, point, now, info, shows, in_vain}
+use Rattle.x5_rows.proofs.Shadowing.{put_gears}
+
+-- the reply to the first message is lost: the user hears nothing, and the value is there
+abbrev pub losing_first : Point
+losing_first = point base_world (did (Loses true 1) 0 ∷ [])
+
+pub gears_unheard : AnswersRight losing_first 1 put_gears (accepted_journal (asks 1 1 put_gears NoReply ∷ []) 1) (Failed (ServiceProblem unavailable (Some (in_vain Own acme Start (1 ∷ []))) None))
+gears_unheard = record {
+  licensed = (licensed_first refl refl refl refl refl, tt);
+  accepts = record { one = refl; right = refl; done = refl; probed = refl };
+  answer = unheard (user (record { unheard = refl; start = refl; kind_is = refl; agents_are = refl; tried = refl })) refl refl;
+}
+
+abbrev pub read_description : Request
+read_description = plainly (Read acme (Only (Known 13 ∷ [])))
+
+pub gears_there : AnswersRight (point base_world (did (takes 1 put_gears) 1 ∷ did (Loses true 1) 0 ∷ [])) 1 read_description (journal (asks 2 1 read_description Sent ∷ [])) (Answered (EntryFound (info acme (shows 13 (TextValue (codes "gears") ∷ TextValue (codes "tools") ∷ []) ∷ [])) (now acme 1)))
+gears_there = record {
+  licensed = (licensed_first refl refl refl refl refl, tt);
+  accepts = record { one = refl; right = refl; done = refl; probed = refl };
+  answer = result (record { sources = refl; once = refl; exactly = refl; answered = refl; blocked = tt; completed = refl; apart = refl }) refl refl;
+}
+
+-- Gamma takes the update, Beta doesn't hear it and asks Delta too
+abbrev pub losing_second : Point
+losing_second = point base_world (did (Loses true 2) 0 ∷ [])
+
+abbrev pub put_lab : Request
+put_lab = plainly (ModifyEntry lab (AddValues (give 13 (text (codes "gears") (codes "gears") ∷ [])) ∷ []))
+
+abbrev pub put_at_beta : Line
+put_at_beta = asks 1 1 put_lab Sent
+
+abbrev pub put_journal : Journal
+put_journal =
+    accepted_journal (put_at_beta ∷ passes 2 put_at_beta 2 lab (Next 3) NonSpecific put_lab NoReply ∷ passes 3 put_at_beta 3 lab (Next 3) NonSpecific put_lab Sent ∷ []) 2
+
+pub lab_unheard : AnswersRight losing_second 1 put_lab put_journal (Failed (ServiceProblem unavailable (Some (in_vain NonSpecific lab (Next 3) (2 ∷ []))) None))
+lab_unheard = record {
+  licensed = (licensed_by put_at_beta 0 1 refl refl refl refl refl refl refl refl, (licensed_by put_at_beta 0 0 refl refl refl refl refl refl refl refl, (licensed_first refl refl refl refl refl, tt)));
+  accepts = record { one = refl; right = refl; done = refl; probed = refl };
+  answer = unheard (asked (record {
+    line = put_at_beta;
+    full = reference lab (Next 3) NonSpecific (2 ∷ 3 ∷ []);
+    stands = (2, omega arith, refl);
+    arrived = refl;
+    needed = (0, omega arith, refl);
+    same = refl;
+    unheard = refl;
+    cleared = refl;
+    tried = refl;
+  })) refl refl;
+}
+
+pub lab_thorough : Thorough (scene_at losing_second 1 put_lab) put_journal
+lab_thorough = refl
