@@ -14,3 +14,5 @@ pub mod Selections
 pub mod Statics
 pub mod Changes
 pub mod Members
+pub mod Normal
+pub mod Assertions

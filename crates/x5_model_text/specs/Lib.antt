@@ -1,0 +1,3 @@
+pub mod TypeText
+pub mod ValueText
+pub mod NameText

@@ -1,0 +1,6 @@
+use Rattle.std.proofs.Common.{◌≡◌, ◌++◌, map, drop}
+use Rattle.x5_model.specs.Values.{key_of_rdn}
+use Rattle.x5_names.proofs.spelled.Rdn.key.Given as goal
+
+abbrev pub invariant-loop-pair : goal.invariant-loop-pair
+invariant-loop-pair l = l.pairs.items ++ key_of_rdn (drop l.pair-index l.pair-items) ≡ key_of_rdn l.pair-items

@@ -1,0 +1,6 @@
+use Rattle.std.proofs.Common.{◌≡◌, ◌++◌, map, drop}
+use Rattle.x5_model.specs.Normal.{stored}
+use Rattle.x5_names.proofs.spelled.rdns_from.Given as goal
+
+abbrev pub invariant-loop-value : goal.invariant-loop-value
+invariant-loop-value l = l.rdns.items ++ stored (drop l.value-index l.values) ≡ stored l.values

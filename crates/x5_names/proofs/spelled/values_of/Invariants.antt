@@ -1,0 +1,6 @@
+use Rattle.std.proofs.Common.{◌≡◌, ◌++◌, map, drop}
+use Rattle.x5_model.specs.Values.{written}
+use Rattle.x5_names.proofs.spelled.values_of.Given as goal
+
+abbrev pub invariant-loop-rdn : goal.invariant-loop-rdn
+invariant-loop-rdn l = l.values.items ++ written (drop l.rdn-index l.rdns) ≡ written l.rdns

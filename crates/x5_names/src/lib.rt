@@ -1,0 +1,11 @@
+//! Names of entries with their keys (X.501, section 8): they're compared by the keys that they keep, and no comparison folds case.
+#![tactic(auto)]
+
+mod keys;
+mod spelled;
+#[cfg(test)]
+mod tests;
+
+pub use keys::{Key, KeyPair, KeyRdn};
+pub use spelled::{Name, Pair, Rdn};
+pub use x5_syntax::{NameFault, NoMemory};

@@ -1,0 +1,3 @@
+pub mod OidLemmas
+pub mod EscapeLemmas
+pub mod NameLemmas

@@ -1,0 +1,6 @@
+use Rattle.std.proofs.Common.{◌≡◌, ◌++◌, flat_map, drop}
+use Rattle.x5_model_text.specs.ValueText.{escaped_octet}
+use Rattle.x5_syntax.proofs.escapes.escaped.Given as goal
+
+abbrev pub invariant-loop-octet : goal.invariant-loop-octet
+invariant-loop-octet l = l.text.items ++ flat_map escaped_octet (drop l.octet-index l.octets) ≡ flat_map escaped_octet l.octets

@@ -1,0 +1,10 @@
+use Rattle.std.proofs.Common.{◌≡◌, ◌+◌, [], map, drop}
+use Rattle.x5_model_text.specs.NameText as text_of
+use Rattle.x5_syntax.specs.Escapes.{span}
+use Rattle.x5_syntax.proofs.names.rdns_at.Given as goal
+
+abbrev pub invariant-loop-part : goal.invariant-loop-part
+invariant-loop-part l = record {
+  in_range : l.place + span (map (λ x. x.now) (drop l.part-index l.parts)) ≡ l.fn.at + span (map (λ x. x.now) l.parts);
+  read : text_of.rdns_at l.limited l.place l.rdns.items (map (λ x. x.now) (drop l.part-index l.parts)) ≡ text_of.rdns_at l.limited l.fn.at [] (map (λ x. x.now) l.parts);
+}

@@ -1,0 +1,7 @@
+use Rattle.std.proofs.Common.{◌≡◌, map, drop}
+use Rattle.x5_model_text.specs.TypeText.{arcs_of}
+use Rattle.x5_syntax.proofs.OidLemmas.{behind}
+use Rattle.x5_syntax.proofs.oid.arcs_from.Given as goal
+
+abbrev pub invariant-loop-part : goal.invariant-loop-part
+invariant-loop-part l = behind l.arcs.items (arcs_of (map (λ x. x.now) (drop l.part-index l.parts))) ≡ arcs_of (map (λ x. x.now) l.parts)

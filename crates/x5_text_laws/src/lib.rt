@@ -1,0 +1,27 @@
+//! What is printed reads back: laws of the texts of `x5_model_text`, each the contract of a function.
+#![tactic(auto)]
+
+ghost use Rattle.std.specs.Prelude.{◌≡◌, ℕ, ◌<◌, List, map, Some, Ok};
+ghost use Rattle.std.specs.List.{AllByRecursion};
+ghost use Rattle.x5_model.specs.Values.{TypeRef, Known, TextValue};
+ghost use Rattle.x5_model.specs.Types.{table};
+ghost use Rattle.x5_model_text.specs.TypeText.{type_of_text};
+ghost use Rattle.x5_model_text.specs.NameText.{kind_of_type, text_of_value, value_of_resolved, value_of_text};
+ghost use Rattle.x5_model_text.specs.ValueText.{escaped, resolved};
+
+/// A text with its escapes resolves to itself, wherever it stands.
+#[tactic(auto, using(crate::proofs::Escapes::resolved_escaped))]
+pub fn escapes_read_back()
+    ensures { (at : ℕ) (text : List ℕ) → AllByRecursion (λ b. b < 256) text → resolved at (escaped text) ≡ Ok text }
+{}
+
+/// The printed text of a value that is a text, read for any type, is what the text itself stands for.
+#[tactic(auto, using(crate::proofs::Escapes::text_read_back))]
+pub fn texts_read_back()
+    ensures { (type : TypeRef) (text : List ℕ) → AllByRecursion (λ b. b < 256) text → value_of_text type (text_of_value (TextValue text)) ≡ value_of_resolved (kind_of_type type) (Ok text) }
+{}
+
+/// The printed keyword of each type of the table, read, is the type.
+pub fn keywords_read_back()
+    ensures { map (λ r. type_of_text r.keyword) table ≡ map (λ r. Some (Known r.number)) table }
+{}
