@@ -1,0 +1,65 @@
+// A directory in a simulated network of agents, run by a script.
+#![tactic(auto)]
+
+mod asked;
+mod fault;
+mod print;
+mod script;
+mod star_entry;
+mod star_world;
+#[cfg(test)]
+mod tests;
+mod top;
+mod words;
+
+use asked::AskedFiles;
+use std::io::{self, ErrorKind};
+use std::process::ExitCode;
+use std::{env, rt};
+use top::{MOST_OCTETS, Status, xdir};
+use x5_port::{RealFiles, RealSink};
+
+const USAGE: &str = "usage: xdir run WORLD SCRIPT";
+
+fn main(rt: HostRuntime) -> ExitCode {
+    let words = match words_of(&rt) {
+        Ok(words) => words,
+        Err(status) => return ended(&rt, status, ""),
+    };
+    let mut files = AskedFiles::new(RealFiles::new(&rt));
+    let mut out = RealSink::new(io::writer(&rt));
+    let status = xdir(rt.alloc(), &words, &mut files, &mut out);
+    ended(&rt, status, files.asked().unwrap_or(""))
+}
+
+// The words after the program's name. One that isn't UTF-8 is a faulty command line.
+fn words_of<R: rt::Env + AllocGlobal>(rt: &R) -> Result<Vec<String>, Status> {
+    let mut words = Vec::new(rt.alloc());
+    let all = match env::args(rt) {
+        Ok(all) => all,
+        Err(error) if error.kind() == ErrorKind::OutOfMemory => return Err(Status::NoMemory),
+        Err(_) => return Err(Status::Usage),
+    };
+    for word in all.skip(1) {
+        if words.push(word).is_err() {
+            return Err(Status::NoMemory);
+        }
+    }
+    Ok(words)
+}
+
+// Says on standard error what was wrong, and gives the status. `name` is that of the last file read.
+fn ended<R: Eprint>(rt: &R, status: Status, name: &str) -> ExitCode {
+    let _ = match status {
+        Status::Done | Status::Refused => Ok(()),
+        Status::Usage => eprintln!(rt; "{USAGE}"),
+        Status::ReadFault => eprintln!(rt; "xdir: can't read the file {name}"),
+        Status::TooLong => eprintln!(rt;
+            "xdir: the file {name} has more than {MOST_OCTETS} octets"
+        ),
+        Status::WriteFault => eprintln!(rt; "xdir: can't write to standard output"),
+        Status::NoMemory => eprintln!(rt; "xdir: out of memory"),
+        Status::Inconsistent => eprintln!(rt; "xdir: the knowledge doesn't hold together"),
+    };
+    ExitCode::from(status as u8)
+}
