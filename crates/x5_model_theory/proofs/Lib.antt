@@ -1,0 +1,16 @@
+pub mod Deciding
+pub mod Tests
+pub mod Views
+pub mod Places
+pub mod Supplying
+pub mod Cohering
+pub mod Scoping
+pub mod LooksFrom
+pub mod Stages
+pub mod Holding
+pub mod Distances
+pub mod Longest
+pub mod Rows
+pub mod Parts
+pub mod Following
+pub mod Changes

@@ -1,0 +1,11 @@
+use Rattle.x5_model_theory.proofs.Changes.{adding_keeps, removing_keeps, renaming_keeps}
+use Rattle.x5_model_theory.proofs.changing.Goals as goal
+
+pub returns-clause-adding : goal.returns-clause-adding
+returns-clause-adding c = adding_keeps
+
+pub returns-clause-removing : goal.returns-clause-removing
+returns-clause-removing c = removing_keeps
+
+pub returns-clause-renaming : goal.returns-clause-renaming
+returns-clause-renaming c = renaming_keeps

@@ -1,0 +1,77 @@
+-- Each reference that knowledge makes an agent need leads on (X.518, sections 18 and 19): its agents can go on from there,
+-- and a message that follows it is nearer than all before.
+use Rattle.std.specs.Prelude.{List, ◌≡◌, ℕ, true, Option, ◌⊎◌, false, [], ◌∷◌, ◌++◌}
+use Rattle.std.specs.Option.{is_some}
+use Rattle.x5_model.specs.Values.{key_of}
+use Rattle.x5_model.specs.Members.{In}
+use Rattle.x5_model.specs.References.{Reference, TraceItem, Chained}
+use Rattle.x5_model_tree.specs.Consistent.{IsConsistent}
+use Rattle.x5_model_tree.specs.Described.{IsDescribed}
+use Rattle.x5_model_run.specs.History.{Point, knowledge_at, holdings_at}
+use Rattle.x5_model_run.specs.Journal.{Line, is_done, item_of, is_wide, same_item}
+use Rattle.x5_model_run.specs.Chain.{IsCarried, asks_part}
+use Rattle.x5_model_run.specs.Needs.{subset_of, resolution_needs, part_needs, copied_needs, passing_needs}
+use Rattle.x5_model_run.specs.Placed.{is_brought, Placed}
+use Rattle.x5_model_run.specs.Stage.{Stage, stage_of, is_lower}
+
+-- what a point of a run over consistent knowledge rests on
+pub record IsSound (p : Point) : Type 0 where
+  pub described : IsDescribed (knowledge_at p)
+  pub consistent : IsConsistent (knowledge_at p)
+
+-- stages are ordered
+abbrev pub NeverLower : Type 0
+NeverLower = (a : Stage) → is_lower a a ≡ true → ⊥
+
+abbrev pub LowerChain : Type 0
+LowerChain = (a b c : Stage) → is_lower a b ≡ true → is_lower b c ≡ true → is_lower a c ≡ true
+
+-- so a placed message's receiver doesn't stand in its trace with the same target and progress: there is no loop
+abbrev pub NoLoop : Type 0
+NoLoop = (p : Point) (m : Chained) (to : ℕ) (i : TraceItem) → Placed p m to → In i m.trace → same_item i (item_of to m) ≡ true → ⊥
+
+-- the item that an agent has for a message that follows a reference, and that message as far as its place goes
+abbrev pub item_for : ℕ → Reference → TraceItem
+item_for a r = record { agent = a; target = r.target; progress = r.progress; wide = is_wide r.kind }
+
+abbrev pub message_for : Chained → Reference → Chained
+message_for m r = record m { target = r.target; progress = r.progress; kind = r.kind }
+
+-- the reference leads on, to the agent
+pub record Leads (p : Point) (o : ℕ) (m : Chained) (r : Reference) (a : ℕ) : Type 0 where
+  pub lower : is_lower (stage_of (knowledge_at p) (item_of o m)) (stage_of (knowledge_at p) (item_for a r)) ≡ true
+  pub brought : is_brought p (message_for m r) a ≡ true
+  -- it asks for a part, or for the same target; where the name is completed, a list or search goes on
+  pub keeps : (asks_part r ≡ true) ⊎ ((key_of r.target ≡ key_of m.target) × (asks_part r ≡ false))
+  pub late : (is_done r.progress ≡ false) ⊎ (is_some (subset_of m) ≡ true)
+
+-- the references of name resolution
+abbrev pub ResolutionLeads : Type 0
+ResolutionLeads = (p : Point) (o : ℕ) (m : Chained) (r : Reference) (a : ℕ) → IsSound p → In r (resolution_needs (holdings_at p o) m) → In a r.agents → Leads p o m r a
+
+-- those of the parts of a list or search, and of a copy that can't be used
+abbrev pub PartsLead : Type 0
+PartsLead = (p : Point) (o : ℕ) (m : Chained) (r : Reference) (a : ℕ) → IsSound p → In r (part_needs (holdings_at p o) m) → In a r.agents → Leads p o m r a
+
+abbrev pub CopiesLead : Type 0
+CopiesLead = (p : Point) (o : ℕ) (m : Chained) (r : Reference) (a : ℕ) → IsSound p → In r (copied_needs (holdings_at p o) m) → In a r.agents → Leads p o m r a
+
+-- A message that follows a needed reference, but for a probe's, is placed at each agent that the reference names, where
+-- the message that needed it was placed.
+abbrev pub FollowedIsPlaced : Type 0
+FollowedIsPlaced = (p : Point) (sender : Option ℕ) (opener : Line) (r : Reference) (m : Chained) (a : ℕ) → IsSound p
+    → In r (passing_needs (holdings_at p opener.receiver) opener.message)
+    → In a r.agents → IsCarried sender opener r m → Placed p opener.message opener.receiver → Placed p m a
+
+-- in a trace each item is lower than all later ones
+abbrev pub IsRising : Point → List TraceItem → Type 0
+IsRising p [] = Unit {0}
+IsRising p (i ∷ is) = ((j : TraceItem) → In j is → is_lower (stage_of (knowledge_at p) i) (stage_of (knowledge_at p) j) ≡ true) × IsRising p is
+
+-- so it stays where a placed message is followed, and no two items of such a trace are the same
+abbrev pub TracesRise : Type 0
+TracesRise = (p : Point) (sender : Option ℕ) (opener : Line) (r : Reference) (m : Chained) → Placed p opener.message opener.receiver → IsRising p opener.message.trace
+    → IsCarried sender opener r m → IsRising p m.trace
+
+abbrev pub NoItemTwice : Type 0
+NoItemTwice = (p : Point) (before after : List TraceItem) (i j : TraceItem) → IsRising p (before ++ i ∷ after) → In j after → same_item i j ≡ true → ⊥
