@@ -1,0 +1,9 @@
+use Rattle.std.proofs.Common.{◌≡◌, length}
+use Rattle.x5_match.specs.Occurrence.{behind_occurrence}
+use Rattle.x5_match.proofs.matching.behind.Given as goal
+
+abbrev pub invariant-loop-behind : goal.invariant-loop-behind
+invariant-loop-behind l = behind_occurrence l.part l.rest ≡ behind_occurrence l.part l.text
+
+abbrev pub decreases-loop-behind : goal.decreases-loop-behind
+decreases-loop-behind l = length l.rest

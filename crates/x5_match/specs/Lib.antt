@@ -1,0 +1,4 @@
+pub mod TruthView
+pub mod Occurrence
+pub mod PlaceView
+pub mod FilterView

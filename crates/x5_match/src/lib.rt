@@ -1,0 +1,18 @@
+//! Entries and filters, and when a filter is true of an entry (X.511, section 7.8; X.501, section 8: matching rules).
+//! Nothing here knows of names: an entry is judged by its attributes alone.
+#![tactic(auto)]
+
+mod entry;
+mod filter;
+mod matching;
+#[cfg(test)]
+mod tests;
+mod truth;
+
+pub use entry::{Entry, Stored, StoredList, StoredValue, StoredValueList};
+pub use filter::{
+    Assertion, Filter, FilterList, Item, Piece, PieceList, PiecePlace, SubstringItem, holds,
+    normal_for,
+};
+pub use matching::{NormalList, Parts, equal, order, substrings};
+pub use truth::Truth;
