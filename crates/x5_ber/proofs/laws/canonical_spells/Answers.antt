@@ -1,0 +1,5 @@
+use Rattle.x5_model_octets.proofs.CanonicalLaws as laws
+use Rattle.x5_ber.proofs.laws.canonical_spells.Goals as goal
+
+pub returns : goal.returns
+returns c = laws.canonical_spells 1

@@ -1,0 +1,6 @@
+pub mod Views
+pub mod Reading
+pub mod Found
+pub mod Written
+pub mod Feeding
+pub mod Sights

@@ -1,0 +1,5 @@
+pub mod HeaderLaws
+pub mod ElementLaws
+pub mod FaultLaws
+pub mod CanonicalLaws
+mod Rows

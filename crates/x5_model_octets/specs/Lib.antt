@@ -1,0 +1,3 @@
+pub mod Headers
+pub mod Elements
+pub mod Faults
