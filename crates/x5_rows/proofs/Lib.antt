@@ -15,3 +15,5 @@ pub mod Placing
 pub mod Running
 pub mod Further
 pub mod Moving
+pub mod Starred
+pub mod Outputs

@@ -1,0 +1,11 @@
+pub mod Seats
+pub mod Consistency
+pub mod Holding
+pub mod Sending
+pub mod Quiet
+pub mod Asking
+pub mod Answering
+pub mod Reading
+pub mod Runs
+pub mod Printing
+pub mod Building

@@ -1,0 +1,3 @@
+pub mod Star
+pub mod Reads
+pub mod Runs
