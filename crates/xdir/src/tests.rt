@@ -48,14 +48,17 @@ fn run_over(
     let mut files = MemoryFiles::new(alloc, &[])?;
     files.add("world", world.as_bytes())?;
     files.add("script", script.as_bytes())?;
-    let words = words_of(alloc, &["run", "world", "script"])?;
+    let words = words_in(alloc, "run world script")?;
     Ok(xdir(alloc, &words, &mut files, out))
 }
 
-fn words_of(alloc: Global, texts: &[&str]) -> Result<Vec<String>, AllocError> {
+// The words of a line, which one space each keeps apart.
+fn words_in(alloc: Global, line: &str) -> Result<Vec<String>, AllocError> {
     let mut words = Vec::new(alloc);
-    for text in texts {
-        words.push(String::from_str(alloc, text)?)?;
+    for word in line.split(' ') {
+        if !word.is_empty() {
+            words.push(String::from_str(alloc, word)?)?;
+        }
     }
     Ok(words)
 }
@@ -181,15 +184,15 @@ fn other_words_are_usage(rt: HostRuntime) -> Result<(), Fail> {
     let alloc = rt.alloc();
     let mut files = MemoryFiles::new(alloc, &[])?;
     let mut out = MemorySink::new(alloc, 9, 9, &[])?;
-    for words in [
-        [].as_slice(),
-        ["run"].as_slice(),
-        ["run", "world"].as_slice(),
-        ["run", "world", "-script"].as_slice(),
-        ["run", "world", "script", "more"].as_slice(),
-        ["Run", "world", "script"].as_slice(),
+    for line in [
+        "",
+        "run",
+        "run world",
+        "run world -script",
+        "run world script more",
+        "Run world script",
     ] {
-        let words = words_of(alloc, words)?;
+        let words = words_in(alloc, line)?;
         assert_eq!(rt; xdir(alloc, &words, &mut files, &mut out), Status::Usage);
     }
     assert_eq!(rt; files.faults(), 0);
@@ -205,7 +208,7 @@ fn each_read_that_fails_is_told_with_its_name(rt: HostRuntime) -> Result<(), Fai
         files.add("world", STAR.as_bytes())?;
         files.add("script", STAR_SCRIPT.as_bytes())?;
         let mut out = MemorySink::new(alloc, 4096, 4096, &[])?;
-        let words = words_of(alloc, &["run", "world", "script"])?;
+        let words = words_in(alloc, "run world script")?;
         assert_eq!(rt;
             xdir(alloc, &words, &mut files, &mut out),
             Status::ReadFault
@@ -251,8 +254,8 @@ fn a_file_of_more_than_16_mib_is_too_long(rt: HostRuntime) -> Result<(), Fail> {
     files.add("world", STAR.as_bytes())?;
     files.add("long", &vec![in alloc; b'#'; 16_777_217]?)?;
     let mut out = MemorySink::new(alloc, 99, 99, &[])?;
-    for words in [["run", "long", "world"], ["run", "world", "long"]] {
-        let words = words_of(alloc, &words)?;
+    for line in ["run long world", "run world long"] {
+        let words = words_in(alloc, line)?;
         assert_eq!(rt; xdir(alloc, &words, &mut files, &mut out), Status::TooLong);
     }
     assert!(rt; out.taken().is_empty());
