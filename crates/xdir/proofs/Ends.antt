@@ -1,7 +1,7 @@
 -- How a run's end follows from the ends of its parts.
 use Rattle.std.proofs.Common.{◌≡◌, ◌≤◌, ◌<◌, ◌+◌, inl, inr, ℕ, List, [], ◌∷◌, ◌++◌, length, take, Option, refl, sym, ap, ◌∙◌, arith, length-append}
 use Rattle.std.proofs.Math.Seq.{take-append-add}
-use Rattle.x5_ops.specs.declared.agent.AgentSpec.{AgentSpec}
+use Rattle.x5_star.specs.declared.agent.AgentSpec.{AgentSpec}
 use Rattle.x5_port.specs.Outside.{Rose, with_octets, TookPrefix}
 use Rattle.x5_port.proofs.Octets.{with_octets-with_octets}
 use Rattle.xdir.specs.declared.script.Command.{Command}

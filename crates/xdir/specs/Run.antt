@@ -1,8 +1,8 @@
 -- What a run writes, and how it ends.
 use Rattle.std.specs.Prelude.{◌≡◌, ℕ, ◌<◌, ◌≤◌, ◌⊎◌, List, [], ◌∷◌, ◌++◌, length, Option, Some, None, IsSomeAnd, slice_get, codes, ⊤}
-use Rattle.x5_ops.specs.declared.agent.AgentSpec.{AgentSpec}
-use Rattle.x5_ops.specs.declared.journal.Line.{Line}
-use Rattle.x5_ops.specs.declared.request.Reply.{Reply}
+use Rattle.x5_star.specs.declared.agent.AgentSpec.{AgentSpec}
+use Rattle.x5_star.specs.declared.journal.Line.{Line}
+use Rattle.x5_star.specs.declared.request.Reply.{Reply}
 use Rattle.x5_dispatch.specs.Star.{IsStarRead}
 use Rattle.x5_port.specs.Outside.{File, content_of, IsLonger, Rose, with_octets, TookPrefix}
 use Rattle.xdir.specs.declared.fault.WorldFault.{WorldFault}

@@ -10,8 +10,8 @@ use crate::star_world::read_star;
 use crate::words::read_words;
 use std::alloc::Global;
 use x5_dispatch::star_read;
-use x5_ops::AgentSpecs;
 use x5_port::{Failed, FileFault, Files, NoMemory, Sink, put_all};
+use x5_star::AgentSpecs;
 
 /// The most octets of a file: 16 MiB.
 pub const MOST_OCTETS: usize = 16_777_216;
