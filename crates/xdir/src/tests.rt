@@ -1,4 +1,4 @@
-// Whole runs over files and a sink in memory.
+// Whole runs, and what files show, over files and a sink in memory.
 use crate::top::{Status, xdir};
 use std::alloc::{AllocError, Global};
 use std::process::Abort;
@@ -23,6 +23,18 @@ source /C=NL Alpha now
 #2
 msg user Alpha read start t=0 /C=NL/O=None sent
 error name noSuchObject /C=NL
+";
+
+// The name /C=NL by the Basic Encoding Rules.
+const NAME: [u8; 15] = [
+    0x30, 0x0d, 0x31, 0x0b, 0x30, 0x09, 0x06, 0x03, 0x55, 0x04, 0x06, 0x13, 0x02, 0x4e, 0x4c,
+];
+
+const NAME_ELEMENTS: &str = "0 U16 cons
+  2 U17 cons
+    4 U16 cons
+      6 U6 prim 550406
+      11 U19 prim 4e4c
 ";
 
 // Four agents: one at the centre, and three below two entries of its context.
@@ -177,24 +189,45 @@ fn worlds_that_are_no_star_are_refused(rt: HostRuntime) -> Result<(), Fail> {
 }
 
 #[test]
-fn other_words_are_usage(rt: HostRuntime) -> Result<(), Fail> {
+fn a_file_shows_its_elements_or_its_first_fault(rt: HostRuntime) -> Result<(), Fail> {
     let alloc = rt.alloc();
+    for (content, status, output) in [
+        (NAME.as_slice(), Status::Done, NAME_ELEMENTS),
+        ([].as_slice(), Status::Done, ""),
+        (&NAME[..14], Status::Refused, "refused octet 14 truncated\n"),
+    ] {
+        let mut files = MemoryFiles::new(alloc, &[])?;
+        files.add("file", content)?;
+        let mut out = MemorySink::new(alloc, 4096, 7, &[])?;
+        let words = words_of(alloc, &["show", "file"])?;
+        assert_eq!(rt; xdir(alloc, &words, &mut files, &mut out), status);
+        assert_eq!(rt; std::str::from_utf8(out.taken())?, output);
+    }
+    Ok(())
+}
+
+fn expect_usage(rt: &impl Abort, alloc: Global, words: &[&str]) -> Result<(), Fail> {
     let mut files = MemoryFiles::new(alloc, &[])?;
     let mut out = MemorySink::new(alloc, 9, 9, &[])?;
-    for words in [
-        [].as_slice(),
-        ["run"].as_slice(),
-        ["run", "world"].as_slice(),
-        ["run", "world", "-script"].as_slice(),
-        ["run", "world", "script", "more"].as_slice(),
-        ["Run", "world", "script"].as_slice(),
-    ] {
-        let words = words_of(alloc, words)?;
-        assert_eq!(rt; xdir(alloc, &words, &mut files, &mut out), Status::Usage);
-    }
+    let words = words_of(alloc, words)?;
+    assert_eq!(rt; xdir(alloc, &words, &mut files, &mut out), Status::Usage);
     assert_eq!(rt; files.faults(), 0);
     assert!(rt; out.taken().is_empty());
     Ok(())
+}
+
+#[test]
+fn other_words_are_usage(rt: HostRuntime) -> Result<(), Fail> {
+    let alloc = rt.alloc();
+    expect_usage(&rt, alloc, &[])?;
+    expect_usage(&rt, alloc, &["run"])?;
+    expect_usage(&rt, alloc, &["run", "world"])?;
+    expect_usage(&rt, alloc, &["run", "world", "-script"])?;
+    expect_usage(&rt, alloc, &["run", "world", "script", "more"])?;
+    expect_usage(&rt, alloc, &["Run", "world", "script"])?;
+    expect_usage(&rt, alloc, &["show"])?;
+    expect_usage(&rt, alloc, &["show", "-file"])?;
+    expect_usage(&rt, alloc, &["show", "file", "more"])
 }
 
 #[test]
@@ -251,8 +284,12 @@ fn a_file_of_more_than_16_mib_is_too_long(rt: HostRuntime) -> Result<(), Fail> {
     files.add("world", STAR.as_bytes())?;
     files.add("long", &vec![in alloc; b'#'; 16_777_217]?)?;
     let mut out = MemorySink::new(alloc, 99, 99, &[])?;
-    for words in [["run", "long", "world"], ["run", "world", "long"]] {
-        let words = words_of(alloc, &words)?;
+    for words in [
+        ["run", "long", "world"].as_slice(),
+        ["run", "world", "long"].as_slice(),
+        ["show", "long"].as_slice(),
+    ] {
+        let words = words_of(alloc, words)?;
         assert_eq!(rt; xdir(alloc, &words, &mut files, &mut out), Status::TooLong);
     }
     assert!(rt; out.taken().is_empty());
