@@ -1,8 +1,8 @@
 -- What is found passes the test, and a first part of a name is no longer than the name.
 use Rattle.std.proofs.Common.{◌≡◌, ◌≤◌, ◌&&◌, Bool, true, false, cond, List, [], ◌∷◌, length, Some, refl, sym, subst, arith}
 use Rattle.std.specs.List.{find}
-use Rattle.x5_ops.specs.Names.{Name, same_rdn, is_prefix}
-use Rattle.x5_ops.specs.declared.agent.Specific.{Specific}
+use Rattle.x5_star.specs.Names.{Name, same_rdn, is_prefix}
+use Rattle.x5_star.specs.declared.agent.Specific.{Specific}
 
 pub is_prefix-length : (a b : Name) → is_prefix a b ≡ true → length a ≤ length b
 is_prefix-length [] b e = omega arith

@@ -1,9 +1,9 @@
 -- A read that goes to the superior.
 use Rattle.std.proofs.Common.{◌≡◌, ◌==◌, false, List, [], ◌∷◌, length, Option, Some, subst}
-use Rattle.x5_ops.specs.Names.{Name}
-use Rattle.x5_ops.specs.declared.agent.AgentSpec.{AgentSpec}
-use Rattle.x5_ops.specs.declared.journal.Line.{Line}
-use Rattle.x5_ops.specs.declared.request.Reply.{Reply}
+use Rattle.x5_star.specs.Names.{Name}
+use Rattle.x5_star.specs.declared.agent.AgentSpec.{AgentSpec}
+use Rattle.x5_star.specs.declared.journal.Line.{Line}
+use Rattle.x5_star.specs.declared.request.Reply.{Reply}
 use Rattle.x5_dispatch.specs.Star.{way_up, user_line, up_line, GoesDown, GoesUp, IsStarRead}
 
 below-root : (agents : List AgentSpec) (asked : AgentSpec) (name : Name) (reply : Reply) (lines : List Line) → (length name == 0) ≡ false → GoesUp agents asked name (way_up agents asked name) reply lines → IsStarRead agents asked name reply lines

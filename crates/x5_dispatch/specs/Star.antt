@@ -2,21 +2,21 @@
 use Rattle.std.specs.Prelude.{◌≡◌, ℕ, false, List, [], ◌∷◌, ◌++◌, length, take, drop, reverse, min, Option, Some, None, IfSome, is_some, slice_get, ◌-◌, ◌≢◌, ◌||◌, if◌then◌else◌, option_and_then}
 use Rattle.std.specs.List.{find}
 use Rattle.std.specs.Option.{option_map}
-use Rattle.x5_ops.specs.Names.{Name, is_prefix}
-use Rattle.x5_ops.specs.declared.agent.AgentSpec.{AgentSpec}
-use Rattle.x5_ops.specs.declared.agent.ContextSpec.{ContextSpec}
-use Rattle.x5_ops.specs.declared.agent.Named.{Named}
-use Rattle.x5_ops.specs.declared.agent.Specific.{Specific}
-use Rattle.x5_ops.specs.declared.journal.Line.{Line}
-use Rattle.x5_ops.specs.declared.journal.Line.TheVariants.{Msg}
-use Rattle.x5_ops.specs.declared.journal.Fate.TheVariants.{Sent}
-use Rattle.x5_ops.specs.declared.request.Progress.TheVariants.{NotStarted, Proceeding}
-use Rattle.x5_ops.specs.declared.request.Answer.TheVariants.{Entry}
-use Rattle.x5_ops.specs.declared.request.EntryInfo.{EntryInfo}
-use Rattle.x5_ops.specs.declared.request.Source.{Source}
-use Rattle.x5_ops.specs.declared.request.DirError.TheVariants as error
-use Rattle.x5_ops.specs.declared.request.Reply.{Reply}
-use Rattle.x5_ops.specs.declared.request.Reply.TheVariants.{Done, Failed}
+use Rattle.x5_star.specs.Names.{Name, is_prefix}
+use Rattle.x5_star.specs.declared.agent.AgentSpec.{AgentSpec}
+use Rattle.x5_star.specs.declared.agent.ContextSpec.{ContextSpec}
+use Rattle.x5_star.specs.declared.agent.Named.{Named}
+use Rattle.x5_star.specs.declared.agent.Specific.{Specific}
+use Rattle.x5_star.specs.declared.journal.Line.{Line}
+use Rattle.x5_star.specs.declared.journal.Line.TheVariants.{Msg}
+use Rattle.x5_star.specs.declared.journal.Fate.TheVariants.{Sent}
+use Rattle.x5_star.specs.declared.request.Progress.TheVariants.{NotStarted, Proceeding}
+use Rattle.x5_star.specs.declared.request.Answer.TheVariants.{Entry}
+use Rattle.x5_star.specs.declared.request.EntryInfo.{EntryInfo}
+use Rattle.x5_star.specs.declared.request.Source.{Source}
+use Rattle.x5_star.specs.declared.request.DirError.TheVariants as error
+use Rattle.x5_star.specs.declared.request.Reply.{Reply}
+use Rattle.x5_star.specs.declared.request.Reply.TheVariants.{Done, Failed}
 
 -- the context of the agent that the name lies in
 abbrev pub covering : AgentSpec → Name → Option ContextSpec

@@ -2,12 +2,12 @@
 ghost use Rattle.std.specs.Prelude.{◌≡◌, ◌+◌, ◌<◌, IfOk, reverse, Some, None};
 ghost use Rattle.std.specs.List.{find};
 ghost use Rattle.std.specs.Option.{option_copied};
-ghost use Rattle.x5_ops.specs.Names.{is_prefix};
+ghost use Rattle.x5_star.specs.Names.{is_prefix};
 ghost use Rattle.x5_dispatch.specs.Star.{covering, lowest, IsReplyOf};
 
 use std::alloc::Global;
-use x5_ops::{AgentSpec, Answer, ContextSpec, DirError, EntryInfo, Name, Named, Reply, Source};
 use x5_port::NoMemory;
+use x5_star::{AgentSpec, Answer, ContextSpec, DirError, EntryInfo, Name, Named, Reply, Source};
 
 // The context of the agent that the name lies in.
 pub(crate) fn covering_context<'a>(agent: &'a AgentSpec, name: &Name) -> Option<&'a ContextSpec>

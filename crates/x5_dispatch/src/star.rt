@@ -2,17 +2,17 @@
 ghost use Rattle.std.specs.Prelude.{◌≡◌, ◌+◌, ◌-◌, ◌<◌, ◌++◌, [], ◌∷◌, length, IfOk, IfSome, Some, None, slice_get, ◌≤◌};
 ghost use Rattle.std.specs.List.{find};
 ghost use Rattle.std.specs.Option.{option_map, option_copied};
-ghost use Rattle.x5_ops.specs.declared.agent.AgentSpec.{AgentSpec};
-ghost use Rattle.x5_ops.specs.Names.{is_prefix};
+ghost use Rattle.x5_star.specs.declared.agent.AgentSpec.{AgentSpec};
+ghost use Rattle.x5_star.specs.Names.{is_prefix};
 ghost use Rattle.x5_dispatch.specs.Views.{below_of};
 ghost use Rattle.x5_dispatch.specs.Star.{way_up, way_down, user_line as line_of_user, up_line as line_up, down_line as line_down, target_below, GoesDown, IsStarRead};
 
 use crate::answering::{absent, covering_context, own_reply};
 use std::alloc::Global;
-use x5_ops::{
+use x5_port::NoMemory;
+use x5_star::{
     AgentId, AgentSpec, AgentSpecs, Fate, Journal, Line, Name, Progress, READ, Reply, Specific,
 };
-use x5_port::NoMemory;
 
 /// Answers a user's read of `name` at the agent `to` of a star of agents: one agent at the centre,
 /// and one level of agents below it. The journal has the messages that it takes, all delivered.

@@ -1,5 +1,5 @@
 -- What `show` prints for a file's octets.
-use Rattle.std.specs.Prelude.{◌≡◌, ℕ, zero, suc, ◌+◌, ◌<◌, ◌==◌, if◌then◌else◌, List, [], ◌∷◌, ◌++◌, length}
+use Rattle.std.specs.Prelude.{◌≡◌, ℕ, zero, suc, ◌+◌, ◌<◌, ◌==◌, if◌then◌else◌, List, [], ◌∷◌, ◌++◌, length, string_bytes}
 use Rattle.std.specs.Fmt.{decimal}
 use Rattle.std.specs.List.{concat}
 use lib.Chars.{codes}
@@ -8,6 +8,8 @@ use Rattle.x5_model_octets.specs.Elements.{Element, Elements, Primitive, Constru
 use Rattle.x5_model_octets.specs.Faults.{Fault, Truncated, BadLength, BadTag, BadContent, TooDeep, FirstFault, outermost}
 use Rattle.x5_ber.specs.Reading.{Stands}
 use Rattle.x5_ber.specs.Found.{Frames}
+use Rattle.x5_show.specs.declared.Shown.{Shown}
+use Rattle.x5_show.specs.declared.Shown.TheVariants as shown
 
 -- The octets are values, one after the other.
 abbrev pub AreValues : List ℕ → Type 0
@@ -72,7 +74,20 @@ abbrev mutual
       (first : List ℕ) × (rest : List ℕ) × (one : List ℕ) × (more : List ℕ) × Spells 1 e first × (octets ≡ first ++ rest)
       × Lines level at e first one × LinesAll level (at + length first) es rest more × (text ≡ one ++ more)
 
--- The text for a file: the lines of its values, or the line of the first fault alone.
-pub data Shows (bytes text : List ℕ) : Type 0 where
-  elements : (values : Elements) → SpellsAll 1 values bytes → LinesAll 0 0 values bytes text → Shows bytes text
-  refused : (fault : Fault) → FaultyFrom bytes 0 fault → text ≡ refusal_text fault → Shows bytes text
+-- The text for octets that are values: the lines of their elements.
+pub record ShowsValues (bytes text : List ℕ) : Type 0 where
+  pub values : Elements
+  pub spelled : SpellsAll 1 values bytes
+  pub lines : LinesAll 0 0 values bytes text
+
+-- The text for octets that aren't: the line of their first fault alone.
+pub record ShowsFault (bytes text : List ℕ) : Type 0 where
+  pub not_values : AreValues bytes → ⊥
+  pub fault : Fault
+  pub first : FaultyFrom bytes 0 fault
+  pub line : text ≡ refusal_text fault
+
+-- What is shown of a file's octets: lines of elements exactly where they are values.
+abbrev pub Shows : List ℕ → Shown → Type 0
+Shows bytes (shown.Elements text) = ShowsValues bytes (string_bytes text)
+Shows bytes (shown.Refused text) = ShowsFault bytes (string_bytes text)

@@ -8,7 +8,7 @@ use x5_ber::{BerFault, NoMemory, read_tlv};
 
 /// The first fault of the octets, if they aren't values one after the other.
 pub(crate) fn first_fault(bytes: &[u8]) -> Option<BerFault>
-    ensures { MatchOption result (AreValues bytes.now) (λ fault. FaultyFrom bytes.now 0 (fault_view fault)) }
+    ensures { MatchOption result (AreValues bytes.now) (λ fault. (AreValues bytes.now → ⊥) × FaultyFrom bytes.now 0 (fault_view fault)) }
 {
     let mut at = 0;
     while at < bytes.len() {

@@ -3,7 +3,7 @@ ghost use Rattle.std.specs.Prelude.{◌≡◌, ℕ, ◌+◌, ◌≤◌, List, []
 ghost use Rattle.x5_model_octets.specs.Elements.{Element, Elements, Spells, SpellsAll};
 ghost use Rattle.x5_ber.specs.Reading.{Stands};
 ghost use Rattle.x5_ber.specs.Found.{IsElementAt};
-ghost use Rattle.x5_show.specs.Show.{AreValues, Shows, Lines, LinesAll, line, head_text, hex_text, indent, class_letter};
+ghost use Rattle.x5_show.specs.Show.{AreValues, ShowsValues, Lines, LinesAll, line, head_text, hex_text, indent, class_letter};
 
 use std::alloc::Global;
 use x5_ber::{NoMemory, Tlv, read_tlv};
@@ -11,7 +11,7 @@ use x5_ber::{NoMemory, Tlv, read_tlv};
 /// The lines of the values that the octets are.
 pub(crate) fn elements(alloc: Global, bytes: &[u8]) -> Result<String, NoMemory>
     requires { AreValues bytes.now }
-    ensures { IfOk result (λ text. Shows bytes.now (string_bytes text)) }
+    ensures { IfOk result (λ text. ShowsValues bytes.now (string_bytes text)) }
 {
     let mut out = String::new(alloc);
     put_members(alloc, &mut out, bytes, 0, bytes.len(), 0)?;

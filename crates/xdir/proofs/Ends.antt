@@ -1,14 +1,13 @@
 -- How a run's end follows from the ends of its parts.
-use Rattle.std.proofs.Common.{◌≡◌, ◌≤◌, ◌<◌, ◌+◌, ◌⊎◌, inl, inr, ℕ, List, [], ◌∷◌, ◌++◌, length, take, Option, Some, None, IsSomeAnd, refl, sym, subst, ap, ◌∙◌, arith, length-append}
+use Rattle.std.proofs.Common.{◌≡◌, ◌≤◌, ◌<◌, ◌+◌, inl, inr, ℕ, List, [], ◌∷◌, ◌++◌, length, take, Option, refl, sym, ap, ◌∙◌, arith, length-append}
 use Rattle.std.proofs.Math.Seq.{take-append-add}
-use Rattle.x5_ops.specs.declared.agent.AgentSpec.{AgentSpec}
-use Rattle.x5_port.specs.Outside.{File, content_of, IsContent, IsLonger, Rose, with_octets, TookPrefix}
+use Rattle.x5_star.specs.declared.agent.AgentSpec.{AgentSpec}
+use Rattle.x5_port.specs.Outside.{Rose, with_octets, TookPrefix}
 use Rattle.x5_port.proofs.Octets.{with_octets-with_octets}
 use Rattle.xdir.specs.declared.script.Command.{Command}
 use Rattle.xdir.specs.declared.top.Status.{Status}
 use Rattle.xdir.specs.declared.top.Status.TheVariants.{Done, Refused, Usage, ReadFault, WriteFault, NoMemory, Inconsistent, TooLong}
-use Rattle.xdir.specs.Run.{most_octets, IsRun, goes_on, IsRunText, Wrote, Broke, Stops, Prints, WritesBlock, Writes, IsReadable, ReadsScript, Reads}
-use Rattle.xdir.specs.Words.{FileNames}
+use Rattle.xdir.specs.Run.{IsRun, goes_on, Prints, WritesBlock, Writes}
 
 -- a count that rose later
 rose-later : (before mid after : ℕ) → before ≤ mid → Rose mid after → Rose before after

@@ -1,17 +1,18 @@
--- What a run writes, and how it ends.
+-- What a run and `show` write, and how they end.
 use Rattle.std.specs.Prelude.{◌≡◌, ℕ, ◌<◌, ◌≤◌, ◌⊎◌, List, [], ◌∷◌, ◌++◌, length, Option, Some, None, IsSomeAnd, slice_get, codes, ⊤}
-use Rattle.x5_ops.specs.declared.agent.AgentSpec.{AgentSpec}
-use Rattle.x5_ops.specs.declared.journal.Line.{Line}
-use Rattle.x5_ops.specs.declared.request.Reply.{Reply}
+use Rattle.x5_star.specs.declared.agent.AgentSpec.{AgentSpec}
+use Rattle.x5_star.specs.declared.journal.Line.{Line}
+use Rattle.x5_star.specs.declared.request.Reply.{Reply}
 use Rattle.x5_dispatch.specs.Star.{IsStarRead}
-use Rattle.x5_port.specs.Outside.{File, content_of, IsLonger, Rose, with_octets, TookPrefix}
+use Rattle.x5_port.specs.Outside.{File, content_of, IsContent, IsLonger, Rose, with_octets, TookPrefix}
+use Rattle.x5_show.specs.Show.{ShowsValues, ShowsFault}
 use Rattle.xdir.specs.declared.fault.WorldFault.{WorldFault}
 use Rattle.xdir.specs.declared.script.Command.{Command}
 use Rattle.xdir.specs.declared.script.LineFault.{LineFault}
 use Rattle.xdir.specs.declared.top.Status.{Status}
 use Rattle.xdir.specs.declared.top.Status.TheVariants.{Done, Refused, Usage, ReadFault, WriteFault, NoMemory, Inconsistent, TooLong}
 use Rattle.xdir.specs.Text.{block_text, refused_world_text, refused_line_text}
-use Rattle.xdir.specs.Words.{FileNames}
+use Rattle.xdir.specs.Words.{FileNames, Form, Run, Show}
 
 -- the most octets of a file
 abbrev pub most_octets : ℕ
@@ -139,16 +140,16 @@ abbrev pub IsReadable : Option (List File) → List ℕ → Type 0
 IsReadable None name = ⊤
 IsReadable (Some files) name = IsSomeAnd (content_of files name) (λ content. length content ≤ most_octets)
 
--- what is known of the script, by how a run over a world ends that was read
-abbrev pub ReadsScript : Status → List ℕ → Option (List File) → ℕ → ℕ → Option (List ℕ) → Type 0
-ReadsScript Done script told before after failed = IsReadable told script
-ReadsScript Refused script told before after failed = IsReadable told script
-ReadsScript WriteFault script told before after failed = IsReadable told script
-ReadsScript NoMemory script told before after failed = ⊤
-ReadsScript ReadFault script told before after failed = Rose before after × (failed ≡ Some script)
-ReadsScript TooLong script told before after failed = IsLonger told script most_octets
-ReadsScript Usage script told before after failed = ⊥
-ReadsScript Inconsistent script told before after failed = ⊥
+-- what is known of a file that is read, by how that ends: a script's over a world that was read, or one that is shown
+abbrev pub ReadsFile : Status → List ℕ → Option (List File) → ℕ → ℕ → Option (List ℕ) → Type 0
+ReadsFile Done name told before after failed = IsReadable told name
+ReadsFile Refused name told before after failed = IsReadable told name
+ReadsFile WriteFault name told before after failed = IsReadable told name
+ReadsFile NoMemory name told before after failed = ⊤
+ReadsFile ReadFault name told before after failed = Rose before after × (failed ≡ Some name)
+ReadsFile TooLong name told before after failed = IsLonger told name most_octets
+ReadsFile Usage name told before after failed = ⊥
+ReadsFile Inconsistent name told before after failed = ⊥
 
 -- what is known of the two files, by how a run ends. The script is read unless the world is refused, whose line is then what was written.
 abbrev pub Reads : Status → FileNames → Option (List File) → ℕ → ℕ → Option (List ℕ) → Option (List ℕ) → Option (List ℕ) → Type 0
@@ -160,3 +161,47 @@ Reads ReadFault names told before after failed old new = Rose before after × ((
 Reads TooLong names told before after failed old new = IsLonger told names.world most_octets ⊎ IsLonger told names.script most_octets
 Reads Usage names told before after failed old new = ⊥
 Reads Inconsistent names told before after failed old new = ⊥
+
+-- what is shown of these octets is no fault or one, of which a first part was written
+pub record BrokeShown (octets : List ℕ) (old new : Option (List ℕ)) : Type 0 where
+  pub text : List ℕ
+  pub is : ShowsValues octets text ⊎ ShowsFault octets text
+  pub part : TookPrefix text old new
+
+-- what `show` writes of a file's octets: at Done the lines of their elements, at Refused the line of their first fault
+abbrev pub ShowsOctets : Status → List ℕ → Option (List ℕ) → Option (List ℕ) → ℕ → ℕ → Type 0
+ShowsOctets Done octets old new before after = Wrote (ShowsValues octets) old new
+ShowsOctets Refused octets old new before after = Wrote (ShowsFault octets) old new
+ShowsOctets WriteFault octets old new before after = Rose before after × BrokeShown octets old new
+ShowsOctets NoMemory octets old new before after = new ≡ old
+ShowsOctets Usage octets old new before after = ⊥
+ShowsOctets ReadFault octets old new before after = ⊥
+ShowsOctets Inconsistent octets old new before after = ⊥
+ShowsOctets TooLong octets old new before after = ⊥
+
+-- it holds of some octets, which are the file's as far as the files tell their contents
+pub record OfContent (told : Option (List File)) (name : List ℕ) (P : List ℕ → Type 0) : Type 0 where
+  pub octets : List ℕ
+  pub is_content : IsContent told name octets
+  pub holds : P octets
+
+-- what `show` writes, by how it ends: before the file is read nothing is
+abbrev pub WritesShown : Status → Option (List File) → List ℕ → Option (List ℕ) → Option (List ℕ) → ℕ → ℕ → Type 0
+WritesShown Done told name old new before after = OfContent told name (λ octets. ShowsOctets Done octets old new before after)
+WritesShown Refused told name old new before after = OfContent told name (λ octets. ShowsOctets Refused octets old new before after)
+WritesShown WriteFault told name old new before after = OfContent told name (λ octets. ShowsOctets WriteFault octets old new before after)
+WritesShown NoMemory told name old new before after = new ≡ old
+WritesShown ReadFault told name old new before after = new ≡ old
+WritesShown TooLong told name old new before after = new ≡ old
+WritesShown Usage told name old new before after = ⊥
+WritesShown Inconsistent told name old new before after = ⊥
+
+-- what is known of the files, by the form of words and how it ends
+abbrev pub ReadsForm : Form → Status → Option (List File) → ℕ → ℕ → Option (List ℕ) → Option (List ℕ) → Option (List ℕ) → Type 0
+ReadsForm (Run names) status told before after failed old new = Reads status names told before after failed old new
+ReadsForm (Show name) status told before after failed old new = ReadsFile status name told before after failed
+
+-- what is written, by the form of words and how it ends
+abbrev pub WritesForm : Form → Status → Option (List File) → Option (List ℕ) → Option (List ℕ) → ℕ → ℕ → Type 0
+WritesForm (Run names) status told old new before after = Writes status old new before after
+WritesForm (Show name) status told old new before after = WritesShown status told name old new before after

@@ -2,18 +2,18 @@
 use Rattle.std.specs.Prelude.{ℕ, List, [], ◌∷◌, ◌++◌, Option, Some, None, codes}
 use Rattle.std.specs.Fmt.{decimal}
 use Rattle.std.specs.List.{concat}
-use Rattle.x5_ops.specs.Agents.{Attribute}
-use Rattle.x5_ops.specs.Names.{keyword_of, name_text}
-use Rattle.x5_ops.specs.declared.journal.Line.{Line}
-use Rattle.x5_ops.specs.declared.journal.Line.TheVariants.{Msg}
-use Rattle.x5_ops.specs.declared.request.Progress.{Progress}
-use Rattle.x5_ops.specs.declared.request.Progress.TheVariants.{NotStarted, Proceeding, Completed}
-use Rattle.x5_ops.specs.declared.request.EntryInfo.{EntryInfo}
-use Rattle.x5_ops.specs.declared.request.Source.{Source}
-use Rattle.x5_ops.specs.declared.request.Answer.TheVariants.{Entry}
-use Rattle.x5_ops.specs.declared.request.DirError.TheVariants as error
-use Rattle.x5_ops.specs.declared.request.Reply.{Reply}
-use Rattle.x5_ops.specs.declared.request.Reply.TheVariants.{Done, Failed}
+use Rattle.x5_star.specs.Agents.{Attribute}
+use Rattle.x5_star.specs.Names.{keyword_of, name_text}
+use Rattle.x5_star.specs.declared.journal.Line.{Line}
+use Rattle.x5_star.specs.declared.journal.Line.TheVariants.{Msg}
+use Rattle.x5_star.specs.declared.request.Progress.{Progress}
+use Rattle.x5_star.specs.declared.request.Progress.TheVariants.{NotStarted, Proceeding, Completed}
+use Rattle.x5_star.specs.declared.request.EntryInfo.{EntryInfo}
+use Rattle.x5_star.specs.declared.request.Source.{Source}
+use Rattle.x5_star.specs.declared.request.Answer.TheVariants.{Entry}
+use Rattle.x5_star.specs.declared.request.DirError.TheVariants as error
+use Rattle.x5_star.specs.declared.request.Reply.{Reply}
+use Rattle.x5_star.specs.declared.request.Reply.TheVariants.{Done, Failed}
 use Rattle.xdir.specs.declared.fault.WorldFault.{WorldFault}
 use Rattle.xdir.specs.declared.fault.WorldFault.TheVariants as world
 use Rattle.xdir.specs.declared.script.LineFault.{LineFault}

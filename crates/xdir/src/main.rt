@@ -5,6 +5,7 @@ mod asked;
 mod fault;
 mod print;
 mod script;
+mod show;
 mod star_entry;
 mod star_world;
 #[cfg(test)]
@@ -19,7 +20,7 @@ use std::{env, rt};
 use top::{MOST_OCTETS, Status, xdir};
 use x5_port::{RealFiles, RealSink};
 
-const USAGE: &str = "usage: xdir run WORLD SCRIPT";
+const USAGE: &str = "usage: xdir run WORLD SCRIPT | xdir show FILE";
 
 fn main(rt: HostRuntime) -> ExitCode {
     let words = match words_of(&rt) {

@@ -6,11 +6,11 @@ ghost use Rattle.xdir.specs.Text as shown;
 use crate::fault::WorldFault;
 use crate::script::LineFault;
 use std::alloc::{AllocError, Global};
-use x5_ops::{
+use x5_port::NoMemory;
+use x5_star::{
     AgentName, Answer, Attribute, DirError, EntryInfo, Journal, Line, Progress, Reply, Source,
     Value,
 };
-use x5_port::NoMemory;
 
 /// What is printed of knowledge that holds together.
 pub const KNOWLEDGE: &str = "knowledge consistent\n";

@@ -3,8 +3,8 @@ ghost use Rattle.std.specs.Prelude.{◌<◌, length, IfOk, All};
 ghost use Rattle.xdir.specs.Run.{IsKnown};
 
 use std::alloc::{AllocError, AllocFailed, Global};
-use x5_ops::{AgentId, AgentSpecs, Name, NameFault};
 use x5_port::NoMemory;
+use x5_star::{AgentId, AgentSpecs, Name, NameFault};
 
 const MOST_LINES: usize = 100_000;
 

@@ -2,7 +2,7 @@
 use crate::fault::WorldFault;
 use serde_json::Value as Json;
 use std::alloc::Global;
-use x5_ops::{Attribute, Entry, Rdn, TypeId, Value};
+use x5_star::{Attribute, Entry, Rdn, TypeId, Value};
 
 const MOST_CONTENT: usize = 1024;
 

@@ -3,7 +3,7 @@ use crate::fault::WorldFault;
 use crate::star_entry::read_entry;
 use serde_json::{Map, Value};
 use std::alloc::Global;
-use x5_ops::{
+use x5_star::{
     Access, AgentId, AgentName, AgentSpec, AgentSpecs, ContextSpec, Name, NameFault, Named,
     Specific,
 };

@@ -1,4 +1,4 @@
-// Whole runs over files and a sink in memory.
+// Whole runs, and what files show, over files and a sink in memory.
 use crate::top::{Status, xdir};
 use std::alloc::{AllocError, Global};
 use std::process::Abort;
@@ -23,6 +23,18 @@ source /C=NL Alpha now
 #2
 msg user Alpha read start t=0 /C=NL/O=None sent
 error name noSuchObject /C=NL
+";
+
+// The name /C=NL by the Basic Encoding Rules.
+const NAME: [u8; 15] = [
+    0x30, 0x0d, 0x31, 0x0b, 0x30, 0x09, 0x06, 0x03, 0x55, 0x04, 0x06, 0x13, 0x02, 0x4e, 0x4c,
+];
+
+const NAME_ELEMENTS: &str = "0 U16 cons
+  2 U17 cons
+    4 U16 cons
+      6 U6 prim 550406
+      11 U19 prim 4e4c
 ";
 
 // Four agents: one at the centre, and three below two entries of its context.
@@ -180,6 +192,24 @@ fn worlds_that_are_no_star_are_refused(rt: HostRuntime) -> Result<(), Fail> {
 }
 
 #[test]
+fn a_file_shows_its_elements_or_its_first_fault(rt: HostRuntime) -> Result<(), Fail> {
+    let alloc = rt.alloc();
+    for (content, status, output) in [
+        (NAME.as_slice(), Status::Done, NAME_ELEMENTS),
+        ([].as_slice(), Status::Done, ""),
+        (&NAME[..14], Status::Refused, "refused octet 14 truncated\n"),
+    ] {
+        let mut files = MemoryFiles::new(alloc, &[])?;
+        files.add("file", content)?;
+        let mut out = MemorySink::new(alloc, 4096, 7, &[])?;
+        let words = words_in(alloc, "show file")?;
+        assert_eq!(rt; xdir(alloc, &words, &mut files, &mut out), status);
+        assert_eq!(rt; std::str::from_utf8(out.taken())?, output);
+    }
+    Ok(())
+}
+
+#[test]
 fn other_words_are_usage(rt: HostRuntime) -> Result<(), Fail> {
     let alloc = rt.alloc();
     let mut files = MemoryFiles::new(alloc, &[])?;
@@ -191,6 +221,9 @@ fn other_words_are_usage(rt: HostRuntime) -> Result<(), Fail> {
         "run world -script",
         "run world script more",
         "Run world script",
+        "show",
+        "show -file",
+        "show file more",
     ] {
         let words = words_in(alloc, line)?;
         assert_eq!(rt; xdir(alloc, &words, &mut files, &mut out), Status::Usage);
@@ -254,7 +287,7 @@ fn a_file_of_more_than_16_mib_is_too_long(rt: HostRuntime) -> Result<(), Fail> {
     files.add("world", STAR.as_bytes())?;
     files.add("long", &vec![in alloc; b'#'; 16_777_217]?)?;
     let mut out = MemorySink::new(alloc, 99, 99, &[])?;
-    for line in ["run long world", "run world long"] {
+    for line in ["run long world", "run world long", "show long"] {
         let words = words_in(alloc, line)?;
         assert_eq!(rt; xdir(alloc, &words, &mut files, &mut out), Status::TooLong);
     }

@@ -1,17 +1,18 @@
-// The top call: a run of a script over a world, from files to a sink.
+// The top call: a run of a script over a world, or what a file shows, from files to a sink.
 ghost use Rattle.std.specs.Prelude.{◌≡◌, ◌≤◌, ◌↔◌, None, All, IfOk, IfSome, map, string_bytes};
-ghost use Rattle.xdir.specs.Run.{IsBlock, IsKnown, IsRefusal, Prints, RefusesWorld, Stops, Writes, WritesLine, WritesBlock, Reads, ReadsScript};
-ghost use Rattle.xdir.specs.Words.{names_in};
+ghost use Rattle.xdir.specs.Run.{IsBlock, IsKnown, IsRefusal, Prints, RefusesWorld, Stops, Writes, WritesForm, WritesLine, WritesBlock, Reads, ReadsFile, ReadsForm};
+ghost use Rattle.xdir.specs.Words.{form_in};
 
 use crate::fault::WorldFault;
 use crate::print::{KNOWLEDGE, block, refused_line, refused_world};
 use crate::script::{Command, LineFault, ScriptFault, read_script};
+use crate::show::show_file;
 use crate::star_world::read_star;
-use crate::words::read_words;
+use crate::words::{Words, read_words};
 use std::alloc::Global;
 use x5_dispatch::star_read;
-use x5_ops::AgentSpecs;
 use x5_port::{Failed, FileFault, Files, NoMemory, Sink, put_all};
+use x5_star::AgentSpecs;
 
 /// The most octets of a file: 16 MiB.
 pub const MOST_OCTETS: usize = 16_777_216;
@@ -21,7 +22,8 @@ pub const MOST_OCTETS: usize = 16_777_216;
 pub enum Status {
     /// All is printed.
     Done = 0,
-    /// The world or a line of the script isn't taken; the line that says so is printed.
+    /// The world, a line of the script or an octet of a shown file isn't taken; the line that says so
+    /// is printed.
     Refused = 1,
     /// The words are none of the forms.
     Usage = 2,
@@ -37,25 +39,27 @@ pub enum Status {
     TooLong = 7,
 }
 
-/// Does what the words ask for. Both files are read and parsed whole before anything is written, but
-/// the line of a refused world, after which the script isn't read.
+/// Does what the words ask for. Files are read whole and parsed before anything is written, but the
+/// line of a refused world, after which the script isn't read.
 pub fn xdir<F: Files, K: Sink>(
     alloc: Global,
     words: &[String],
     files: &mut F,
     out: &mut K,
 ) -> Status
-    ensures usage { (result ≡ Status.Usage) ↔ (names_in (map string_bytes words.now) ≡ None) }
+    ensures usage { (result ≡ Status.Usage) ↔ (form_in (map string_bytes words.now) ≡ None) }
 
     // Other words touch neither the files nor the sink.
     ensures untouched { result ≡ Status.Usage → (files.new ≡ files.old) × (out.new ≡ out.old) }
-    ensures reads { IfSome (names_in (map string_bytes words.now)) (λ names.
-        Reads result names (F.contents files.old) (F.fault_count files.old) (F.fault_count files.new) (F.last_failed files.new) (K.octets out.old) (K.octets out.new)) }
-    ensures writes { Writes result (K.octets out.old) (K.octets out.new) (K.fault_count out.old) (K.fault_count out.new) }
+    ensures reads { IfSome (form_in (map string_bytes words.now)) (λ form.
+        ReadsForm form result (F.contents files.old) (F.fault_count files.old) (F.fault_count files.new) (F.last_failed files.new) (K.octets out.old) (K.octets out.new)) }
+    ensures writes { IfSome (form_in (map string_bytes words.now)) (λ form.
+        WritesForm form result (F.contents files.old) (K.octets out.old) (K.octets out.new) (K.fault_count out.old) (K.fault_count out.new)) }
 {
     match read_words(words) {
         None => Status::Usage,
-        Some(run) => run_files(alloc, run.world, run.script, files, out),
+        Some(Words::Run(run)) => run_files(alloc, run.world, run.script, files, out),
+        Some(Words::Show(name)) => show_file(alloc, name, files, out),
     }
 }
 
@@ -87,7 +91,7 @@ fn run_script<F: Files, K: Sink>(
     files: &mut F,
     out: &mut K,
 ) -> Status
-    ensures reads { ReadsScript result script.now (F.contents files.old) (F.fault_count files.old) (F.fault_count files.new) (F.last_failed files.new) }
+    ensures reads { ReadsFile result script.now (F.contents files.old) (F.fault_count files.old) (F.fault_count files.new) (F.last_failed files.new) }
     ensures writes { Writes result (K.octets out.old) (K.octets out.new) (K.fault_count out.old) (K.fault_count out.new) }
 {
     match files.read_whole(alloc, script, MOST_OCTETS) {

@@ -1,10 +1,9 @@
-use Rattle.std.proofs.Common.{◌≡◌, ℕ, ◌+◌, ◌-◌, ◌<◌, ◌≤◌, ◌++◌, List, [], length, take, drop, arith, sym, ap, subst, ◌∙◌, append_assoc}
+use Rattle.std.proofs.Common.{◌≡◌, ℕ, ◌+◌, ◌-◌, ◌++◌, List, [], length, take, drop, arith, sym, ap, subst, ◌∙◌, append_assoc}
 use Rattle.std.specs.Prelude.{string_bytes}
 use lib.Chars.{codes}
-use Rattle.x5_ber.specs.Found.{IsElementAt}
-use Rattle.x5_show.specs.Show.{line, Lines, LinesAll}
+use Rattle.x5_show.specs.Show.{line, LinesAll}
 use Rattle.x5_show.proofs.Values.{found_bounds}
-use Rattle.x5_show.proofs.Printing.{Left, left_first, left_next, left_none, content_bounds, content_slice, primitive_lines, members_of, on_ok_map}
+use Rattle.x5_show.proofs.Printing.{Left, left_next, left_none, content_slice, primitive_lines, members_of, on_ok_map}
 use Rattle.x5_show.proofs.print.+show.Goals as goal
 
 pub put_members-returns : goal.put_members-returns

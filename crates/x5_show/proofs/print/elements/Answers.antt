@@ -1,6 +1,4 @@
-use Rattle.std.proofs.Common.{◌≡◌, ℕ, ◌++◌, List, length, arith, sym, ap, subst, ◌∙◌}
-use Rattle.std.specs.Prelude.{string_bytes}
-use Rattle.x5_show.specs.Show as show
+use Rattle.std.proofs.Common.{ℕ, ◌++◌, List, arith, sym, ap, subst, ◌∙◌}
 use Rattle.x5_show.specs.Show.{LinesAll}
 use Rattle.x5_show.proofs.Printing.{whole_stands}
 use Rattle.x5_show.proofs.print.elements.Goals as goal
@@ -8,5 +6,8 @@ use Rattle.x5_show.proofs.print.elements.Goals as goal
 pub returns : goal.returns
 returns c =
     let put = c.in_ok-put_members.ensures c.requires.0 c.args.bytes.now c.requires.1 (whole_stands c.args.bytes.now) (omega arith) in
-    show.elements c.requires.0 c.requires.1
-    (subst (λ (l : List ℕ). LinesAll 0 0 c.requires.0 c.args.bytes.now l) (sym (put.2 ∙ ap (λ (l : List ℕ). l ++ put.0) c.new-out.ensures.bytes)) put.1)
+    record {
+      values = c.requires.0;
+      spelled = c.requires.1;
+      lines = subst (λ (l : List ℕ). LinesAll 0 0 c.requires.0 c.args.bytes.now l) (sym (put.2 ∙ ap (λ (l : List ℕ). l ++ put.0) c.new-out.ensures.bytes)) put.1;
+    }

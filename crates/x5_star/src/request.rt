@@ -92,7 +92,7 @@ pub struct Attribute {
 }
 
 impl Model for Attribute {
-    ghost use Rattle.x5_ops.specs.Agents as agents;
+    ghost use Rattle.x5_star.specs.Agents as agents;
 
     ghost Value = { agents.Attribute };
 

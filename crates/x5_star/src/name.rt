@@ -1,8 +1,8 @@
 // Names: lists of relative names from the root (X.501, clause 9).
 ghost use Rattle.std.specs.Prelude.{◌≡◌, ◌+◌, ◌<◌, ◌≤◌, ◌++◌, ◌∷◌, [], ◌↔◌, length, take, drop, IfOk, IfSome, OnOk, string_bytes, codes, slice_get, ◌-◌, ◌==◌};
 ghost use Rattle.std.specs.Option.{option_copied};
-ghost use Rattle.x5_ops.specs.Names as model;
-ghost use Rattle.x5_ops.specs.NameLaws.{same_rdn_laws, same_rdn_equivalence};
+ghost use Rattle.x5_star.specs.Names as model;
+ghost use Rattle.x5_star.specs.NameLaws.{same_rdn_laws, same_rdn_equivalence};
 
 use std::alloc::{AllocError, Global};
 use std::marker::Model;
@@ -66,7 +66,7 @@ pub struct Rdn {
 
 impl Model for Rdn {
     ghost use Rattle.std.specs.Prelude.{string_bytes};
-    ghost use Rattle.x5_ops.specs.Names as names;
+    ghost use Rattle.x5_star.specs.Names as names;
 
     ghost Value = { names.Rdn };
 
@@ -146,7 +146,7 @@ pub struct Name {
 }
 
 impl Model for Name {
-    ghost use Rattle.x5_ops.specs.Names as names;
+    ghost use Rattle.x5_star.specs.Names as names;
 
     ghost Value = { names.Name };
 

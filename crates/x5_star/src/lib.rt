@@ -1,4 +1,5 @@
-// Agents, names, requests, answers and journals, as far as reads over a star of agents need them.
+// Plain types of agents, names, requests, answers and journals, as far as reads over a star of agents
+// need them. The final types, which hold every kind of value and request, take their place.
 #![tactic(auto)]
 
 mod agent;

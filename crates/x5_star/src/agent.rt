@@ -112,7 +112,7 @@ pub struct AgentSpecs {
 
 impl Model for AgentSpecs {
     ghost use Rattle.std.specs.Prelude.{List};
-    ghost use Rattle.x5_ops.specs.declared.agent.AgentSpec.{AgentSpec};
+    ghost use Rattle.x5_star.specs.declared.agent.AgentSpec.{AgentSpec};
 
     ghost Value = { List AgentSpec };
 

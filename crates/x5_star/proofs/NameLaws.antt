@@ -1,7 +1,7 @@
 -- Prefixes in the words of std.
 use Rattle.std.proofs.Common.{◌≡◌, Bool, [], ◌∷◌, ◌&&◌, refl, ap}
 use Rattle.std.specs.List.{starts_with}
-use Rattle.x5_ops.specs.Names.{Name, same_rdn, is_prefix}
+use Rattle.x5_star.specs.Names.{Name, same_rdn, is_prefix}
 
 -- the words of std for prefixes
 pub is_prefix_starts_with : (a b : Name) → starts_with same_rdn b a ≡ is_prefix a b

@@ -2,7 +2,7 @@
 use Rattle.std.proofs.Common.{rules}
 use Rattle.std.specs.Cmp.{IsPartialEquivalence, IsEquivalence}
 use Rattle.std.specs.Cmp.Rules.{comparing}
-use Rattle.x5_ops.specs.Names.{same_rdn}
+use Rattle.x5_star.specs.Names.{same_rdn}
 
 pub same_rdn_laws : IsPartialEquivalence same_rdn
 same_rdn_laws = search (comparing, rules)
