@@ -1,2 +1,3 @@
 pub mod OccurrenceLemmas
 pub mod FilterLemmas
+pub mod CopyLemmas

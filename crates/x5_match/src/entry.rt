@@ -49,6 +49,13 @@ impl StoredValueList {
         }
     }
 
+    /// The list of the vector's members. No memory.
+    pub fn from_vec(values: Vec<StoredValue>) -> StoredValueList
+        ensures { result ≡ values.items }
+    {
+        StoredValueList { values }
+    }
+
     /// Its members. No memory.
     pub fn as_slice(&self) -> &[StoredValue]
         ensures { result.now ≡ self.now }
@@ -97,6 +104,21 @@ impl Model for StoredList {
 }
 
 impl StoredList {
+    /// The list of the vector's members. No memory.
+    pub fn from_vec(attributes: Vec<Stored>) -> StoredList
+        ensures { result ≡ attributes.items }
+    {
+        StoredList { attributes }
+    }
+
+    /// Its members as a vector. No memory.
+    pub fn into_vec(self) -> Vec<Stored>
+        ensures { result.items ≡ self }
+    {
+        let StoredList { attributes } = self;
+        attributes
+    }
+
     /// The empty list. No memory.
     pub fn new(alloc: Global) -> StoredList
         ensures { result ≡ [] }

@@ -15,7 +15,7 @@ ghost use Rattle.x5_match.specs.FilterView.{item_view, filter_view};
 use crate::entry::{Entry, StoredValue};
 use crate::matching::{NormalList, Parts, has_parts};
 use crate::truth::Truth;
-use std::alloc::Global;
+use std::alloc::{AllocError, Global};
 use std::marker::Model;
 use x5_syntax::{NoMemory, Normal, SyntaxFault, TypeId, TypeRef, Value, normal, normal_part};
 
@@ -103,6 +103,16 @@ impl Model for PieceList {
     ghost Value = { List filters.Piece };
 
     ghost view = { λ l. l.pieces.items };
+}
+
+impl Clone for PieceList {
+    ghost is_clone = { λ a b. b ≡ a };
+
+    fn clone(&self) -> Result<PieceList, AllocError> {
+        Ok(PieceList {
+            pieces: self.pieces.clone()?,
+        })
+    }
 }
 
 impl PieceList {

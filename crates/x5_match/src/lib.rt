@@ -2,6 +2,7 @@
 //! Nothing here knows of names: an entry is judged by its attributes alone.
 #![tactic(auto)]
 
+mod copies;
 mod entry;
 mod filter;
 mod matching;
@@ -9,6 +10,7 @@ mod matching;
 mod tests;
 mod truth;
 
+pub use copies::copied;
 pub use entry::{Entry, Stored, StoredList, StoredValue, StoredValueList};
 pub use filter::{
     Assertion, Filter, FilterList, Item, Piece, PieceList, PiecePlace, SubstringItem, holds,

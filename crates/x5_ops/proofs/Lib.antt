@@ -1,0 +1,10 @@
+pub mod EntryOrder
+pub mod Inserting
+pub mod Changing
+pub mod Apart
+pub mod Refusals
+pub mod Firsts
+pub mod Repeats
+pub mod Dropping
+pub mod Offering
+pub mod Refusing

@@ -1,0 +1,10 @@
+use Rattle.std.proofs.Common.{◌≡◌, map, drop}
+use Rattle.std.specs.List.{flat_map}
+use Rattle.x5_model.specs.Statics as model
+use Rattle.x5_model.specs.Words.{first_of}
+use Rattle.x5_ops.specs.RequestViews.{change_view}
+use Rattle.x5_ops.proofs.statics.changes_refusal.Given as goal
+
+abbrev pub invariant-loop-change : goal.invariant-loop-change
+invariant-loop-change l =
+    first_of (flat_map model.value_refusals (map model.attribute_of (map change_view (drop l.change-index l.changes)))) ≡ first_of (flat_map model.value_refusals (map model.attribute_of (map change_view l.changes)))

@@ -1,0 +1,40 @@
+-- What a change of an entry gives, and which changes keep values apart.
+use Rattle.std.specs.Prelude.{◌≡◌, ℕ, Bool, not, List, Result, Ok, Err}
+use Rattle.std.specs.List.{list_all}
+use Rattle.x5_model.specs.Words.{is_empty}
+use Rattle.x5_model.specs.Entries.{Entry}
+use Rattle.x5_model.specs.Requests.{Attribute, Change}
+use Rattle.x5_model.specs.Statics.{has_equal_values, change_repeats}
+use Rattle.x5_model.specs.Changes.{Changed}
+use Rattle.x5_ops.specs.RefusalView.{refusal_view}
+use Rattle.x5_ops.specs.AnswerViews.{error_view}
+use Rattle.x5_ops.specs.declared.changes.Stop.{Stop}
+use Rattle.x5_ops.specs.declared.changes.Stop.TheVariants as stops
+use Rattle.x5_ops.specs.declared.changes.ChangeFault.{ChangeFault}
+use Rattle.x5_ops.specs.declared.changes.ChangeFault.TheVariants as faults
+
+-- no attribute has two equal values
+abbrev pub are_apart : List Attribute → Bool
+are_apart attributes = list_all (λ a. not (has_equal_values a)) attributes
+
+-- a change adds no two equal values
+abbrev pub adds_apart : Change → Bool
+adds_apart c = is_empty (change_repeats c)
+
+-- the entry or the refusal, unless memory ran out
+abbrev pub IsStopped : Stop → Changed → Type 0
+IsStopped (stops.Refused r) m = m ≡ Err (refusal_view r)
+IsStopped stops.NoMemory m = Unit {0}
+
+abbrev pub IsChanged : Result Entry Stop → Changed → Type 0
+IsChanged (Ok e) m = m ≡ Ok e
+IsChanged (Err s) m = IsStopped s m
+
+-- the same as it's told
+abbrev pub IsRefused : ChangeFault → Changed → Type 0
+IsRefused (faults.Refused r) m = (names : List (List ℕ)) → m ≡ Err (error_view names r)
+IsRefused faults.NoMemory m = Unit {0}
+
+abbrev pub IsModified : Result Entry ChangeFault → Changed → Type 0
+IsModified (Ok e) m = m ≡ Ok e
+IsModified (Err f) m = IsRefused f m

@@ -1,0 +1,42 @@
+//! Requests, answers, references and what agents know, as they are in memory and in messages (X.501, X.511, X.518, X.525).
+#![tactic(auto)]
+
+mod agents;
+mod answers;
+mod changes;
+mod entries;
+mod journal;
+mod knowledge;
+mod lists;
+pub mod problems;
+mod references;
+mod requests;
+mod statics;
+#[cfg(test)]
+mod tests;
+
+pub use agents::{AgentId, AgentList, AgentName, AgentNameList, AgentNames, MOST_AGENTS};
+pub use answers::{
+    Answer, DirError, EntryInfo, EntryList, Moment, Outcome, Reply, Source, SourceList, Sub,
+    SubList,
+};
+pub use changes::{ChangeFault, added_entry, change};
+pub use entries::{doubled, drop_value, has_rdn, put_value, with_rdn, with_values, without_rdn};
+pub use journal::{Fate, Journal, Line, LineList, Outage, Refreshed, Replanted};
+pub use knowledge::{
+    Access, AgentSpec, AgentSpecs, Content, ContextSpec, ContextSpecList, Cross, CrossList, Named,
+    NamedList, Nssr, NssrList, Refs, Specific, SpecificList, Step, StepList, Supplier,
+    SupplierList,
+};
+pub use lists::Listed;
+pub use references::{
+    AccessList, AccessPoint, Chained, Progress, RdnList, RefType, Reference, ReferenceList, Trace,
+    TraceItem,
+};
+pub use requests::{
+    Attribute, AttributeList, Body, Change, ChangeList, Controls, Request, Selection, Subset,
+    TypeList, ValueList,
+};
+pub use statics::{Refusal, adds_equal, fault_of};
+pub use x5_match::{Entry, Filter, holds};
+pub use x5_names::{Name, Rdn};
