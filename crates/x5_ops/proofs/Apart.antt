@@ -1,8 +1,7 @@
 -- Offered values of which no two are equal are kept in order.
-use Rattle.std.proofs.Common.{◌≡◌, ℕ, Bool, true, false, not, ◌&&◌, ◌||◌, ◌⊎◌, inl, inr, List, [], ◌∷◌, refl, sym, subst, Option, Some, None}
-use Rattle.std.specs.Prelude.{⊤}
+use Rattle.std.proofs.Common.{◌≡◌, ℕ, Bool, true, false, not, ◌||◌, ◌⊎◌, inl, inr, List, [], ◌∷◌, refl, sym, subst, Option, Some, None}
 use Rattle.std.specs.List.{filter_map}
-use Rattle.x5_model.specs.Words.{has, distinct, ascending, sorted}
+use Rattle.x5_model.specs.Words.{has, distinct, ascending}
 use Rattle.x5_model.specs.Members.{In}
 use Rattle.x5_model.specs.Values.{Value, StoredValue, Offered}
 use Rattle.x5_model.specs.Attributes.{value_below, stored_value, stored_values}

@@ -1,10 +1,9 @@
 -- Changes one after another.
-use Rattle.std.proofs.Common.{◌≡◌, List, [], ◌∷◌, refl, ap, sym, ◌∙◌, Result, Ok, Err}
+use Rattle.std.proofs.Common.{◌≡◌, List, [], ◌∷◌, refl, ap, sym, Ok, Err}
 use Rattle.x5_model.specs.Values.{StoredValue, Offered}
 use Rattle.x5_model.specs.Entries.{Entry}
-use Rattle.x5_model.specs.Requests.{Change}
 use Rattle.x5_model.specs.Answers.{DirError}
-use Rattle.x5_model.specs.Changes.{Changed, and_then, each_value, changed, changed_by}
+use Rattle.x5_model.specs.Changes.{Changed, and_then, each_value}
 
 and_done : (m : Changed) → and_then m (λ e. Ok e) ≡ m
 and_done (Ok e) = refl

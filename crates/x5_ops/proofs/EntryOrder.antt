@@ -1,9 +1,8 @@
 -- What is done to the attributes of an entry keeps their order and that of their values.
-use Rattle.std.proofs.Common.{◌≡◌, ℕ, Bool, true, false, not, ◌&&◌, ◌==◌, nat_lt, ◌⊎◌, inl, inr, List, [], ◌∷◌, refl, sym, ap, subst, ◌∙◌, arith, Option, Some, None, rules, IsTrue}
-use Rattle.std.specs.Cmp.{IsTotalOrder, nat_cmp_total}
+use Rattle.std.proofs.Common.{◌≡◌, ℕ, Bool, true, false, not, ◌&&◌, ◌==◌, nat_lt, ◌⊎◌, inl, inr, List, [], ◌∷◌, refl, sym, ap, subst, ◌∙◌, arith, Option, Some, None, rules}
 use Rattle.std.specs.Cmp.Rules.{comparing}
 use Rattle.std.specs.Cmp.Lexicographic.{nat_list_cmp_total, slice_cmp}
-use Rattle.std.specs.List.{filter, find, list_all}
+use Rattle.std.specs.List.{filter, list_all}
 use Rattle.std.specs.declared.cmp.Ordering.{Ordering}
 use Rattle.std.specs.declared.cmp.Ordering.TheVariants.{Less, Equal, Greater}
 use Rattle.std.specs.Ordering.{is_lt, ordering_reverse, eq_by_cmp, nat_cmp}

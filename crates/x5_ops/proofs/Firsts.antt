@@ -1,7 +1,7 @@
 -- Words on lists under a map.
-use Rattle.std.proofs.Common.{◌≡◌, ℕ, Bool, false, not, ◌&&◌, ◌||◌, List, [], ◌∷◌, map, refl, ap, ap₂, Option}
-use Rattle.x5_model.specs.Words.{has, distinct, in_option, same_octets}
-use Rattle.x5_model.specs.Values.{TypeRef, Value, Offered}
+use Rattle.std.proofs.Common.{◌≡◌, not, ◌&&◌, ◌||◌, List, [], ◌∷◌, map, refl, ap, ap₂}
+use Rattle.x5_model.specs.Words.{has, distinct}
+use Rattle.x5_model.specs.Values.{TypeRef, Value}
 use Rattle.x5_model.specs.Assertions.{offered, normal_for}
 use Rattle.x5_model.specs.Statics.{same_offered}
 use Rattle.x5_ops.specs.RefusalView.{same_normal}

@@ -1,5 +1,5 @@
 -- A member that is put into a list in order stands before the first that isn't below it.
-use Rattle.std.proofs.Common.{◌≡◌, ℕ, Bool, true, false, not, List, [], ◌∷◌, refl, ap, insert, one-add, length, ◌==◌, arith}
+use Rattle.std.proofs.Common.{◌≡◌, Bool, true, false, not, List, [], ◌∷◌, refl, ap, insert, one-add, length, ◌==◌, arith}
 use Rattle.std.specs.List.{position_or_len}
 use Rattle.x5_model.specs.Words.{insert_sorted, is_empty}
 

@@ -1,10 +1,9 @@
 -- What follows where there is no static refusal, and the first of refusals that follow one another.
-use Rattle.std.proofs.Common.{◌≡◌, ℕ, ◌-◌, Bool, true, false, not, ◌&&◌, ◌||◌, List, [], ◌∷◌, ◌++◌, map, length, slice_get, refl, sym, ap, ◌∙◌, Option, Some, None, is_some, arith}
+use Rattle.std.proofs.Common.{◌≡◌, ◌-◌, Bool, true, false, not, ◌&&◌, ◌||◌, List, [], ◌∷◌, ◌++◌, length, slice_get, refl, ap, Some, None, is_some, arith}
 use Rattle.std.specs.List.{list_all, flat_map}
 use Rattle.x5_model.specs.Words.{has, is_empty, first_of, when}
 use Rattle.x5_model.specs.Values.{TypeRef, Rdn, Name, last_rdn}
 use Rattle.x5_model.specs.Requests.{Attribute, Change}
-use Rattle.x5_model.specs.Answers.{DirError}
 use Rattle.x5_model.specs.Statics.{has_equal_values, attribute_repeats, change_repeats, repeated, same_type}
 use Rattle.x5_model.proofs.Lists.{and_true}
 

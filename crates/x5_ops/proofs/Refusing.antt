@@ -3,8 +3,8 @@ use Rattle.std.proofs.Common.{◌≡◌, ℕ, ◌+◌, ◌-◌, ◌<◌, Bool, t
 use Rattle.std.proofs.lemmas.Grind.{common_steps}
 use Rattle.std.specs.Option.{option_map}
 use Rattle.std.specs.List.{list_any}
-use Rattle.x5_model.specs.Words.{has, first_of, when}
-use Rattle.x5_model.specs.Values.{TypeRef, Rdn, Name, last_rdn}
+use Rattle.x5_model.specs.Words.{first_of, when}
+use Rattle.x5_model.specs.Values.{TypeRef, Name, last_rdn}
 use Rattle.x5_model.specs.Answers.{DirError}
 use Rattle.x5_model.specs.Statics as model
 use Rattle.x5_syntax.specs.TypeView.{type_view}

@@ -1,5 +1,5 @@
 -- What requests stand for.
-use Rattle.std.specs.Prelude.{Bool, List, map}
+use Rattle.std.specs.Prelude.{map}
 use Rattle.x5_model.specs.Values as values
 use Rattle.x5_model.specs.Assertions.{offered, assertion_of}
 use Rattle.x5_model.specs.Requests as model

@@ -1,5 +1,5 @@
 -- The attribute at the place is put in after those behind it.
-use Rattle.std.proofs.Common.{◌≡◌, not, ◌-◌, ◌∙◌, arith}
+use Rattle.std.proofs.Common.{not, ◌-◌, ◌∙◌, arith}
 use Rattle.x5_model.specs.Statics.{has_equal_values}
 use Rattle.x5_model.specs.Requests as requests
 use Rattle.x5_ops.specs.RequestViews.{attribute_view}

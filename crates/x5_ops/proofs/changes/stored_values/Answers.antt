@@ -1,7 +1,6 @@
 -- The value at the place comes before those behind it.
-use Rattle.std.proofs.Common.{◌≡◌, sym, ap, ◌∙◌, arith}
+use Rattle.std.proofs.Common.{sym, ap, ◌∙◌, arith}
 use Rattle.x5_model.specs.Words.{insert_sorted}
-use Rattle.x5_model.specs.Values.{StoredValue}
 use Rattle.x5_model.specs.Attributes.{value_below}
 use Rattle.x5_syntax.specs.ValueView.{value_view}
 use Rattle.x5_syntax.specs.declared.values.Value.{Value}

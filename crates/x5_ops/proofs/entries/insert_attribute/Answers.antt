@@ -1,5 +1,5 @@
 -- The attribute goes before the first of a type whose number isn't smaller.
-use Rattle.std.proofs.Common.{◌≡◌, ℕ, not, nat_lt, insert, sym, ◌∙◌, ap}
+use Rattle.std.proofs.Common.{not, nat_lt, insert, sym, ◌∙◌, ap}
 use Rattle.std.specs.List.{position_or_len}
 use Rattle.x5_model.specs.Entries.{Stored}
 use Rattle.x5_model.specs.Attributes.{kind_below}

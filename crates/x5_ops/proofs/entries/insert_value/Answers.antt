@@ -1,5 +1,5 @@
 -- The value goes before the first whose normal form isn't smaller.
-use Rattle.std.proofs.Common.{◌≡◌, not, insert, sym, ◌∙◌, ap}
+use Rattle.std.proofs.Common.{not, insert, sym, ◌∙◌, ap}
 use Rattle.std.specs.List.{position_or_len}
 use Rattle.x5_model.specs.Words.{octets_below}
 use Rattle.x5_model.specs.Values.{StoredValue}

@@ -1,5 +1,5 @@
 -- The new attributes are in order.
-use Rattle.std.proofs.Common.{◌≡◌, Bool, not, ◌==◌, if◌then◌else◌, List, sym, ◌∙◌, ap}
+use Rattle.std.proofs.Common.{not, ◌==◌, if◌then◌else◌, List, ◌∙◌, ap}
 use Rattle.std.specs.List.{filter}
 use Rattle.x5_model.specs.Words.{is_empty, insert_sorted}
 use Rattle.x5_model.specs.Entries.{Stored, Entry}

@@ -1,5 +1,5 @@
 -- The pair at the place is the next.
-use Rattle.std.proofs.Common.{◌≡◌, ◌+◌, List, drop, sym, ◌∙◌, ap}
+use Rattle.std.proofs.Common.{◌+◌, List, drop, sym, ◌∙◌, ap}
 use Rattle.x5_model.specs.Values.{Pair}
 use Rattle.x5_model.specs.Entries.{Entry}
 use Rattle.x5_model.specs.Attributes as model

@@ -1,5 +1,5 @@
 -- Attributes without repeats have no equal values.
-use Rattle.std.proofs.Common.{◌≡◌, List, [], map, sym, ap, ◌∙◌}
+use Rattle.std.proofs.Common.{List, [], map, sym, ap, ◌∙◌}
 use Rattle.x5_model.specs.Statics as model
 use Rattle.x5_model.specs.Words.{first_of}
 use Rattle.x5_ops.specs.RefusalView.{refusal_view}

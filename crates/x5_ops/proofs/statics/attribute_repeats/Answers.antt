@@ -1,5 +1,5 @@
 -- The first attribute that is repeated gives the refusal.
-use Rattle.std.proofs.Common.{◌≡◌, Some, ap, ◌∙◌}
+use Rattle.std.proofs.Common.{Some, ap, ◌∙◌}
 use Rattle.x5_ops.proofs.Refusing.{repeats_stop, repeats_step}
 use Rattle.x5_ops.proofs.statics.attribute_repeats.Goals as goal
 

@@ -1,5 +1,5 @@
 -- The first change that is refused gives the refusal.
-use Rattle.std.proofs.Common.{◌≡◌, List, map, refl, sym, ap, ◌∙◌}
+use Rattle.std.proofs.Common.{List, map, refl, sym, ◌∙◌}
 use Rattle.std.specs.List.{flat_map}
 use Rattle.x5_model.specs.Statics as model
 use Rattle.x5_ops.specs.RefusalView.{refusal_view}

@@ -1,5 +1,5 @@
 -- Values are apart where their normal forms are.
-use Rattle.std.proofs.Common.{◌≡◌, not, sym, ap, ◌∙◌}
+use Rattle.std.proofs.Common.{not, sym, ap, ◌∙◌}
 use Rattle.x5_model.specs.Words.{distinct}
 use Rattle.x5_syntax.specs.TypeView.{type_view}
 use Rattle.x5_syntax.specs.ValueView.{value_view}
