@@ -1,0 +1,10 @@
+pub mod Lookups
+pub mod Outcomes
+pub mod Trees
+pub mod Grounds
+pub mod Alike
+pub mod Moments
+pub mod Held
+pub mod Own
+pub mod Probes
+pub mod Judges

@@ -1,0 +1,20 @@
+use Rattle.x5_model_updates.proofs.Judges.{refuses_alike, accepts_alone, probes_new_name, accepts_probed, unable_masters_none, refuses_at_probed}
+use Rattle.x5_model_updates.proofs.judging.Goals as goal
+
+pub returns-clause-refuses : goal.returns-clause-refuses
+returns-clause-refuses c = refuses_alike
+
+pub returns-clause-accepts_alone : goal.returns-clause-accepts_alone
+returns-clause-accepts_alone c = accepts_alone
+
+pub returns-clause-probes : goal.returns-clause-probes
+returns-clause-probes c = probes_new_name
+
+pub returns-clause-accepts_probed : goal.returns-clause-accepts_probed
+returns-clause-accepts_probed c = accepts_probed
+
+pub returns-clause-unable : goal.returns-clause-unable
+returns-clause-unable c = unable_masters_none
+
+pub returns-clause-refuses_probed : goal.returns-clause-refuses_probed
+returns-clause-refuses_probed c = refuses_at_probed

@@ -1,0 +1,66 @@
+-- What the master of a context concludes of an update from what it has itself, and from the agents of an NSSR that it asked
+-- by probes (X.511, section 11; X.518, section 19.1).
+use Rattle.std.specs.Prelude.{◌≡◌, ℕ, true, false, List, [], length}
+use Rattle.std.specs.declared.option.Option.TheVariants.{Some}
+use Rattle.std.specs.declared.result.Result.TheVariants.{Ok, Err}
+use Rattle.x5_model.specs.Members.{In}
+use Rattle.x5_model.specs.Values.{Name, key_of}
+use Rattle.x5_model.specs.Entries.{Named}
+use Rattle.x5_model.specs.References.{Reference, Chained}
+use Rattle.x5_model.specs.Answers.{DirError, UpdateProblem}
+use Rattle.x5_model.specs.Problems.{entry_already_exists}
+use Rattle.x5_model_tree.specs.Tree.{Tree}
+use Rattle.x5_model_tree.specs.Masters.{masters, holds}
+use Rattle.x5_model_tree.specs.Ask.{is_update}
+use Rattle.x5_model_tree.specs.Apply.{Outcome, apply_over, apply}
+use Rattle.x5_model_run.specs.Holdings.{ground_at, holds_within}
+use Rattle.x5_model_run.specs.Needs.{target_of, resolves, new_name, due_probes}
+use Rattle.x5_model_run.specs.History.{Point, knowledge_at, tree_at, holdings_at}
+use Rattle.x5_model_run.specs.Right.{master_at}
+use Rattle.x5_model_updates.specs.Standing.{Stands}
+
+-- an update's message reached the master of its target's context, which resolves the name
+pub record IsJudge (p : Point) (o : ℕ) (m : Chained) : Type 0 where
+  pub stands : Stands p
+  pub update : is_update m.request.body ≡ true
+  pub target : key_of m.target ≡ key_of (target_of m.request.body)
+  pub resolving : resolves (holdings_at p o) m ≡ true
+  pub master : master_at p (key_of m.target) ≡ Some o
+
+-- what it makes of the update by its own entries, the pins that it knows and its NSSRs
+abbrev pub judged : Point → ℕ → Chained → Outcome
+judged p o m = apply_over (ground_at m.request (holdings_at p o)) m.request.body
+
+abbrev pub probes : Point → ℕ → Chained → List Reference
+probes p o m = due_probes (holdings_at p o) m
+
+-- 1. What it refuses, the whole tree refuses by the same error, with the same name as the matched one.
+abbrev pub RefusesAlike : Type 0
+RefusesAlike = (p : Point) (o : ℕ) (m : Chained) (x : DirError) → IsJudge p o m → judged p o m ≡ Err x → apply (tree_at p) m.request ≡ Err x
+
+-- 2. What it accepts, and no probe is due, the whole tree accepts.
+abbrev pub AcceptsAlone : Type 0
+AcceptsAlone = (p : Point) (o : ℕ) (m : Chained) (mine : List Named) → IsJudge p o m → judged p o m ≡ Ok mine → probes p o m ≡ []
+    → (t : Tree) × (apply (tree_at p) m.request ≡ Ok t)
+
+-- A probe asks for the new name, which is the key of its target.
+abbrev pub ProbesNewName : Type 0
+ProbesNewName = (p : Point) (o : ℕ) (m : Chained) (r : Reference) → In r (probes p o m)
+    → (name : Name) × (new_name m.request.body ≡ Some name) × (key_of r.target ≡ key_of name) × (length r.target ≡ length name)
+
+-- 3. What it accepts, and no agent that a probe is due at masters a context with the new name as its prefix, the whole tree
+-- accepts.
+abbrev pub AcceptsProbed : Type 0
+AcceptsProbed = (p : Point) (o : ℕ) (m : Chained) (mine : List Named) → IsJudge p o m → judged p o m ≡ Ok mine
+    → ((r : Reference) (a : ℕ) → In r (probes p o m) → In a r.agents → masters (knowledge_at p) a (key_of r.target) ≡ false)
+    → (t : Tree) × (apply (tree_at p) m.request ≡ Ok t)
+
+-- An agent that is unable to proceed with the probe holds nothing that goes as far, and so masters no such context.
+abbrev pub UnableMastersNone : Type 0
+UnableMastersNone = (p : Point) (a : ℕ) (name : Name) → Stands p → holds_within (holdings_at p a) (key_of name) (length name) ≡ false
+    → masters (knowledge_at p) a (key_of name) ≡ false
+
+-- 4. Where an agent that a probe is due at masters such a context or has a copy of it, the whole tree refuses.
+abbrev pub RefusesProbed : Type 0
+RefusesProbed = (p : Point) (o a : ℕ) (m : Chained) (r : Reference) → IsJudge p o m → In r (probes p o m) → In a r.agents
+    → holds (knowledge_at p) a (key_of r.target) ≡ true → apply (tree_at p) m.request ≡ Err (UpdateProblem entry_already_exists)

@@ -1,0 +1,16 @@
+//! What consistent knowledge gives updates. Each function here does nothing; its clauses are the theorems, which
+//! `proofs/` shows over the definitions.
+#![tactic(auto)]
+
+ghost use Rattle.x5_model_updates.specs.Judging.{RefusesAlike, AcceptsAlone, ProbesNewName, AcceptsProbed, UnableMastersNone, RefusesProbed};
+
+/// What the master of a context concludes of an update from its own entries, the pins that it knows, its NSSRs and its
+/// probes, holds of the whole tree (X.511, section 11; X.518, section 19.1).
+pub fn judging()
+    ensures refuses { RefusesAlike }
+    ensures accepts_alone { AcceptsAlone }
+    ensures probes { ProbesNewName }
+    ensures accepts_probed { AcceptsProbed }
+    ensures unable { UnableMastersNone }
+    ensures refuses_probed { RefusesProbed }
+{}
