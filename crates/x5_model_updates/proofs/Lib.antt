@@ -8,3 +8,7 @@ pub mod Held
 pub mod Own
 pub mod Probes
 pub mod Judges
+pub mod Renaming
+pub mod Listed
+pub mod Divided
+pub mod After

@@ -10,6 +10,7 @@ use Rattle.x5_model.specs.Requests.{Attribute, Change, Body, Request}
 use Rattle.x5_model.specs.Answers.{DirError, AttributeProblem, UpdateProblem}
 use Rattle.x5_model.specs.Problems.{constraint_violation, entry_already_exists, affects_multiple_dsas, not_allowed_on_non_leaf}
 use Rattle.x5_model.specs.Statics.{fault_of}
+use Rattle.x5_model.proofs.Lists.{true_or_false}
 use Rattle.x5_model_tree.specs.Tree.{Tree, key_at, entry_at, has_below, sorted_entries}
 use Rattle.x5_model_tree.specs.Apply.{Ground, Outcome, Applied, absent, above_pin, is_taken, at_entry, replace_at, add, remove, modify, rename, update, apply_over, apply, ground_of}
 use Rattle.x5_model_updates.specs.Afterwards.{new_entry, new_key, name_after}
@@ -193,3 +194,100 @@ tree_made t u r q =
   where
     inside : {x y : Tree} → ok_tree x ≡ ok_tree y → x ≡ y
     inside e = cc
+
+-- ---- what was accepted passed each test
+
+abbrev ok_changed : Entry → Changed
+ok_changed e = Ok e
+
+abbrev pub ok_list : List Named → Outcome
+ok_list es = Ok es
+
+pub same_list : (a b : List Named) → ok_list a ≡ ok_list b → a ≡ b
+same_list a b e = cc
+
+pub record Added (g : Ground) (name : Name) (attributes : List Attribute) (us : List Named) : Type 0 where
+  pub above : Named
+  pub there : entry_at g.entries (parent (key_of name)) ≡ Some above
+  pub free : is_taken g (key_of name) ≡ false
+  pub made : us ≡ sorted_entries (g.entries ++ new_entry above name attributes ∷ [])
+
+pub added : (g : Ground) (name : Name) (attributes : List Attribute) (us : List Named) → add g name attributes ≡ Ok us → Added g name attributes us
+added g name attributes us h =
+    elim (none_or_some (entry_at g.entries (parent (key_of name)))) [
+      | inl q ↦ (let f = add_none g name attributes q in cc)
+      | inr e ↦ elim (true_or_false (is_taken g (key_of name))) [
+        | inl b ↦ (let f = add_taken g name attributes e.0 e.1 b in cc)
+        | inr b ↦ record { above = e.0; there = e.1; free = b; made = same_list us (sorted_entries (g.entries ++ new_entry e.0 name attributes ∷ [])) (sym h ∙ add_free g name attributes e.0 e.1 b) }
+      ]
+    ]
+
+pub record Removed (g : Ground) (name : Name) (us : List Named) : Type 0 where
+  pub at : Named
+  pub there : entry_at g.entries (key_of name) ≡ Some at
+  pub above : above_pin g (key_of name) ≡ false
+  pub below : has_below g.entries (key_of name) ≡ false
+  pub made : us ≡ left_out g name
+
+pub removed : (g : Ground) (name : Name) (us : List Named) → remove g name ≡ Ok us → Removed g name us
+removed g name us h =
+    elim (none_or_some (entry_at g.entries (key_of name))) [
+      | inl q ↦ (let f = remove_none g name q in cc)
+      | inr e ↦ elim (true_or_false (above_pin g (key_of name))) [
+        | inl b ↦ (let f = remove_some g name e.0 true (has_below g.entries (key_of name)) e.1 b refl in cc)
+        | inr b ↦ elim (true_or_false (has_below g.entries (key_of name))) [
+          | inl d ↦ (let f = remove_some g name e.0 false true e.1 b d in cc)
+          | inr d ↦ record { at = e.0; there = e.1; above = b; below = d; made = same_list us (left_out g name) (sym h ∙ remove_some g name e.0 false false e.1 b d) }
+        ]
+      ]
+    ]
+
+pub record Modified (g : Ground) (name : Name) (changes : List Change) (us : List Named) : Type 0 where
+  pub at : Named
+  pub new : Entry
+  pub there : entry_at g.entries (key_of name) ≡ Some at
+  pub done : modified (last_rdn name) changes at.entry ≡ Ok new
+  pub made : us ≡ replace_at (key_of name) (record at { entry = new }) g.entries
+
+pub changed_so : (g : Ground) (name : Name) (changes : List Change) (us : List Named) → modify g name changes ≡ Ok us → Modified g name changes us
+changed_so g name changes us h =
+    elim (none_or_some (entry_at g.entries (key_of name))) [
+      | inl q ↦ (let f = modify_none g name changes q in cc)
+      | inr e ↦ elim (ok_or_err (modified (last_rdn name) changes e.0.entry)) [
+        | inl v ↦ record { at = e.0; new = v.0; there = e.1; done = v.1; made = same_list us (replace_at (key_of name) (record e.0 { entry = v.0 }) g.entries) (sym h ∙ modify_some g name changes e.0 (Ok v.0) e.1 v.1) }
+        | inr y ↦ (let f = modify_some g name changes e.0 (Err y.0) e.1 y.1 in cc)
+      ]
+    ]
+
+pub record Renamed (g : Ground) (name : Name) (rdn : Rdn) (drops : Bool) (us : List Named) : Type 0 where
+  pub at : Named
+  pub there : entry_at g.entries (key_of name) ≡ Some at
+  pub above : above_pin g (key_of name) ≡ false
+  pub single : single_valued (renamed (last_rdn name) rdn drops at.entry) ≡ Ok (renamed (last_rdn name) rdn drops at.entry)
+  pub free : clashes g name rdn ≡ false
+  pub made : us ≡ sorted_entries (map (moved_entry name rdn (renamed (last_rdn name) rdn drops at.entry)) g.entries)
+
+pub renamed_so : (g : Ground) (name : Name) (rdn : Rdn) (drops : Bool) (us : List Named) → rename g name rdn drops ≡ Ok us → Renamed g name rdn drops us
+renamed_so g name rdn drops us h =
+    elim (none_or_some (entry_at g.entries (key_of name))) [
+      | inl q ↦ (let f = rename_none g name rdn drops q in cc)
+      | inr e ↦ elim (true_or_false (above_pin g (key_of name))) [
+        | inl b ↦ (let f = rename_some g name rdn drops e.0 true (single_valued (renamed (last_rdn name) rdn drops e.0.entry)) (clashes g name rdn) e.1 b refl refl in cc)
+        | inr b ↦ elim (ok_or_err (single_valued (renamed (last_rdn name) rdn drops e.0.entry))) [
+          | inr y ↦ (let f = rename_some g name rdn drops e.0 false (Err y.0) (clashes g name rdn) e.1 b y.1 refl in cc)
+          | inl v ↦ elim (true_or_false (clashes g name rdn)) [
+            | inl d ↦ (let f = rename_some g name rdn drops e.0 false (Ok v.0) true e.1 b v.1 d in cc)
+            | inr d ↦
+                let same : renamed (last_rdn name) rdn drops e.0.entry ≡ v.0 = single_is (renamed (last_rdn name) rdn drops e.0.entry) v.0 v.1 in
+                record {
+                  at = e.0;
+                  there = e.1;
+                  above = b;
+                  single = v.1 ∙ ap ok_changed (sym same);
+                  free = d;
+                  made = same_list us (sorted_entries (map (moved_entry name rdn v.0) g.entries)) (sym h ∙ rename_some g name rdn drops e.0 false (Ok v.0) false e.1 b v.1 d) ∙ ap (λ (x : Entry). sorted_entries (map (moved_entry name rdn x) g.entries)) (sym same);
+                }
+          ]
+        ]
+      ]
+    ]

@@ -7,7 +7,7 @@ use Rattle.x5_model.proofs.Lists.{in_map, of_map, in_filter, of_filter}
 use Rattle.x5_model.proofs.Prefixes.{prefix_length, prefix_itself, prefix_chain, prefix_by_length, same_by_length, parent_length, prefix_of_parent}
 use Rattle.x5_model_tree.specs.Tree.{Tree, key_at, belongs, part}
 use Rattle.x5_model_tree.proofs.Longest.{IsLongest, belongs_decides}
-use Rattle.x5_model_theory.specs.Knowledge.{Knowledge, Area}
+use Rattle.x5_model_theory.specs.Knowledge.{Knowledge, Area, IsEntry}
 use Rattle.x5_model_theory.specs.Coherent.{Coherent}
 use Rattle.x5_model_theory.proofs.Cohering.{one_master}
 use Rattle.x5_model_theory.proofs.Deciding.{dec_nat}
@@ -81,6 +81,25 @@ module _ (k : Knowledge) (good : Coherent k) where
       shorter zero b = inl (omega arith)
       shorter (suc a) zero = inr (omega arith)
       shorter (suc a) (suc b) = elim (shorter a b) [ inl h ↦ inl (omega arith) | inr h ↦ inr (omega arith) ]
+
+  -- what stands above an entry is an entry
+  pub above_entry : (bound : ℕ) (x n : Key) → length x ≤ bound → IsEntry k x → IsPrefix n x → 0 < length n → IsEntry k n
+  above_entry zero x n small there p full = (let a : length n ≤ length x = prefix_length n x p in absurd (omega arith))
+  above_entry (suc bound) x n small there p full =
+      let le : length n ≤ length x = prefix_length n x p in
+      elim (dec_nat (length n) (length x)) [
+        | inl same ↦ subst (λ (y : Key). IsEntry k y) (sym (same_by_length n x x p (prefix_itself x) same)) there
+        | inr other ↦
+            let up : IsPrefix n (parent x) = prefix_of_parent n x p (omega (arith, other)) in
+            let pl : length (parent x) + 1 ≡ length x = parent_length x (omega arith) in
+            elim (good.closed there.0 x there.1 there.2) [
+              | inl s ↦ elim (good.parents there.0 there.1) [
+                | inl one ↦ (let l : length x ≡ length there.0.prefix = ap length s in absurd (omega (arith, other)))
+                | inr u ↦ above_entry bound (parent x) n (omega arith) (subst (λ (y : Key). IsEntry k (parent y)) (sym s) u) up full
+              ]
+              | inr u ↦ above_entry bound (parent x) n (omega arith) (there.0, there.1, u) up full
+            ]
+      ]
 
 -- ---- the tree
 

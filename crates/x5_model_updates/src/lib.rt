@@ -2,6 +2,7 @@
 //! `proofs/` shows over the definitions.
 #![tactic(auto)]
 
+ghost use Rattle.x5_model_updates.specs.Afterwards.{EntriesAfter, KeysAfter, PartsAfter};
 ghost use Rattle.x5_model_updates.specs.Judging.{RefusesAlike, AcceptsAlone, ProbesNewName, AcceptsProbed, UnableMastersNone, RefusesProbed};
 
 /// What the master of a context concludes of an update from its own entries, the pins that it knows, its NSSRs and its
@@ -13,4 +14,11 @@ pub fn judging()
     ensures accepts_probed { AcceptsProbed }
     ensures unable { UnableMastersNone }
     ensures refuses_probed { RefusesProbed }
+{}
+
+/// What the one tree has after an accepted update: entry by entry, key by key, and context by context (X.511, section 11).
+pub fn afterwards()
+    ensures entries { EntriesAfter }
+    ensures keys { KeysAfter }
+    ensures parts { PartsAfter }
 {}
