@@ -6,7 +6,7 @@ use Rattle.x5_model.proofs.Lists.{in_map, of_map}
 use Rattle.x5_model.proofs.Prefixes.{prefix_length, prefix_itself, prefix_chain, parent_length, parent_is_prefix, prefix_of_parent, same_by_length, prefix_decides, prefix_by_length}
 use Rattle.x5_model_theory.specs.Knowledge.{Knowledge, Area, Spot, Pointer, IsEntry, IsMastered, IsReferred}
 use Rattle.x5_model_theory.specs.Coherent.{Coherent, Climbs, climbs, IsFed, fed}
-use Rattle.x5_model_theory.specs.Changing.{holding, with_entries, AddingKeeps, RemovingKeeps, moved, Renames, RenamingKeeps}
+use Rattle.x5_model_theory.specs.Changing.{holding, with_entries, AddingKeeps, RemovingKeeps, moved, Renames, RenamingKeeps, ReorderingKeeps}
 use Rattle.x5_model_theory.proofs.Deciding.{dec_nat, dec_key}
 use Rattle.x5_model_theory.proofs.Tests.{each_map}
 
@@ -367,3 +367,23 @@ module _ (k : Knowledge) (f : Area → List Key) (e n : Key) (good : Coherent k)
 
 pub renaming_keeps : RenamingKeeps
 renaming_keeps k f e n good r = renamed k f e n good r
+
+-- the same entries in another order
+pub reordering_keeps : ReorderingKeeps
+reordering_keeps k f good r = kept k f good (record {
+  headed = λ d i. to d d.prefix i (good.headed d i);
+  below = λ d x i j. good.below d x i (of d x i j);
+  closed = λ d x i j. elim (good.closed d x i (of d x i j)) [ inl s ↦ inl s | inr u ↦ inr (to d (parent x) i u) ];
+  apart = r.once;
+  nssr_at = λ d n i j. to d n.at i (good.nssr_at d n i j);
+  parents = λ d i. elim (good.parents d i) [ inl s ↦ inl s | inr u ↦ inr (u.0, u.1, to u.0 (parent d.prefix) u.1 u.2) ];
+  no_longer = λ d q x i iq j p. good.no_longer d q x i iq (of d x i j) p;
+  placed = λ p i. elim (good.subordinate_placed p i) [ inl u ↦ inl (u.0, u.1, u.2, to u.0 (parent p.pin) u.1 u.3) | inr h ↦ inr h ];
+  known = λ d q i iq j. good.known_below d q i iq (of d (parent q.prefix) i j);
+})
+  where
+    to : (d : Area) (x : Key) → In d k.areas → In x d.entries → In x (f d)
+    to d x i j = (r.members d x i).1 j
+
+    of : (d : Area) (x : Key) → In d k.areas → In x (f d) → In x d.entries
+    of d x i j = (r.members d x i).0 j

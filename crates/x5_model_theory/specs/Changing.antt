@@ -50,3 +50,11 @@ pub record Renames (k : Knowledge) (f : Area → List Key) (e n : Key) : Type 0 
 
 abbrev pub RenamingKeeps : Type 0
 RenamingKeeps = (k : Knowledge) (f : Area → List Key) (e n : Key) → Coherent k → Renames k f e n → Coherent (with_entries f k)
+
+-- the same entries, maybe in another order
+pub record Reorders (k : Knowledge) (f : Area → List Key) : Type 0 where
+  pub members : (d : Area) (x : Key) → In d k.areas → In x (f d) ↔ In x d.entries
+  pub once : (d : Area) → In d k.areas → Once (f d)
+
+abbrev pub ReorderingKeeps : Type 0
+ReorderingKeeps = (k : Knowledge) (f : Area → List Key) → Coherent k → Reorders k f → Coherent (with_entries f k)

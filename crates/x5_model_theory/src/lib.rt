@@ -5,7 +5,7 @@
 ghost use Rattle.x5_model_theory.specs.Coherent.{ConsistentIsCoherent};
 ghost use Rattle.x5_model_theory.specs.Scopes.{AllAreTaken, NoMoreAreTaken, SpotsApart, WideSpotsApart, SpecificApart, MixedApart, NonSpecificApart};
 ghost use Rattle.x5_model_theory.specs.Looking.{BaseMayLook, RootMayLook, PinsMayLook, EntriesAreTouched, SpecificLeads, NonSpecificLeads, SameEntries, SameWideEntries, SpecificCovers, NonSpecificCovers};
-ghost use Rattle.x5_model_theory.specs.Changing.{AddingKeeps, RemovingKeeps, RenamingKeeps};
+ghost use Rattle.x5_model_theory.specs.Changing.{AddingKeeps, RemovingKeeps, RenamingKeeps, ReorderingKeeps};
 ghost use Rattle.x5_model_theory.specs.Leading.{NeverLower, LowerChain, NoLoop, ResolutionLeads, PartsLead, CopiesLead, FollowedIsPlaced, TracesRise, NoItemTwice};
 
 /// Consistent knowledge gives the facts by keys on which the rest stands: of contexts, references, superiors and agreements.
@@ -54,10 +54,11 @@ pub fn leading()
     ensures no_item_twice { NoItemTwice }
 {}
 
-/// An entry more below an entry, an entry less that is no pin, above no pin and above no entry, and another last RDN of
-/// an entry that is no pin and above none, keep knowledge coherent (X.511, section 11).
+/// An entry more below an entry, an entry less that is no pin, above no pin and above no entry, another last RDN of an
+/// entry that is no pin and above none, and another order of entries, keep knowledge coherent (X.511, section 11).
 pub fn changing()
     ensures adding { AddingKeeps }
     ensures removing { RemovingKeeps }
     ensures renaming { RenamingKeeps }
+    ensures reordering { ReorderingKeeps }
 {}

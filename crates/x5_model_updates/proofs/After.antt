@@ -1,5 +1,5 @@
 -- The tree after an accepted update: its entries, its keys, and its parts.
-use Rattle.std.proofs.Common.{◌≡◌, ◌≢◌, true, ◌↔◌, List, refl, sym, ap, subst, ◌∙◌, Some, Ok}
+use Rattle.std.proofs.Common.{◌≡◌, ◌≢◌, true, ◌⊎◌, ◌↔◌, inl, inr, List, refl, sym, ap, subst, ◌∙◌, Some, Ok}
 use Rattle.x5_model.specs.Words.{ascending}
 use Rattle.x5_model.specs.Members.{In}
 use Rattle.x5_model.specs.Keys.{Key, parent}
@@ -23,7 +23,7 @@ use Rattle.x5_model_updates.proofs.Lookups.{entry_found}
 use Rattle.x5_model_updates.proofs.Outcomes.{ok_list, same_list, added, removed, changed_so, renamed_so, over_update, accepted_over, tree_made}
 use Rattle.x5_model_updates.proofs.Trees.{area_of_entry, longest_own, of_part, in_part}
 use Rattle.x5_model_updates.proofs.Listed.{Gives, KeyFacts, keys_listed}
-use Rattle.x5_model_updates.proofs.Divided.{Made, add_made, remove_made, modify_made, rename_made}
+use Rattle.x5_model_updates.proofs.Divided.{Made, one_pin, add_made, remove_made, modify_made, rename_made}
 
 module _ (k : Knowledge) (t : Tree) (good : Coherent k) (is : IsTreeOf k t) where
   -- the context of an entry that is found
@@ -84,7 +84,7 @@ module _ (k : Knowledge) (t : Tree) (good : Coherent k) (is : IsTreeOf k t) wher
     of_new_part : (q : Key) (e : Named) → In e (part U q) → In e us × IsLongest t.pins (key_at e) (Some q)
     of_new_part q e j = (let w = of_filter (λ (x : Named). belongs t.pins q (key_at x)) e us j in (w.0, (belongs_decides t.pins q (key_at e)).0 w.1))
 
-    in_new_part : (q : Key) (e : Named) → In e us → IsLongest t.pins (key_at e) (Some q) → In e (part U q)
+    pub in_new_part : (q : Key) (e : Named) → In e us → IsLongest t.pins (key_at e) (Some q) → In e (part U q)
     in_new_part q e j l = in_filter (λ (x : Named). belongs t.pins q (key_at x)) e us j ((belongs_decides t.pins q (key_at e)).1 l)
 
     new_in_order : (q : Key) → ascending named_below (part U q) ≡ true
@@ -102,8 +102,12 @@ module _ (k : Knowledge) (t : Tree) (good : Coherent k) (is : IsTreeOf k t) wher
     pub other_part : (q : Key) → q ≢ c.prefix → part U q ≡ part t q
     other_part q o =
         one_list_of_entries (part U q) (part t q) (new_in_order q) (old_in_order q)
-        (λ e j. (let w = of_new_part q e j in in_part k t good is q e (m.others_to e q o w.1 ((m.gives.1 e).0 w.0)) w.1))
-        (λ e j. (let w = of_part k t good is q e j in in_new_part q e ((m.gives.1 e).1 (m.others_from e q o w.1 w.0)) w.1))
+        (λ e j. (let w = of_new_part q e j in in_part k t good is q e (old q o e w.1 (m.covered e ((m.gives.1 e).0 w.0))) w.1))
+        (λ e j. (let w = of_part k t good is q e j in in_new_part q e ((m.gives.1 e).1 (m.others e q o w.1 w.0)) w.1))
+      where
+        old : (q : Key) → q ≢ c.prefix → (e : Named) → IsLongest t.pins (key_at e) (Some q) → In e t.entries ⊎ IsLongest t.pins (key_at e) (Some c.prefix) → In e t.entries
+        old q o e l (inl j) = j
+        old q o e l (inr m) = absurd (o (one_pin t.pins (key_at e) q c.prefix l m))
 
 pub entries_after : EntriesAfter
 entries_after k t u r good is h =

@@ -12,3 +12,6 @@ pub mod Renaming
 pub mod Listed
 pub mod Divided
 pub mod After
+pub mod Keeps
+pub mod Stood
+pub mod Union

@@ -3,6 +3,9 @@
 #![tactic(auto)]
 
 ghost use Rattle.x5_model_updates.specs.Afterwards.{EntriesAfter, KeysAfter, PartsAfter};
+ghost use Rattle.x5_model_run.specs.Right.{AnswersRight};
+ghost use Rattle.x5_model_updates.specs.Keeping.{UpdatesKeep, LinesStand, RunsStand};
+ghost use Rattle.x5_model_updates.specs.Standing.{TreeIsUnion};
 ghost use Rattle.x5_model_updates.specs.Judging.{RefusesAlike, AcceptsAlone, ProbesNewName, AcceptsProbed, UnableMastersNone, RefusesProbed};
 
 /// What the master of a context concludes of an update from its own entries, the pins that it knows, its NSSRs and its
@@ -21,4 +24,13 @@ pub fn afterwards()
     ensures entries { EntriesAfter }
     ensures keys { KeysAfter }
     ensures parts { PartsAfter }
+{}
+
+/// Accepted updates keep knowledge coherent, so it is at each line of a run, where the one tree is the union of the
+/// masters' parts (X.501, section 22).
+pub fn keeping()
+    ensures updates { UpdatesKeep }
+    ensures lines { LinesStand }
+    ensures runs { RunsStand AnswersRight }
+    ensures union { TreeIsUnion }
 {}
