@@ -4,8 +4,9 @@ use Rattle.x5_model.specs.Members.{In, Once}
 use Rattle.x5_model.specs.Keys.{Key, IsPrefix, parent}
 use Rattle.x5_model.specs.Values.{Rdn, Name, key_of}
 use Rattle.x5_model.specs.Entries.{Named}
+use Rattle.x5_model.specs.Attributes.{is_ordered}
 use Rattle.x5_model.specs.Requests.{Attribute, Body, Read, Compare, ListBelow, Search, AddEntry, RemoveEntry, ModifyEntry, ModifyDn}
-use Rattle.x5_model.proofs.Lists.{true_or_false, in_map, of_map}
+use Rattle.x5_model.proofs.Lists.{true_or_false, in_map, of_map, of_all, all_in}
 use Rattle.x5_model.proofs.Prefixes.{prefix_length, prefix_itself, same_by_length}
 use Rattle.x5_model.proofs.Ascending.{filter_ascending}
 use Rattle.x5_model_tree.specs.Tree.{Tree, key_at, keys_of, named_below, has_below, belongs, part}
@@ -23,7 +24,7 @@ use Rattle.x5_model_theory.proofs.Cohering.{one_master}
 use Rattle.x5_model_theory.proofs.Changes.{adding_keeps, removing_keeps, renaming_keeps, reordering_keeps}
 use Rattle.x5_model_updates.specs.Standing.{IsTreeOf}
 use Rattle.x5_model_updates.specs.Afterwards.{IsKeyAfter, new_key}
-use Rattle.x5_model_updates.specs.Keeping.{keys_in, UpdatesKeep}
+use Rattle.x5_model_updates.specs.Keeping.{keys_in, UpdatesKeep, OrderStays}
 use Rattle.x5_model_updates.proofs.Lookups.{once_keys}
 use Rattle.x5_model_updates.proofs.Outcomes.{same_list, added, removed, renamed_so, accepted_over, tree_made}
 use Rattle.x5_model_updates.proofs.Trees.{one_area, entry_filled, of_part, entry_in_area, area_of_entry}
@@ -31,9 +32,10 @@ use Rattle.x5_model_updates.proofs.Grounds.{has_below_decides}
 use Rattle.x5_model_updates.proofs.Alike.{new_key_parent, new_key_filled}
 use Rattle.x5_model_updates.proofs.Moments.{map_map}
 use Rattle.x5_model_updates.proofs.Renaming.{moved_goes, moved_stays}
+use Rattle.x5_model_updates.proofs.Ordered.{after_ordered}
 use Rattle.x5_model_updates.proofs.Listed.{keys_listed}
 use Rattle.x5_model_updates.proofs.Divided.{behind, Made, not_entry, no_pin_under, free_name, under_own}
-use Rattle.x5_model_updates.proofs.After.{target_in, made_by, own_part, other_part, in_new_part}
+use Rattle.x5_model_updates.proofs.After.{target_in, made_by, gives_by, own_part, other_part, in_new_part}
 
 -- a name that moves to itself stays
 moved_same : (e x : Key) → moved e e x ≡ x
@@ -221,3 +223,11 @@ updates_keep k t u r good is h =
       | inr asks ↦ subst (λ (es : List Named). Coherent (with_entries (keys_in (record t { entries = es })) k) × IsTreeOf (with_entries (keys_in (record t { entries = es })) k) (record t { entries = es }))
           (query_same k t u.entries good is r.body asks v.1) (same_stands k t good is)
     ])
+
+pub order_stays : OrderStays
+order_stays k t u r good is ordered h =
+    let w = tree_made t u r h in
+    let v = accepted_over (ground_of t) r.body u.entries w.0 in
+    let g = gives_by k t good is r.body u.entries v.1 in
+    all_in (λ (e : Named). is_ordered e.entry) u.entries
+    (λ e i. after_ordered t.entries r.body v.0 (λ f j. of_all (λ (x : Named). is_ordered x.entry) f t.entries ordered j) e ((g.0.1 e).0 i))

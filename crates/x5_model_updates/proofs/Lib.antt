@@ -15,3 +15,6 @@ pub mod After
 pub mod Keeps
 pub mod Stood
 pub mod Union
+pub mod EntryOrder
+pub mod Ordered
+pub mod Goods

@@ -1,8 +1,10 @@
 -- What a line of a run over consistent knowledge finds.
-use Rattle.std.proofs.Common.{◌≡◌, ℕ, inl, inr, List, [], ◌∷◌, map, reverse, refl, sym, ap, subst, ◌∙◌, Ok, Err}
+use Rattle.std.proofs.Common.{◌≡◌, true, ℕ, inl, inr, List, [], ◌∷◌, map, reverse, refl, sym, ap, subst, ◌∙◌, Ok, Err}
+use Rattle.std.specs.List.{list_all}
 use Rattle.x5_model.specs.Members.{In, Once}
 use Rattle.x5_model.specs.Keys.{Key}
 use Rattle.x5_model.specs.Entries.{Named}
+use Rattle.x5_model.specs.Attributes.{is_ordered}
 use Rattle.x5_model.specs.Requests.{Request}
 use Rattle.x5_model.proofs.Lists.{in_map, of_map}
 use Rattle.x5_model.proofs.Ascending.{filter_ascending, of_sorted, in_sorted}
@@ -16,7 +18,7 @@ use Rattle.x5_model_tree.specs.Apply.{Applied, apply}
 use Rattle.x5_model_tree.proofs.Order.{named_chain}
 use Rattle.x5_model_tree.proofs.Exact.{conditions_hold}
 use Rattle.x5_model_tree.proofs.Gives.{consistent_is_good}
-use Rattle.x5_model_tree.proofs.WholeTree.{of_whole, whole_in_order, part_is_context}
+use Rattle.x5_model_tree.proofs.WholeTree.{whole_is_tree, of_whole, whole_in_order, part_is_context}
 use Rattle.x5_model_run.specs.Refresh.{RefreshOutcome, Done, Unheard, Problem, Missed, NotConsistent}
 use Rattle.x5_model_run.specs.History.{Deed, Nothing, Outs, Loses, Accepts, Refreshes, Splits, Unsplits, Did, Acceptance, tree_with, tree_accepting, tree_after, tree_by, knowledge_after, knowledge_by}
 use Rattle.x5_model_run.specs.Run.{Command, Blank, Asks, Changes, Drops, Updates, Block, Silent, Set, Replies, Refreshing, Judge, refreshed_by, did_by, IsRun, begin, next}
@@ -31,11 +33,11 @@ use Rattle.x5_model_updates.specs.Keeping.{keys_in, MovesNone, NoneMoved, LinesS
 use Rattle.x5_model_updates.proofs.Lookups.{once_keys}
 use Rattle.x5_model_updates.proofs.Outcomes.{ok_or_err}
 use Rattle.x5_model_updates.proofs.Moments.{map_map, with_tree, knowledge_now, again}
-use Rattle.x5_model_updates.proofs.Keeps.{updates_keep}
+use Rattle.x5_model_updates.proofs.Keeps.{updates_keep, order_stays}
 
 -- this knowledge, with the parts of the tree, is coherent, and the tree is of it
 abbrev StandsWith : Knowledge → Tree → Type 0
-StandsWith k t = Coherent (with_entries (keys_in t) k) × IsTreeOf (with_entries (keys_in t) k) t
+StandsWith k t = Coherent (with_entries (keys_in t) k) × IsTreeOf (with_entries (keys_in t) k) t × (list_all (λ (e : Named). is_ordered e.entry) t.entries ≡ true)
 
 -- ---- as the world is described
 
@@ -75,7 +77,8 @@ module _ (w : World) (described : IsDescribed w) (consistent : IsConsistent w) w
         subst (λ (es : List Named). In e es) (sym (part_is_context w good once_pins m.0 m.1)) (in_sorted named_below e m.0.context.entries m.2),
       ));
     },
-  )
+        (whole_is_tree w good once_pins).ordered,
+      )
 
 -- ---- line by line
 
@@ -89,7 +92,7 @@ module _ (k : Knowledge) where
       elim (ok_or_err (apply t r)) [
         | inl u ↦
             let v = updates_keep (with_entries (keys_in t) k) t u.0 r s.0 s.1 u.1 in
-            subst (λ (x : Tree). StandsWith k x) (sym (ap (or_left t) u.1)) (subst (λ (x : Knowledge). Coherent x × IsTreeOf x u.0) (again t u.0 k) v)
+            subst (λ (x : Tree). StandsWith k x) (sym (ap (or_left t) u.1)) (subst (λ (x : Knowledge). Coherent x × IsTreeOf x u.0 × (list_all (λ (e : Named). is_ordered e.entry) u.0.entries ≡ true)) (again t u.0 k) (v.0, v.1, order_stays (with_entries (keys_in t) k) t u.0 r s.0 s.1 s.2 u.1))
         | inr x ↦ subst (λ (y : Tree). StandsWith k y) (sym (ap (or_left t) x.1)) s
       ]
 
@@ -134,6 +137,7 @@ lines_stand w past described consistent none =
       described = subst (λ (x : World). IsDescribed x) (sym same) described;
       consistent = subst (λ (x : World). IsConsistent x) (sym same) consistent;
       coherent = subst (λ (x : Knowledge). Coherent x) (sym now) s.0;
+      ordered = s.2;
       tree = subst (λ (x : Knowledge). IsTreeOf x (tree_by w past)) (sym now) s.1;
     }
 

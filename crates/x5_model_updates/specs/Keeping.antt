@@ -1,8 +1,10 @@
 -- Accepted updates keep knowledge consistent: at every line of a run.
-use Rattle.std.specs.Prelude.{◌≡◌, ⊤, List, [], ◌∷◌}
+use Rattle.std.specs.Prelude.{◌≡◌, true, ⊤, List, [], ◌∷◌}
 use Rattle.std.specs.declared.result.Result.TheVariants.{Ok}
+use Rattle.std.specs.List.{list_all}
 use Rattle.x5_model.specs.Keys.{Key}
 use Rattle.x5_model.specs.Requests.{Request}
+use Rattle.x5_model.specs.Attributes.{is_ordered}
 use Rattle.x5_model_tree.specs.World.{World}
 use Rattle.x5_model_tree.specs.Tree.{Tree, keys_of, part}
 use Rattle.x5_model_tree.specs.Consistent.{IsConsistent}
@@ -23,6 +25,11 @@ keys_in t c = keys_of (part t c.prefix)
 abbrev pub UpdatesKeep : Type 0
 UpdatesKeep = (k : Knowledge) (t u : Tree) (r : Request) → Coherent k → IsTreeOf k t → apply t r ≡ Ok u
     → Coherent (with_entries (keys_in u) k) × IsTreeOf (with_entries (keys_in u) k) u
+
+-- And entries stay in order: their attributes by type, and the values of each by their normal forms.
+abbrev pub OrderStays : Type 0
+OrderStays = (k : Knowledge) (t u : Tree) (r : Request) → Coherent k → IsTreeOf k t → list_all (λ e. is_ordered e.entry) t.entries ≡ true → apply t r ≡ Ok u
+    → list_all (λ e. is_ordered e.entry) u.entries ≡ true
 
 -- no context was moved
 abbrev pub MovesNone : Deed → Type 0
@@ -45,7 +52,3 @@ LinesStand = (w : World) (past : List Did) → IsDescribed w → IsConsistent w 
 abbrev pub RunsStand : Judge → Type 0
 RunsStand judge = (w : World) (commands : List Command) (blocks : List Block) (past : List Did) → IsDescribed w → IsConsistent w
     → IsRun judge w commands blocks past → Stands (record { described = w; past = past })
-
--- 3. The ten conditions hold of the world with the entries of the moment.
-abbrev pub StandsIsConsistent : Type 0
-StandsIsConsistent = (p : Point) → Stands p → IsConsistent (world_at p)

@@ -1,12 +1,15 @@
 -- What a line of a run over consistent knowledge finds: knowledge that still meets its conditions, with the entries of the
 -- moment, and the one tree as the union of the masters' parts (X.501, section 22).
 use Rattle.std.specs.Prelude.{◌≡◌, true, map}
+use Rattle.std.specs.List.{list_all}
 use Rattle.x5_model.specs.Words.{ascending}
 use Rattle.x5_model.specs.Members.{In}
 use Rattle.x5_model.specs.Entries.{Named}
-use Rattle.x5_model_tree.specs.Tree.{Tree, keys_of, named_below, part}
+use Rattle.x5_model.specs.Attributes.{is_ordered}
+use Rattle.x5_model_tree.specs.Tree.{Tree, IsTree, keys_of, named_below, part}
 use Rattle.x5_model_tree.specs.Masters.{whole}
 use Rattle.x5_model_tree.specs.Consistent.{IsConsistent}
+use Rattle.x5_model_tree.specs.Good.{Good}
 use Rattle.x5_model_tree.specs.Described.{IsDescribed}
 use Rattle.x5_model_run.specs.History.{Point, knowledge_at, tree_at, world_at}
 use Rattle.x5_model_theory.specs.Knowledge.{Knowledge, Area}
@@ -27,8 +30,20 @@ pub record Stands (p : Point) : Type 0 where
   pub described : IsDescribed (knowledge_at p)
   pub consistent : IsConsistent (knowledge_at p)
   pub coherent : Coherent (knowledge_of (world_at p))
+  pub ordered : list_all (λ e. is_ordered e.entry) (tree_at p).entries ≡ true
   pub tree : IsTreeOf (knowledge_of (world_at p)) (tree_at p)
 
--- so the tree is what its masters have together
+-- So the tree is what its masters have together, and it is a tree.
 abbrev pub TreeIsUnion : Type 0
 TreeIsUnion = (p : Point) → Stands p → whole (world_at p) ≡ tree_at p
+
+abbrev pub StandsAsTree : Type 0
+StandsAsTree = (p : Point) → Stands p → IsTree (tree_at p)
+
+-- The world with the entries of the moment meets the ten conditions themselves, and what follows from them of contexts
+-- and keys.
+abbrev pub StandsConsistent : Type 0
+StandsConsistent = (p : Point) → Stands p → IsConsistent (world_at p)
+
+abbrev pub StandsGood : Type 0
+StandsGood = (p : Point) → Stands p → Good (world_at p)
