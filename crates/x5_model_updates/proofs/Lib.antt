@@ -18,3 +18,4 @@ pub mod Union
 pub mod EntryOrder
 pub mod Ordered
 pub mod Goods
+pub mod Consists
