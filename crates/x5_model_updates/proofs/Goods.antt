@@ -13,17 +13,17 @@ use Rattle.x5_model_tree.specs.Masters.{Mastered, pin_of, numbered, mastered, pi
 use Rattle.x5_model_tree.specs.Conditions.{Has, Refers, Masters, NamesMaster}
 use Rattle.x5_model_tree.specs.Good.{IsContext, Good}
 use Rattle.x5_model_tree.proofs.Gives.{consistent_is_good, owner_of}
-use Rattle.x5_model_tree.proofs.WholeTree.{whole_is_tree}
+use Rattle.x5_model_tree.proofs.WholeTree.{of_whole, in_whole, whole_in_order, whole_is_tree}
+use Rattle.x5_model_tree.proofs.Order.{one_list_of_entries}
 use Rattle.x5_model_run.specs.History.{Point, knowledge_at, tree_at, world_at}
 use Rattle.x5_model_theory.specs.Knowledge.{Knowledge, Area, Spot, Pointer, IsMastered, IsReferred}
 use Rattle.x5_model_theory.specs.Coherent.{Coherent}
 use Rattle.x5_model_theory.specs.Described.{spot_of, area_of, pointer_of, pointers_of, knowledge_of}
 use Rattle.x5_model_theory.proofs.Places.{at_agent, pointer_in}
 use Rattle.x5_model_theory.proofs.Views.{one_at_place, superior_at}
-use Rattle.x5_model_updates.specs.Standing.{IsTreeOf, Stands, StandsAsTree, StandsGood}
-use Rattle.x5_model_updates.proofs.Trees.{entry_filled, of_part}
+use Rattle.x5_model_updates.specs.Standing.{Stands, TreeIsUnion, StandsAsTree, StandsGood}
+use Rattle.x5_model_updates.proofs.Trees.{entry_filled, area_of_entry, of_part}
 use Rattle.x5_model_updates.proofs.Moments.{map_map, now_mastered, mastered_now}
-use Rattle.x5_model_updates.proofs.Union.{part_there, tree_is_union}
 
 -- ---- from facts by keys to facts of contexts and agents, for any world
 
@@ -68,6 +68,12 @@ module _ (p : Point) (s : Stands p) where
   before : Good (knowledge_at p)
   before = consistent_is_good (knowledge_at p) s.described s.consistent
 
+  -- a context of the moment has its part of the tree
+  pub part_there : (m : Mastered) → In m (mastered (world_at p)) → m.context.entries ≡ part (tree_at p) (pin_of m)
+  part_there m i =
+      let w = of_map (now_mastered (tree_at p)) m (mastered (knowledge_at p)) (subst (λ (ms : List Mastered). In m ms) (mastered_now (tree_at p) (knowledge_at p)) i) in
+      ap (λ (x : Mastered). x.context.entries) w.2 ∙ ap (λ (x : Key). part (tree_at p) x) (ap pin_of (sym w.2))
+
   -- a context of the moment and the described one
   pub was_mastered : (m : Mastered) → In m (mastered (world_at p)) → (n : Mastered) × In n (mastered (knowledge_at p)) × (m ≡ now_mastered (tree_at p) n)
   was_mastered m i = of_map (now_mastered (tree_at p)) m (mastered (knowledge_at p)) (subst (λ (ms : List Mastered). In m ms) (mastered_now (tree_at p) (knowledge_at p)) i)
@@ -86,7 +92,7 @@ module _ (p : Point) (s : Stands p) where
         kept = λ e j. (
           entry_filled (knowledge_of (world_at p)) k (area_of m) (key_at e) a (in_map key_at e m.context.entries j),
           of_all (λ (x : Named). is_ordered x.entry) e (tree_at p).entries s.ordered
-          (of_part (knowledge_of (world_at p)) (tree_at p) k s.tree (pin_of m) e (subst (λ (es : List Named). In e es) (part_there p s m i) j)).0,
+          (of_part (knowledge_of (world_at p)) (tree_at p) k s.tree (pin_of m) e (subst (λ (es : List Named). In e es) (part_there m i) j)).0,
         );
         nssr_there = λ n j. has_of (world_at p) m.context.entries (key_of n.at) (k.nssr_at (area_of m) (spot_of n) a (in_map spot_of n m.context.nssrs j));
         one_nssr = λ n x j l q. (before.context o.0 o.1).one_nssr n x (subst (λ (y : Mastered). In n y.context.nssrs) o.2 j) (subst (λ (y : Mastered). In x y.context.nssrs) o.2 l) q;
@@ -121,6 +127,28 @@ module _ (p : Point) (s : Stands p) where
 
 pub stands_good : StandsGood
 stands_good p s = good_now p s
+
+-- ---- the tree is what its masters have together
+
+module _ (p : Point) (s : Stands p) where
+  once_now : Once (pins (world_at p))
+  once_now = pins_once (world_at p) s.coherent
+
+  same_pins : (tree_at p).pins ≡ pins (world_at p)
+  same_pins = s.tree.pins ∙ map_map area_of (λ (c : Area). c.prefix) (mastered (world_at p))
+
+  union : (whole (world_at p)).entries ≡ (tree_at p).entries
+  union =
+      one_list_of_entries (whole (world_at p)).entries (tree_at p).entries (whole_in_order (world_at p) (good_now p s) once_now) s.tree.in_order
+      (λ e i. (let m = of_whole (world_at p) (good_now p s) once_now e i in
+          (of_part (knowledge_of (world_at p)) (tree_at p) s.coherent s.tree (pin_of m.0) e (subst (λ (es : List Named). In e es) (part_there p s m.0 m.1) m.2)).0))
+      (λ e i. (let c = area_of_entry (knowledge_of (world_at p)) (tree_at p) s.coherent s.tree e i in
+          let m = of_map area_of c.0 (mastered (world_at p)) c.1 in
+          in_whole (world_at p) (good_now p s) once_now e m.0 m.1
+          (subst (λ (es : List Named). In e es) (ap (λ (x : Area). part (tree_at p) x.prefix) m.2 ∙ sym (part_there p s m.0 m.1)) c.3)))
+
+pub tree_is_union : TreeIsUnion
+tree_is_union p s = λ i. record { entries = union p s i; pins = sym (same_pins p s) i }
 
 pub stands_as_tree : StandsAsTree
 stands_as_tree p s = subst (λ (t : Tree). IsTree t) (tree_is_union p s) (whole_is_tree (world_at p) (good_now p s) (pins_once (world_at p) s.coherent))

@@ -14,7 +14,6 @@ pub mod Divided
 pub mod After
 pub mod Keeps
 pub mod Stood
-pub mod Union
 pub mod EntryOrder
 pub mod Ordered
 pub mod Goods

@@ -4,8 +4,8 @@
 
 ghost use Rattle.x5_model_updates.specs.Afterwards.{EntriesAfter, KeysAfter, PartsAfter};
 ghost use Rattle.x5_model_run.specs.Right.{AnswersRight};
-ghost use Rattle.x5_model_updates.specs.Keeping.{UpdatesKeep, LinesStand, RunsStand};
-ghost use Rattle.x5_model_updates.specs.Standing.{TreeIsUnion};
+ghost use Rattle.x5_model_updates.specs.Keeping.{UpdatesKeep, OrderStays, LinesStand, RunsStand};
+ghost use Rattle.x5_model_updates.specs.Standing.{TreeIsUnion, StandsAsTree, StandsConsistent, StandsGood};
 ghost use Rattle.x5_model_updates.specs.Judging.{RefusesAlike, AcceptsAlone, ProbesNewName, AcceptsProbed, UnableMastersNone, RefusesProbed};
 
 /// What the master of a context concludes of an update from its own entries, the pins that it knows, its NSSRs and its
@@ -26,11 +26,15 @@ pub fn afterwards()
     ensures parts { PartsAfter }
 {}
 
-/// Accepted updates keep knowledge coherent, so it is at each line of a run, where the one tree is the union of the
-/// masters' parts (X.501, section 22).
+/// Accepted updates keep knowledge coherent and entries in order. So at each line of a run the world with the entries of
+/// the moment meets the ten conditions, and the one tree is a tree and the union of the masters' parts (X.501, section 22).
 pub fn keeping()
     ensures updates { UpdatesKeep }
+    ensures order { OrderStays }
     ensures lines { LinesStand }
     ensures runs { RunsStand AnswersRight }
     ensures union { TreeIsUnion }
+    ensures tree { StandsAsTree }
+    ensures conditions { StandsConsistent }
+    ensures good { StandsGood }
 {}
