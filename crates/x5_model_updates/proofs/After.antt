@@ -81,7 +81,7 @@ module _ (k : Knowledge) (t : Tree) (good : Coherent k) (is : IsTreeOf k t) wher
     abbrev U : Tree
     U = record t { entries = us }
 
-    of_new_part : (q : Key) (e : Named) → In e (part U q) → In e us × IsLongest t.pins (key_at e) (Some q)
+    pub of_new_part : (q : Key) (e : Named) → In e (part U q) → In e us × IsLongest t.pins (key_at e) (Some q)
     of_new_part q e j = (let w = of_filter (λ (x : Named). belongs t.pins q (key_at x)) e us j in (w.0, (belongs_decides t.pins q (key_at e)).0 w.1))
 
     pub in_new_part : (q : Key) (e : Named) → In e us → IsLongest t.pins (key_at e) (Some q) → In e (part U q)
@@ -102,8 +102,8 @@ module _ (k : Knowledge) (t : Tree) (good : Coherent k) (is : IsTreeOf k t) wher
     pub other_part : (q : Key) → q ≢ c.prefix → part U q ≡ part t q
     other_part q o =
         one_list_of_entries (part U q) (part t q) (new_in_order q) (old_in_order q)
-        (λ e j. (let w = of_new_part q e j in in_part k t good is q e (old q o e w.1 (m.covered e ((m.gives.1 e).0 w.0))) w.1))
-        (λ e j. (let w = of_part k t good is q e j in in_new_part q e ((m.gives.1 e).1 (m.others e q o w.1 w.0)) w.1))
+        (λ e j. (let w = of_new_part q e j in in_part k t good is q e (old q o e w.1 (m.covered t.entries (λ x y. y) e ((m.gives.1 e).0 w.0))) w.1))
+        (λ e j. (let w = of_part k t good is q e j in in_new_part q e ((m.gives.1 e).1 (m.others t.entries (λ x y. y) e q o w.1 w.0)) w.1))
       where
         old : (q : Key) → q ≢ c.prefix → (e : Named) → IsLongest t.pins (key_at e) (Some q) → In e t.entries ⊎ IsLongest t.pins (key_at e) (Some c.prefix) → In e t.entries
         old q o e l (inl j) = j

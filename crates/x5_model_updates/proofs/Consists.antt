@@ -1,26 +1,25 @@
 -- The world with the entries of the moment meets the ten conditions.
-use Rattle.std.proofs.Common.{◌≡◌, ℕ, suc, ◌+◌, ◌<◌, ◌≤◌, Bool, true, false, ◌⊎◌, inl, inr, List, [], ◌∷◌, ◌++◌, map, length, refl, sym, ap, subst, ◌∙◌, arith, Option, Some, None, if◌then◌else◌}
-use Rattle.std.specs.List.{flat_map, enumerate_from}
+use Rattle.std.proofs.Common.{◌≡◌, ℕ, ◌+◌, ◌<◌, Bool, ◌⊎◌, inl, inr, List, [], ◌∷◌, map, length, refl, sym, ap, subst, ◌∙◌, arith, Option, Some, if◌then◌else◌}
+use Rattle.std.specs.List.{enumerate_from}
 use Rattle.x5_model.specs.Members.{In, Once, here, there}
-use Rattle.x5_model.specs.Keys.{Key, IsPrefix, parent, same_key}
+use Rattle.x5_model.specs.Keys.{Key, parent, same_key}
 use Rattle.x5_model.specs.Values.{key_of}
-use Rattle.x5_model.specs.Entries.{Named}
 use Rattle.x5_model.proofs.KeyLaws.{key_decides}
-use Rattle.x5_model.proofs.Lists.{true_or_false, in_first, in_map, of_map, in_flat, of_flat, in_either}
+use Rattle.x5_model.proofs.Lists.{true_or_false, in_first, in_map, of_map, in_flat, in_either}
 use Rattle.x5_model.proofs.Prefixes.{parent_length}
-use Rattle.x5_model_tree.specs.World.{Specific, Nssr, Context, Agent, Agreement, World}
-use Rattle.x5_model_tree.specs.Tree.{Tree, key_at, keys_of}
-use Rattle.x5_model_tree.specs.Masters.{Mastered, pin_of, numbered, mastered, pins, master_among, master_of, superior_of, all_entries}
-use Rattle.x5_model_tree.specs.Conditions.{Has, Refers, Masters, Consumes, NamesMaster, IsChild, ChildOfOwn, InNssr, MastersBelow, EndsWithin, SuppliedWithin, Conditions}
+use Rattle.x5_model_tree.specs.World.{Specific, Context, Agent}
+use Rattle.x5_model_tree.specs.Tree.{Tree, key_at}
+use Rattle.x5_model_tree.specs.Masters.{Mastered, pin_of, numbered, mastered, master_among, superior_of}
+use Rattle.x5_model_tree.specs.Conditions.{Masters, Consumes, ChildOfOwn, EndsWithin, Conditions}
 use Rattle.x5_model_tree.proofs.Exact.{conditions_hold, consistent_where}
 use Rattle.x5_model_tree.proofs.Gives.{owner_of}
 use Rattle.x5_model_run.specs.History.{Point, knowledge_at, tree_at, world_at}
-use Rattle.x5_model_theory.specs.Knowledge.{Knowledge, Area, Spot, Supply, IsMastered, IsConsumed, IsReferred}
+use Rattle.x5_model_theory.specs.Knowledge.{Knowledge, Area, Spot, Supply, IsMastered, IsConsumed}
 use Rattle.x5_model_theory.specs.Coherent.{Coherent}
 use Rattle.x5_model_theory.specs.Described.{spot_of, area_of, pointer_of, supply_of, knowledge_of}
 use Rattle.x5_model_theory.proofs.Places.{at_agent, pointer_in}
 use Rattle.x5_model_theory.proofs.Views.{one_at_place, superior_at}
-use Rattle.x5_model_updates.specs.Standing.{IsTreeOf, Stands, StandsConsistent}
+use Rattle.x5_model_updates.specs.Standing.{Stands, StandsConsistent}
 use Rattle.x5_model_updates.proofs.Moments.{now_agent, now_mastered, mastered_now, knowledge_now}
 use Rattle.x5_model_updates.proofs.Goods.{area_there, has_of, in_of, masters_of, refers_of, pins_once, was_mastered}
 
@@ -128,16 +127,15 @@ module _ (p : Point) (s : Stands p) where
             (q.master, found_among (mastered (world_at p)) q (pins_once (world_at p) k) j, (y.0, y.1, (ap (λ (z : Spot). z.at) (sym y.2) ∙ x.2, subst (λ (z : Spot). In q.master z.agents) y.2 x.3)))))
       ]
     ];
-    members = λ m i n j. (let a = area_there (world_at p) m i in let b = in_map spot_of n m.context.nssrs j in
-        (
-          k.nssr_once (area_of m) (spot_of n) a b,
-          λ x l. (
-            λ e. k.nssr_others (area_of m) (spot_of n) a b (subst (λ (y : ℕ). In y n.agents) e l),
-            let d = k.nssr_masters (area_of m) (spot_of n) x a b l in
+    members = λ m i n j. (let a = area_there (world_at p) m i in let b = in_map spot_of n m.context.nssrs j in (
+      k.nssr_once (area_of m) (spot_of n) a b,
+      λ x l. (
+        λ e. k.nssr_others (area_of m) (spot_of n) a b (subst (λ (y : ℕ). In y n.agents) e l),
+        let d = k.nssr_masters (area_of m) (spot_of n) x a b l in
             let q = of_map area_of d.0 (mastered (world_at p)) d.1 in
             (q.0, q.1, (ap (λ (y : Area). y.master) (sym q.2) ∙ d.2, (subst (λ (y : Area). 0 < length y.prefix) q.2 (k.filled d.0 d.1), ap (λ (y : Area). parent y.prefix) (sym q.2) ∙ d.3))),
-          ),
-        ));
+      ),
+    ));
     top_known = λ a i q j top one. elim (k.first_level a.0 (area_of q) (in_map (λ (x : ℕ × Agent). x.0) a (numbered (world_at p)) i) (superior_at (world_at p) a.0 a.1 i ∙ top) (area_there (world_at p) q j) one) [
       | inl e ↦ inl (mastered_pair a.0 q j e)
       | inr r ↦ inr (refers_of (world_at p) a.0 a.1 (pin_of q) i r)
@@ -145,11 +143,10 @@ module _ (p : Point) (s : Stands p) where
     superiors = λ a i. (let b = was_numbered (tree_at p) 0 (knowledge_at p).agents a i in
         subst (λ (next : ℕ → Option ℕ). EndsWithin next 16 a.1.superior) (sym same_superiors)
         (subst (λ (x : Agent). EndsWithin (superior_of (knowledge_at p)) 16 x.superior) (sym b.2) (old.superiors (a.0, b.0) b.1)));
-    supplied = λ g i. (let w = old.supplied g i in
-        (
-          (λ m. w.0 (masters_then g.consumer (key_of g.context) m)),
-          (w.1.0, (w.1.1.0, (w.1.1.1.0, (w.1.1.1.1.0, (w.1.1.1.1.1.0, masters_now w.1.1.1.1.0 (key_of g.context) w.1.1.1.1.1.1))))),
-        ));
+    supplied = λ g i. (let w = old.supplied g i in (
+      (λ m. w.0 (masters_then g.consumer (key_of g.context) m)),
+      (w.1.0, (w.1.1.0, (w.1.1.1.0, (w.1.1.1.1.0, (w.1.1.1.1.1.0, masters_now w.1.1.1.1.0 (key_of g.context) w.1.1.1.1.1.1))))),
+    ));
   }
 
 pub stands_consistent : StandsConsistent

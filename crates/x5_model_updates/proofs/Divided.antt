@@ -92,8 +92,8 @@ pub record Made (t : Tree) (pin : Key) (body : Body) (us : List Named) : Type 0 
   pub outer : (e : Named) → IsEntryAfter (part t pin) body e → IsEntryAfter t.entries body e × IsLongest t.pins (key_at e) (Some pin)
   pub facts : KeyFacts t.entries body
   pub alone_facts : KeyFacts (part t pin) body
-  pub covered : (e : Named) → IsEntryAfter t.entries body e → In e t.entries ⊎ IsLongest t.pins (key_at e) (Some pin)
-  pub others : (e : Named) (q : Key) → q ≢ pin → IsLongest t.pins (key_at e) (Some q) → In e t.entries → IsEntryAfter t.entries body e
+  pub covered : (es : List Named) → ((x : Named) → In x es → In x t.entries) → (e : Named) → IsEntryAfter es body e → In e es ⊎ IsLongest t.pins (key_at e) (Some pin)
+  pub others : (es : List Named) → ((x : Named) → In x es → In x t.entries) → (e : Named) (q : Key) → q ≢ pin → IsLongest t.pins (key_at e) (Some q) → In e es → IsEntryAfter es body e
 
 pub one_pin : (ps : List Key) (x p q : Key) → IsLongest ps x (Some p) → IsLongest ps x (Some q) → p ≡ q
 one_pin ps x p q a b = inside p q (sym (longest_is ps x p a) ∙ longest_is ps x q b)
@@ -195,10 +195,10 @@ module _ (k : Knowledge) (t : Tree) (good : Coherent k) (is : IsTreeOf k t) wher
           let j = (of_part k t good is c.prefix w.0 w.1).0 in
           (inr (w.0, j, w.2, w.3), long e (key_new a e w.0 j w.2 w.3))
 
-      covered_add : ((e : Named) → key_at e ≡ key_of name → IsLongest t.pins (key_at e) (Some c.prefix)) → Added (ground_of t) name attributes us → (e : Named) → IsEntryAfter t.entries (AddEntry name attributes) e
-          → In e t.entries ⊎ IsLongest t.pins (key_at e) (Some c.prefix)
-      covered_add long a e (inl j) = inl j
-      covered_add long a e (inr w) = inr (long e (key_new a e w.0 w.1 w.2 w.3))
+      covered_add : ((e : Named) → key_at e ≡ key_of name → IsLongest t.pins (key_at e) (Some c.prefix)) → Added (ground_of t) name attributes us → (es : List Named) → ((x : Named) → In x es → In x t.entries) → (e : Named) → IsEntryAfter es (AddEntry name attributes) e
+          → In e es ⊎ IsLongest t.pins (key_at e) (Some c.prefix)
+      covered_add long a es sub e (inl j) = inl j
+      covered_add long a es sub e (inr w) = inr (long e (key_new a e w.0 (sub w.0 w.1) w.2 w.3))
 
       by : Added (ground_of t) name attributes us → Made t c.prefix (AddEntry name attributes) us
       by a =
@@ -218,7 +218,7 @@ module _ (k : Knowledge) (t : Tree) (good : Coherent k) (is : IsTreeOf k t) wher
             facts = (a.above, w.0, w.1, filled);
             alone_facts = (a.above, at, w.1, filled);
             covered = covered_add long a;
-            others = λ e q o l x. inl x;
+            others = λ es sub e q o l x. inl x;
           }
 
   -- ---- removeEntry
@@ -252,8 +252,8 @@ module _ (k : Knowledge) (t : Tree) (good : Coherent k) (is : IsTreeOf k t) wher
             outer = λ e x. (let v = of_part k t good is c.prefix e x.0 in ((v.0, x.1), v.1));
             facts = tt;
             alone_facts = tt;
-            covered = λ e x. inl x.0;
-            others = λ e q o l x. (x, λ s. o (one_pin t.pins (key_at e) q c.prefix l (long e s)));
+            covered = λ es sub e x. inl x.0;
+            others = λ es sub e q o l x. (x, λ s. o (one_pin t.pins (key_at e) q c.prefix l (long e s)));
           }
 
   -- ---- modifyEntry
@@ -273,9 +273,9 @@ module _ (k : Knowledge) (t : Tree) (good : Coherent k) (is : IsTreeOf k t) wher
       outer_modify e (inl x) = (let v = of_part k t good is c.prefix e x.0 in (inl (v.0, x.1), v.1))
       outer_modify e (inr w) = (inr (w.0, w.1, (of_part k t good is c.prefix w.0 w.2).0, w.3, w.4, w.5), long e (ap key_at w.5 ∙ w.3))
 
-      covered_modify : (e : Named) → IsEntryAfter t.entries (ModifyEntry name changes) e → In e t.entries ⊎ IsLongest t.pins (key_at e) (Some c.prefix)
-      covered_modify e (inl x) = inl x.0
-      covered_modify e (inr w) = inr (long e (ap key_at w.5 ∙ w.3))
+      covered_modify : (es : List Named) → ((x : Named) → In x es → In x t.entries) → (e : Named) → IsEntryAfter es (ModifyEntry name changes) e → In e es ⊎ IsLongest t.pins (key_at e) (Some c.prefix)
+      covered_modify es sub e (inl x) = inl x.0
+      covered_modify es sub e (inr w) = inr (long e (ap key_at w.5 ∙ w.3))
 
       by : Modified (ground_of t) name changes us → Made t c.prefix (ModifyEntry name changes) us
       by a =
@@ -290,7 +290,7 @@ module _ (k : Knowledge) (t : Tree) (good : Coherent k) (is : IsTreeOf k t) wher
             facts = (a.at, a.new, w.0, w.1, a.done);
             alone_facts = (a.at, a.new, part_of_key k t good is c a.at i w.0 (subst (λ (x : Key). In x c.entries) (sym w.1) own), w.1, a.done);
             covered = covered_modify;
-            others = λ e q o l x. inl (x, λ s. o (one_pin t.pins (key_at e) q c.prefix l (long e s)));
+            others = λ es sub e q o l x. inl (x, λ s. o (one_pin t.pins (key_at e) q c.prefix l (long e s)));
           }
 
   -- ---- modifyDN
@@ -388,10 +388,10 @@ module _ (k : Knowledge) (t : Tree) (good : Coherent k) (is : IsTreeOf k t) wher
       outer_rename a e (inr (inl w)) = (let j = (of_part k t good is c.prefix w.0 w.1).0 in (inr (inl (w.0, j, w.2, w.3)), long a e w.0 j (at_prefix w.0 w.2) (ap (λ (x : Named). x.name) w.3)))
       outer_rename a e (inr (inr w)) = (let j = (of_part k t good is c.prefix w.0 w.1).0 in (inr (inr (w.0, j, w.2, w.3, w.4)), long a e w.0 j w.3 (ap (λ (x : Named). x.name) w.4)))
 
-      covered_rename : Renamed (ground_of t) name rdn drops us → (e : Named) → IsEntryAfter t.entries (ModifyDn name rdn drops) e → In e t.entries ⊎ IsLongest t.pins (key_at e) (Some c.prefix)
-      covered_rename a e (inl x) = inl x.0
-      covered_rename a e (inr (inl w)) = inr (long a e w.0 w.1 (at_prefix w.0 w.2) (ap (λ (x : Named). x.name) w.3))
-      covered_rename a e (inr (inr w)) = inr (long a e w.0 w.1 w.3 (ap (λ (x : Named). x.name) w.4))
+      covered_rename : Renamed (ground_of t) name rdn drops us → (es : List Named) → ((x : Named) → In x es → In x t.entries) → (e : Named) → IsEntryAfter es (ModifyDn name rdn drops) e → In e es ⊎ IsLongest t.pins (key_at e) (Some c.prefix)
+      covered_rename a es sub e (inl x) = inl x.0
+      covered_rename a es sub e (inr (inl w)) = inr (long a e w.0 (sub w.0 w.1) (at_prefix w.0 w.2) (ap (λ (x : Named). x.name) w.3))
+      covered_rename a es sub e (inr (inr w)) = inr (long a e w.0 (sub w.0 w.1) w.3 (ap (λ (x : Named). x.name) w.4))
 
       by : Renamed (ground_of t) name rdn drops us → Made t c.prefix (ModifyDn name rdn drops) us
       by a =
@@ -407,5 +407,5 @@ module _ (k : Knowledge) (t : Tree) (good : Coherent k) (is : IsTreeOf k t) wher
             facts = full;
             alone_facts = full;
             covered = covered_rename a;
-            others = λ e q o l x. inl (x, λ on. o (one_pin t.pins (key_at e) q c.prefix l (of_part k t good is c.prefix e (under a e x on)).1));
+            others = λ es sub e q o l x. inl (x, λ on. o (one_pin t.pins (key_at e) q c.prefix l (of_part k t good is c.prefix e (under a e (sub e x) on)).1));
           }

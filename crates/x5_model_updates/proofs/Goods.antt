@@ -1,16 +1,15 @@
 -- The world with the entries of the moment gives what consistent knowledge gives.
-use Rattle.std.proofs.Common.{◌≡◌, ℕ, ◌+◌, ◌<◌, ◌≤◌, true, ◌⊎◌, inl, inr, List, [], ◌∷◌, map, length, refl, sym, ap, subst, ◌∙◌, arith, Some, None}
-use Rattle.std.specs.List.{list_all, flat_map}
+use Rattle.std.proofs.Common.{◌≡◌, ℕ, inl, inr, List, map, sym, ap, subst, ◌∙◌}
 use Rattle.x5_model.specs.Members.{In, Once}
-use Rattle.x5_model.specs.Keys.{Key, IsPrefix, parent}
+use Rattle.x5_model.specs.Keys.{Key, parent}
 use Rattle.x5_model.specs.Values.{key_of}
 use Rattle.x5_model.specs.Entries.{Named}
 use Rattle.x5_model.specs.Attributes.{is_ordered}
 use Rattle.x5_model.proofs.Lists.{in_map, of_map, of_flat, once_map, of_all}
-use Rattle.x5_model_tree.specs.World.{Specific, Nssr, Context, Agent, World}
+use Rattle.x5_model_tree.specs.World.{Agent, World}
 use Rattle.x5_model_tree.specs.Tree.{Tree, IsTree, key_at, keys_of, part}
 use Rattle.x5_model_tree.specs.Masters.{Mastered, pin_of, numbered, mastered, pins, whole}
-use Rattle.x5_model_tree.specs.Conditions.{Has, Refers, Masters, NamesMaster}
+use Rattle.x5_model_tree.specs.Conditions.{Has, Refers, Masters}
 use Rattle.x5_model_tree.specs.Good.{IsContext, Good}
 use Rattle.x5_model_tree.proofs.Gives.{consistent_is_good, owner_of}
 use Rattle.x5_model_tree.proofs.WholeTree.{of_whole, in_whole, whole_in_order, whole_is_tree}
@@ -18,8 +17,8 @@ use Rattle.x5_model_tree.proofs.Order.{one_list_of_entries}
 use Rattle.x5_model_run.specs.History.{Point, knowledge_at, tree_at, world_at}
 use Rattle.x5_model_theory.specs.Knowledge.{Knowledge, Area, Spot, Pointer, IsMastered, IsReferred}
 use Rattle.x5_model_theory.specs.Coherent.{Coherent}
-use Rattle.x5_model_theory.specs.Described.{spot_of, area_of, pointer_of, pointers_of, knowledge_of}
-use Rattle.x5_model_theory.proofs.Places.{at_agent, pointer_in}
+use Rattle.x5_model_theory.specs.Described.{spot_of, area_of, pointer_of, knowledge_of}
+use Rattle.x5_model_theory.proofs.Places.{pointer_in}
 use Rattle.x5_model_theory.proofs.Views.{one_at_place, superior_at}
 use Rattle.x5_model_updates.specs.Standing.{Stands, TreeIsUnion, StandsAsTree, StandsGood}
 use Rattle.x5_model_updates.proofs.Trees.{entry_filled, area_of_entry, of_part}
@@ -92,7 +91,7 @@ module _ (p : Point) (s : Stands p) where
         kept = λ e j. (
           entry_filled (knowledge_of (world_at p)) k (area_of m) (key_at e) a (in_map key_at e m.context.entries j),
           of_all (λ (x : Named). is_ordered x.entry) e (tree_at p).entries s.ordered
-          (of_part (knowledge_of (world_at p)) (tree_at p) k s.tree (pin_of m) e (subst (λ (es : List Named). In e es) (part_there m i) j)).0,
+              (of_part (knowledge_of (world_at p)) (tree_at p) k s.tree (pin_of m) e (subst (λ (es : List Named). In e es) (part_there m i) j)).0,
         );
         nssr_there = λ n j. has_of (world_at p) m.context.entries (key_of n.at) (k.nssr_at (area_of m) (spot_of n) a (in_map spot_of n m.context.nssrs j));
         one_nssr = λ n x j l q. (before.context o.0 o.1).one_nssr n x (subst (λ (y : Mastered). In n y.context.nssrs) o.2 j) (subst (λ (y : Mastered). In x y.context.nssrs) o.2 l) q;
@@ -141,11 +140,11 @@ module _ (p : Point) (s : Stands p) where
   union =
       one_list_of_entries (whole (world_at p)).entries (tree_at p).entries (whole_in_order (world_at p) (good_now p s) once_now) s.tree.in_order
       (λ e i. (let m = of_whole (world_at p) (good_now p s) once_now e i in
-          (of_part (knowledge_of (world_at p)) (tree_at p) s.coherent s.tree (pin_of m.0) e (subst (λ (es : List Named). In e es) (part_there p s m.0 m.1) m.2)).0))
+      (of_part (knowledge_of (world_at p)) (tree_at p) s.coherent s.tree (pin_of m.0) e (subst (λ (es : List Named). In e es) (part_there p s m.0 m.1) m.2)).0))
       (λ e i. (let c = area_of_entry (knowledge_of (world_at p)) (tree_at p) s.coherent s.tree e i in
-          let m = of_map area_of c.0 (mastered (world_at p)) c.1 in
-          in_whole (world_at p) (good_now p s) once_now e m.0 m.1
-          (subst (λ (es : List Named). In e es) (ap (λ (x : Area). part (tree_at p) x.prefix) m.2 ∙ sym (part_there p s m.0 m.1)) c.3)))
+      let m = of_map area_of c.0 (mastered (world_at p)) c.1 in
+      in_whole (world_at p) (good_now p s) once_now e m.0 m.1
+      (subst (λ (es : List Named). In e es) (ap (λ (x : Area). part (tree_at p) x.prefix) m.2 ∙ sym (part_there p s m.0 m.1)) c.3)))
 
 pub tree_is_union : TreeIsUnion
 tree_is_union p s = λ i. record { entries = union p s i; pins = sym (same_pins p s) i }

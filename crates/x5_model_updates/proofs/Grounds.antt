@@ -72,7 +72,7 @@ abbrev pub IsHeldBeside : Knowledge → Area → Key → Type 0
 IsHeldBeside k c x = (s : Spot) × (a : ℕ) × In s c.nssrs × (s.at ≡ parent x) × In a s.agents × IsMastered k a x
 
 module _ (k : Knowledge) (t : Tree) (o : ℕ) (g : Ground) (good : Coherent k) (is : IsTreeOf k t) (knows : Knows k t o g) where
-  within : (e : Named) → In e g.entries → In e t.entries
+  pub within : (e : Named) → In e g.entries → In e t.entries
   within e i = (let w = knows.of_own e i in (of_part k t good is w.0.prefix e w.3).0)
 
   pins_within : (q : Key) → In q g.pins → In q t.pins

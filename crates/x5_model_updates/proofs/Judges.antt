@@ -76,13 +76,13 @@ abbrev err_of : Outcome → Bool
 err_of x = is_err x
 
 -- a context of the line's tree, with its pin the longest of the target
-record Seat (p : Point) (o : ℕ) (n : Key) : Type 0 where
-  seat : Mastered
-  there : In seat (mastered (knowledge_at p))
-  mine : seat.master ≡ o
-  long : IsLongest (tree_at p).pins n (Some (pin_of seat))
+pub record Seat (p : Point) (o : ℕ) (n : Key) : Type 0 where
+  pub seat : Mastered
+  pub there : In seat (mastered (knowledge_at p))
+  pub mine : seat.master ≡ o
+  pub long : IsLongest (tree_at p).pins n (Some (pin_of seat))
 
-seat_of : (p : Point) (o : ℕ) (m : Chained) → IsJudge p o m → Seat p o (key_of m.target)
+pub seat_of : (p : Point) (o : ℕ) (m : Chained) → IsJudge p o m → Seat p o (key_of m.target)
 seat_of p o m j = by (longest (tree_at p).pins (key_of m.target)) (longest_right (tree_at p).pins (key_of m.target)) j.master
   where
     by : (x : Option Key) → IsLongest (tree_at p).pins (key_of m.target) x → in_option None (master_of (knowledge_at p)) x ≡ Some o → Seat p o (key_of m.target)

@@ -173,7 +173,7 @@ module _ (k : Knowledge) (t : Tree) (us : List Named) (good : Coherent k) (is : 
     in_order = m.gives.0;
     pins = is.pins ∙ sym (map_map (holding (keys_in U)) (λ (d : Area). d.prefix) k.areas);
     parts = λ d j. (let w = of_map (holding (keys_in U)) d k.areas j in ap (λ (x : Area). x.entries) w.2 ∙ ap (λ (x : Key). keys_of (part U x)) (ap (λ (x : Area). x.prefix) (sym w.2)));
-    parted = λ e j. in_some e j (m.covered e ((m.gives.1 e).0 j));
+    parted = λ e j. in_some e j (m.covered t.entries (λ x y. y) e ((m.gives.1 e).0 j));
   }
     where
       in_some : (e : Named) → In e us → In e t.entries ⊎ IsLongest t.pins (key_at e) (Some c.prefix) → (d : Area) × In d (map (holding (keys_in U)) k.areas) × In e (part U d.prefix)

@@ -18,3 +18,4 @@ pub mod EntryOrder
 pub mod Ordered
 pub mod Goods
 pub mod Consists
+pub mod Judged

@@ -20,13 +20,16 @@ use Rattle.x5_model_tree.proofs.Order.{named_chain, union_in_order}
 use Rattle.x5_model_theory.specs.Changing.{moved}
 use Rattle.x5_model_theory.proofs.Deciding.{dec_key}
 use Rattle.x5_model_updates.specs.Afterwards.{IsEntryAfter, IsKeyAfter, new_entry, new_key, name_after}
-use Rattle.x5_model_updates.proofs.Lookups.{one_each, once_keys}
+use Rattle.x5_model_updates.proofs.Lookups.{OneEach, one_each, once_keys}
 use Rattle.x5_model_updates.proofs.Outcomes.{moved_entry}
 use Rattle.x5_model_updates.proofs.Renaming.{new_entry_key, name_after_key, moved_itself, moved_below, moved_apart, moved_goes, moved_stays, moved_key}
 
--- in order, with exactly the entries afterwards
+-- exactly the entries afterwards; and in order
+abbrev pub Members : List Named → Body → List Named → Type 0
+Members before body us = (e : Named) → In e us ↔ IsEntryAfter before body e
+
 abbrev pub Gives : List Named → Body → List Named → Type 0
-Gives before body us = (ascending named_below us ≡ true) × ((e : Named) → In e us ↔ IsEntryAfter before body e)
+Gives before body us = (ascending named_below us ≡ true) × Members before body us
 
 -- ---- keys that come once
 
@@ -61,39 +64,43 @@ map_ascending f same (x ∷ y ∷ ys) = λ i. key_below (same x i) (same y i) &&
 
 -- ---- addEntry
 
+pub add_members : (es : List Named) (name : Name) (attributes : List Attribute) (above : Named) → OneEach es → In above es → key_at above ≡ parent (key_of name)
+    → Members es (AddEntry name attributes) (sorted_entries (es ++ new_entry above name attributes ∷ []))
+add_members es name attributes above each i same e = (
+  λ j. elim (in_either e es (new_entry above name attributes ∷ []) (of_sorted named_below e (es ++ new_entry above name attributes ∷ []) j)) [
+    | inl l ↦ inl l
+    | inr l ↦ elim (in_first e (new_entry above name attributes) [] l) [ inl q ↦ inr (above, i, same, q) | inr n ↦ elim n [ ] ]
+  ],
+  λ a. in_sorted named_below e (es ++ new_entry above name attributes ∷ []) (back a),
+)
+  where
+    back : IsEntryAfter es (AddEntry name attributes) e → In e (es ++ new_entry above name attributes ∷ [])
+    back (inl l) = in_left e es (new_entry above name attributes ∷ []) l
+    back (inr w) =
+        let one : w.0 ≡ above = each w.0 above w.1 i (w.2 ∙ sym same) in
+        in_right e es (new_entry above name attributes ∷ []) (subst (λ (x : Named). In e (x ∷ [])) (w.3 ∙ ap (λ (x : Named). new_entry x name attributes) one) here)
+
 pub add_listed : (es : List Named) (name : Name) (attributes : List Attribute) (above : Named) → ascending named_below es ≡ true → In above es → key_at above ≡ parent (key_of name)
     → key_at (new_entry above name attributes) ≡ key_of name → (In (key_of name) (keys_of es) → ⊥) → Gives es (AddEntry name attributes) (sorted_entries (es ++ new_entry above name attributes ∷ []))
 add_listed es name attributes above order i same key fresh = (
   sorted_in_order (es ++ new_entry above name attributes ∷ [])
       (subst Once (sym (keys_end es (new_entry above name attributes))) (once_end (keys_of es) (key_at (new_entry above name attributes)) (once_keys es order) (λ j. fresh (subst (λ (k : Key). In k (keys_of es)) key j)))),
-  λ e. (
-    λ j. elim (in_either e es (new_entry above name attributes ∷ []) (of_sorted named_below e (es ++ new_entry above name attributes ∷ []) j)) [
-      | inl l ↦ inl l
-      | inr l ↦ elim (in_first e (new_entry above name attributes) [] l) [ inl q ↦ inr (above, i, same, q) | inr n ↦ elim n [ ] ]
-    ],
-    λ a. in_sorted named_below e (es ++ new_entry above name attributes ∷ []) (back e a),
-  ),
+  add_members es name attributes above (one_each es order) i same,
 )
-  where
-    back : (e : Named) → IsEntryAfter es (AddEntry name attributes) e → In e (es ++ new_entry above name attributes ∷ [])
-    back e (inl l) = in_left e es (new_entry above name attributes ∷ []) l
-    back e (inr w) =
-        let one : w.0 ≡ above = one_each es order w.0 above w.1 i (w.2 ∙ sym same) in
-        in_right e es (new_entry above name attributes ∷ []) (subst (λ (x : Named). In e (x ∷ [])) (w.3 ∙ ap (λ (x : Named). new_entry x name attributes) one) here)
 
 -- ---- removeEntry
 
-pub remove_listed : (es : List Named) (name : Name) → ascending named_below es ≡ true → Gives es (RemoveEntry name) (filter (λ e. not (same_key (key_at e) (key_of name))) es)
-remove_listed es name order = (
-  filter_ascending named_below named_chain (λ (e : Named). not (same_key (key_at e) (key_of name))) es order,
-  λ e. (
-    λ j. (let w = of_filter (λ (e : Named). not (same_key (key_at e) (key_of name))) e es j in (w.0, (decides e).0 w.1)),
-    λ w. in_filter (λ (e : Named). not (same_key (key_at e) (key_of name))) e es w.0 ((decides e).1 w.1),
-  ),
+pub remove_members : (es : List Named) (name : Name) → Members es (RemoveEntry name) (filter (λ e. not (same_key (key_at e) (key_of name))) es)
+remove_members es name e = (
+  λ j. (let w = of_filter (λ (x : Named). not (same_key (key_at x) (key_of name))) e es j in (w.0, decides.0 w.1)),
+  λ w. in_filter (λ (x : Named). not (same_key (key_at x) (key_of name))) e es w.0 (decides.1 w.1),
 )
   where
-    decides : (e : Named) → (not (same_key (key_at e) (key_of name)) ≡ true → key_at e ≢ key_of name) × (key_at e ≢ key_of name → not (same_key (key_at e) (key_of name)) ≡ true)
-    decides e = not_decides {P = key_at e ≡ key_of name} (same_key (key_at e) (key_of name)) (key_decides (key_at e) (key_of name))
+    decides : (not (same_key (key_at e) (key_of name)) ≡ true → key_at e ≢ key_of name) × (key_at e ≢ key_of name → not (same_key (key_at e) (key_of name)) ≡ true)
+    decides = not_decides {P = key_at e ≡ key_of name} (same_key (key_at e) (key_of name)) (key_decides (key_at e) (key_of name))
+
+pub remove_listed : (es : List Named) (name : Name) → ascending named_below es ≡ true → Gives es (RemoveEntry name) (filter (λ e. not (same_key (key_at e) (key_of name))) es)
+remove_listed es name order = (filter_ascending named_below named_chain (λ (e : Named). not (same_key (key_at e) (key_of name))) es order, remove_members es name)
 
 -- ---- modifyEntry
 
@@ -120,45 +127,45 @@ replaced_key key new e k =
 ok_same : (a b : Entry) → ok_entry a ≡ ok_entry b → a ≡ b
 ok_same a b e = cc
 
-pub modify_listed : (es : List Named) (name : Name) (changes : List Change) (at : Named) (new : Entry) → ascending named_below es ≡ true → In at es → key_at at ≡ key_of name → modified (last_rdn name) changes at.entry ≡ Ok new
-    → Gives es (ModifyEntry name changes) (replace_at (key_of name) (record at { entry = new }) es)
-modify_listed es name changes at new order i same h = (
-  map_ascending (replaced (key_of name) (record at { entry = new })) (λ e. replaced_key (key_of name) (record at { entry = new }) e same) es ∙ order,
-  λ e. (
-    λ j. (let w = of_map (replaced (key_of name) (record at { entry = new })) e es j in
-        elim (dec_key (key_at w.0) (key_of name)) [
-          | inl s ↦ inr (at, new, i, same, h, w.2 ∙ replaced_there (key_of name) (record at { entry = new }) w.0 s)
-          | inr n ↦
-              let q : e ≡ w.0 = w.2 ∙ replaced_other (key_of name) (record at { entry = new }) w.0 n in
-              inl (subst (λ (x : Named). In x es) (sym q) w.1, λ s. n (ap key_at (sym q) ∙ s))
-        ]),
-    back e,
-  ),
+pub modify_members : (es : List Named) (name : Name) (changes : List Change) (at : Named) (new : Entry) → OneEach es → In at es → key_at at ≡ key_of name → modified (last_rdn name) changes at.entry ≡ Ok new
+    → Members es (ModifyEntry name changes) (replace_at (key_of name) (record at { entry = new }) es)
+modify_members es name changes at new each i same h e = (
+  λ j. (let w = of_map (replaced (key_of name) (record at { entry = new })) e es j in
+      elim (dec_key (key_at w.0) (key_of name)) [
+        | inl s ↦ inr (at, new, i, same, h, w.2 ∙ replaced_there (key_of name) (record at { entry = new }) w.0 s)
+        | inr n ↦
+            let q : e ≡ w.0 = w.2 ∙ replaced_other (key_of name) (record at { entry = new }) w.0 n in
+            inl (subst (λ (x : Named). In x es) (sym q) w.1, λ s. n (ap key_at (sym q) ∙ s))
+      ]),
+  back,
 )
   where
-    back : (e : Named) → IsEntryAfter es (ModifyEntry name changes) e → In e (map (replaced (key_of name) (record at { entry = new })) es)
-    back e (inl w) = subst (λ (x : Named). In x (map (replaced (key_of name) (record at { entry = new })) es)) (replaced_other (key_of name) (record at { entry = new }) e w.1) (in_map (replaced (key_of name) (record at { entry = new })) e es w.0)
-    back e (inr w) =
-        let one : w.0 ≡ at = one_each es order w.0 at w.2 i (w.3 ∙ sym same) in
+    back : IsEntryAfter es (ModifyEntry name changes) e → In e (map (replaced (key_of name) (record at { entry = new })) es)
+    back (inl w) = subst (λ (x : Named). In x (map (replaced (key_of name) (record at { entry = new })) es)) (replaced_other (key_of name) (record at { entry = new }) e w.1) (in_map (replaced (key_of name) (record at { entry = new })) e es w.0)
+    back (inr w) =
+        let one : w.0 ≡ at = each w.0 at w.2 i (w.3 ∙ sym same) in
         let entry : w.1 ≡ new = ok_same w.1 new (sym w.4 ∙ ap (λ (x : Named). modified (last_rdn name) changes x.entry) one ∙ h) in
         let q : e ≡ record at { entry = new } = w.5 ∙ ap (λ (x : Named). record x { entry = w.1 }) one ∙ ap (λ (x : Entry). record at { entry = x }) entry in
         subst (λ (x : Named). In x (map (replaced (key_of name) (record at { entry = new })) es)) (replaced_there (key_of name) (record at { entry = new }) at same ∙ sym q) (in_map (replaced (key_of name) (record at { entry = new })) at es i)
 
+pub modify_listed : (es : List Named) (name : Name) (changes : List Change) (at : Named) (new : Entry) → ascending named_below es ≡ true → In at es → key_at at ≡ key_of name → modified (last_rdn name) changes at.entry ≡ Ok new
+    → Gives es (ModifyEntry name changes) (replace_at (key_of name) (record at { entry = new }) es)
+modify_listed es name changes at new order i same h = (
+  map_ascending (replaced (key_of name) (record at { entry = new })) (λ e. replaced_key (key_of name) (record at { entry = new }) e same) es ∙ order,
+  modify_members es name changes at new (one_each es order) i same h,
+)
+
 -- ---- modifyDN
 
-pub rename_listed : (es : List Named) (name : Name) (rdn : Rdn) (drops : Bool) (at : Named) → ascending named_below es ≡ true → 0 < length name → In at es → key_at at ≡ key_of name
-    → ((x y : Named) → In x es → In y es → moved (key_of name) (new_key name rdn) (key_at x) ≡ moved (key_of name) (new_key name rdn) (key_at y) → key_at x ≡ key_at y)
-    → Gives es (ModifyDn name rdn drops) (sorted_entries (map (moved_entry name rdn (renamed (last_rdn name) rdn drops at.entry)) es))
-rename_listed es name rdn drops at order full i same apart = (
-  sorted_in_order (map (moved_entry name rdn (renamed (last_rdn name) rdn drops at.entry)) es) (once_image (moved_entry name rdn (renamed (last_rdn name) rdn drops at.entry)) es (once_keys es order) (λ x y j l q. apart x y j l (sym (moved_key name rdn (renamed (last_rdn name) rdn drops at.entry) x full) ∙ q ∙ moved_key name rdn (renamed (last_rdn name) rdn drops at.entry) y full))),
-  λ e. (
-    λ j. (let w = of_map (moved_entry name rdn (renamed (last_rdn name) rdn drops at.entry)) e es (of_sorted named_below e (map (moved_entry name rdn (renamed (last_rdn name) rdn drops at.entry)) es) j) in there_to e w.0 w.1 w.2),
-    λ a. in_sorted named_below e (map (moved_entry name rdn (renamed (last_rdn name) rdn drops at.entry)) es) (back e a),
-  ),
+pub rename_members : (es : List Named) (name : Name) (rdn : Rdn) (drops : Bool) (at : Named) → OneEach es → In at es → key_at at ≡ key_of name
+    → Members es (ModifyDn name rdn drops) (sorted_entries (map (moved_entry name rdn (renamed (last_rdn name) rdn drops at.entry)) es))
+rename_members es name rdn drops at each i same e = (
+  λ j. (let w = of_map (moved_entry name rdn (renamed (last_rdn name) rdn drops at.entry)) e es (of_sorted named_below e (map (moved_entry name rdn (renamed (last_rdn name) rdn drops at.entry)) es) j) in there_to w.0 w.1 w.2),
+  λ a. in_sorted named_below e (map (moved_entry name rdn (renamed (last_rdn name) rdn drops at.entry)) es) (back a),
 )
   where
-    there_to : (e x : Named) → In x es → e ≡ moved_entry name rdn (renamed (last_rdn name) rdn drops at.entry) x → IsEntryAfter es (ModifyDn name rdn drops) e
-    there_to e x j q =
+    there_to : (x : Named) → In x es → e ≡ moved_entry name rdn (renamed (last_rdn name) rdn drops at.entry) x → IsEntryAfter es (ModifyDn name rdn drops) e
+    there_to x j q =
         elim (true_or_false (is_prefix (key_of name) (key_at x))) [
           | inr n ↦
               let off : IsPrefix (key_of name) (key_at x) → ⊥ = (λ h. let t : is_prefix (key_of name) (key_at x) ≡ true = (prefix_decides (key_of name) (key_at x)).1 h in cc) in
@@ -166,21 +173,31 @@ rename_listed es name rdn drops at order full i same apart = (
               inl (subst (λ (y : Named). In y es) (sym s) j, λ h. off (subst (λ (y : Named). IsPrefix (key_of name) (key_at y)) s h))
           | inl t ↦ elim (dec_key (key_at x) (key_of name)) [
             | inl s ↦
-                let one : x ≡ at = one_each es order x at j i (s ∙ sym same) in
+                let one : x ≡ at = each x at j i (s ∙ sym same) in
                 inr (inl (x, j, s, q ∙ moved_itself name rdn (renamed (last_rdn name) rdn drops at.entry) x s ∙ ap (λ (y : Named). record { name = name_after name rdn x; entry = renamed (last_rdn name) rdn drops y.entry }) (sym one)))
             | inr o ↦ inr (inr (x, j, o, (prefix_decides (key_of name) (key_at x)).0 t, q ∙ moved_below name rdn (renamed (last_rdn name) rdn drops at.entry) x o ((prefix_decides (key_of name) (key_at x)).0 t)))
           ]
         ]
 
-    from : (e x : Named) → In x es → e ≡ moved_entry name rdn (renamed (last_rdn name) rdn drops at.entry) x → In e (map (moved_entry name rdn (renamed (last_rdn name) rdn drops at.entry)) es)
-    from e x j q = subst (λ (y : Named). In y (map (moved_entry name rdn (renamed (last_rdn name) rdn drops at.entry)) es)) (sym q) (in_map (moved_entry name rdn (renamed (last_rdn name) rdn drops at.entry)) x es j)
+    from : (x : Named) → In x es → e ≡ moved_entry name rdn (renamed (last_rdn name) rdn drops at.entry) x → In e (map (moved_entry name rdn (renamed (last_rdn name) rdn drops at.entry)) es)
+    from x j q = subst (λ (y : Named). In y (map (moved_entry name rdn (renamed (last_rdn name) rdn drops at.entry)) es)) (sym q) (in_map (moved_entry name rdn (renamed (last_rdn name) rdn drops at.entry)) x es j)
 
-    back : (e : Named) → IsEntryAfter es (ModifyDn name rdn drops) e → In e (map (moved_entry name rdn (renamed (last_rdn name) rdn drops at.entry)) es)
-    back e (inl w) = from e e w.0 (sym (moved_apart name rdn (renamed (last_rdn name) rdn drops at.entry) e w.1))
-    back e (inr (inl w)) =
-        let one : w.0 ≡ at = one_each es order w.0 at w.1 i (w.2 ∙ sym same) in
-        from e w.0 w.1 (w.3 ∙ ap (λ (y : Named). record { name = name_after name rdn w.0; entry = renamed (last_rdn name) rdn drops y.entry }) one ∙ sym (moved_itself name rdn (renamed (last_rdn name) rdn drops at.entry) w.0 w.2))
-    back e (inr (inr w)) = from e w.0 w.1 (w.4 ∙ sym (moved_below name rdn (renamed (last_rdn name) rdn drops at.entry) w.0 w.2 w.3))
+    back : IsEntryAfter es (ModifyDn name rdn drops) e → In e (map (moved_entry name rdn (renamed (last_rdn name) rdn drops at.entry)) es)
+    back (inl w) = from e w.0 (sym (moved_apart name rdn (renamed (last_rdn name) rdn drops at.entry) e w.1))
+    back (inr (inl w)) =
+        let one : w.0 ≡ at = each w.0 at w.1 i (w.2 ∙ sym same) in
+        from w.0 w.1 (w.3 ∙ ap (λ (y : Named). record { name = name_after name rdn w.0; entry = renamed (last_rdn name) rdn drops y.entry }) one ∙ sym (moved_itself name rdn (renamed (last_rdn name) rdn drops at.entry) w.0 w.2))
+    back (inr (inr w)) = from w.0 w.1 (w.4 ∙ sym (moved_below name rdn (renamed (last_rdn name) rdn drops at.entry) w.0 w.2 w.3))
+
+pub rename_listed : (es : List Named) (name : Name) (rdn : Rdn) (drops : Bool) (at : Named) → ascending named_below es ≡ true → 0 < length name → In at es → key_at at ≡ key_of name
+    → ((x y : Named) → In x es → In y es → moved (key_of name) (new_key name rdn) (key_at x) ≡ moved (key_of name) (new_key name rdn) (key_at y) → key_at x ≡ key_at y)
+    → Gives es (ModifyDn name rdn drops) (sorted_entries (map (moved_entry name rdn (renamed (last_rdn name) rdn drops at.entry)) es))
+rename_listed es name rdn drops at order full i same apart = (
+  sorted_in_order (map (moved_entry name rdn (renamed (last_rdn name) rdn drops at.entry)) es)
+      (once_image (moved_entry name rdn (renamed (last_rdn name) rdn drops at.entry)) es (once_keys es order)
+      (λ x y j l q. apart x y j l (sym (moved_key name rdn (renamed (last_rdn name) rdn drops at.entry) x full) ∙ q ∙ moved_key name rdn (renamed (last_rdn name) rdn drops at.entry) y full))),
+  rename_members es name rdn drops at (one_each es order) i same,
+)
 
 -- ---- keys
 

@@ -1,8 +1,8 @@
 -- What an accepted update makes of an entry is in order.
-use Rattle.std.proofs.Common.{◌≡◌, ℕ, Bool, true, false, not, ◌&&◌, ◌||◌, ◌==◌, inl, inr, List, [], ◌∷◌, ◌++◌, map, refl, sym, ap, subst, ◌∙◌, Option, Some, None, Ok, Err, if◌then◌else◌}
+use Rattle.std.proofs.Common.{◌≡◌, ℕ, Bool, true, false, not, ◌&&◌, ◌||◌, ◌==◌, inl, inr, List, [], ◌∷◌, ◌++◌, refl, sym, subst, ◌∙◌, Option, Some, None, Ok, Err, if◌then◌else◌}
 use Rattle.std.specs.Prelude.{⊤}
 use Rattle.std.specs.List.{filter, list_any, flat_map}
-use Rattle.x5_model.specs.Words.{has, distinct, ascending, insert_sorted, first_of, same_octets}
+use Rattle.x5_model.specs.Words.{has, distinct, insert_sorted, first_of, same_octets}
 use Rattle.x5_model.specs.Members.{In, here, there}
 use Rattle.x5_model.specs.Values.{TypeRef, Known, Unknown, StoredValue, Offered, Pair, Rdn, Name, last_rdn}
 use Rattle.x5_model.specs.Entries.{Entry, Named}
@@ -12,9 +12,9 @@ use Rattle.x5_model.specs.Requests.{Attribute, Change, AddAttribute, RemoveAttri
 use Rattle.x5_model.specs.Answers.{DirError, AttributeProblem, UpdateProblem}
 use Rattle.x5_model.specs.Problems.{no_such_attribute_or_value, attribute_or_value_already_exists, not_allowed_on_rdn}
 use Rattle.x5_model.specs.Statics.{same_offered, has_equal_values, same_type, attribute_repeats, change_repeats, repeated, name_refusals, value_refusals, given, repeat_refusals, added_refusals, static_refusals, fault_of}
-use Rattle.x5_model.proofs.Lists.{both_true, true_or_false, either_true, or_left, not_true, not_false, left_empty, right_empty, flat_empty, when_empty, in_first}
-use Rattle.x5_model_updates.specs.Afterwards.{IsEntryAfter, new_entry}
-use Rattle.x5_model_updates.proofs.Outcomes.{single_is, ok_or_err}
+use Rattle.x5_model.proofs.Lists.{not_false, left_empty, right_empty, flat_empty, when_empty, in_first}
+use Rattle.x5_model_updates.specs.Afterwards.{IsEntryAfter}
+use Rattle.x5_model_updates.proofs.Outcomes.{single_is}
 use Rattle.x5_model_updates.proofs.EntryOrder.{ordered_with, put_ordered, drop_ordered, stored_ascending}
 
 -- ---- the values of an RDN

@@ -77,8 +77,8 @@ module _ (w : World) (described : IsDescribed w) (consistent : IsConsistent w) w
         subst (λ (es : List Named). In e es) (sym (part_is_context w good once_pins m.0 m.1)) (in_sorted named_below e m.0.context.entries m.2),
       ));
     },
-        (whole_is_tree w good once_pins).ordered,
-      )
+    (whole_is_tree w good once_pins).ordered,
+  )
 
 -- ---- line by line
 

@@ -1,6 +1,6 @@
 -- What the master of a context concludes of an update from what it has itself, and from the agents of an NSSR that it asked
 -- by probes (X.511, section 11; X.518, section 19.1).
-use Rattle.std.specs.Prelude.{◌≡◌, ℕ, true, false, List, [], length}
+use Rattle.std.specs.Prelude.{◌≡◌, ◌↔◌, ℕ, true, false, List, [], length}
 use Rattle.std.specs.declared.option.Option.TheVariants.{Some}
 use Rattle.std.specs.declared.result.Result.TheVariants.{Ok, Err}
 use Rattle.x5_model.specs.Members.{In}
@@ -9,8 +9,8 @@ use Rattle.x5_model.specs.Entries.{Named}
 use Rattle.x5_model.specs.References.{Reference, Chained}
 use Rattle.x5_model.specs.Answers.{DirError, UpdateProblem}
 use Rattle.x5_model.specs.Problems.{entry_already_exists}
-use Rattle.x5_model_tree.specs.Tree.{Tree}
-use Rattle.x5_model_tree.specs.Masters.{masters, holds}
+use Rattle.x5_model_tree.specs.Tree.{Tree, part}
+use Rattle.x5_model_tree.specs.Masters.{Mastered, pin_of, mastered, masters, holds}
 use Rattle.x5_model_tree.specs.Ask.{is_update}
 use Rattle.x5_model_tree.specs.Apply.{Outcome, apply_over, apply}
 use Rattle.x5_model_run.specs.Holdings.{ground_at, holds_within}
@@ -64,3 +64,8 @@ UnableMastersNone = (p : Point) (a : ℕ) (name : Name) → Stands p → holds_w
 abbrev pub RefusesProbed : Type 0
 RefusesProbed = (p : Point) (o a : ℕ) (m : Chained) (r : Reference) → IsJudge p o m → In r (probes p o m) → In a r.agents
     → holds (knowledge_at p) a (key_of r.target) ≡ true → apply (tree_at p) m.request ≡ Err (UpdateProblem entry_already_exists)
+
+-- 5. What the master then has is what its contexts have of the tree afterwards.
+abbrev pub JudgedAfter : Type 0
+JudgedAfter = (p : Point) (o : ℕ) (m : Chained) (mine : List Named) (u : Tree) (e : Named) → IsJudge p o m → judged p o m ≡ Ok mine → apply (tree_at p) m.request ≡ Ok u
+    → In e mine ↔ ((c : Mastered) × In c (mastered (knowledge_at p)) × (c.master ≡ o) × In e (part u (pin_of c)))

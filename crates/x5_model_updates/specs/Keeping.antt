@@ -10,7 +10,7 @@ use Rattle.x5_model_tree.specs.Tree.{Tree, keys_of, part}
 use Rattle.x5_model_tree.specs.Consistent.{IsConsistent}
 use Rattle.x5_model_tree.specs.Described.{IsDescribed}
 use Rattle.x5_model_tree.specs.Apply.{apply}
-use Rattle.x5_model_run.specs.History.{Point, Deed, Nothing, Outs, Loses, Accepts, Refreshes, Splits, Unsplits, Did, world_at}
+use Rattle.x5_model_run.specs.History.{Deed, Nothing, Outs, Loses, Accepts, Refreshes, Splits, Unsplits, Did}
 use Rattle.x5_model_run.specs.Run.{Command, Block, Judge, IsRun}
 use Rattle.x5_model_theory.specs.Knowledge.{Knowledge, Area}
 use Rattle.x5_model_theory.specs.Coherent.{Coherent}

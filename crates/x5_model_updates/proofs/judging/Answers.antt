@@ -1,4 +1,5 @@
 use Rattle.x5_model_updates.proofs.Judges.{refuses_alike, accepts_alone, probes_new_name, accepts_probed, unable_masters_none, refuses_at_probed}
+use Rattle.x5_model_updates.proofs.Judged.{judged_after}
 use Rattle.x5_model_updates.proofs.judging.Goals as goal
 
 pub returns-clause-refuses : goal.returns-clause-refuses
@@ -18,3 +19,6 @@ returns-clause-unable c = unable_masters_none
 
 pub returns-clause-refuses_probed : goal.returns-clause-refuses_probed
 returns-clause-refuses_probed c = refuses_at_probed
+
+pub returns-clause-after : goal.returns-clause-after
+returns-clause-after c = judged_after
