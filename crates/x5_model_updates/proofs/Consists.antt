@@ -30,7 +30,7 @@ first_or m ms pin b = if b then Some m.master else master_among ms pin
 abbrev some_master : Mastered → Option ℕ
 some_master m = Some m.master
 
-found_among : (ms : List Mastered) (m : Mastered) → Once (map pin_of ms) → In m ms → master_among ms (pin_of m) ≡ Some m.master
+pub found_among : (ms : List Mastered) (m : Mastered) → Once (map pin_of ms) → In m ms → master_among ms (pin_of m) ≡ Some m.master
 found_among [] m o i = elim i [ ]
 found_among (x ∷ ms) m o i = by (in_first m x ms i) (found_among ms m o.1)
   where

@@ -1,26 +1,30 @@
 -- What the master has after an update that the tree accepts too.
-use Rattle.std.proofs.Common.{◌≡◌, ℕ, true, inl, inr, List, sym, ap, subst, ◌∙◌, Some, Ok}
+use Rattle.std.proofs.Common.{◌≡◌, ℕ, true, inl, inr, List, sym, ap, subst, ◌∙◌, Option, Some, None, Ok}
+use Rattle.x5_model.specs.Words.{in_option}
 use Rattle.x5_model.specs.Members.{In}
 use Rattle.x5_model.specs.Keys.{Key, parent}
 use Rattle.x5_model.specs.Values.{key_of}
 use Rattle.x5_model.specs.Entries.{Named}
 use Rattle.x5_model.specs.Requests.{Body, Read, Compare, ListBelow, Search, AddEntry, RemoveEntry, ModifyEntry, ModifyDn}
-use Rattle.x5_model_tree.specs.Tree.{Tree, key_at, part}
+use Rattle.x5_model.proofs.Lists.{of_map}
+use Rattle.x5_model_tree.specs.Tree.{Tree, key_at, is_there, longest, part}
 use Rattle.x5_model_tree.specs.Ask.{is_update}
 use Rattle.x5_model_tree.specs.Apply.{Ground, ground_of, update}
-use Rattle.x5_model_tree.specs.Masters.{pin_of}
-use Rattle.x5_model_tree.proofs.Longest.{IsLongest}
-use Rattle.x5_model_run.specs.Holdings.{ground_at}
+use Rattle.x5_model_tree.specs.Masters.{pin_of, mastered, master_of}
+use Rattle.x5_model_tree.proofs.Longest.{IsLongest, longest_is}
+use Rattle.x5_model_tree.proofs.Exact.{conditions_hold}
+use Rattle.x5_model_run.specs.Holdings.{Held, ground_at}
 use Rattle.x5_model_run.specs.Needs.{target_of}
-use Rattle.x5_model_run.specs.History.{tree_at, world_at, holdings_at}
+use Rattle.x5_model_run.specs.History.{knowledge_at, tree_at, world_at, holdings_at}
 use Rattle.x5_model_theory.specs.Knowledge.{Knowledge, Area}
 use Rattle.x5_model_theory.specs.Described.{area_of, knowledge_of}
 use Rattle.x5_model_theory.specs.Coherent.{Coherent}
 use Rattle.x5_model_theory.specs.Changing.{holding}
+use Rattle.x5_model_theory.proofs.Views.{there_decides}
 use Rattle.x5_model_theory.proofs.Cohering.{one_master}
 use Rattle.x5_model_theory.proofs.Deciding.{dec_key}
 use Rattle.x5_model_updates.specs.Standing.{IsTreeOf}
-use Rattle.x5_model_updates.specs.Judging.{JudgedAfter}
+use Rattle.x5_model_updates.specs.Judging.{HolderIsMaster, JudgedAfter}
 use Rattle.x5_model_updates.specs.Afterwards.{IsEntryAfter}
 use Rattle.x5_model_updates.specs.Keeping.{keys_in}
 use Rattle.x5_model_updates.proofs.Lookups.{OneEach, entry_found}
@@ -30,9 +34,13 @@ use Rattle.x5_model_updates.proofs.Grounds.{Knows, within}
 use Rattle.x5_model_updates.proofs.Listed.{Members, add_members, remove_members, modify_members, rename_members}
 use Rattle.x5_model_updates.proofs.Divided.{Made, one_pin}
 use Rattle.x5_model_updates.proofs.After.{target_in, made_by, of_new_part, in_new_part}
-use Rattle.x5_model_updates.proofs.Held.{of_area, in_area}
+use Rattle.x5_model_updates.proofs.Held.{of_area, in_area, of_held}
+use Rattle.x5_model_updates.proofs.Consists.{found_among}
 use Rattle.x5_model_updates.proofs.Own.{own_knows}
 use Rattle.x5_model_updates.proofs.Judges.{seat_of}
+
+abbrev some_agent : ℕ → Option ℕ
+some_agent n = Some n
 
 -- what an update makes of any ground with one entry for each key
 made_members : (g : Ground) (body : Body) (us : List Named) → OneEach g.entries → is_update body ≡ true → update g body ≡ Ok us → Members g.entries body us
@@ -126,3 +134,15 @@ judged_after p o m mine u e j h q =
         let long = longest_own (knowledge_of (world_at p)) (tree_at p) j.stands.coherent j.stands.tree d (key_of (target_of m.request.body)) i own in
         let same : d.prefix ≡ pin_of seat.seat = one_pin (tree_at p).pins (key_of (target_of m.request.body)) d.prefix (pin_of seat.seat) long (subst (λ (x : Key). IsLongest (tree_at p).pins x (Some (pin_of seat.seat))) j.target seat.long) in
         ap (λ (x : Area). x.master) (one_master (knowledge_of (world_at p)) d (holding (keys_in (tree_at p)) (area_of seat.seat)) j.stands.coherent i (in_area p j.stands seat.seat seat.there) same) ∙ seat.mine
+
+-- who has an entry in a context of its own is the context's master
+pub holder_is_master : HolderIsMaster
+holder_is_master p o c key s i there_is =
+    let h = of_held p s o c i in
+    let at : is_there (part (tree_at p) (pin_of h.1)) key ≡ true = subst (λ (x : Held). is_there x.entries key ≡ true) h.6 there_is in
+    let e = of_map key_at key (part (tree_at p) (pin_of h.1)) ((there_decides (part (tree_at p) (pin_of h.1)) key).0 at) in
+    let long = (of_part (knowledge_of (world_at p)) (tree_at p) s.coherent s.tree (pin_of h.1) e.0 e.1).1 in
+    let is : longest (tree_at p).pins key ≡ Some (pin_of h.1) = longest_is (tree_at p).pins key (pin_of h.1) (subst (λ (x : Key). IsLongest (tree_at p).pins x (Some (pin_of h.1))) (sym e.2) long) in
+    ap (λ (x : Option Key). in_option None (master_of (knowledge_at p)) x) is
+    ∙ found_among (mastered (knowledge_at p)) h.1 (conditions_hold (knowledge_at p) s.consistent).one_master h.3
+    ∙ ap some_agent h.4

@@ -4,16 +4,17 @@ use Rattle.std.specs.Prelude.{◌≡◌, ◌↔◌, ℕ, true, false, List, [], 
 use Rattle.std.specs.declared.option.Option.TheVariants.{Some}
 use Rattle.std.specs.declared.result.Result.TheVariants.{Ok, Err}
 use Rattle.x5_model.specs.Members.{In}
+use Rattle.x5_model.specs.Keys.{Key}
 use Rattle.x5_model.specs.Values.{Name, key_of}
 use Rattle.x5_model.specs.Entries.{Named}
 use Rattle.x5_model.specs.References.{Reference, Chained}
 use Rattle.x5_model.specs.Answers.{DirError, UpdateProblem}
 use Rattle.x5_model.specs.Problems.{entry_already_exists}
-use Rattle.x5_model_tree.specs.Tree.{Tree, part}
+use Rattle.x5_model_tree.specs.Tree.{Tree, is_there, part}
 use Rattle.x5_model_tree.specs.Masters.{Mastered, pin_of, mastered, masters, holds}
 use Rattle.x5_model_tree.specs.Ask.{is_update}
 use Rattle.x5_model_tree.specs.Apply.{Outcome, apply_over, apply}
-use Rattle.x5_model_run.specs.Holdings.{ground_at, holds_within}
+use Rattle.x5_model_run.specs.Holdings.{Held, ground_at, holds_within}
 use Rattle.x5_model_run.specs.Needs.{target_of, resolves, new_name, due_probes}
 use Rattle.x5_model_run.specs.History.{Point, knowledge_at, tree_at, holdings_at}
 use Rattle.x5_model_run.specs.Right.{master_at}
@@ -26,6 +27,10 @@ pub record IsJudge (p : Point) (o : ℕ) (m : Chained) : Type 0 where
   pub target : key_of m.target ≡ key_of (target_of m.request.body)
   pub resolving : resolves (holdings_at p o) m ≡ true
   pub master : master_at p (key_of m.target) ≡ Some o
+
+-- An agent that has the entry of a key in a context of its own is the master of the key's context.
+abbrev pub HolderIsMaster : Type 0
+HolderIsMaster = (p : Point) (o : ℕ) (c : Held) (key : Key) → Stands p → In c (holdings_at p o).own → is_there c.entries key ≡ true → master_at p key ≡ Some o
 
 -- what it makes of the update by its own entries, the pins that it knows and its NSSRs
 abbrev pub judged : Point → ℕ → Chained → Outcome

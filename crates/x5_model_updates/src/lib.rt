@@ -6,11 +6,12 @@ ghost use Rattle.x5_model_updates.specs.Afterwards.{EntriesAfter, KeysAfter, Par
 ghost use Rattle.x5_model_run.specs.Right.{AnswersRight};
 ghost use Rattle.x5_model_updates.specs.Keeping.{UpdatesKeep, OrderStays, LinesStand, RunsStand};
 ghost use Rattle.x5_model_updates.specs.Standing.{TreeIsUnion, StandsAsTree, StandsConsistent, StandsGood};
-ghost use Rattle.x5_model_updates.specs.Judging.{RefusesAlike, AcceptsAlone, ProbesNewName, AcceptsProbed, UnableMastersNone, RefusesProbed, JudgedAfter};
+ghost use Rattle.x5_model_updates.specs.Judging.{HolderIsMaster, RefusesAlike, AcceptsAlone, ProbesNewName, AcceptsProbed, UnableMastersNone, RefusesProbed, JudgedAfter};
 
 /// What the master of a context concludes of an update from its own entries, the pins that it knows, its NSSRs and its
 /// probes, holds of the whole tree (X.511, section 11; X.518, section 19.1).
 pub fn judging()
+    ensures holder { HolderIsMaster }
     ensures refuses { RefusesAlike }
     ensures accepts_alone { AcceptsAlone }
     ensures probes { ProbesNewName }

@@ -1,6 +1,9 @@
 use Rattle.x5_model_updates.proofs.Judges.{refuses_alike, accepts_alone, probes_new_name, accepts_probed, unable_masters_none, refuses_at_probed}
-use Rattle.x5_model_updates.proofs.Judged.{judged_after}
+use Rattle.x5_model_updates.proofs.Judged.{holder_is_master, judged_after}
 use Rattle.x5_model_updates.proofs.judging.Goals as goal
+
+pub returns-clause-holder : goal.returns-clause-holder
+returns-clause-holder c = holder_is_master
 
 pub returns-clause-refuses : goal.returns-clause-refuses
 returns-clause-refuses c = refuses_alike
