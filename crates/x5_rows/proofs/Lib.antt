@@ -8,6 +8,7 @@ pub mod Messages
 pub mod Resolution
 pub mod Searching
 pub mod Probing
+pub mod Judging
 pub mod Shadowing
 pub mod Refused
 pub mod Losing
