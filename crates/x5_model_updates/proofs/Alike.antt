@@ -1,5 +1,7 @@
 -- What the master refuses, the tree refuses alike; what it accepts, the tree accepts, where no other agent has the new name.
 use Rattle.std.proofs.Common.{◌≡◌, ℕ, ◌+◌, ◌-◌, ◌<◌, Bool, true, false, not, inl, inr, List, [], ◌∷◌, ◌++◌, map, length, take, refl, sym, ap, subst, ◌∙◌, arith, Option, Some, None, Ok, Err, if◌then◌else◌}
+use Rattle.std.proofs.lemmas.List.{map-append, length-append}
+use Rattle.std.proofs.Math.Seq.{take-append_seam}
 use Rattle.x5_model.specs.Members.{In}
 use Rattle.x5_model.specs.Keys.{Key, KeyRdn, parent, same_key}
 use Rattle.x5_model.specs.Values.{Rdn, Name, key_of, key_of_rdn, last_rdn, name_above}
@@ -26,30 +28,18 @@ use Rattle.x5_model_updates.proofs.Grounds.{Knows, IsHeldBeside, same_entry, sam
 
 -- ---- the key of a new last RDN
 
-map_end : {A B : Type 0} (f : A → B) (xs : List A) (x : A) → map f (xs ++ x ∷ []) ≡ map f xs ++ f x ∷ []
-map_end f [] x = refl
-map_end {A} {B} f (y ∷ ys) x = ap (λ (zs : List B). f y ∷ zs) (map_end f ys x)
-
-pub length_end : {A : Type 0} (xs : List A) (x : A) → length (xs ++ x ∷ []) ≡ length xs + 1
-length_end [] x = omega arith
-length_end (y ∷ ys) x = (let e = length_end ys x in omega arith)
-
-take_end : {A : Type 0} (xs : List A) (x : A) → take (length xs) (xs ++ x ∷ []) ≡ xs
-take_end [] x = refl
-take_end {A} (y ∷ ys) x = ap (λ (zs : List A). y ∷ zs) (take_end ys x)
-
 parent_end : (a : Key) (x : KeyRdn) → parent (a ++ x ∷ []) ≡ a
-parent_end a x = (let e : length (a ++ x ∷ []) ≡ length a + 1 = length_end a x in ap (λ (n : ℕ). take n (a ++ x ∷ [])) (let m : length (a ++ x ∷ []) - 1 ≡ length a = omega arith in m) ∙ take_end a x)
+parent_end a x = (let e : length (a ++ x ∷ []) ≡ length a + 1 = length-append a (x ∷ []) in ap (λ (n : ℕ). take n (a ++ x ∷ [])) (let m : length (a ++ x ∷ []) - 1 ≡ length a = omega arith in m) ∙ take-append_seam a (x ∷ []))
 
 pub new_key_is : (name : Name) (rdn : Rdn) → new_key name rdn ≡ parent (key_of name) ++ key_of_rdn rdn ∷ []
-new_key_is name rdn = map_end key_of_rdn (name_above name) rdn ∙ ap (λ (a : Key). a ++ key_of_rdn rdn ∷ []) (above_key name)
+new_key_is name rdn = map-append key_of_rdn (name_above name) (rdn ∷ []) ∙ ap (λ (a : Key). a ++ key_of_rdn rdn ∷ []) (above_key name)
 
 pub new_key_parent : (name : Name) (rdn : Rdn) → parent (new_key name rdn) ≡ parent (key_of name)
 new_key_parent name rdn = ap parent (new_key_is name rdn) ∙ parent_end (parent (key_of name)) (key_of_rdn rdn)
 
 pub new_key_filled : (name : Name) (rdn : Rdn) → 0 < length (new_key name rdn)
 new_key_filled name rdn = (let e : length (new_key name rdn) ≡ length (parent (key_of name) ++ key_of_rdn rdn ∷ []) = ap length (new_key_is name rdn) in
-    let f : length (parent (key_of name) ++ key_of_rdn rdn ∷ []) ≡ length (parent (key_of name)) + 1 = length_end (parent (key_of name)) (key_of_rdn rdn) in omega arith)
+    let f : length (parent (key_of name) ++ key_of_rdn rdn ∷ []) ≡ length (parent (key_of name)) + 1 = length-append (parent (key_of name)) (key_of_rdn rdn ∷ []) in omega arith)
 
 -- ---- the new name
 

@@ -1,5 +1,7 @@
 -- What an accepted update makes of the tree, and of the part of each context.
 use Rattle.std.proofs.Common.{◌≡◌, ◌≢◌, ℕ, zero, suc, ◌<◌, ◌≤◌, Bool, true, false, not, ◌⊎◌, inl, inr, List, [], ◌∷◌, ◌++◌, map, length, take, drop, refl, sym, ap, subst, ◌∙◌, arith, Some, Ok}
+use Rattle.std.proofs.lemmas.List.{take-append-drop}
+use Rattle.std.proofs.Math.Seq.{take-append_seam, drop-append_seam}
 use Rattle.x5_model.specs.Words.{ascending}
 use Rattle.x5_model.specs.Members.{In}
 use Rattle.x5_model.specs.Keys.{Key, IsPrefix, parent, same_key}
@@ -32,25 +34,12 @@ use Rattle.x5_model_updates.proofs.Listed.{Gives, KeyFacts, add_listed, remove_l
 
 -- ---- keys
 
-take_front : {A : Type 0} (xs ys : List A) → take (length xs) (xs ++ ys) ≡ xs
-take_front [] ys = refl
-take_front {A} (x ∷ xs) ys = ap (λ (zs : List A). x ∷ zs) (take_front xs ys)
-
-drop_front : {A : Type 0} (xs ys : List A) → drop (length xs) (xs ++ ys) ≡ ys
-drop_front [] ys = refl
-drop_front (x ∷ xs) ys = drop_front xs ys
-
-take_drop : {A : Type 0} (n : ℕ) (xs : List A) → take n xs ++ drop n xs ≡ xs
-take_drop zero xs = refl
-take_drop (suc n) [] = refl
-take_drop {A} (suc n) (x ∷ xs) = ap (λ (ys : List A). x ∷ ys) (take_drop n xs)
-
 -- a key with a prefix is the prefix and what is behind it
 pub behind : (e x : Key) → IsPrefix e x → e ++ drop (length e) x ≡ x
-behind e x p = ap (λ (y : Key). y ++ drop (length e) x) (sym p) ∙ take_drop (length e) x
+behind e x p = ap (λ (y : Key). y ++ drop (length e) x) (sym p) ∙ take-append-drop (length e) x
 
 pub front_prefix : (n x : Key) → IsPrefix n (n ++ x)
-front_prefix n x = take_front n x
+front_prefix n x = take-append_seam n x
 
 -- no two keys become one, where nothing is at or below the new name, or it is the old one
 pub moved_apart_keys : (e n x y : Key) → ((n ≡ e) ⊎ ((IsPrefix n x → ⊥) × (IsPrefix n y → ⊥))) → moved e n x ≡ moved e n y → x ≡ y
@@ -70,7 +59,7 @@ moved_apart_keys e n x y free q =
     dec_below z = dec_key (take (length e) z) e
 
     rest : IsPrefix e x → IsPrefix e y → drop (length e) x ≡ drop (length e) y
-    rest a b = sym (drop_front n (drop (length e) x)) ∙ ap (drop (length n)) (sym (moved_goes e n x a) ∙ q ∙ moved_goes e n y b) ∙ drop_front n (drop (length e) y)
+    rest a b = sym (drop-append_seam n (drop (length e) x)) ∙ ap (drop (length n)) (sym (moved_goes e n x a) ∙ q ∙ moved_goes e n y b) ∙ drop-append_seam n (drop (length e) y)
 
     crossed : (u v : Key) → ((n ≡ e) ⊎ ((IsPrefix n u → ⊥) × (IsPrefix n v → ⊥))) → n ++ drop (length e) u ≡ v → (IsPrefix e v → ⊥) → ⊥
     crossed u v (inl s) h none = none (subst (λ (z : Key). IsPrefix e z) h (subst (λ (z : Key). IsPrefix e (z ++ drop (length e) u)) (sym s) (front_prefix e (drop (length e) u))))

@@ -1,6 +1,7 @@
 -- The knowledge of a world with the entries of another tree.
 use Rattle.std.proofs.Common.{◌≡◌, ℕ, zero, suc, ◌+◌, List, [], ◌∷◌, ◌++◌, map, refl, sym, ap, ◌∙◌, Option, None, slice_get}
 use Rattle.std.specs.List.{flat_map, enumerate_from}
+use Rattle.std.proofs.lemmas.List.{map-append}
 use Rattle.x5_model.specs.Words.{in_option}
 use Rattle.x5_model.specs.Values.{key_of}
 use Rattle.x5_model_tree.specs.World.{Specific, Context, Agent, World}
@@ -14,10 +15,6 @@ use Rattle.x5_model_theory.proofs.Places.{at_agent}
 use Rattle.x5_model_updates.specs.Keeping.{keys_in}
 
 -- ---- lists
-
-map_joined : {A B : Type 0} (f : A → B) (xs ys : List A) → map f (xs ++ ys) ≡ map f xs ++ map f ys
-map_joined f [] ys = refl
-map_joined {A} {B} f (x ∷ xs) ys = ap (λ (zs : List B). f x ∷ zs) (map_joined f xs ys)
 
 pub map_map : {A B C : Type 0} (f : A → B) (g : B → C) (xs : List A) → map g (map f xs) ≡ map (λ x. g (f x)) xs
 map_map f g [] = refl
@@ -55,7 +52,7 @@ now_placed t n [] = refl
 now_placed t n (a ∷ agents) =
     ap (λ (ms : List Mastered). ms ++ all_placed (n + 1) (map (now_agent t) agents)) (now_contexts t n a.contexts)
     ∙ ap (λ (ms : List Mastered). map (now_mastered t) (map (at_agent n) a.contexts) ++ ms) (now_placed t (n + 1) agents)
-    ∙ sym (map_joined (now_mastered t) (map (at_agent n) a.contexts) (all_placed (n + 1) agents))
+    ∙ sym (map-append (now_mastered t) (map (at_agent n) a.contexts) (all_placed (n + 1) agents))
 
 pub mastered_now : (t : Tree) (w : World) → mastered (with_tree t w) ≡ map (now_mastered t) (mastered w)
 mastered_now t w = now_placed t 0 w.agents

@@ -1,5 +1,7 @@
 -- The keys of names with another RDN in one place.
 use Rattle.std.proofs.Common.{◌≡◌, ◌≢◌, ℕ, zero, suc, ◌+◌, ◌-◌, ◌<◌, Bool, true, false, List, [], ◌∷◌, ◌++◌, map, length, take, drop, refl, sym, ap, subst, ◌∙◌, arith, length-take, if◌then◌else◌}
+use Rattle.std.specs.List.{take-map, drop-map}
+use Rattle.std.proofs.lemmas.List.{map-append, append_assoc}
 use Rattle.x5_model.specs.Keys.{Key, IsPrefix, parent, same_key, is_prefix}
 use Rattle.x5_model.specs.Values.{Rdn, Name, key_of, key_of_rdn, last_rdn, name_above}
 use Rattle.x5_model.specs.Entries.{Entry, Named}
@@ -15,24 +17,6 @@ use Rattle.x5_model_updates.proofs.Alike.{new_key_is}
 use Rattle.x5_model_updates.proofs.Outcomes.{moved_entry}
 use Rattle.std.proofs.Common.{inl, inr}
 
-map_append : {A B : Type 0} (f : A → B) (xs ys : List A) → map f (xs ++ ys) ≡ map f xs ++ map f ys
-map_append f [] ys = refl
-map_append {A} {B} f (x ∷ xs) ys = ap (λ (zs : List B). f x ∷ zs) (map_append f xs ys)
-
-map_take : {A B : Type 0} (f : A → B) (n : ℕ) (xs : List A) → map f (take n xs) ≡ take n (map f xs)
-map_take f zero xs = refl
-map_take f (suc n) [] = refl
-map_take {A} {B} f (suc n) (x ∷ xs) = ap (λ (ys : List B). f x ∷ ys) (map_take f n xs)
-
-map_drop : {A B : Type 0} (f : A → B) (n : ℕ) (xs : List A) → map f (drop n xs) ≡ drop n (map f xs)
-map_drop f zero xs = refl
-map_drop f (suc n) [] = refl
-map_drop f (suc n) (x ∷ xs) = map_drop f n xs
-
-append_assoc : {A : Type 0} (xs ys zs : List A) → (xs ++ ys) ++ zs ≡ xs ++ (ys ++ zs)
-append_assoc [] ys zs = refl
-append_assoc {A} (x ∷ xs) ys zs = ap (λ (ws : List A). x ∷ ws) (append_assoc xs ys zs)
-
 -- a name ends with its last RDN
 last_end : (name : Name) → 0 < length name → take (length name - 1) name ++ last_rdn name ∷ [] ≡ name
 last_end [] h = absurd (omega arith)
@@ -45,9 +29,9 @@ last_end (r ∷ q ∷ rest) h =
 -- the key of what an addEntry puts below an entry
 pub new_entry_key : (above : Named) (name : Name) (attributes : List Attribute) → 0 < length name → key_at above ≡ parent (key_of name) → key_at (new_entry above name attributes) ≡ key_of name
 new_entry_key above name attributes full same =
-    map_append key_of_rdn above.name (last_rdn name ∷ [])
-    ∙ ap (λ (x : Key). x ++ key_of_rdn (last_rdn name) ∷ []) (same ∙ ap (λ (n : ℕ). take (n - 1) (key_of name)) (key_length name) ∙ sym (map_take key_of_rdn (length name - 1) name))
-    ∙ sym (map_append key_of_rdn (take (length name - 1) name) (last_rdn name ∷ []))
+    map-append key_of_rdn above.name (last_rdn name ∷ [])
+    ∙ ap (λ (x : Key). x ++ key_of_rdn (last_rdn name) ∷ []) (same ∙ ap (λ (n : ℕ). take (n - 1) (key_of name)) (key_length name) ∙ take-map key_of_rdn (length name - 1) name)
+    ∙ sym (map-append key_of_rdn (take (length name - 1) name) (last_rdn name ∷ []))
     ∙ ap key_of (last_end name full)
 
 -- the key of a name below one whose last RDN changes
@@ -60,9 +44,9 @@ name_after_key name rdn old full on =
     let next : length (name_above name) + 1 ≡ length (key_of name) = omega arith in
     let front : take (length (name_above name)) (key_at old) ≡ parent (key_of name) =
     ap (λ (m : ℕ). take m (key_at old)) cut ∙ sym (take_take (length (key_of name) - 1) (length (key_of name)) (key_at old) (omega arith)) ∙ ap (take (length (key_of name) - 1)) on in
-    map_append key_of_rdn (take (length (name_above name)) old.name) (rdn ∷ drop (length (name_above name) + 1) old.name)
-    ∙ ap (λ (x : Key). x ++ (key_of_rdn rdn ∷ map key_of_rdn (drop (length (name_above name) + 1) old.name))) (map_take key_of_rdn (length (name_above name)) old.name ∙ front)
-    ∙ ap (λ (x : Key). parent (key_of name) ++ (key_of_rdn rdn ∷ x)) (map_drop key_of_rdn (length (name_above name) + 1) old.name ∙ ap (λ (m : ℕ). drop m (key_at old)) next)
+    map-append key_of_rdn (take (length (name_above name)) old.name) (rdn ∷ drop (length (name_above name) + 1) old.name)
+    ∙ ap (λ (x : Key). x ++ (key_of_rdn rdn ∷ map key_of_rdn (drop (length (name_above name) + 1) old.name))) (sym (take-map key_of_rdn (length (name_above name)) old.name) ∙ front)
+    ∙ ap (λ (x : Key). parent (key_of name) ++ (key_of_rdn rdn ∷ x)) (sym (drop-map key_of_rdn (length (name_above name) + 1) old.name) ∙ ap (λ (m : ℕ). drop m (key_at old)) next)
     ∙ sym (append_assoc (parent (key_of name)) (key_of_rdn rdn ∷ []) (drop (length (key_of name)) (key_at old)))
     ∙ ap (λ (x : Key). x ++ drop (length (key_of name)) (key_at old)) (sym (new_key_is name rdn))
 
