@@ -27,7 +27,7 @@ use Rattle.x5_model.specs.Words.{is_empty}
 pub one_master : (k : Knowledge) (c d : Area) → Coherent k → In c k.areas → In d k.areas → c.prefix ≡ d.prefix → c ≡ d
 one_master k c d good i j e = once_map (λ (q : Area). q.prefix) k.areas c d good.once i j e
 
-map_map : {A B C : Type 0} (f : A → B) (g : B → C) (xs : List A) → map g (map f xs) ≡ map (λ x. g (f x)) xs
+pub map_map : {A B C : Type 0} (f : A → B) (g : B → C) (xs : List A) → map g (map f xs) ≡ map (λ x. g (f x)) xs
 map_map f g [] = refl
 map_map {A} {B} {C} f g (x ∷ xs) = ap (λ (ys : List C). g (f x) ∷ ys) (map_map f g xs)
 

@@ -11,7 +11,7 @@ use Rattle.x5_model.specs.Requests.{Attribute, Change, Body, Read, Compare, List
 use Rattle.x5_model.specs.Answers.{DirError, UpdateProblem}
 use Rattle.x5_model.specs.Problems.{entry_already_exists}
 use Rattle.x5_model.proofs.Lists.{true_or_false, both_true, and_true, not_true}
-use Rattle.x5_model_tree.specs.Tree.{Tree, entry_at, has_below}
+use Rattle.x5_model_tree.specs.Tree.{sorted_entries, Tree, entry_at, has_below}
 use Rattle.x5_model_tree.specs.Ask.{is_update}
 use Rattle.x5_model_tree.specs.Apply.{Ground, Outcome, ground_of, absent, above_pin, is_taken, add, remove, modify, rename, update}
 use Rattle.x5_model_tree.proofs.Longest.{IsLongest}
@@ -22,7 +22,7 @@ use Rattle.x5_model_theory.specs.Coherent.{Coherent}
 use Rattle.x5_model_updates.specs.Standing.{IsTreeOf}
 use Rattle.x5_model_updates.specs.Afterwards.{new_key}
 use Rattle.x5_model_updates.proofs.Lookups.{entry_found}
-use Rattle.x5_model_updates.proofs.Outcomes.{clashes, add_none, add_taken, add_free, remove_none, remove_some, modify_none, modify_some, rename_none, rename_some, none_or_some, ok_or_err}
+use Rattle.x5_model_updates.proofs.Outcomes.{moved_entry, Added, added, Removed, removed, Modified, changed_so, Renamed, renamed_so, clashes, add_none, add_taken, add_free, remove_none, remove_some, modify_none, modify_some, rename_none, rename_some, none_or_some, ok_or_err}
 use Rattle.x5_model_updates.proofs.Trees.{at_name_in}
 use Rattle.x5_model_updates.proofs.Grounds.{Knows, IsHeldBeside, same_entry, same_absent, same_above, same_below, parent_own, taken_there, taken_here}
 
@@ -95,27 +95,23 @@ module _ (k : Knowledge) (t : Tree) (o : ℕ) (g : Ground) (good : Coherent k) (
           ]
         ]
 
-    -- what was accepted has its parent in the context, and wasn't known to be taken
-    add_passed : (es : List Named) → add g name attributes ≡ Ok es → (e : Named) × (entry_at t.entries (parent (key_of name)) ≡ Some e) × (is_taken g (key_of name) ≡ false) × In (parent (key_of name)) c.entries
-    add_passed es h =
-        elim (none_or_some (entry_at g.entries (parent (key_of name)))) [
-          | inl q ↦ (let f = add_none g name attributes q in cc)
-          | inr e ↦ elim (true_or_false (is_taken g (key_of name))) [
-            | inl b ↦ (let f = add_taken g name attributes e.0 e.1 b in cc)
-            | inr b ↦ (e.0, sym (found (parent (key_of name)) long) ∙ e.1, b, own (parent (key_of name)) long e.0 e.1)
-          ]
-        ]
+    -- what was accepted has its parent in the context
+    up_there : (us : List Named) → Added g name attributes us → In (parent (key_of name)) c.entries
+    up_there us a = own (parent (key_of name)) long a.above a.there
+
+    also_found : (us : List Named) (a : Added g name attributes us) → entry_at t.entries (parent (key_of name)) ≡ Some a.above
+    also_found us a = sym (found (parent (key_of name)) long) ∙ a.there
 
     pub add_accepted : (es : List Named) → add g name attributes ≡ Ok es → (In (parent (key_of name)) c.entries → IsHeldBeside k c (key_of name) → ⊥) → (us : List Named) × (add (ground_of t) name attributes ≡ Ok us)
     add_accepted es h free =
-        let p = add_passed es h in
+        let a = added g name attributes es h in
         elim (true_or_false (is_taken (ground_of t) (key_of name))) [
-          | inl b ↦ elim (taken_here k t o g good is knows c (key_of name) i mine p.3 b) [ inl a ↦ (let f = p.2 in cc) | inr a ↦ absurd (free p.3 a) ]
-          | inr b ↦ (_, add_free (ground_of t) name attributes p.0 p.1 b)
+          | inl b ↦ elim (taken_here k t o g good is knows c (key_of name) i mine (up_there es a) b) [ inl y ↦ (let f = a.free in cc) | inr y ↦ absurd (free (up_there es a) y) ]
+          | inr b ↦ (_, add_free (ground_of t) name attributes a.above (also_found es a) b)
         ]
 
     pub add_exists : (es : List Named) → add g name attributes ≡ Ok es → is_taken (ground_of t) (key_of name) ≡ true → add (ground_of t) name attributes ≡ Err (UpdateProblem entry_already_exists)
-    add_exists es h b = (let p = add_passed es h in add_taken (ground_of t) name attributes p.0 p.1 b)
+    add_exists es h b = (let a = added g name attributes es h in add_taken (ground_of t) name attributes a.above (also_found es a) b)
 
   -- ---- removeEntry
 
@@ -140,21 +136,10 @@ module _ (k : Knowledge) (t : Tree) (o : ℕ) (g : Ground) (good : Coherent k) (
 
     pub remove_accepted : (es : List Named) → remove g name ≡ Ok es → (us : List Named) × (remove (ground_of t) name ≡ Ok us)
     remove_accepted es h =
-        elim (none_or_some (entry_at g.entries (key_of name))) [
-          | inl q ↦ (let f = remove_none g name q in cc)
-          | inr e ↦
-              let te = sym (found (key_of name) long) ∙ e.1 in
-              let a = above_same (key_of name) long e.0 e.1 in
-              elim (true_or_false (above_pin g (key_of name))) [
-                | inl b ↦ (let f = remove_some g name e.0 true (has_below g.entries (key_of name)) e.1 b refl in cc)
-                | inr b ↦
-                    let l = same_below k t o g good is knows c (key_of name) i mine (own (key_of name) long e.0 e.1) (sym a ∙ b) in
-                    elim (true_or_false (has_below g.entries (key_of name))) [
-                      | inl d ↦ (let f = remove_some g name e.0 false true e.1 b d in cc)
-                      | inr d ↦ (_, remove_some (ground_of t) name e.0 false false te (sym a ∙ b) (sym l ∙ d))
-                    ]
-              ]
-        ]
+        let a = removed g name es h in
+        let low : above_pin (ground_of t) (key_of name) ≡ false = sym (above_same (key_of name) long a.at a.there) ∙ a.above in
+        let leaf : has_below t.entries (key_of name) ≡ false = sym (same_below k t o g good is knows c (key_of name) i mine (own (key_of name) long a.at a.there) low) ∙ a.below in
+        (_, remove_some (ground_of t) name a.at false false (sym (found (key_of name) long) ∙ a.there) low leaf)
 
   -- ---- modifyEntry
 
@@ -171,13 +156,8 @@ module _ (k : Knowledge) (t : Tree) (o : ℕ) (g : Ground) (good : Coherent k) (
 
     pub modify_accepted : (es : List Named) → modify g name changes ≡ Ok es → (us : List Named) × (modify (ground_of t) name changes ≡ Ok us)
     modify_accepted es h =
-        elim (none_or_some (entry_at g.entries (key_of name))) [
-          | inl q ↦ (let f = modify_none g name changes q in cc)
-          | inr e ↦ elim (ok_or_err (modified (last_rdn name) changes e.0.entry)) [
-            | inl v ↦ (_, modify_some (ground_of t) name changes e.0 (Ok v.0) (sym (found (key_of name) long) ∙ e.1) v.1)
-            | inr y ↦ (let f = modify_some g name changes e.0 (Err y.0) e.1 y.1 in cc)
-          ]
-        ]
+        let a = changed_so g name changes es h in
+        (_, modify_some (ground_of t) name changes a.at (Ok a.new) (sym (found (key_of name) long) ∙ a.there) a.done)
 
   -- ---- modifyDN
 
@@ -207,64 +187,37 @@ module _ (k : Knowledge) (t : Tree) (o : ℕ) (g : Ground) (good : Coherent k) (
               ]
         ]
 
-    -- what was accepted is below no pin that it knows of, and the new name wasn't known to be taken
-    record Passed : Type 0 where
-      at : Named
-      there : entry_at t.entries (key_of name) ≡ Some at
-      above : above_pin (ground_of t) (key_of name) ≡ false
-      new : Entry
-      single : single_valued (renamed (last_rdn name) rdn drops at.entry) ≡ Ok new
-      free : clashes g name rdn ≡ false
-      parent_there : In (parent (new_key name rdn)) c.entries
+    -- what was accepted is above no pin of the tree either, and the new name's parent is in the context
+    low : (us : List Named) → Renamed g name rdn drops us → above_pin (ground_of t) (key_of name) ≡ false
+    low us a = sym (above_same (key_of name) long a.at a.there) ∙ a.above
 
-    rename_passed : (es : List Named) → rename g name rdn drops ≡ Ok es → Passed
-    rename_passed es h =
-        elim (none_or_some (entry_at g.entries (key_of name))) [
-          | inl q ↦ (let f = rename_none g name rdn drops q in cc)
-          | inr e ↦
-              let new = single_valued (renamed (last_rdn name) rdn drops e.0.entry) in
-              elim (true_or_false (above_pin g (key_of name))) [
-                | inl b ↦ (let f = rename_some g name rdn drops e.0 true new (clashes g name rdn) e.1 b refl refl in cc)
-                | inr b ↦ elim (ok_or_err (single_valued (renamed (last_rdn name) rdn drops e.0.entry))) [
-                  | inr y ↦ (let f = rename_some g name rdn drops e.0 false (Err y.0) (clashes g name rdn) e.1 b y.1 refl in cc)
-                  | inl v ↦ elim (true_or_false (clashes g name rdn)) [
-                    | inl d ↦ (let f = rename_some g name rdn drops e.0 false (Ok v.0) true e.1 b v.1 d in cc)
-                    | inr d ↦
-                        let low : above_pin (ground_of t) (key_of name) ≡ false = sym (above_same (key_of name) long e.0 e.1) ∙ b in
-                        record {
-                          at = e.0;
-                          there = sym (found (key_of name) long) ∙ e.1;
-                          above = low;
-                          new = v.0;
-                          single = v.1;
-                          free = d;
-                          parent_there = subst (λ (x : Key). In x c.entries) (sym (new_key_parent name rdn)) (parent_own k t o g good is knows c (key_of name) i mine (own (key_of name) long e.0 e.1) low);
-                        }
-                  ]
-                ]
-              ]
-        ]
+    new_up : (us : List Named) → Renamed g name rdn drops us → In (parent (new_key name rdn)) c.entries
+    new_up us a =
+        subst (λ (x : Key). In x c.entries) (sym (new_key_parent name rdn)) (parent_own k t o g good is knows c (key_of name) i mine (own (key_of name) long a.at a.there) (low us a))
+
+    as_renamed : (us : List Named) (a : Renamed g name rdn drops us) (b : Bool) → clashes (ground_of t) name rdn ≡ b
+        → rename (ground_of t) name rdn drops ≡ (if b then Err (UpdateProblem entry_already_exists) else Ok (sorted_entries (map (moved_entry name rdn (renamed (last_rdn name) rdn drops a.at.entry)) t.entries)))
+    as_renamed us a b e =
+        rename_some (ground_of t) name rdn drops a.at false (Ok (renamed (last_rdn name) rdn drops a.at.entry)) b (sym (found (key_of name) long) ∙ a.there) (low us a) a.single e
 
     pub rename_accepted : (es : List Named) → rename g name rdn drops ≡ Ok es
         → (same_key (new_key name rdn) (key_of name) ≡ false → In (parent (new_key name rdn)) c.entries → IsHeldBeside k c (new_key name rdn) → ⊥) → (us : List Named) × (rename (ground_of t) name rdn drops ≡ Ok us)
     rename_accepted es h free =
-        let p = rename_passed es h in
+        let a = renamed_so g name rdn drops es h in
         elim (true_or_false (clashes (ground_of t) name rdn)) [
           | inl b ↦
               let w = both_true (not (same_key (new_key name rdn) (key_of name))) (is_taken (ground_of t) (new_key name rdn)) b in
-              elim (taken_here k t o g good is knows c (new_key name rdn) i mine p.parent_there w.1) [
-                | inl a ↦ (let f : clashes g name rdn ≡ true = and_true (not (same_key (new_key name rdn) (key_of name))) (is_taken g (new_key name rdn)) w.0 a in let f2 = p.free in cc)
-                | inr a ↦ absurd (free (not_true (same_key (new_key name rdn) (key_of name)) w.0) p.parent_there a)
+              elim (taken_here k t o g good is knows c (new_key name rdn) i mine (new_up es a) w.1) [
+                | inl y ↦ (let f : clashes g name rdn ≡ true = and_true (not (same_key (new_key name rdn) (key_of name))) (is_taken g (new_key name rdn)) w.0 y in let f2 = a.free in cc)
+                | inr y ↦ absurd (free (not_true (same_key (new_key name rdn) (key_of name)) w.0) (new_up es a) y)
               ]
-          | inr b ↦ (_, rename_some (ground_of t) name rdn drops p.at false (Ok p.new) false p.there p.above p.single b)
+          | inr b ↦ (_, as_renamed es a false b)
         ]
 
     pub rename_exists : (es : List Named) → rename g name rdn drops ≡ Ok es → same_key (new_key name rdn) (key_of name) ≡ false → is_taken (ground_of t) (new_key name rdn) ≡ true
         → rename (ground_of t) name rdn drops ≡ Err (UpdateProblem entry_already_exists)
     rename_exists es h other b =
-        let p = rename_passed es h in
-        rename_some (ground_of t) name rdn drops p.at false (Ok p.new) true p.there p.above p.single
-        (and_true (not (same_key (new_key name rdn) (key_of name))) (is_taken (ground_of t) (new_key name rdn)) (ap not other) b)
+        as_renamed es (renamed_so g name rdn drops es h) true (and_true (not (same_key (new_key name rdn) (key_of name))) (is_taken (ground_of t) (new_key name rdn)) (ap not other) b)
 
   -- ---- any update
 
@@ -317,9 +270,8 @@ module _ (k : Knowledge) (t : Tree) (o : ℕ) (g : Ground) (good : Coherent k) (
   target_there (RemoveEntry name) m s long es h = cc
   target_there (ModifyEntry name changes) m s long es h = cc
   target_there (AddEntry name attributes) m s long es h =
-      let p = add_passed name attributes (subst (λ (n : Key). IsLongest t.pins n (Some c.prefix)) (above_key name) long) es h in
-      (subst (λ (n : Key). In n c.entries) (sym (above_key name)) p.3, subst (λ (n : Name). In (parent (key_of n)) c.entries) (some_same name m s) p.3)
+      let up = up_there name attributes (subst (λ (n : Key). IsLongest t.pins n (Some c.prefix)) (above_key name) long) es (added g name attributes es h) in
+      (subst (λ (n : Key). In n c.entries) (sym (above_key name)) up, subst (λ (n : Name). In (parent (key_of n)) c.entries) (some_same name m s) up)
   target_there (ModifyDn name rdn drops) m s long es h =
-      let p = rename_passed name rdn drops long es h in
-      let w = entry_found t.entries (key_of name) p.at p.there in
-      (subst (λ (n : Key). In n c.entries) w.1 (at_name_in k t good is c (key_of name) p.at i long w.0 w.1), subst (λ (n : Name). In (parent (key_of n)) c.entries) (anew_is name rdn m s).1 p.parent_there)
+      let a = renamed_so g name rdn drops es h in
+      (own (key_of name) long a.at a.there, subst (λ (n : Name). In (parent (key_of n)) c.entries) (anew_is name rdn m s).1 (new_up name rdn drops long es a))

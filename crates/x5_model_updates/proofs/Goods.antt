@@ -20,9 +20,10 @@ use Rattle.x5_model_theory.specs.Coherent.{Coherent}
 use Rattle.x5_model_theory.specs.Described.{spot_of, area_of, pointer_of, knowledge_of}
 use Rattle.x5_model_theory.proofs.Places.{pointer_in}
 use Rattle.x5_model_theory.proofs.Views.{one_at_place, superior_at}
+use Rattle.x5_model_theory.proofs.Cohering.{map_map}
 use Rattle.x5_model_updates.specs.Standing.{Stands, TreeIsUnion, StandsAsTree, StandsGood}
 use Rattle.x5_model_updates.proofs.Trees.{entry_filled, area_of_entry, of_part}
-use Rattle.x5_model_updates.proofs.Moments.{map_map, now_mastered, mastered_now}
+use Rattle.x5_model_updates.proofs.Moments.{now_mastered, mastered_now}
 
 -- ---- from facts by keys to facts of contexts and agents, for any world
 

@@ -20,7 +20,7 @@ use Rattle.x5_model_theory.specs.Knowledge.{Knowledge, Area}
 use Rattle.x5_model_theory.specs.Coherent.{Coherent}
 use Rattle.x5_model_theory.specs.Changing.{holding, with_entries, moved}
 use Rattle.x5_model_theory.proofs.Deciding.{dec_nat, dec_key}
-use Rattle.x5_model_theory.proofs.Cohering.{one_master}
+use Rattle.x5_model_theory.proofs.Cohering.{map_map, one_master}
 use Rattle.x5_model_theory.proofs.Changes.{adding_keeps, removing_keeps, renaming_keeps, reordering_keeps}
 use Rattle.x5_model_updates.specs.Standing.{IsTreeOf}
 use Rattle.x5_model_updates.specs.Afterwards.{IsKeyAfter, new_key}
@@ -30,7 +30,6 @@ use Rattle.x5_model_updates.proofs.Outcomes.{same_list, added, removed, renamed_
 use Rattle.x5_model_updates.proofs.Trees.{one_area, entry_filled, of_part, entry_in_area, area_of_entry}
 use Rattle.x5_model_updates.proofs.Grounds.{has_below_decides}
 use Rattle.x5_model_updates.proofs.Alike.{new_key_parent, new_key_filled}
-use Rattle.x5_model_updates.proofs.Moments.{map_map}
 use Rattle.x5_model_updates.proofs.Renaming.{moved_goes, moved_stays}
 use Rattle.x5_model_updates.proofs.Ordered.{after_ordered}
 use Rattle.x5_model_updates.proofs.Listed.{keys_listed}

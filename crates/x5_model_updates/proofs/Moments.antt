@@ -11,14 +11,9 @@ use Rattle.x5_model_run.specs.History.{Point, knowledge_at, tree_at, world_at}
 use Rattle.x5_model_theory.specs.Knowledge.{Knowledge, Area, Pointer}
 use Rattle.x5_model_theory.specs.Described.{area_of, pointer_of, knowledge_of}
 use Rattle.x5_model_theory.specs.Changing.{holding, with_entries}
+use Rattle.x5_model_theory.proofs.Cohering.{map_map}
 use Rattle.x5_model_theory.proofs.Places.{at_agent}
 use Rattle.x5_model_updates.specs.Keeping.{keys_in}
-
--- ---- lists
-
-pub map_map : {A B C : Type 0} (f : A → B) (g : B → C) (xs : List A) → map g (map f xs) ≡ map (λ x. g (f x)) xs
-map_map f g [] = refl
-map_map {A} {B} {C} f g (x ∷ xs) = ap (λ (ys : List C). g (f x) ∷ ys) (map_map f g xs)
 
 -- ---- the world with these entries
 

@@ -26,13 +26,13 @@ use Rattle.x5_model_theory.specs.Knowledge.{Knowledge, Area}
 use Rattle.x5_model_theory.specs.Described.{area_of, knowledge_of}
 use Rattle.x5_model_theory.specs.Coherent.{Coherent}
 use Rattle.x5_model_theory.specs.Changing.{holding, with_entries}
-use Rattle.x5_model_theory.proofs.Cohering.{consistent_is_coherent}
+use Rattle.x5_model_theory.proofs.Cohering.{map_map, consistent_is_coherent}
 use Rattle.x5_model_theory.proofs.Changes.{reordering_keeps}
 use Rattle.x5_model_updates.specs.Standing.{IsTreeOf}
 use Rattle.x5_model_updates.specs.Keeping.{keys_in, MovesNone, NoneMoved, LinesStand, RunsStand}
 use Rattle.x5_model_updates.proofs.Lookups.{once_keys}
 use Rattle.x5_model_updates.proofs.Outcomes.{ok_or_err}
-use Rattle.x5_model_updates.proofs.Moments.{map_map, with_tree, knowledge_now, again}
+use Rattle.x5_model_updates.proofs.Moments.{with_tree, knowledge_now, again}
 use Rattle.x5_model_updates.proofs.Keeps.{updates_keep, order_stays}
 
 -- this knowledge, with the parts of the tree, is coherent, and the tree is of it
