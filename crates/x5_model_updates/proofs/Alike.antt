@@ -5,7 +5,7 @@ use Rattle.std.proofs.Math.Seq.{take-append_seam}
 use Rattle.x5_model.specs.Members.{In}
 use Rattle.x5_model.specs.Keys.{Key, KeyRdn, parent, same_key}
 use Rattle.x5_model.specs.Values.{Rdn, Name, key_of, key_of_rdn, last_rdn, name_above}
-use Rattle.x5_model.specs.Entries.{Entry, Named}
+use Rattle.x5_model.specs.Entries.{Named}
 use Rattle.x5_model.specs.Changes.{modified, renamed, single_valued}
 use Rattle.x5_model.specs.Requests.{Attribute, Change, Body, Read, Compare, ListBelow, Search, AddEntry, RemoveEntry, ModifyEntry, ModifyDn}
 use Rattle.x5_model.specs.Answers.{DirError, UpdateProblem}
@@ -22,7 +22,7 @@ use Rattle.x5_model_theory.specs.Coherent.{Coherent}
 use Rattle.x5_model_updates.specs.Standing.{IsTreeOf}
 use Rattle.x5_model_updates.specs.Afterwards.{new_key}
 use Rattle.x5_model_updates.proofs.Lookups.{entry_found}
-use Rattle.x5_model_updates.proofs.Outcomes.{moved_entry, Added, added, Removed, removed, Modified, changed_so, Renamed, renamed_so, clashes, add_none, add_taken, add_free, remove_none, remove_some, modify_none, modify_some, rename_none, rename_some, none_or_some, ok_or_err}
+use Rattle.x5_model_updates.proofs.Outcomes.{moved_entry, Added, added, removed, changed_so, Renamed, renamed_so, clashes, add_none, add_taken, add_free, remove_none, remove_some, modify_none, modify_some, rename_none, rename_some, none_or_some, ok_or_err}
 use Rattle.x5_model_updates.proofs.Trees.{at_name_in}
 use Rattle.x5_model_updates.proofs.Grounds.{Knows, IsHeldBeside, same_entry, same_absent, same_above, same_below, parent_own, taken_there, taken_here}
 

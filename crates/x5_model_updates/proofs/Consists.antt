@@ -1,15 +1,14 @@
 -- The world with the entries of the moment meets the ten conditions.
-use Rattle.std.proofs.Common.{◌≡◌, ℕ, ◌+◌, ◌<◌, Bool, ◌⊎◌, inl, inr, List, [], ◌∷◌, map, length, refl, sym, ap, subst, ◌∙◌, arith, Option, Some, if◌then◌else◌}
+use Rattle.std.proofs.Common.{◌≡◌, ℕ, ◌+◌, ◌<◌, inl, inr, List, [], ◌∷◌, map, length, refl, sym, ap, subst, ◌∙◌, arith, Option}
 use Rattle.std.specs.List.{enumerate_from}
-use Rattle.x5_model.specs.Members.{In, Once, here, there}
-use Rattle.x5_model.specs.Keys.{Key, parent, same_key}
+use Rattle.x5_model.specs.Members.{In, here, there}
+use Rattle.x5_model.specs.Keys.{Key, parent}
 use Rattle.x5_model.specs.Values.{key_of}
-use Rattle.x5_model.proofs.KeyLaws.{key_decides}
-use Rattle.x5_model.proofs.Lists.{true_or_false, in_first, in_map, of_map, in_flat, in_either}
+use Rattle.x5_model.proofs.Lists.{in_first, in_map, of_map, in_flat, in_either}
 use Rattle.x5_model.proofs.Prefixes.{parent_length}
 use Rattle.x5_model_tree.specs.World.{Specific, Context, Agent}
 use Rattle.x5_model_tree.specs.Tree.{Tree, key_at}
-use Rattle.x5_model_tree.specs.Masters.{Mastered, pin_of, numbered, mastered, master_among, superior_of}
+use Rattle.x5_model_tree.specs.Masters.{Mastered, pin_of, numbered, mastered, superior_of}
 use Rattle.x5_model_tree.specs.Conditions.{Masters, Consumes, ChildOfOwn, EndsWithin, Conditions}
 use Rattle.x5_model_tree.proofs.Exact.{conditions_hold, consistent_where}
 use Rattle.x5_model_tree.proofs.Gives.{owner_of}
@@ -21,27 +20,8 @@ use Rattle.x5_model_theory.proofs.Places.{at_agent, pointer_in}
 use Rattle.x5_model_theory.proofs.Views.{one_at_place, superior_at}
 use Rattle.x5_model_updates.specs.Standing.{Stands, StandsConsistent}
 use Rattle.x5_model_updates.proofs.Moments.{now_agent, now_mastered, mastered_now, knowledge_now}
+use Rattle.x5_model_updates.proofs.Mastering.{found_among}
 use Rattle.x5_model_updates.proofs.Goods.{area_there, has_of, in_of, masters_of, refers_of, pins_once, was_mastered}
-
--- the master of a pin is found, where pins come once
-abbrev first_or : Mastered → List Mastered → Key → Bool → Option ℕ
-first_or m ms pin b = if b then Some m.master else master_among ms pin
-
-abbrev some_master : Mastered → Option ℕ
-some_master m = Some m.master
-
-pub found_among : (ms : List Mastered) (m : Mastered) → Once (map pin_of ms) → In m ms → master_among ms (pin_of m) ≡ Some m.master
-found_among [] m o i = elim i [ ]
-found_among (x ∷ ms) m o i = by (in_first m x ms i) (found_among ms m o.1)
-  where
-    by : (m ≡ x) ⊎ In m ms → (In m ms → master_among ms (pin_of m) ≡ Some m.master) → first_or x ms (pin_of m) (same_key (pin_of x) (pin_of m)) ≡ Some m.master
-    by (inl s) rest =
-        ap (first_or x ms (pin_of m)) ((key_decides (pin_of x) (pin_of m)).1 (ap pin_of (sym s))) ∙ ap (λ (y : Mastered). some_master y) (sym s)
-    by (inr j) rest =
-        elim (true_or_false (same_key (pin_of x) (pin_of m))) [
-          | inl t ↦ absurd (o.0 (subst (λ (y : Key). In y (map pin_of ms)) (sym ((key_decides (pin_of x) (pin_of m)).0 t)) (in_map pin_of m ms j)))
-          | inr f ↦ ap (first_or x ms (pin_of m)) f ∙ rest j
-        ]
 
 -- agents with other entries, by their places
 was_numbered : (t : Tree) (n : ℕ) (agents : List Agent) (a : ℕ × Agent) → In a (enumerate_from n (map (now_agent t) agents)) → (b : Agent) × In (a.0, b) (enumerate_from n agents) × (a.1 ≡ now_agent t b)

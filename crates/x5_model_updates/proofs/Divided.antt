@@ -1,5 +1,5 @@
 -- What an accepted update makes of the tree, and of the part of each context.
-use Rattle.std.proofs.Common.{◌≡◌, ◌≢◌, ℕ, zero, suc, ◌<◌, ◌≤◌, Bool, true, false, not, ◌⊎◌, inl, inr, List, [], ◌∷◌, ◌++◌, map, length, take, drop, refl, sym, ap, subst, ◌∙◌, arith, Some, Ok}
+use Rattle.std.proofs.Common.{◌≡◌, ◌≢◌, ◌<◌, ◌≤◌, Bool, true, false, not, ◌⊎◌, inl, inr, List, [], ◌∷◌, ◌++◌, map, length, take, drop, sym, ap, subst, ◌∙◌, arith, Some, Ok}
 use Rattle.std.proofs.lemmas.List.{take-append-drop}
 use Rattle.std.proofs.Math.Seq.{take-append_seam, drop-append_seam}
 use Rattle.x5_model.specs.Words.{ascending}
@@ -29,7 +29,7 @@ use Rattle.x5_model_updates.proofs.Outcomes.{Added, added, Removed, removed, Mod
 use Rattle.x5_model_updates.proofs.Trees.{entry_filled, above_entry, pin_there, area_of_pin, of_part, in_part, entry_in_area, area_of_entry, tree_filled, part_of_key, longest_own}
 use Rattle.x5_model_updates.proofs.Grounds.{above_decides, Taken, taken_decides, has_below_decides}
 use Rattle.x5_model_updates.proofs.Alike.{new_key_parent, new_key_filled}
-use Rattle.x5_model_updates.proofs.Renaming.{new_entry_key, name_after_key, moved_goes, moved_stays}
+use Rattle.x5_model_updates.proofs.Renaming.{filled_name, filled_key, new_entry_key, name_after_key, moved_goes, moved_stays}
 use Rattle.x5_model_updates.proofs.Listed.{Gives, KeyFacts, add_listed, remove_listed, modify_listed, rename_listed}
 
 -- ---- keys
@@ -64,10 +64,6 @@ moved_apart_keys e n x y free q =
     crossed : (u v : Key) → ((n ≡ e) ⊎ ((IsPrefix n u → ⊥) × (IsPrefix n v → ⊥))) → n ++ drop (length e) u ≡ v → (IsPrefix e v → ⊥) → ⊥
     crossed u v (inl s) h none = none (subst (λ (z : Key). IsPrefix e z) h (subst (λ (z : Key). IsPrefix e (z ++ drop (length e) u)) (sym s) (front_prefix e (drop (length e) u))))
     crossed u v (inr f) h none = f.1 (subst (λ (z : Key). IsPrefix n z) h (front_prefix n (drop (length e) u)))
-
-some_rdn : (n : Name) → 0 < length (key_of n) → 0 < length n
-some_rdn [] l = l
-some_rdn (r ∷ n) l = omega arith
 
 -- ---- what an update by one ground gives, in a tree and in a part of it
 
@@ -161,21 +157,13 @@ module _ (k : Knowledge) (t : Tree) (good : Coherent k) (is : IsTreeOf k t) wher
       → Made t c.prefix (AddEntry name attributes) us
   add_made name attributes us c i own h = by (added (ground_of t) name attributes us h)
     where
-      name_filled : (n : Name) → 0 < length (parent (key_of n)) → 0 < length n
-      name_filled [] l = l
-      name_filled (r ∷ n) l = omega arith
-
-      key_filled : (n : Name) → 0 < length n → 0 < length (key_of n)
-      key_filled [] l = l
-      key_filled (r ∷ n) l = omega arith
-
       inner_add : (e : Named) → IsEntryAfter t.entries (AddEntry name attributes) e → IsLongest t.pins (key_at e) (Some c.prefix) → IsEntryAfter (part t c.prefix) (AddEntry name attributes) e
       inner_add e (inl j) l = inl (in_part k t good is c.prefix e j l)
       inner_add e (inr w) l = inr (w.0, part_of_key k t good is c w.0 i w.1 (subst (λ (x : Key). In x c.entries) (sym w.2) own), w.2, w.3)
 
       key_new : Added (ground_of t) name attributes us → (e above : Named) → In above t.entries → key_at above ≡ parent (key_of name) → e ≡ new_entry above name attributes → key_at e ≡ key_of name
       key_new a e above j s q =
-          ap key_at q ∙ new_entry_key above name attributes (name_filled name (subst (λ (x : Key). 0 < length x) s (tree_filled k t good is above j))) s
+          ap key_at q ∙ new_entry_key above name attributes (filled_name name (filled_key name (subst (λ (x : Key). 0 < length x) s (tree_filled k t good is above j)))) s
 
       outer_add : ((e : Named) → key_at e ≡ key_of name → IsLongest t.pins (key_at e) (Some c.prefix)) → Added (ground_of t) name attributes us → (e : Named) → IsEntryAfter (part t c.prefix) (AddEntry name attributes) e
           → IsEntryAfter t.entries (AddEntry name attributes) e × IsLongest t.pins (key_at e) (Some c.prefix)
@@ -192,10 +180,11 @@ module _ (k : Knowledge) (t : Tree) (good : Coherent k) (is : IsTreeOf k t) wher
       by : Added (ground_of t) name attributes us → Made t c.prefix (AddEntry name attributes) us
       by a =
           let w = entry_found t.entries (parent (key_of name)) a.above a.there in
-          let filled : 0 < length name = name_filled name (subst (λ (x : Key). 0 < length x) w.1 (tree_filled k t good is a.above w.0)) in
+          let key_filled : 0 < length (key_of name) = filled_key name (subst (λ (x : Key). 0 < length x) w.1 (tree_filled k t good is a.above w.0)) in
+          let filled : 0 < length name = filled_name name key_filled in
           let key : key_at (new_entry a.above name attributes) ≡ key_of name = new_entry_key a.above name attributes filled w.1 in
           let long : (e : Named) → key_at e ≡ key_of name → IsLongest t.pins (key_at e) (Some c.prefix) = (λ e s.
-          new_longest c (key_of name) (key_at e) i own (key_filled name filled) (no_pin_at (key_of name) (key_filled name filled) (not_entry (key_of name) a.free)) (subst (λ (x : Key). IsPrefix (key_of name) x) (sym s) (prefix_itself (key_of name)))) in
+          new_longest c (key_of name) (key_at e) i own key_filled (no_pin_at (key_of name) key_filled (not_entry (key_of name) a.free)) (subst (λ (x : Key). IsPrefix (key_of name) x) (sym s) (prefix_itself (key_of name)))) in
           let at : In a.above (part t c.prefix) = part_of_key k t good is c a.above i w.0 (subst (λ (x : Key). In x c.entries) (sym w.1) own) in
           record {
             gives = subst (λ (xs : List Named). Gives t.entries (AddEntry name attributes) xs) (sym a.made) (add_listed t.entries name attributes a.above is.in_order w.0 w.1 key (fresh (key_of name) a.free));
@@ -334,7 +323,7 @@ module _ (k : Knowledge) (t : Tree) (good : Coherent k) (is : IsTreeOf k t) wher
   rename_made name rdn drops us c i own h = by (renamed_so (ground_of t) name rdn drops us h)
     where
       full : 0 < length name
-      full = some_rdn name (entry_filled k good c (key_of name) i own)
+      full = filled_name name (entry_filled k good c (key_of name) i own)
 
       -- what is at or below the entry is in its part
       under : Renamed (ground_of t) name rdn drops us → (e : Named) → In e t.entries → IsPrefix (key_of name) (key_at e) → In e (part t c.prefix)

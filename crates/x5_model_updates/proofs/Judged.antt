@@ -35,7 +35,7 @@ use Rattle.x5_model_updates.proofs.Listed.{Members, add_members, remove_members,
 use Rattle.x5_model_updates.proofs.Divided.{Made, one_pin}
 use Rattle.x5_model_updates.proofs.After.{target_in, made_by, of_new_part, in_new_part}
 use Rattle.x5_model_updates.proofs.Held.{of_area, in_area, of_held}
-use Rattle.x5_model_updates.proofs.Consists.{found_among}
+use Rattle.x5_model_updates.proofs.Mastering.{found_among}
 use Rattle.x5_model_updates.proofs.Own.{own_knows}
 use Rattle.x5_model_updates.proofs.Judges.{seat_of}
 

@@ -1,9 +1,9 @@
 -- The master concludes rightly from what it has itself, and from its probes.
-use Rattle.std.proofs.Common.{◌≡◌, ℕ, ◌≤◌, Bool, true, false, not, ◌&&◌, ◌==◌, nat_le, inl, inr, List, [], ◌∷◌, map, length, refl, sym, ap, subst, ◌∙◌, arith, Option, Some, None, Ok, Err, if◌then◌else◌}
+use Rattle.std.proofs.Common.{◌≡◌, ℕ, ◌≤◌, Bool, true, false, not, ◌&&◌, ◌==◌, nat_le, inl, inr, List, [], ◌∷◌, map, length, refl, sym, ap, subst, ◌∙◌, arith, Option, Some, None, Ok, Err}
 use Rattle.std.specs.Result.{is_err}
 use Rattle.std.proofs.lemmas.Bool.Decides.{leb_tells}
 use Rattle.x5_model.specs.Words.{is_empty, in_option}
-use Rattle.x5_model.specs.Members.{In, here, there}
+use Rattle.x5_model.specs.Members.{In, here}
 use Rattle.x5_model.specs.Keys.{Key, IsPrefix, parent, same_key, is_prefix}
 use Rattle.x5_model.specs.Values.{Name, key_of}
 use Rattle.x5_model.specs.Entries.{Named}
@@ -16,7 +16,7 @@ use Rattle.x5_model.proofs.Prefixes.{prefix_decides, prefix_itself}
 use Rattle.x5_model.proofs.Decide.{not_decides, nat_same_decides}
 use Rattle.x5_model_tree.specs.World.{Nssr, Agent}
 use Rattle.x5_model_tree.specs.Tree.{Tree, key_at, keys_of, is_there, entry_at, longest, part}
-use Rattle.x5_model_tree.specs.Masters.{Mastered, pin_of, numbered, mastered, master_among, master_of, masters, holds}
+use Rattle.x5_model_tree.specs.Masters.{Mastered, pin_of, numbered, mastered, master_of, masters, holds}
 use Rattle.x5_model_tree.specs.Good.{Good}
 use Rattle.x5_model_tree.specs.Apply.{Outcome, ground_of, apply, is_taken}
 use Rattle.x5_model_tree.proofs.Longest.{IsLongest, longest_right, longest_is}
@@ -40,23 +40,8 @@ use Rattle.x5_model_updates.proofs.Grounds.{Knows, IsHeldBeside, taken_decides}
 use Rattle.x5_model_updates.proofs.Alike.{refused, accepted, exists, target_there}
 use Rattle.x5_model_updates.proofs.Held.{in_area, mastered_still, mastered_before, of_held, fed_mastered, known_own, holder_of, own_held}
 use Rattle.x5_model_updates.proofs.Own.{known_there, held_of, own_knows}
+use Rattle.x5_model_updates.proofs.Mastering.{among}
 use Rattle.x5_model_updates.proofs.Probes.{probe_is, probe_due, proceeding_key}
-
-abbrev first_or : Mastered → List Mastered → Key → Bool → Option ℕ
-first_or m ms pin b = if b then Some m.master else master_among ms pin
-
-inside_some : (a b : ℕ) → Some a ≡ Some b → a ≡ b
-inside_some a b e = cc
-
--- a pin's master masters it
-among : (ms : List Mastered) (pin : Key) (o : ℕ) → master_among ms pin ≡ Some o → (m : Mastered) × In m ms × (m.master ≡ o) × (pin_of m ≡ pin)
-among [] pin o e = cc
-among (m ∷ ms) pin o e = by (same_key (pin_of m) pin) refl e (among ms pin o)
-  where
-    by : (b : Bool) → same_key (pin_of m) pin ≡ b → first_or m ms pin b ≡ Some o → (master_among ms pin ≡ Some o → (q : Mastered) × In q ms × (q.master ≡ o) × (pin_of q ≡ pin))
-        → (q : Mastered) × In q (m ∷ ms) × (q.master ≡ o) × (pin_of q ≡ pin)
-    by true s e rest = (m, here, inside_some m.master o e, (key_decides (pin_of m) pin).0 s)
-    by false s e rest = (let q = rest e in (q.0, there q.1, q.2, q.3))
 
 me_is : (p : Point) (o : ℕ) → (holdings_at p o).me ≡ o
 me_is p o = by_agent p o (λ h. h.me ≡ o) refl (λ a i. refl)

@@ -1,5 +1,5 @@
 -- Accepted updates keep knowledge coherent, with the parts of the tree afterwards.
-use Rattle.std.proofs.Common.{◌≡◌, ◌≢◌, ◌<◌, ◌≤◌, Bool, true, false, ◌⊎◌, ◌↔◌, inl, inr, List, [], ◌∷◌, map, length, take, refl, sym, ap, subst, ◌∙◌, arith, Some, Ok}
+use Rattle.std.proofs.Common.{◌≡◌, ◌≢◌, ◌≤◌, Bool, true, false, ◌⊎◌, ◌↔◌, inl, inr, List, map, length, take, refl, sym, ap, subst, ◌∙◌, arith, Some, Ok}
 use Rattle.x5_model.specs.Members.{In, Once}
 use Rattle.x5_model.specs.Keys.{Key, IsPrefix, parent}
 use Rattle.x5_model.specs.Values.{Rdn, Name, key_of}
@@ -30,7 +30,7 @@ use Rattle.x5_model_updates.proofs.Outcomes.{same_list, added, removed, renamed_
 use Rattle.x5_model_updates.proofs.Trees.{one_area, entry_filled, of_part, entry_in_area, area_of_entry}
 use Rattle.x5_model_updates.proofs.Grounds.{has_below_decides}
 use Rattle.x5_model_updates.proofs.Alike.{new_key_parent, new_key_filled}
-use Rattle.x5_model_updates.proofs.Renaming.{moved_goes, moved_stays}
+use Rattle.x5_model_updates.proofs.Renaming.{filled_key, moved_goes, moved_stays}
 use Rattle.x5_model_updates.proofs.Ordered.{after_ordered}
 use Rattle.x5_model_updates.proofs.Listed.{keys_listed}
 use Rattle.x5_model_updates.proofs.Divided.{behind, Made, not_entry, no_pin_under, free_name, under_own}
@@ -84,7 +84,7 @@ module _ (k : Knowledge) (t : Tree) (us : List Named) (good : Coherent k) (is : 
       adding_keeps k (keys_in U) c (key_of name) good
       (record {
         mine = i;
-        filled = filled_by name (entry_filled k good c (parent (key_of name)) i own);
+        filled = filled_key name (entry_filled k good c (parent (key_of name)) i own);
         below = own;
         new = not_entry k t good is (key_of name) a.free;
         members = λ d x j. each_context (AddEntry name attributes) c i m (λ e y. In y e.entries ⊎ ((y ≡ key_of name) × (e ≡ c))) x (
@@ -94,10 +94,6 @@ module _ (k : Knowledge) (t : Tree) (us : List Named) (good : Coherent k) (is : 
             (λ e l o. (λ n. inl n, λ n. elim n [ inl y ↦ y | inr w ↦ absurd (o (ap (λ (z : Area). z.prefix) w.1)) ])) d j;
         once = λ d j. once_in (AddEntry name attributes) c i m d;
       })
-    where
-      filled_by : (n : Name) → 0 < length (parent (key_of n)) → 0 < length (key_of n)
-      filled_by [] l = l
-      filled_by (r ∷ n) l = omega arith
 
   keeps_remove : (name : Name) (c : Area) → In c k.areas → In (key_of name) c.entries → Made t c.prefix (RemoveEntry name) us → update (ground_of t) (RemoveEntry name) ≡ Ok us → Coherent (with_entries (keys_in U) k)
   keeps_remove name c i own m h =

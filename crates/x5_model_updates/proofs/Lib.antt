@@ -7,6 +7,7 @@ pub mod Moments
 pub mod Held
 pub mod Own
 pub mod Probes
+pub mod Mastering
 pub mod Judges
 pub mod Renaming
 pub mod Listed

@@ -1,5 +1,5 @@
 -- The keys of names with another RDN in one place.
-use Rattle.std.proofs.Common.{◌≡◌, ◌≢◌, ℕ, zero, suc, ◌+◌, ◌-◌, ◌<◌, Bool, true, false, List, [], ◌∷◌, ◌++◌, map, length, take, drop, refl, sym, ap, subst, ◌∙◌, arith, length-take, if◌then◌else◌}
+use Rattle.std.proofs.Common.{◌≡◌, ◌≢◌, ℕ, suc, ◌+◌, ◌-◌, ◌<◌, Bool, true, false, List, [], ◌∷◌, ◌++◌, map, length, take, drop, sym, ap, subst, ◌∙◌, arith, length-take, if◌then◌else◌}
 use Rattle.std.specs.List.{take-map, drop-map}
 use Rattle.std.proofs.lemmas.List.{map-append, append_assoc}
 use Rattle.x5_model.specs.Keys.{Key, IsPrefix, parent, same_key, is_prefix}
@@ -25,6 +25,14 @@ last_end (r ∷ q ∷ rest) h =
     let e : length (r ∷ q ∷ rest) - 1 ≡ suc (length (q ∷ rest) - 1) = omega arith in
     ap (λ (n : ℕ). take n (r ∷ q ∷ rest) ++ last_rdn (q ∷ rest) ∷ []) e
     ∙ ap (λ (ns : Name). r ∷ ns) (last_end (q ∷ rest) (omega arith))
+
+pub filled_name : (n : Name) → 0 < length (key_of n) → 0 < length n
+filled_name [] l = l
+filled_name (r ∷ n) l = omega arith
+
+pub filled_key : (n : Name) → 0 < length (parent (key_of n)) → 0 < length (key_of n)
+filled_key [] l = l
+filled_key (r ∷ n) l = omega arith
 
 -- the key of what an addEntry puts below an entry
 pub new_entry_key : (above : Named) (name : Name) (attributes : List Attribute) → 0 < length name → key_at above ≡ parent (key_of name) → key_at (new_entry above name attributes) ≡ key_of name

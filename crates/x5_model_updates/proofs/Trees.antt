@@ -38,21 +38,6 @@ module _ (k : Knowledge) (good : Coherent k) where
       let m : length c.prefix ≤ length d.prefix = good.no_longer d c x j i p a in
       one_master k c d good i j (same_by_length c.prefix d.prefix x a (good.below d x j p) (omega arith))
 
-  -- what stands above an entry of a context, at its pin or below it, is an entry of the context
-  pub above_in : (bound : ℕ) (c : Area) (x y : Key) → length x ≤ bound → In c k.areas → In x c.entries → IsPrefix y x → length c.prefix ≤ length y → In y c.entries
-  above_in zero c x y small i p q l = (let a : 0 < length x = entry_filled c x i p in absurd (omega arith))
-  above_in (suc bound) c x y small i p q l =
-      let le : length y ≤ length x = prefix_length y x q in
-      let full : 0 < length x = entry_filled c x i p in
-      let up : length (parent x) + 1 ≡ length x = parent_length x full in
-      elim (dec_nat (length y) (length x)) [
-        | inl same ↦ subst (λ (z : Key). In z c.entries) (sym (same_by_length y x x q (prefix_itself x) same)) p
-        | inr other ↦ elim (good.closed c x i p) [
-          | inl s ↦ (let e : length x ≡ length c.prefix = ap length s in absurd (omega (arith, other)))
-          | inr u ↦ above_in bound c (parent x) y (omega arith) i u (prefix_of_parent y x q (omega (arith, other))) l
-        ]
-      ]
-
   -- a pin below an entry of a context: it begins just below some entry of that context, which is at or below the first
   pub below_in : (bound : ℕ) (c d : Area) (x : Key) → length d.prefix ≤ bound → In c k.areas → In d k.areas → In x c.entries → IsPrefix x d.prefix → length x < length d.prefix
       → (q : Area) × In q k.areas × In (parent q.prefix) c.entries × IsPrefix x (parent q.prefix)
