@@ -31,11 +31,11 @@ use Rattle.x5_model_theory.proofs.Views.{there_decides, masters_decides}
 use Rattle.x5_model_theory.proofs.Stages.{key_length}
 use Rattle.x5_model_theory.proofs.Holding.{good_at, by_agent, IsHeld, holds_decides}
 use Rattle.x5_model_updates.specs.Standing.{Stands}
-use Rattle.x5_model_updates.specs.Judging.{IsJudge, judged, probes, RefusesAlike, AcceptsAlone, ProbesNewName, AcceptsProbed, UnableMastersNone, RefusesProbed}
+use Rattle.x5_model_updates.specs.Judging.{IsJudge, judged, probes, RefusesAlike, AcceptsAlone, ProbesNewName, AcceptsProbed, UnableMastersNone, RefusesProbed, AcceptsAbsent, RefusesPresent}
 use Rattle.x5_model_updates.specs.Keeping.{keys_in}
 use Rattle.x5_model_updates.proofs.Lookups.{entry_found, none_found}
 use Rattle.x5_model_updates.proofs.Outcomes.{ok_or_err, none_or_some, over_update, refused_over, accepted_over, tree_refuses, tree_accepts}
-use Rattle.x5_model_updates.proofs.Trees.{pin_there}
+use Rattle.x5_model_updates.proofs.Trees.{pin_there, entry_in_area, of_part}
 use Rattle.x5_model_updates.proofs.Grounds.{Knows, IsHeldBeside, taken_decides}
 use Rattle.x5_model_updates.proofs.Alike.{refused, accepted, exists, target_there}
 use Rattle.x5_model_updates.proofs.Held.{in_area, mastered_still, mastered_before, of_held, fed_mastered, known_own, holder_of, own_held}
@@ -175,17 +175,48 @@ module _ (p : Point) (o : ℕ) (m : Chained) (j : IsJudge p o m) (seat : Seat p 
                 y.1 ∙ ap some_nssr same
           ]
 
+  -- what it accepts the tree accepts, where no agent of the NSSR has the new name
+  accepts_free : (mine : List Named) → judged p o m ≡ Ok mine → ((name : Name) → new_name m.request.body ≡ Some name → IsHeldBeside (knowledge_of (world_at p)) c (key_of name) → ⊥)
+      → (t : Tree) × (apply (tree_at p) m.request ≡ Ok t)
+  accepts_free mine h free =
+      let v = accepted_over (ground_at m.request (holdings_at p o)) m.request.body mine h in
+      let w = accepted (knowledge_of (world_at p)) (tree_at p) o (ground_at m.request (holdings_at p o)) s.coherent s.tree knows c c_there seat.mine m.request.body j.update long mine v.1
+      (λ name named up beside. free name named beside) in
+      (_, tree_accepts (tree_at p) m.request w.0 (over_update (ground_of (tree_at p)) m.request.body v.0 ∙ w.1))
+
   accepts : (mine : List Named) → judged p o m ≡ Ok mine → ((r : Reference) (a : ℕ) → In r (probes p o m) → In a r.agents → masters (knowledge_at p) a (key_of r.target) ≡ false)
       → (t : Tree) × (apply (tree_at p) m.request ≡ Ok t)
   accepts mine h free =
-      let v = accepted_over (ground_at m.request (holdings_at p o)) m.request.body mine h in
-      let w = accepted (knowledge_of (world_at p)) (tree_at p) o (ground_at m.request (holdings_at p o)) s.coherent s.tree knows c c_there seat.mine m.request.body j.update long mine v.1
-      (λ name named up beside.
+      accepts_free mine h
+      (λ name named beside.
       let a = asked mine name h named beside in
       let no : masters (knowledge_at p) a.1 (key_of a.0.target) ≡ false = free a.0 a.1 a.2 a.3 in
       let yes : masters (knowledge_at p) a.1 (key_of a.0.target) ≡ true = (masters_decides (knowledge_at p) a.1 (key_of a.0.target)).1 (mastered_before p s a.1 (key_of a.0.target) (subst (λ (x : Key). IsMastered (knowledge_of (world_at p)) a.1 x) (sym a.4) a.5)) in
-      (let f : true ≡ false = sym yes ∙ no in cc)) in
-      (_, tree_accepts (tree_at p) m.request w.0 (over_update (ground_of (tree_at p)) m.request.body v.0 ∙ w.1))
+      (let f : true ≡ false = sym yes ∙ no in cc))
+
+  -- a pin is an entry
+  pin_is_there : (x : Key) (a : ℕ) → IsMastered (knowledge_of (world_at p)) a x → is_there (tree_at p).entries x ≡ true
+  pin_is_there x a d =
+      let e = entry_in_area (knowledge_of (world_at p)) (tree_at p) s.coherent s.tree d.0 d.0.prefix d.1 (s.coherent.headed d.0 d.1) in
+      (there_decides (tree_at p).entries x).1 (subst (λ (y : Key). In y (keys_of (tree_at p).entries)) (e.2 ∙ d.3) (in_map key_at e.0 (tree_at p).entries (of_part (knowledge_of (world_at p)) (tree_at p) s.coherent s.tree d.0.prefix e.0 e.1).0))
+
+  accepts_absent_name : (mine : List Named) → judged p o m ≡ Ok mine → ((name : Name) → new_name m.request.body ≡ Some name → is_there (tree_at p).entries (key_of name) ≡ false)
+      → (t : Tree) × (apply (tree_at p) m.request ≡ Ok t)
+  accepts_absent_name mine h absent =
+      accepts_free mine h
+      (λ name named beside.
+      let yes = pin_is_there (key_of name) beside.1 beside.5 in
+      let no = absent name named in
+      (let f : true ≡ false = sym yes ∙ no in cc))
+
+  refuses_taken : (mine : List Named) (name : Name) → judged p o m ≡ Ok mine → new_name m.request.body ≡ Some name → is_there (tree_at p).entries (key_of name) ≡ true
+      → apply (tree_at p) m.request ≡ Err (UpdateProblem entry_already_exists)
+  refuses_taken mine name h named present =
+      let v = accepted_over (ground_at m.request (holdings_at p o)) m.request.body mine h in
+      let taken : is_taken (ground_of (tree_at p)) (key_of name) ≡ true = (taken_decides (ground_of (tree_at p)) (key_of name)).1 (inl ((there_decides (tree_at p).entries (key_of name)).0 present)) in
+      tree_refuses (tree_at p) m.request (UpdateProblem entry_already_exists)
+      (over_update (ground_of (tree_at p)) m.request.body v.0
+      ∙ exists (knowledge_of (world_at p)) (tree_at p) o (ground_at m.request (holdings_at p o)) s.coherent s.tree knows c c_there seat.mine m.request.body name named long mine v.1 taken)
 
   refuses_probed : (a : ℕ) (r : Reference) → In r (probes p o m) → In a r.agents → holds (knowledge_at p) a (key_of r.target) ≡ true → apply (tree_at p) m.request ≡ Err (UpdateProblem entry_already_exists)
   refuses_probed a r i l h =
@@ -193,16 +224,11 @@ module _ (p : Point) (o : ℕ) (m : Chained) (j : IsJudge p o m) (seat : Seat p 
       elim (ok_or_err (judged p o m)) [
         | inr e ↦ (let f : is_refused_here (holdings_at p o) m.request ≡ true = ap err_of e.1 in let g = x.passed in cc)
         | inl e ↦
-            let v = accepted_over (ground_at m.request (holdings_at p o)) m.request.body e.0 e.1 in
             let above = entry_found x.held.entries (parent (key_of x.name)) x.above x.found in
             let key : key_of r.target ≡ key_of x.name = ap (λ (y : Reference). key_of y.target) x.is ∙ proceeding_key x.name x.above (others (holdings_at p o).me x.nssr.agents) above.1 in
             let b = held_somewhere ((holds_decides (knowledge_at p) a (key_of r.target)).0 h) in
-            let d = mastered_still p s b.0 (key_of r.target) b.1 in
-            let pin : In (key_of x.name) (tree_at p).pins = subst (λ (y : Key). In y (tree_at p).pins) (d.3 ∙ key) (pin_there (knowledge_of (world_at p)) (tree_at p) s.coherent s.tree d.0 d.1) in
-            let taken : is_taken (ground_of (tree_at p)) (key_of x.name) ≡ true = (taken_decides (ground_of (tree_at p)) (key_of x.name)).1 (inr (inl pin)) in
-            tree_refuses (tree_at p) m.request (UpdateProblem entry_already_exists)
-            (over_update (ground_of (tree_at p)) m.request.body x.faultless
-            ∙ exists (knowledge_of (world_at p)) (tree_at p) o (ground_at m.request (holdings_at p o)) s.coherent s.tree knows c c_there seat.mine m.request.body x.name x.named long e.0 v.1 taken)
+            refuses_taken e.0 x.name e.1 x.named
+            (subst (λ (y : Key). is_there (tree_at p).entries y ≡ true) key (pin_is_there (key_of r.target) b.0 (mastered_still p s b.0 (key_of r.target) b.1)))
       ]
     where
       held_somewhere : IsHeld (knowledge_at p) a (key_of r.target) → (b : ℕ) × IsMastered (knowledge_of (knowledge_at p)) b (key_of r.target)
@@ -219,6 +245,12 @@ accepts_probed p o m mine j h free = accepts p o m j (seat_of p o m j) mine h fr
 
 pub accepts_alone : AcceptsAlone
 accepts_alone p o m mine j h none = accepts p o m j (seat_of p o m j) mine h (λ r a i l. elim (subst (λ (xs : List Reference). In r xs) none i) [ ])
+
+pub accepts_absent : AcceptsAbsent
+accepts_absent p o m mine j h absent = accepts_absent_name p o m j (seat_of p o m j) mine h absent
+
+pub refuses_present : RefusesPresent
+refuses_present p o m mine name j h named present = refuses_taken p o m j (seat_of p o m j) mine name h named present
 
 pub refuses_at_probed : RefusesProbed
 refuses_at_probed p o a m r j i l h = refuses_probed p o m j (seat_of p o m j) a r i l h

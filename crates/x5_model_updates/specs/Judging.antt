@@ -70,6 +70,15 @@ abbrev pub RefusesProbed : Type 0
 RefusesProbed = (p : Point) (o a : ℕ) (m : Chained) (r : Reference) → IsJudge p o m → In r (probes p o m) → In a r.agents
     → holds (knowledge_at p) a (key_of r.target) ≡ true → apply (tree_at p) m.request ≡ Err (UpdateProblem entry_already_exists)
 
+-- So it is where a probe's answer tells of the one tree: that the new name is no entry of it, or is one.
+abbrev pub AcceptsAbsent : Type 0
+AcceptsAbsent = (p : Point) (o : ℕ) (m : Chained) (mine : List Named) → IsJudge p o m → judged p o m ≡ Ok mine
+    → ((name : Name) → new_name m.request.body ≡ Some name → is_there (tree_at p).entries (key_of name) ≡ false) → (t : Tree) × (apply (tree_at p) m.request ≡ Ok t)
+
+abbrev pub RefusesPresent : Type 0
+RefusesPresent = (p : Point) (o : ℕ) (m : Chained) (mine : List Named) (name : Name) → IsJudge p o m → judged p o m ≡ Ok mine → new_name m.request.body ≡ Some name
+    → is_there (tree_at p).entries (key_of name) ≡ true → apply (tree_at p) m.request ≡ Err (UpdateProblem entry_already_exists)
+
 -- 5. What the master then has is what its contexts have of the tree afterwards.
 abbrev pub JudgedAfter : Type 0
 JudgedAfter = (p : Point) (o : ℕ) (m : Chained) (mine : List Named) (u : Tree) (e : Named) → IsJudge p o m → judged p o m ≡ Ok mine → apply (tree_at p) m.request ≡ Ok u

@@ -1,4 +1,4 @@
-use Rattle.x5_model_updates.proofs.Judges.{refuses_alike, accepts_alone, probes_new_name, accepts_probed, unable_masters_none, refuses_at_probed}
+use Rattle.x5_model_updates.proofs.Judges.{refuses_alike, accepts_alone, probes_new_name, accepts_probed, unable_masters_none, refuses_at_probed, accepts_absent, refuses_present}
 use Rattle.x5_model_updates.proofs.Judged.{holder_is_master, judged_after}
 use Rattle.x5_model_updates.proofs.judging.Goals as goal
 
@@ -22,6 +22,12 @@ returns-clause-unable c = unable_masters_none
 
 pub returns-clause-refuses_probed : goal.returns-clause-refuses_probed
 returns-clause-refuses_probed c = refuses_at_probed
+
+pub returns-clause-absent : goal.returns-clause-absent
+returns-clause-absent c = accepts_absent
+
+pub returns-clause-present : goal.returns-clause-present
+returns-clause-present c = refuses_present
 
 pub returns-clause-after : goal.returns-clause-after
 returns-clause-after c = judged_after
