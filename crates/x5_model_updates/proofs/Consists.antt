@@ -24,7 +24,7 @@ use Rattle.x5_model_updates.proofs.Mastering.{found_among}
 use Rattle.x5_model_updates.proofs.Goods.{area_there, has_of, in_of, masters_of, refers_of, pins_once, was_mastered}
 
 -- agents with other entries, by their places
-was_numbered : (t : Tree) (n : ℕ) (agents : List Agent) (a : ℕ × Agent) → In a (enumerate_from n (map (now_agent t) agents)) → (b : Agent) × In (a.0, b) (enumerate_from n agents) × (a.1 ≡ now_agent t b)
+pub was_numbered : (t : Tree) (n : ℕ) (agents : List Agent) (a : ℕ × Agent) → In a (enumerate_from n (map (now_agent t) agents)) → (b : Agent) × In (a.0, b) (enumerate_from n agents) × (a.1 ≡ now_agent t b)
 was_numbered t n [] a i = elim i [ ]
 was_numbered t n (x ∷ agents) a i =
     elim (in_first a (n, now_agent t x) (enumerate_from (n + 1) (map (now_agent t) agents)) i) [

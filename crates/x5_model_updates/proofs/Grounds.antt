@@ -50,7 +50,7 @@ pub has_below_decides : (entries : List Named) (key : Key) → Decides (has_belo
 has_below_decides entries key =
     any_decides {P = λ (e : Named). (length key < length (key_at e)) × IsPrefix key (key_at e)} (λ (e : Named). is_below key (key_at e)) entries (λ e. below_decides key (key_at e))
 
-abbrev no_such : Name → DirError
+abbrev pub no_such : Name → DirError
 no_such name = NoSuchObject name
 
 -- ---- an agent's ground, by what it masters and knows

@@ -43,7 +43,7 @@ abbrev some_agent : ℕ → Option ℕ
 some_agent n = Some n
 
 -- what an update makes of any ground with one entry for each key
-made_members : (g : Ground) (body : Body) (us : List Named) → OneEach g.entries → is_update body ≡ true → update g body ≡ Ok us → Members g.entries body us
+pub made_members : (g : Ground) (body : Body) (us : List Named) → OneEach g.entries → is_update body ≡ true → update g body ≡ Ok us → Members g.entries body us
 made_members g (Read name selection) us each u h = cc
 made_members g (Compare name assertion) us each u h = cc
 made_members g (ListBelow name) us each u h = cc
@@ -65,7 +65,7 @@ made_members g (ModifyDn name rdn drops) us each u h =
     subst (λ (xs : List Named). Members g.entries (ModifyDn name rdn drops) xs) (sym a.made) (rename_members g.entries name rdn drops a.at each w.0 w.1)
 
 -- more entries before give more afterwards
-more_after : (es fs : List Named) (body : Body) (e : Named) → ((x : Named) → In x es → In x fs) → IsEntryAfter es body e → IsEntryAfter fs body e
+pub more_after : (es fs : List Named) (body : Body) (e : Named) → ((x : Named) → In x es → In x fs) → IsEntryAfter es body e → IsEntryAfter fs body e
 more_after es fs (Read name selection) e sub i = sub e i
 more_after es fs (Compare name assertion) e sub i = sub e i
 more_after es fs (ListBelow name) e sub i = sub e i

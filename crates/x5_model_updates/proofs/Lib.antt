@@ -20,3 +20,4 @@ pub mod Ordered
 pub mod Goods
 pub mod Consists
 pub mod Judged
+pub mod Sorting

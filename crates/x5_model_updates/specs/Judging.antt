@@ -1,22 +1,24 @@
 -- What the master of a context concludes of an update from what it has itself, and from the agents of an NSSR that it asked
 -- by probes (X.511, section 11; X.518, section 19.1).
-use Rattle.std.specs.Prelude.{◌≡◌, ◌↔◌, ℕ, true, false, List, [], length}
+use Rattle.std.specs.Prelude.{◌≡◌, ◌↔◌, ◌<◌, map, ℕ, true, false, List, [], length}
 use Rattle.std.specs.declared.option.Option.TheVariants.{Some}
 use Rattle.std.specs.declared.result.Result.TheVariants.{Ok, Err}
-use Rattle.x5_model.specs.Members.{In}
+use Rattle.x5_model.specs.Members.{In, Once}
 use Rattle.x5_model.specs.Keys.{Key}
 use Rattle.x5_model.specs.Values.{Name, key_of}
 use Rattle.x5_model.specs.Entries.{Named}
+use Rattle.x5_model.specs.Requests.{Body, Request}
 use Rattle.x5_model.specs.References.{Reference, Chained}
 use Rattle.x5_model.specs.Answers.{DirError, UpdateProblem}
 use Rattle.x5_model.specs.Problems.{entry_already_exists}
-use Rattle.x5_model_tree.specs.Tree.{Tree, is_there, part}
-use Rattle.x5_model_tree.specs.Masters.{Mastered, pin_of, mastered, masters, holds}
+use Rattle.x5_model_tree.specs.World.{Agent}
+use Rattle.x5_model_tree.specs.Tree.{Tree, key_at, keys_of, sorted_entries, is_there, part}
+use Rattle.x5_model_tree.specs.Masters.{Mastered, pin_of, numbered, mastered, masters, holds}
 use Rattle.x5_model_tree.specs.Ask.{is_update}
-use Rattle.x5_model_tree.specs.Apply.{Outcome, apply_over, apply}
-use Rattle.x5_model_run.specs.Holdings.{Held, ground_at, holds_within}
+use Rattle.x5_model_tree.specs.Apply.{Ground, Outcome, own_ground, apply_over, apply}
+use Rattle.x5_model_run.specs.Holdings.{Held, known_pins, ground_at, holds_within}
 use Rattle.x5_model_run.specs.Needs.{target_of, resolves, new_name, due_probes}
-use Rattle.x5_model_run.specs.History.{Point, knowledge_at, tree_at, holdings_at}
+use Rattle.x5_model_run.specs.History.{Point, knowledge_at, tree_at, world_at, holdings_at}
 use Rattle.x5_model_run.specs.Right.{master_at}
 use Rattle.x5_model_updates.specs.Standing.{Stands}
 
@@ -83,3 +85,20 @@ RefusesPresent = (p : Point) (o : ℕ) (m : Chained) (mine : List Named) (name :
 abbrev pub JudgedAfter : Type 0
 JudgedAfter = (p : Point) (o : ℕ) (m : Chained) (mine : List Named) (u : Tree) (e : Named) → IsJudge p o m → judged p o m ≡ Ok mine → apply (tree_at p) m.request ≡ Ok u
     → In e mine ↔ ((c : Mastered) × In c (mastered (knowledge_at p)) × (c.master ≡ o) × In e (part u (pin_of c)))
+
+-- The ground that is made of the agent's contexts in the world of the moment, and of the pins that it knows, is the same
+-- with its entries in order; and in which order they stand is nothing to what is refused, accepted and had afterwards.
+abbrev pub in_order : Ground → Ground
+in_order g = record g { entries = sorted_entries g.entries }
+
+abbrev pub OwnGroundSorted : Type 0
+OwnGroundSorted = (p : Point) (o : ℕ) (a : Agent) (r : Request) → Stands p → In (o, a) (numbered (world_at p))
+    → own_ground (map key_of (known_pins r (holdings_at p o))) a.contexts ≡ in_order (ground_at r (holdings_at p o))
+
+abbrev pub OrderRefuses : Type 0
+OrderRefuses = (g : Ground) (body : Body) (x : DirError) → Once (keys_of g.entries) → ((e : Named) → In e g.entries → 0 < length (key_at e)) → is_update body ≡ true
+    → apply_over g body ≡ Err x ↔ apply_over (in_order g) body ≡ Err x
+
+abbrev pub OrderAccepts : Type 0
+OrderAccepts = (g : Ground) (body : Body) (us : List Named) → Once (keys_of g.entries) → ((e : Named) → In e g.entries → 0 < length (key_at e)) → is_update body ≡ true → apply_over g body ≡ Ok us
+    → (vs : List Named) × (apply_over (in_order g) body ≡ Ok vs) × ((e : Named) → In e us ↔ In e vs)

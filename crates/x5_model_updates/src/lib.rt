@@ -6,7 +6,7 @@ ghost use Rattle.x5_model_updates.specs.Afterwards.{EntriesAfter, KeysAfter, Par
 ghost use Rattle.x5_model_run.specs.Right.{AnswersRight};
 ghost use Rattle.x5_model_updates.specs.Keeping.{UpdatesKeep, OrderStays, LinesStand, RunsStand};
 ghost use Rattle.x5_model_updates.specs.Standing.{TreeIsUnion, StandsAsTree, StandsConsistent, StandsGood};
-ghost use Rattle.x5_model_updates.specs.Judging.{HolderIsMaster, RefusesAlike, AcceptsAlone, ProbesNewName, AcceptsProbed, UnableMastersNone, RefusesProbed, AcceptsAbsent, RefusesPresent, JudgedAfter};
+ghost use Rattle.x5_model_updates.specs.Judging.{HolderIsMaster, RefusesAlike, AcceptsAlone, ProbesNewName, AcceptsProbed, UnableMastersNone, RefusesProbed, AcceptsAbsent, RefusesPresent, JudgedAfter, OwnGroundSorted, OrderRefuses, OrderAccepts};
 
 /// What the master of a context concludes of an update from its own entries, the pins that it knows, its NSSRs and its
 /// probes, holds of the whole tree (X.511, section 11; X.518, section 19.1).
@@ -21,6 +21,14 @@ pub fn judging()
     ensures absent { AcceptsAbsent }
     ensures present { RefusesPresent }
     ensures after { JudgedAfter }
+{}
+
+/// What an agent judges by is made of its contexts in the world of the moment, and in which order their entries stand is
+/// nothing to it.
+pub fn own_grounds()
+    ensures sorted { OwnGroundSorted }
+    ensures refuses { OrderRefuses }
+    ensures accepts { OrderAccepts }
 {}
 
 /// What the one tree has after an accepted update: entry by entry, key by key, and context by context (X.511, section 11).

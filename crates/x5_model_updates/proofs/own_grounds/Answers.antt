@@ -1,0 +1,11 @@
+use Rattle.x5_model_updates.proofs.Sorting.{own_ground_sorted, order_refuses, order_accepts}
+use Rattle.x5_model_updates.proofs.own_grounds.Goals as goal
+
+pub returns-clause-sorted : goal.returns-clause-sorted
+returns-clause-sorted c = own_ground_sorted
+
+pub returns-clause-refuses : goal.returns-clause-refuses
+returns-clause-refuses c = order_refuses
+
+pub returns-clause-accepts : goal.returns-clause-accepts
+returns-clause-accepts c = order_accepts
