@@ -67,7 +67,7 @@ leads_on p o m r a sound i j = go (is_some (fault_of m.request.body)) i
 -- ---- what is asked fits
 
 -- a list or search
-query_of : (m : Chained) → is_some (subset_of m) ≡ true → is_query_below m.request.body ≡ true
+pub query_of : (m : Chained) → is_some (subset_of m) ≡ true → is_query_below m.request.body ≡ true
 query_of m e = go m.request.body e
   where
     go : (b : Body) → is_some (subset_of (record m { request = record m.request { body = b } })) ≡ true → is_query_below b ≡ true
@@ -81,7 +81,7 @@ query_of m e = go m.request.body e
     go (ModifyDn name rdn drops) e = e
 
 -- which is no update, and whose part asks for the part's base
-part_fits : (by_user wide : Bool) (t : Name) (r : Request) → is_query_below r.body ≡ true
+pub part_fits : (by_user wide : Bool) (t : Name) (r : Request) → is_query_below r.body ≡ true
     → (is_update r.body ≡ false) × (target_of (part_request by_user wide t r).body ≡ t) × (is_query_below (part_request by_user wide t r).body ≡ true)
 part_fits by_user wide t r e = go r.body e
   where
@@ -96,7 +96,7 @@ part_fits by_user wide t r e = go r.body e
     go (ModifyDn name rdn drops) e = absurd (false_true e)
 
 -- by the two tests that a request with a reference goes by
-pick_part : (probe part : Bool) (x y z : Request) → probe ≡ false → part ≡ true → (if probe then x else (if part then y else z)) ≡ y
+pub pick_part : (probe part : Bool) (x y z : Request) → probe ≡ false → part ≡ true → (if probe then x else (if part then y else z)) ≡ y
 pick_part true part x y z p q = absurd (false_true (sym p))
 pick_part false true x y z p q = refl
 pick_part false false x y z p q = absurd (false_true q)
@@ -106,7 +106,7 @@ pick_same true part x y z p q = absurd (false_true (sym p))
 pick_same false true x y z p q = absurd (false_true (sym q))
 pick_same false false x y z p q = refl
 
-no_update : (b : Bool) (c : Bool) → b ≡ false → (b && c) ≡ false
+pub no_update : (b : Bool) (c : Bool) → b ≡ false → (b && c) ≡ false
 no_update true c e = absurd (false_true (sym e))
 no_update false c e = refl
 

@@ -1,0 +1,28 @@
+//! How lists and searches fall into parts, over the definitions: what an agent evaluates on the spot, and what the
+//! references that it needs stand for. Each function here does nothing; its clauses are the theorems.
+#![tactic(auto)]
+
+ghost use Rattle.x5_model_parts.specs.Standing.{StandsAtFirst};
+ghost use Rattle.x5_model_parts.specs.Parts.{SpotsAreMasters, SpotsAreOnce, SpotsAreTouched, SpotsAreApart, AllAreParts, PartsAreApart, ScopeIsCovered, PartsBegin, NeedsAreNested, SameAreAsked};
+
+/// While no update was accepted and no context moved, each line of a run over consistent knowledge stands on what the
+/// knowledge says by keys.
+pub fn standing()
+    ensures { StandsAtFirst }
+{}
+
+/// Where an agent begins a list or search and no copies may be used: the contexts that are looked into are those that
+/// it evaluates on the spot and those that its needed references cover, each once; what is asked by a reference looks
+/// into what it covers; and what that needs covers no more (X.518, section 19).
+pub fn parts()
+    ensures masters { SpotsAreMasters }
+    ensures once { SpotsAreOnce }
+    ensures touched { SpotsAreTouched }
+    ensures spots_apart { SpotsAreApart }
+    ensures all { AllAreParts }
+    ensures apart { PartsAreApart }
+    ensures scopes { ScopeIsCovered }
+    ensures begin { PartsBegin }
+    ensures nested { NeedsAreNested }
+    ensures same_asked { SameAreAsked }
+{}
