@@ -13,4 +13,5 @@ pub mod Longest
 pub mod Rows
 pub mod Parts
 pub mod Following
+pub mod Probing
 pub mod Changes

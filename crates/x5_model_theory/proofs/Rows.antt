@@ -79,7 +79,7 @@ module _ (p : Point) (o : ℕ) (m : Chained) where
   abbrev h : Holdings
   h = holdings_at p o
 
-  next_lower : (a k : ℕ) (target : Name) (wide : Bool) → resolves h m ≡ true
+  pub next_lower : (a k : ℕ) (target : Name) (wide : Bool) → resolves h m ≡ true
       → ((j : ℕ) → holds_within h (key_of m.target) j ≡ true → (j < k) ⊎ ((j ≡ k) × (steps_to_master 4 w (take k (key_of target)) a < steps_to_master 4 w (take j (key_of m.target)) o)))
       → is_lower (stage_of w (item_of o m)) (stage_of w (record { agent = a; target = target; progress = Next k; wide = wide })) ≡ true
   next_lower a k target wide e f =
@@ -90,7 +90,7 @@ module _ (p : Point) (o : ℕ) (m : Chained) where
       (elim (f j d) [ inl less ↦ inr (refl, inl less) | inr level ↦ inr (refl, inr (level.0, inr (refl, level.1))) ]))
 
   -- of a longer known pin
-  beyond : (q : Key) → known_pin m.request h (key_of m.target) ≡ Some q → (j : ℕ) → holds_within h (key_of m.target) j ≡ true → j ≤ length q
+  pub beyond : (q : Key) → known_pin m.request h (key_of m.target) ≡ Some q → (j : ℕ) → holds_within h (key_of m.target) j ≡ true → j ≤ length q
   beyond q e j d =
       let x = within_is h (key_of m.target) j d in
       let l = longest_some (map key_of (known_pins m.request h)) (key_of m.target) q e in
@@ -134,7 +134,7 @@ module _ (p : Point) (o : ℕ) (m : Chained) where
       let f = of_filter (λ (y : Named). belongs (tree_at p).pins (key_of d.0.prefix) (key_at y)) e (tree_at p).entries (subst (λ (x : Held). In e x.entries) d.2 j) in
       (subst (λ (x : Held). IsPrefix (key_of x.prefix) (key_at e)) (sym d.2) (belongs_below (tree_at p).pins (key_of d.0.prefix) (key_at e) f.1), f.0))
 
-  held_is : (q : Key) (c : Held) → held_at h.own q ≡ Some c → In c h.own × (key_of c.prefix ≡ q)
+  pub held_is : (q : Key) (c : Held) → held_at h.own q ≡ Some c → In c h.own × (key_of c.prefix ≡ q)
   held_is q c e = let f = of_find (λ (x : Held). same_key (key_of x.prefix) q) c h.own e in (f.0, (key_decides (key_of c.prefix) q).0 f.1)
 
   multicast_led : (q : Key) (c : Held) (e : Named) (agents : List ℕ) (a : ℕ) → resolves h m ≡ true → known_pin m.request h (key_of m.target) ≡ Some q → In c h.own → key_of c.prefix ≡ q

@@ -10,7 +10,7 @@ use Rattle.x5_model_tree.specs.Described.{IsDescribed}
 use Rattle.x5_model_run.specs.History.{Point, knowledge_at, holdings_at}
 use Rattle.x5_model_run.specs.Journal.{Line, is_done, item_of, is_wide, same_item}
 use Rattle.x5_model_run.specs.Chain.{IsCarried, asks_part}
-use Rattle.x5_model_run.specs.Needs.{subset_of, resolution_needs, part_needs, copied_needs, passing_needs}
+use Rattle.x5_model_run.specs.Needs.{subset_of, resolution_needs, part_needs, copied_needs, passing_needs, due_probes}
 use Rattle.x5_model_run.specs.Placed.{is_brought, Placed}
 use Rattle.x5_model_run.specs.Stage.{Stage, stage_of, is_lower}
 
@@ -61,6 +61,12 @@ CopiesLead = (p : Point) (o : ℕ) (m : Chained) (r : Reference) (a : ℕ) → I
 abbrev pub FollowedIsPlaced : Type 0
 FollowedIsPlaced = (p : Point) (sender : Option ℕ) (opener : Line) (r : Reference) (m : Chained) (a : ℕ) → IsSound p
     → In r (passing_needs (holdings_at p opener.receiver) opener.message)
+    → In a r.agents → IsCarried sender opener r m → Placed p opener.message opener.receiver → Placed p m a
+
+-- So is what follows the reference of a probe, which an addEntry or modifyDN needs at its master (X.518, section 19.1).
+abbrev pub ProbesArePlaced : Type 0
+ProbesArePlaced = (p : Point) (sender : Option ℕ) (opener : Line) (r : Reference) (m : Chained) (a : ℕ) → IsSound p
+    → In r (due_probes (holdings_at p opener.receiver) opener.message)
     → In a r.agents → IsCarried sender opener r m → Placed p opener.message opener.receiver → Placed p m a
 
 -- in a trace each item is lower than all later ones

@@ -6,7 +6,7 @@ ghost use Rattle.x5_model_theory.specs.Coherent.{ConsistentIsCoherent};
 ghost use Rattle.x5_model_theory.specs.Scopes.{AllAreTaken, NoMoreAreTaken, SpotsApart, WideSpotsApart, SpecificApart, MixedApart, NonSpecificApart};
 ghost use Rattle.x5_model_theory.specs.Looking.{BaseMayLook, RootMayLook, PinsMayLook, EntriesAreTouched, SpecificLeads, NonSpecificLeads, SameEntries, SameWideEntries, SpecificCovers, NonSpecificCovers};
 ghost use Rattle.x5_model_theory.specs.Changing.{AddingKeeps, RemovingKeeps, RenamingKeeps};
-ghost use Rattle.x5_model_theory.specs.Leading.{NeverLower, LowerChain, NoLoop, ResolutionLeads, PartsLead, CopiesLead, FollowedIsPlaced, TracesRise, NoItemTwice};
+ghost use Rattle.x5_model_theory.specs.Leading.{NeverLower, LowerChain, NoLoop, ResolutionLeads, PartsLead, CopiesLead, FollowedIsPlaced, ProbesArePlaced, TracesRise, NoItemTwice};
 
 /// Consistent knowledge gives the facts by keys on which the rest stands: of contexts, references, superiors and agreements.
 pub fn coherence()
@@ -50,6 +50,7 @@ pub fn leading()
     ensures parts { PartsLead }
     ensures copies { CopiesLead }
     ensures followed { FollowedIsPlaced }
+    ensures probes { ProbesArePlaced }
     ensures traces { TracesRise }
     ensures no_item_twice { NoItemTwice }
 {}

@@ -2,6 +2,7 @@ use Rattle.x5_model_theory.proofs.Stages.{never_lower, lower_chain, no_loop}
 use Rattle.x5_model_theory.proofs.Rows.{resolution_leads}
 use Rattle.x5_model_theory.proofs.Parts.{parts_lead_on, copies_lead_on}
 use Rattle.x5_model_theory.proofs.Following.{followed_is_placed, traces_rise, no_item_twice}
+use Rattle.x5_model_theory.proofs.Probing.{probes_are_placed}
 use Rattle.x5_model_theory.proofs.leading.Goals as goal
 
 pub returns-clause-never_lower : goal.returns-clause-never_lower
@@ -24,6 +25,9 @@ returns-clause-copies c = copies_lead_on
 
 pub returns-clause-followed : goal.returns-clause-followed
 returns-clause-followed c = followed_is_placed
+
+pub returns-clause-probes : goal.returns-clause-probes
+returns-clause-probes c = probes_are_placed
 
 pub returns-clause-traces : goal.returns-clause-traces
 returns-clause-traces c = traces_rise
