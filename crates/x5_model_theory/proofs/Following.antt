@@ -50,7 +50,7 @@ brought_by_key p m n a Done kind e b = go (is_wide kind) b
     go false t = subst (λ (y : Key). holds (knowledge_at p) a y ≡ true) e t
     go true t = subst (λ (y : Key). stands_at (knowledge_at p) y a ≡ true) e t
 
-leads_on : (p : Point) (o : ℕ) (m : Chained) (r : Reference) (a : ℕ) → IsSound p → In r (passing_needs (holdings_at p o) m) → In a r.agents → Leads p o m r a
+pub leads_on : (p : Point) (o : ℕ) (m : Chained) (r : Reference) (a : ℕ) → IsSound p → In r (passing_needs (holdings_at p o) m) → In a r.agents → Leads p o m r a
 leads_on p o m r a sound i j = go (is_some (fault_of m.request.body)) i
   where
     go : (b : Bool) → In r (if b then [] else (resolution_needs (holdings_at p o) m ++ part_needs (holdings_at p o) m ++ copied_needs (holdings_at p o) m)) → Leads p o m r a

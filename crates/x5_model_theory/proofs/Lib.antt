@@ -14,4 +14,5 @@ pub mod Rows
 pub mod Parts
 pub mod Following
 pub mod Probing
+pub mod Bounding
 pub mod Changes

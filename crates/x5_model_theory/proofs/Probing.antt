@@ -23,17 +23,17 @@ use Rattle.x5_model_tree.proofs.Grown.{above_key}
 use Rattle.x5_model_run.specs.Holdings.{Held, Holdings, held_at, known_pins, known_pin, holds_within, ground_at}
 use Rattle.x5_model_run.specs.History.{Point, knowledge_at, tree_at, holdings_at}
 use Rattle.x5_model_run.specs.Journal.{item_of, is_done, is_wide, same_name}
-use Rattle.x5_model_run.specs.Needs.{target_of, others, proceeding, resolves, nssr_at, new_name, is_refused_here, probe_of, probe_needs}
-use Rattle.x5_model_run.specs.Placed.{is_brought, Placed}
+use Rattle.x5_model_run.specs.Needs.{target_of, others, proceeding, resolves, nssr_at, new_name, is_refused_here, probe_of, probe_needs, due_probes}
+use Rattle.x5_model_run.specs.Placed.{fits, is_brought, Placed}
 use Rattle.x5_model_run.specs.Chain.{probe_request, is_probe, part_request, asks_part, is_user}
 use Rattle.x5_model_run.specs.Stage.{stage_of, is_lower}
-use Rattle.x5_model_theory.specs.Leading.{IsSound, ProbesArePlaced}
+use Rattle.x5_model_theory.specs.Leading.{IsSound, item_for, IsFurther, ProbesArePlaced}
 use Rattle.x5_model_theory.proofs.Tests.{false_true}
 use Rattle.x5_model_theory.proofs.Views.{there_decides}
 use Rattle.x5_model_theory.proofs.Stages.{key_length, lower_chain}
 use Rattle.x5_model_theory.proofs.Holding.{good_at, by_agent, own_mastered}
 use Rattle.x5_model_theory.proofs.Longest.{longest_some, respelled_key}
-use Rattle.x5_model_theory.proofs.Rows.{within_is, next_lower, own_part, held_is, beyond}
+use Rattle.x5_model_theory.proofs.Rows.{within_is, next_lower, next_further, own_part, held_is, beyond}
 
 -- a test that refuses, refuses
 refused_by : (b : Bool) (x : DirError) (y : Outcome) → b ≡ true → is_err (if b then Err x else y) ≡ true
@@ -316,3 +316,21 @@ probes_are_placed p sender opener r m a sound i ia carried placed = go (is_some 
     go : (b : Bool) → In r (if b then [] else probe_needs (holdings_at p opener.receiver) opener.message) → Placed p m a
     go true j = elim j [ ]
     go false j = placed_by (probe_is p opener.receiver opener.message r j)
+
+-- and is further than its opener's item
+pub probe_further : (p : Point) (o : ℕ) (m : Chained) (r : Reference) (a : ℕ) → IsSound p → fits m ≡ true → In r (due_probes (holdings_at p o) m) → IsFurther (knowledge_at p) (item_of o m) (item_for a r)
+probe_further p o m r a sound fit i = go (is_some (fault_of m.request.body)) i
+  where
+    named : same_name (target_of m.request.body) m.target ≡ true
+    named = (both_true (same_name (target_of m.request.body) m.target) _ fit).0
+
+    by_probe : IsProbe p o m r → IsFurther (knowledge_at p) (item_of o m) (item_for a r)
+    by_probe x =
+        let long : 1 < length x.name = name_long p o m sound r x in
+        let f : IsFurther (knowledge_at p) (item_of o m) (record { agent = a; target = r.target; progress = Next (length x.name); wide = is_wide r.kind }) =
+        next_further p o m a (length x.name) r.target (is_wide r.kind) x.res (omega arith) (λ j d. inl (longer p o m sound r x named j d)) in
+        subst (λ (y : Progress). IsFurther (knowledge_at p) (item_of o m) (record { agent = a; target = r.target; progress = y; wide = is_wide r.kind })) (sym (progress p o m sound r x)) f
+
+    go : (b : Bool) → In r (if b then [] else probe_needs (holdings_at p o) m) → IsFurther (knowledge_at p) (item_of o m) (item_for a r)
+    go true j = elim j [ ]
+    go false j = by_probe (probe_is p o m r j)

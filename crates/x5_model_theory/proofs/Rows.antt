@@ -22,7 +22,7 @@ use Rattle.x5_model_run.specs.Stage.{Stage, stage_of, is_lower, steps_to_master}
 use Rattle.x5_model_theory.specs.Knowledge.{Supply, IsMastered}
 use Rattle.x5_model_theory.specs.Coherent.{Coherent, IsFed, fed}
 use Rattle.x5_model_theory.specs.Described.{knowledge_of, supply_of}
-use Rattle.x5_model_theory.specs.Leading.{IsSound, message_for, Leads, ResolutionLeads}
+use Rattle.x5_model_theory.specs.Leading.{IsSound, message_for, IsFurther, Leads, ResolutionLeads}
 use Rattle.x5_model_theory.proofs.Tests.{false_true}
 use Rattle.x5_model_theory.proofs.Views.{there_decides, superior_at}
 use Rattle.x5_model_theory.proofs.Stages.{lower_decides, key_length}
@@ -59,6 +59,15 @@ fed_holds : (w : World) (q : Key) (n a : ℕ) → IsFed (knowledge_of w) q n a �
 fed_holds w q n a (IsFed.ends m) = inl m
 fed_holds w q n a (fed s i c p f) = inr (s, i, c, p)
 
+-- what is held is no root
+fed_filled : (w : World) (q : Key) (n a : ℕ) → Coherent (knowledge_of w) → IsFed (knowledge_of w) q n a → 0 < length q
+fed_filled w q n a good (IsFed.ends m) = subst (λ (x : Key). 0 < length x) m.3 (good.filled m.0 m.1)
+fed_filled w q n a good (fed {hops = j} s i c p f) = fed_filled w q j s.supplier good f
+
+held_filled : (w : World) → Coherent (knowledge_of w) → (a : ℕ) (q : Key) → IsHeld w a q → 0 < length q
+held_filled w good a q (inl m) = subst (λ (x : Key). 0 < length x) m.3 (good.filled m.0 m.1)
+held_filled w good a q (inr s) = subst (λ (x : Key). 0 < length x) s.3 (fed_filled w s.0.prefix 4 s.0.consumer good (good.supplied s.0 s.1))
+
 pub supplier_of_fed : (w : World) (q : Key) (o a : ℕ) → Coherent (knowledge_of w) → (IsMastered (knowledge_of w) o q → ⊥) → (s : Supply) → In s (knowledge_of w).supplies → s.consumer ≡ o → s.prefix ≡ q → s.supplier ≡ a
     → IsFed (knowledge_of w) q 4 o → IsHeld w a q
 supplier_of_fed w q o a good free s i c p is (IsFed.ends m) = absurd (free m)
@@ -89,6 +98,13 @@ module _ (p : Point) (o : ℕ) (m : Chained) where
       (λ j d. (lower_decides (stage_of w (record { agent = o; target = m.target; progress = Next j; wide = is_wide m.kind })) after).1
       (elim (f j d) [ inl less ↦ inr (refl, inl less) | inr level ↦ inr (refl, inr (level.0, inr (refl, level.1))) ]))
 
+  pub next_further : (a k : ℕ) (target : Name) (wide : Bool) → resolves h m ≡ true → 0 < k
+      → ((j : ℕ) → holds_within h (key_of m.target) j ≡ true → (j < k) ⊎ ((j ≡ k) × (steps_to_master 4 w (take k (key_of target)) a < steps_to_master 4 w (take j (key_of m.target)) o)))
+      → IsFurther w (item_of o m) (record { agent = a; target = target; progress = Next k; wide = wide })
+  next_further a k target wide e some f =
+      resolved h m (λ x. IsFurther w (record { agent = o; target = m.target; progress = x; wide = is_wide m.kind }) (record { agent = a; target = target; progress = Next k; wide = wide })) e
+      (inl some) (λ j d. f j d)
+
   -- of a longer known pin
   pub beyond : (q : Key) → known_pin m.request h (key_of m.target) ≡ Some q → (j : ℕ) → holds_within h (key_of m.target) j ≡ true → j ≤ length q
   beyond q e j d =
@@ -113,6 +129,8 @@ module _ (p : Point) (o : ℕ) (m : Chained) where
         lower = start (λ x. is_lower (stage_of w (record { agent = o; target = m.target; progress = x; wide = is_wide m.kind })) (stage_of w (record { agent = s; target = m.target; progress = Start; wide = false })) ≡ true)
             ((lower_decides (stage_of w (record { agent = o; target = m.target; progress = Start; wide = is_wide m.kind })) (stage_of w (record { agent = s; target = m.target; progress = Start; wide = false }))).1
             (inr (refl, inr (refl, inr (refl, superior_nearer w 15 o s ((good_at p sound).chain o io) up)))));
+        further = start (λ x. IsFurther w (record { agent = o; target = m.target; progress = x; wide = is_wide m.kind }) (record { agent = s; target = m.target; progress = Start; wide = false }))
+            (inr (refl, superior_nearer w 15 o s ((good_at p sound).chain o io) up));
         brought = refl;
         keeps = inr (refl, refl);
         late = inl refl;
@@ -152,6 +170,7 @@ module _ (p : Point) (o : ℕ) (m : Chained) where
       ap (take (k - 1)) same ∙ ap (λ (n : ℕ). take n (key_of m.target)) (back ∙ sym el) ∙ on in
       record {
         lower = next_lower a k target true res (λ j d. let jl : j ≤ length q = beyond q known j d in inl (omega arith));
+        further = next_further a k target true res (omega arith) (λ j d. let jl : j ≤ length q = beyond q known j d in inl (omega arith));
         brought = (there_decides (tree_at p).entries (take (k - 1) (key_of target))).1 (subst (λ (x : Key). In x (keys_of (tree_at p).entries)) (sym at) (in_map key_at e (tree_at p).entries part.1));
         keeps = inr (same, refl);
         late = inl refl;
@@ -256,15 +275,18 @@ module _ (p : Point) (o : ℕ) (m : Chained) where
       let same : key_of (take (k - 1) c.held.prefix ++ drop (k - 1) m.target) ≡ key_of m.target = respelled_key (k - 1) c.held.prefix m.target le on in
       let kl : k ≡ length q = sym (key_length c.held.prefix) ∙ ap length prefix in
       let at : take k (key_of (take (k - 1) c.held.prefix ++ drop (k - 1) m.target)) ≡ q = ap (take k) same ∙ ap (λ (n : ℕ). take n (key_of m.target)) kl ∙ l.1 in
-      record {
-        lower = next_lower a k (take (k - 1) c.held.prefix ++ drop (k - 1) m.target) false res (λ j d.
+      let level : (j : ℕ) → holds_within h (key_of m.target) j ≡ true
+          → (j < k) ⊎ ((j ≡ k) × (steps_to_master 4 w (take k (key_of (take (k - 1) c.held.prefix ++ drop (k - 1) m.target))) a < steps_to_master 4 w (take j (key_of m.target)) o)) = λ j d.
             let jl : j ≤ length q = beyond q known j d in
             elim (dec_nat j k) [
               | inl e ↦
                   let mine : take j (key_of m.target) ≡ q = ap (λ (n : ℕ). take n (key_of m.target)) (e ∙ kl) ∙ l.1 in
                   inr (e, subst (λ (x : Key). steps_to_master 4 w x a < steps_to_master 4 w (take j (key_of m.target)) o) (sym at) (subst (λ (x : Key). steps_to_master 4 w q a < steps_to_master 4 w x o) (sym mine) near))
               | inr other ↦ inl (let e : k ≡ length q = kl in omega (arith, other))
-            ]);
+            ] in
+      record {
+        lower = next_lower a k (take (k - 1) c.held.prefix ++ drop (k - 1) m.target) false res level;
+        further = next_further a k (take (k - 1) c.held.prefix ++ drop (k - 1) m.target) false res (let f : 0 < length q = held_filled w good a q held in omega arith) level;
         brought = specific_brought q c.held.prefix Supplier (c.supplier ∷ []) a refl known prefix held;
         keeps = inr (same, refl);
         late = inl refl;
@@ -299,16 +321,18 @@ module _ (p : Point) (o : ℕ) (m : Chained) where
       ] in
       omega (arith, other)
 
-  specific_led : (q : Key) (k : Specific) (kind : RefType) (a : ℕ) → is_wide kind ≡ false → resolves h m ≡ true → known_pin m.request h (key_of m.target) ≡ Some q → held_at h.own q ≡ None → copy_at h q ≡ None
+  specific_led : (q : Key) (k : Specific) (kind : RefType) (a : ℕ) → Coherent (knowledge_of w) → is_wide kind ≡ false → resolves h m ≡ true → known_pin m.request h (key_of m.target) ≡ Some q → held_at h.own q ≡ None → copy_at h q ≡ None
       → IsRightAccess w k → key_of k.pin ≡ q → In a (usable_agents m.request k.access) → Leads p o m (proceeding (length k.pin) k.pin m.target kind (usable_agents m.request k.access)) a
-  specific_led q k kind a narrow res known own copies right is i =
+  specific_led q k kind a good narrow res known own copies right is i =
       let kl : length k.pin ≡ length q = sym (key_length k.pin) ∙ ap length is in
+      let filled : 0 < length q = subst (λ (x : Key). 0 < length x) (right.0.3 ∙ is) (good.filled right.0.0 right.0.1) in
       let l = longest_some (map key_of (known_pins m.request h)) (key_of m.target) q known in
       let on : IsPrefix (key_of k.pin) (key_of m.target) = subst (λ (x : Key). IsPrefix x (key_of m.target)) (sym is) l.1 in
       let le : length k.pin - 1 ≤ length k.pin = omega arith in
       let same : key_of (take (length k.pin - 1) k.pin ++ drop (length k.pin - 1) m.target) ≡ key_of m.target = respelled_key (length k.pin - 1) k.pin m.target le on in
       record {
         lower = next_lower a (length k.pin) (take (length k.pin - 1) k.pin ++ drop (length k.pin - 1) m.target) (is_wide kind) res (λ j d. inl (let less : j < length q = not_held_longer q known own copies j d in omega arith));
+        further = next_further a (length k.pin) (take (length k.pin - 1) k.pin ++ drop (length k.pin - 1) m.target) (is_wide kind) res (let f : 0 < length q = filled in omega arith) (λ j d. inl (let less : j < length q = not_held_longer q known own copies j d in omega arith));
         brought = specific_brought q k.pin kind (usable_agents m.request k.access) a narrow known is (subst (λ (x : Key). IsHeld w a x) is (usable_holds w m.request k a right i));
         keeps = inr (same, refl);
         late = inl refl;
@@ -324,7 +348,7 @@ module _ (p : Point) (o : ℕ) (m : Chained) where
       led : (kind : RefType) (k : Specific) → is_wide kind ≡ false → IsRightAccess w k → key_of k.pin ≡ q → In r (go kind k) → Leads p o m r a
       led kind k narrow right is l =
           let one : r ≡ proceeding (length k.pin) k.pin m.target kind (usable_agents m.request k.access) = elim (in_first r _ [] l) [ inl x ↦ x | inr y ↦ elim y [ ] ] in
-          subst (λ (x : Reference). Leads p o m x a) (sym one) (specific_led q k kind a narrow res known own copies right is (subst (λ (x : Reference). In a x.agents) one j))
+          subst (λ (x : Reference). Leads p o m x a) (sym one) (specific_led q k kind a (good_at p sound) narrow res known own copies right is (subst (λ (x : Reference). In a x.agents) one j))
 
       by_cross : (x : Option Specific) → specific_at h.cross q ≡ x → In r (in_option [] (go Cross) x) → Leads p o m r a
       by_cross None e l = elim l [ ]

@@ -1,17 +1,18 @@
 -- Each reference that knowledge makes an agent need leads on (X.518, sections 18 and 19): its agents can go on from there,
 -- and a message that follows it is nearer than all before.
-use Rattle.std.specs.Prelude.{List, ◌≡◌, ℕ, true, Option, ◌⊎◌, false, [], ◌∷◌, ◌++◌}
+use Rattle.std.specs.Prelude.{List, ◌≡◌, ℕ, true, Option, ◌⊎◌, false, [], ◌∷◌, ◌++◌, ◌+◌, ◌<◌, ◌≤◌, length, if◌then◌else◌}
 use Rattle.std.specs.Option.{is_some}
 use Rattle.x5_model.specs.Values.{key_of}
 use Rattle.x5_model.specs.Members.{In}
-use Rattle.x5_model.specs.References.{Reference, TraceItem, Chained}
+use Rattle.x5_model.specs.References.{Progress, Start, Next, Done, Reference, TraceItem, Chained}
+use Rattle.x5_model_tree.specs.World.{World}
 use Rattle.x5_model_tree.specs.Consistent.{IsConsistent}
 use Rattle.x5_model_tree.specs.Described.{IsDescribed}
 use Rattle.x5_model_run.specs.History.{Point, knowledge_at, holdings_at}
 use Rattle.x5_model_run.specs.Journal.{Line, is_done, item_of, is_wide, same_item}
 use Rattle.x5_model_run.specs.Chain.{IsCarried, asks_part}
-use Rattle.x5_model_run.specs.Needs.{subset_of, resolution_needs, part_needs, copied_needs, passing_needs, due_probes}
-use Rattle.x5_model_run.specs.Placed.{is_brought, Placed}
+use Rattle.x5_model_run.specs.Needs.{subset_of, resolution_needs, part_needs, copied_needs, passing_needs, due_probes, needs}
+use Rattle.x5_model_run.specs.Placed.{fits, is_brought, Placed}
 use Rattle.x5_model_run.specs.Stage.{Stage, stage_of, is_lower}
 
 -- what a point of a run over consistent knowledge rests on
@@ -37,9 +38,23 @@ item_for a r = record { agent = a; target = r.target; progress = r.progress; wid
 abbrev pub message_for : Chained → Reference → Chained
 message_for m r = record m { target = r.target; progress = r.progress; kind = r.kind }
 
+-- How far an item is in a request: nothing at the start; else by RDNs, with next=k k, and with a completed name its target,
+-- one more where it asks for the pins just below. At each of these levels the distance falls, of superiors or suppliers.
+abbrev pub level_of : TraceItem → ℕ
+level_of i = by i.progress
+  where
+    by : Progress → ℕ
+    by Start = 0
+    by (Next k) = k
+    by Done = if i.wide then length i.target + 1 else length i.target
+
+abbrev pub IsFurther : World → TraceItem → TraceItem → Type 0
+IsFurther w i j = (level_of i < level_of j) ⊎ ((level_of i ≡ level_of j) × ((stage_of w j).distance < (stage_of w i).distance))
+
 -- the reference leads on, to the agent
 pub record Leads (p : Point) (o : ℕ) (m : Chained) (r : Reference) (a : ℕ) : Type 0 where
   pub lower : is_lower (stage_of (knowledge_at p) (item_of o m)) (stage_of (knowledge_at p) (item_for a r)) ≡ true
+  pub further : IsFurther (knowledge_at p) (item_of o m) (item_for a r)
   pub brought : is_brought p (message_for m r) a ≡ true
   -- it asks for a part, or for the same target; where the name is completed, a list or search goes on
   pub keeps : (asks_part r ≡ true) ⊎ ((key_of r.target ≡ key_of m.target) × (asks_part r ≡ false))
@@ -81,3 +96,23 @@ TracesRise = (p : Point) (sender : Option ℕ) (opener : Line) (r : Reference) (
 
 abbrev pub NoItemTwice : Type 0
 NoItemTwice = (p : Point) (before after : List TraceItem) (i j : TraceItem) → IsRising p (before ++ i ∷ after) → In j after → same_item i j ≡ true → ⊥
+
+-- along a trace each item is further than the one before
+abbrev pub IsGoing : World → List TraceItem → Type 0
+IsGoing w [] = Unit {0}
+IsGoing w (i ∷ []) = Unit {0}
+IsGoing w (i ∷ j ∷ is) = IsFurther w i j × IsGoing w (j ∷ is)
+
+-- So it stays, by each reference that is needed; the receiver's own item belongs to it.
+abbrev pub with_own : ℕ → Chained → List TraceItem
+with_own to m = m.trace ++ item_of to m ∷ []
+
+abbrev pub TracesGoOn : Type 0
+TracesGoOn = (p : Point) (sender : Option ℕ) (opener : Line) (r : Reference) (m : Chained) (a : ℕ) → IsSound p → fits opener.message ≡ true
+    → In r (needs (holdings_at p opener.receiver) opener.message) → In a r.agents → IsCarried sender opener r m
+    → IsGoing (knowledge_at p) (with_own opener.receiver opener.message) → IsGoing (knowledge_at p) (with_own a m)
+
+-- Where names have 16 RDNs at most, 17 distances at the start and five at each of 16 levels make 97 items at most, the
+-- receiver's among them.
+abbrev pub NoLongTrace : Type 0
+NoLongTrace = (w : World) (to : ℕ) (m : Chained) → IsGoing w (with_own to m) → ((i : TraceItem) → In i (with_own to m) → level_of i ≤ 16) → length m.trace ≤ 96

@@ -3,6 +3,7 @@ use Rattle.x5_model_theory.proofs.Rows.{resolution_leads}
 use Rattle.x5_model_theory.proofs.Parts.{parts_lead_on, copies_lead_on}
 use Rattle.x5_model_theory.proofs.Following.{followed_is_placed, traces_rise, no_item_twice}
 use Rattle.x5_model_theory.proofs.Probing.{probes_are_placed}
+use Rattle.x5_model_theory.proofs.Bounding.{traces_go_on, no_long_trace}
 use Rattle.x5_model_theory.proofs.leading.Goals as goal
 
 pub returns-clause-never_lower : goal.returns-clause-never_lower
@@ -34,3 +35,9 @@ returns-clause-traces c = traces_rise
 
 pub returns-clause-no_item_twice : goal.returns-clause-no_item_twice
 returns-clause-no_item_twice c = no_item_twice
+
+pub returns-clause-going : goal.returns-clause-going
+returns-clause-going c = traces_go_on
+
+pub returns-clause-no_long_trace : goal.returns-clause-no_long_trace
+returns-clause-no_long_trace c = no_long_trace
