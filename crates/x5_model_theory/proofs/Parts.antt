@@ -11,11 +11,11 @@ use Rattle.x5_model.specs.Entries.{Named}
 use Rattle.x5_model.specs.Requests.{Subset}
 use Rattle.x5_model.specs.References.{Progress, Start, Next, Done, Reference, Subordinate, NonSpecific, Supplier, TraceItem, Chained}
 use Rattle.x5_model.proofs.KeyLaws.{key_decides}
-use Rattle.x5_model.proofs.Lists.{both_true, not_true, in_first, in_either, in_left, in_right, in_map, of_map, in_flat, of_flat, any_in, of_any, of_find, of_filter, has_in}
+use Rattle.x5_model.proofs.Lists.{both_true, not_true, in_first, in_either, in_left, in_right, in_map, of_map, in_flat, of_flat, any_in, of_any, of_find, of_filter, has_in, of_has}
 use Rattle.x5_model.proofs.Prefixes.{prefix_length, child_decides, parent_length, parent_is_prefix}
 use Rattle.x5_model_tree.specs.World.{Specific, Nssr, Context, Agent, Agreement, World}
 use Rattle.x5_model_tree.specs.Tree.{key_at, keys_of, is_there, entry_at, part, belongs}
-use Rattle.x5_model_tree.specs.Masters.{Mastered, pin_of, numbered, mastered, agent_at, masters, supplier_of}
+use Rattle.x5_model_tree.specs.Masters.{Mastered, pin_of, pins, numbered, mastered, agent_at, masters, supplier_of}
 use Rattle.x5_model_tree.specs.Ask.{in_subset}
 use Rattle.x5_model_run.specs.Holdings.{Held, Copy, Holdings, may_copy, usable_agents, held_at, copy_at, masters_pin, usable_copies, served, subordinates, known_pin, holds_within, is_first_level}
 use Rattle.x5_model_run.specs.History.{Point, knowledge_at, tree_at, tree_of_moment, as_of, own_context, references_below, sent_references, mastered_at, copy_as_of, agent_holdings, no_holdings, holdings_at}
@@ -23,10 +23,10 @@ use Rattle.x5_model_run.specs.Journal.{item_of, is_done, is_wide}
 use Rattle.x5_model_run.specs.Needs.{others, reference, resolves, subset_of, by_pin, is_excluded, begins_at, and_below, evaluated, answers_root, below_needs, in_scope, treated_below, wide_needs, part_needs, copied_needs}
 use Rattle.x5_model_run.specs.Placed.{stands_at}
 use Rattle.x5_model_run.specs.Stage.{stage_of, is_lower, steps_to_master}
-use Rattle.x5_model_theory.specs.Knowledge.{Supply, IsMastered}
+use Rattle.x5_model_theory.specs.Knowledge.{Area, Supply, IsMastered}
 use Rattle.x5_model_theory.specs.Coherent.{IsFed}
-use Rattle.x5_model_theory.specs.Described.{knowledge_of, supply_of}
-use Rattle.x5_model_theory.specs.Leading.{IsSound, level_of, IsFurther, Leads, PartsLead, CopiesLead}
+use Rattle.x5_model_theory.specs.Described.{area_of, spot_of, knowledge_of, supply_of}
+use Rattle.x5_model_theory.specs.Leading.{IsSound, PinsWithin, level_of, IsFurther, Leads, PartsLead, CopiesLead}
 use Rattle.x5_model_theory.proofs.Tests.{false_true}
 use Rattle.x5_model_theory.proofs.Views.{there_decides}
 use Rattle.x5_model_theory.proofs.Stages.{lower_decides, key_length, same_progress_is}
@@ -304,6 +304,22 @@ module _ (p : Point) (o : ℕ) (m : Chained) where
   least_is true = omega arith
   least_is false = omega arith
 
+  within_pins : {agent : ℕ} (n : ℕ) (q : Key) → PinsWithin n w → IsMastered (knowledge_of w) agent q → {j : ℕ} → length q ≡ j → j ≤ n
+  within_pins n q f c {j} e =
+      let x = of_map area_of c.0 (mastered w) c.1 in
+      let is : pin_of x.0 ≡ q = ap (λ (y : Area). y.prefix) (sym x.2) ∙ c.3 in
+      let le : length q ≤ n = f q (subst (λ (y : Key). In y (pins w)) is (in_map pin_of x.0 (mastered w) x.1)) in
+      omega arith
+
+  -- who stands in an NSSR masters a pin just below
+  stood_pin : (at : Key) (a : ℕ) → IsSound p → stands_at w at a ≡ true → (d : Area) × In d (knowledge_of w).areas × (parent d.prefix ≡ at)
+  stood_pin at a sound e =
+      let x = of_any (λ (x : Mastered). list_any (λ (y : Nssr). same_key (key_of y.at) at && has ◌==◌ y.agents a) x.context.nssrs) (mastered w) e in
+      let y = of_any (λ (y : Nssr). same_key (key_of y.at) at && has ◌==◌ y.agents a) x.0.context.nssrs x.2 in
+      let b = both_true (same_key (key_of y.0.at) at) _ y.2 in
+      let d = (good_at p sound).nssr_masters (area_of x.0) (spot_of y.0) a (in_map area_of x.0 (mastered w) x.1) (in_map spot_of y.0 x.0.context.nssrs y.1) (of_has ◌==◌ Decides-eqb a y.0.agents b.1) in
+      (d.0, d.1, d.3 ∙ (key_decides (key_of y.0.at) at).0 b.0)
+
   -- 5
   below_leads : (subset : Subset) (ks : List Specific) (r : Reference) (a : ℕ) → IsSound p → is_some (subset_of m) ≡ true → ((k : Specific) → In k ks → In k (subordinates m.request h) × (m.progress ≡ Done → length m.target < length k.pin) × (level_of (item_of o m) < length k.pin))
       → In r (below_needs h m subset ks) → In a r.agents → Leads p o m r a
@@ -318,6 +334,7 @@ module _ (p : Point) (o : ℕ) (m : Chained) where
       subst (λ (x : Reference). Leads p o m x a) (sym k.2) (record {
         lower = done_lower a k.0.pin false (λ e. inl (q.1 e));
         further = inl q.2;
+        bounded = λ n tl f. within_pins n (key_of k.0.pin) f right.0 (key_length k.0.pin);
         brought = (holds_decides w a (key_of k.0.pin)).1 held;
         keeps = inl refl;
         late = inr asked;
@@ -397,6 +414,12 @@ module _ (p : Point) (o : ℕ) (m : Chained) where
                   | inr level ↦ inr (level.0, elim level.1 [ inl q ↦ inl q | inr q ↦ absurd q.1 ])
                 ]);
             further = inl (let l : level_of (item_of o m) ≤ length (key_of c.prefix) = evaluated_level c ic in omega arith);
+            bounded = λ bound tl f.
+                let d = stood_pin (key_of y.name) a sound stood in
+                let full : 0 < length d.0.prefix = (good_at p sound).filled d.0 d.1 in
+                let up : length (parent d.0.prefix) + 1 ≡ length d.0.prefix = parent_length d.0.prefix full in
+                let same : length (parent d.0.prefix) ≡ length (key_at y) = ap length d.2 in
+                within_pins bound d.0.prefix f (d.0, d.1, refl, refl) (omega arith);
             brought = stood;
             keeps = inl refl;
             late = inr asked;
@@ -464,6 +487,7 @@ module _ (p : Point) (o : ℕ) (m : Chained) where
         lower = done_lower p o m a m.target false (λ done. inr (refl, inr (ap (λ (b : Bool). if b then 1 else 0) narrow, near)));
         further = subst (λ (x : Progress). IsFurther v (record { agent = o; target = m.target; progress = x; wide = is_wide m.kind }) (record { agent = a; target = m.target; progress = Done; wide = false })) (sym done)
             (subst (λ (b : Bool). IsFurther v (record { agent = o; target = m.target; progress = Done; wide = b }) (record { agent = a; target = m.target; progress = Done; wide = false })) (sym narrow) (inr (refl, near)));
+        bounded = λ n tl f. tl;
         brought = (holds_decides v a q).1 held;
         keeps = inr (refl, refl);
         late = inr asked;

@@ -8,8 +8,8 @@ use Rattle.x5_model.specs.Values.{Name, key_of}
 use Rattle.x5_model.specs.Entries.{Named}
 use Rattle.x5_model.specs.References.{Progress, Start, Next, Done, Reference, RefType, Superior, Subordinate, Cross, NonSpecific, Supplier, Chained}
 use Rattle.x5_model.proofs.KeyLaws.{key_decides}
-use Rattle.x5_model.proofs.Lists.{both_true, in_first, in_either, in_left, in_map, of_map, of_any, of_find, not_found, of_filter}
-use Rattle.x5_model.proofs.Prefixes.{prefix_length, prefix_decides, same_by_length}
+use Rattle.x5_model.proofs.Lists.{both_true, not_true, in_first, in_either, in_left, in_map, of_map, of_any, of_find, not_found, of_filter}
+use Rattle.x5_model.proofs.Prefixes.{prefix_itself, prefix_length, prefix_decides, same_by_length}
 use Rattle.x5_model_tree.specs.World.{Specific, Nssr, Agent, Agreement, World}
 use Rattle.x5_model_tree.specs.Tree.{key_at, keys_of, is_there, lowest, belongs}
 use Rattle.x5_model_tree.specs.Masters.{numbered, holds, superior_of, supplier_of}
@@ -131,6 +131,7 @@ module _ (p : Point) (o : ℕ) (m : Chained) where
             (inr (refl, inr (refl, inr (refl, superior_nearer w 15 o s ((good_at p sound).chain o io) up)))));
         further = start (λ x. IsFurther w (record { agent = o; target = m.target; progress = x; wide = is_wide m.kind }) (record { agent = s; target = m.target; progress = Start; wide = false }))
             (inr (refl, superior_nearer w 15 o s ((good_at p sound).chain o io) up));
+        bounded = λ n l f. omega arith;
         brought = refl;
         keeps = inr (refl, refl);
         late = inl refl;
@@ -156,8 +157,8 @@ module _ (p : Point) (o : ℕ) (m : Chained) where
   held_is q c e = let f = of_find (λ (x : Held). same_key (key_of x.prefix) q) c h.own e in (f.0, (key_decides (key_of c.prefix) q).0 f.1)
 
   multicast_led : (q : Key) (c : Held) (e : Named) (agents : List ℕ) (a : ℕ) → resolves h m ≡ true → known_pin m.request h (key_of m.target) ≡ Some q → In c h.own → key_of c.prefix ≡ q
-      → In e c.entries → IsPrefix (key_at e) (key_of m.target) → Leads p o m (proceeding (length e.name + 1) e.name m.target NonSpecific agents) a
-  multicast_led q c e agents a res known ic is ie on =
+      → In e c.entries → IsPrefix (key_at e) (key_of m.target) → same_name e.name m.target ≡ false → Leads p o m (proceeding (length e.name + 1) e.name m.target NonSpecific agents) a
+  multicast_led q c e agents a res known ic is ie on other =
       let part = own_part c e ic ie in
       let k : ℕ = length e.name + 1 in
       let back : k - 1 ≡ length e.name = omega arith in
@@ -171,6 +172,12 @@ module _ (p : Point) (o : ℕ) (m : Chained) where
       record {
         lower = next_lower a k target true res (λ j d. let jl : j ≤ length q = beyond q known j d in inl (omega arith));
         further = next_further a k target true res (omega arith) (λ j d. let jl : j ≤ length q = beyond q known j d in inl (omega arith));
+        bounded = λ n l f.
+            let le : length (key_at e) ≤ length (key_of m.target) = prefix_length (key_at e) (key_of m.target) on in
+            let tl : length (key_of m.target) ≡ length m.target = key_length m.target in
+            let ne : length (key_at e) ≡ length (key_of m.target) → ⊥ = λ level.
+            false_true (sym other ∙ (key_decides (key_of e.name) (key_of m.target)).1 (same_by_length (key_at e) (key_of m.target) (key_of m.target) on (prefix_itself (key_of m.target)) level)) in
+            omega (arith, ne);
         brought = (there_decides (tree_at p).entries (take (k - 1) (key_of target))).1 (subst (λ (x : Key). In x (keys_of (tree_at p).entries)) (sym at) (in_map key_at e (tree_at p).entries part.1));
         keeps = inr (same, refl);
         late = inl refl;
@@ -179,6 +186,10 @@ module _ (p : Point) (o : ℕ) (m : Chained) where
   of_when : (b : Bool) (x r : Reference) → In r (when b x) → r ≡ x
   of_when true x r i = elim (in_first r x [] i) [ inl e ↦ e | inr j ↦ elim j [ ] ]
   of_when false x r i = elim i [ ]
+
+  when_true : (b : Bool) (x r : Reference) → In r (when b x) → b ≡ true
+  when_true true x r i = refl
+  when_true false x r i = elim i [ ]
 
   multicast_leads : (q : Key) (c : Held) (r : Reference) (a : ℕ) → resolves h m ≡ true → known_pin m.request h (key_of m.target) ≡ Some q → held_at h.own q ≡ Some c → In r (multicast_needs h m c) → Leads p o m r a
   multicast_leads q c r a res known held i = from_entry (lowest c.entries (key_of m.target)) refl i
@@ -192,11 +203,18 @@ module _ (p : Point) (o : ℕ) (m : Chained) where
           let one : r ≡ proceeding (length e.name + 1) e.name m.target NonSpecific (others h.me n.agents) = of_when (not (same_name e.name m.target) && not (is_empty (others h.me n.agents))) _ r j in
           let f = held_is q c held in
           let l = lowest_is c.entries (key_of m.target) e low in
-          subst (λ (x : Reference). Leads p o m x a) (sym one) (multicast_led q c e (others h.me n.agents) a res known f.0 f.1 l.0 l.1)
+          let other : same_name e.name m.target ≡ false = not_true (same_name e.name m.target) (both_true (not (same_name e.name m.target)) _ (when_true (not (same_name e.name m.target) && not (is_empty (others h.me n.agents))) _ r j)).0 in
+          subst (λ (x : Reference). Leads p o m x a) (sym one) (multicast_led q c e (others h.me n.agents) a res known f.0 f.1 l.0 l.1 other)
 
       from_entry : (x : Option Named) → lowest c.entries (key_of m.target) ≡ x → In r (in_option [] (λ (e : Named). in_option [] (ask e) (nssr_at c.nssrs (key_of e.name))) x) → Leads p o m r a
       from_entry None low j = elim j [ ]
       from_entry (Some e) low j = from_nssr e low (nssr_at c.nssrs (key_of e.name)) j
+
+  on_way : (q : Key) (k n : ℕ) → k ≡ length q → IsPrefix q (key_of m.target) → length m.target ≤ n → k ≤ n
+  on_way q k n kl on tl =
+      let le : length q ≤ length (key_of m.target) = prefix_length q (key_of m.target) on in
+      let e : length (key_of m.target) ≡ length m.target = key_length m.target in
+      omega arith
 
   -- to agents that hold the context of the longest known pin
   specific_brought : (q : Key) (kept : Name) (kind : RefType) (agents : List ℕ) (a : ℕ) → is_wide kind ≡ false → known_pin m.request h (key_of m.target) ≡ Some q → key_of kept ≡ q → IsHeld w a q
@@ -287,6 +305,7 @@ module _ (p : Point) (o : ℕ) (m : Chained) where
       record {
         lower = next_lower a k (take (k - 1) c.held.prefix ++ drop (k - 1) m.target) false res level;
         further = next_further a k (take (k - 1) c.held.prefix ++ drop (k - 1) m.target) false res (let f : 0 < length q = held_filled w good a q held in omega arith) level;
+        bounded = λ n tl f. on_way q k n kl l.1 tl;
         brought = specific_brought q c.held.prefix Supplier (c.supplier ∷ []) a refl known prefix held;
         keeps = inr (same, refl);
         late = inl refl;
@@ -333,6 +352,7 @@ module _ (p : Point) (o : ℕ) (m : Chained) where
       record {
         lower = next_lower a (length k.pin) (take (length k.pin - 1) k.pin ++ drop (length k.pin - 1) m.target) (is_wide kind) res (λ j d. inl (let less : j < length q = not_held_longer q known own copies j d in omega arith));
         further = next_further a (length k.pin) (take (length k.pin - 1) k.pin ++ drop (length k.pin - 1) m.target) (is_wide kind) res (let f : 0 < length q = filled in omega arith) (λ j d. inl (let less : j < length q = not_held_longer q known own copies j d in omega arith));
+        bounded = λ n tl f. on_way q (length k.pin) n kl l.1 tl;
         brought = specific_brought q k.pin kind (usable_agents m.request k.access) a narrow known is (subst (λ (x : Key). IsHeld w a x) is (usable_holds w m.request k a right i));
         keeps = inr (same, refl);
         late = inl refl;

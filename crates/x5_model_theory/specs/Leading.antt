@@ -2,10 +2,12 @@
 -- and a message that follows it is nearer than all before.
 use Rattle.std.specs.Prelude.{List, ◌≡◌, ℕ, true, Option, ◌⊎◌, false, [], ◌∷◌, ◌++◌, ◌+◌, ◌<◌, ◌≤◌, length, if◌then◌else◌}
 use Rattle.std.specs.Option.{is_some}
+use Rattle.x5_model.specs.Keys.{Key}
 use Rattle.x5_model.specs.Values.{key_of}
 use Rattle.x5_model.specs.Members.{In}
 use Rattle.x5_model.specs.References.{Progress, Start, Next, Done, Reference, TraceItem, Chained}
 use Rattle.x5_model_tree.specs.World.{World}
+use Rattle.x5_model_tree.specs.Masters.{pins}
 use Rattle.x5_model_tree.specs.Consistent.{IsConsistent}
 use Rattle.x5_model_tree.specs.Described.{IsDescribed}
 use Rattle.x5_model_run.specs.History.{Point, knowledge_at, holdings_at}
@@ -51,10 +53,16 @@ level_of i = by i.progress
 abbrev pub IsFurther : World → TraceItem → TraceItem → Type 0
 IsFurther w i j = (level_of i < level_of j) ⊎ ((level_of i ≡ level_of j) × ((stage_of w j).distance < (stage_of w i).distance))
 
+-- no pin has more RDNs
+abbrev pub PinsWithin : ℕ → World → Type 0
+PinsWithin n w = (q : Key) → In q (pins w) → length q ≤ n
+
 -- the reference leads on, to the agent
 pub record Leads (p : Point) (o : ℕ) (m : Chained) (r : Reference) (a : ℕ) : Type 0 where
   pub lower : is_lower (stage_of (knowledge_at p) (item_of o m)) (stage_of (knowledge_at p) (item_for a r)) ≡ true
   pub further : IsFurther (knowledge_at p) (item_of o m) (item_for a r)
+  -- no further than names are long
+  pub bounded : (n : ℕ) → length m.target ≤ n → PinsWithin n (knowledge_at p) → level_of (item_for a r) ≤ n
   pub brought : is_brought p (message_for m r) a ≡ true
   -- it asks for a part, or for the same target; where the name is completed, a list or search goes on
   pub keeps : (asks_part r ≡ true) ⊎ ((key_of r.target ≡ key_of m.target) × (asks_part r ≡ false))
