@@ -26,14 +26,14 @@ going_more w [] i j g f = (f, tt)
 going_more w (x ∷ []) i j g f = (g.0, (f, tt))
 going_more w (x ∷ y ∷ ys) i j g f = (g.0, going_more w (y ∷ ys) i j g.1 f)
 
-same_level : (a : ℕ) (s t : Name) (x : Progress) (wide : Bool) → length s ≡ length t
+pub same_level : (a : ℕ) (s t : Name) (x : Progress) (wide : Bool) → length s ≡ length t
     → level_of (record { agent = a; target = s; progress = x; wide = wide }) ≡ level_of (record { agent = a; target = t; progress = x; wide = wide })
 same_level a s t Start wide e = refl
 same_level a s t (Next k) wide e = refl
 same_level a s t Done wide e = ap (λ (n : ℕ). if wide then n + 1 else n) e
 
 -- what is carried is as far as its reference
-carried_further : (w : World) (i : TraceItem) (a : ℕ) (sender : Option ℕ) (opener : Line) (r : Reference) (m : Chained) → IsCarried sender opener r m → IsFurther w i (item_for a r) → IsFurther w i (item_of a m)
+pub carried_further : (w : World) (i : TraceItem) (a : ℕ) (sender : Option ℕ) (opener : Line) (r : Reference) (m : Chained) → IsCarried sender opener r m → IsFurther w i (item_for a r) → IsFurther w i (item_of a m)
 carried_further w i a sender opener r m carried f =
     let target : key_of r.target ≡ key_of m.target = (key_decides (key_of r.target) (key_of m.target)).0 carried.target_is in
     let long : length r.target ≡ length m.target = sym (key_length r.target) ∙ ap length target ∙ key_length m.target in

@@ -15,4 +15,5 @@ pub mod Parts
 pub mod Following
 pub mod Probing
 pub mod Bounding
+pub mod Carrying
 pub mod Changes

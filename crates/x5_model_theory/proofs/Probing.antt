@@ -27,7 +27,7 @@ use Rattle.x5_model_run.specs.Needs.{target_of, others, proceeding, resolves, ns
 use Rattle.x5_model_run.specs.Placed.{fits, is_brought, Placed}
 use Rattle.x5_model_run.specs.Chain.{probe_request, is_probe, part_request, asks_part, is_user}
 use Rattle.x5_model_run.specs.Stage.{stage_of, is_lower}
-use Rattle.x5_model_theory.specs.Leading.{IsSound, item_for, IsFurther, ProbesArePlaced}
+use Rattle.x5_model_theory.specs.Leading.{IsSound, item_for, level_of, IsFurther, ProbesArePlaced}
 use Rattle.x5_model_theory.proofs.Tests.{false_true}
 use Rattle.x5_model_theory.proofs.Views.{there_decides}
 use Rattle.x5_model_theory.proofs.Stages.{key_length, lower_chain}
@@ -332,5 +332,20 @@ probe_further p o m r a sound fit i = go (is_some (fault_of m.request.body)) i
         subst (λ (y : Progress). IsFurther (knowledge_at p) (item_of o m) (record { agent = a; target = r.target; progress = y; wide = is_wide r.kind })) (sym (progress p o m sound r x)) f
 
     go : (b : Bool) → In r (if b then [] else probe_needs (holdings_at p o) m) → IsFurther (knowledge_at p) (item_of o m) (item_for a r)
+    go true j = elim j [ ]
+    go false j = by_probe (probe_is p o m r j)
+
+-- and no further than the new name is long
+pub probe_within : (n : ℕ) (p : Point) (o : ℕ) (m : Chained) (r : Reference) (a : ℕ) → IsSound p → ((name : Name) → new_name m.request.body ≡ Some name → length name ≤ n) → In r (due_probes (holdings_at p o) m)
+    → (level_of (item_for a r) ≤ n) × (length r.target ≤ n)
+probe_within n p o m r a sound fresh i = go (is_some (fault_of m.request.body)) i
+  where
+    by_probe : IsProbe p o m r → (level_of (item_for a r) ≤ n) × (length r.target ≤ n)
+    by_probe x =
+        let le : length x.name ≤ n = fresh x.name x.named in
+        let long : length r.target ≡ length x.name = sym (key_length r.target) ∙ ap length (asked_name p o m sound r x) ∙ key_length x.name in
+        (subst (λ (y : Progress). level_of (record { agent = a; target = r.target; progress = y; wide = is_wide r.kind }) ≤ n) (sym (progress p o m sound r x)) le, omega arith)
+
+    go : (b : Bool) → In r (if b then [] else probe_needs (holdings_at p o) m) → (level_of (item_for a r) ≤ n) × (length r.target ≤ n)
     go true j = elim j [ ]
     go false j = by_probe (probe_is p o m r j)

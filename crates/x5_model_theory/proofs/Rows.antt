@@ -294,14 +294,14 @@ module _ (p : Point) (o : ℕ) (m : Chained) where
       let kl : k ≡ length q = sym (key_length c.held.prefix) ∙ ap length prefix in
       let at : take k (key_of (take (k - 1) c.held.prefix ++ drop (k - 1) m.target)) ≡ q = ap (take k) same ∙ ap (λ (n : ℕ). take n (key_of m.target)) kl ∙ l.1 in
       let level : (j : ℕ) → holds_within h (key_of m.target) j ≡ true
-          → (j < k) ⊎ ((j ≡ k) × (steps_to_master 4 w (take k (key_of (take (k - 1) c.held.prefix ++ drop (k - 1) m.target))) a < steps_to_master 4 w (take j (key_of m.target)) o)) = λ j d.
-            let jl : j ≤ length q = beyond q known j d in
-            elim (dec_nat j k) [
-              | inl e ↦
-                  let mine : take j (key_of m.target) ≡ q = ap (λ (n : ℕ). take n (key_of m.target)) (e ∙ kl) ∙ l.1 in
-                  inr (e, subst (λ (x : Key). steps_to_master 4 w x a < steps_to_master 4 w (take j (key_of m.target)) o) (sym at) (subst (λ (x : Key). steps_to_master 4 w q a < steps_to_master 4 w x o) (sym mine) near))
-              | inr other ↦ inl (let e : k ≡ length q = kl in omega (arith, other))
-            ] in
+      → (j < k) ⊎ ((j ≡ k) × (steps_to_master 4 w (take k (key_of (take (k - 1) c.held.prefix ++ drop (k - 1) m.target))) a < steps_to_master 4 w (take j (key_of m.target)) o)) = λ j d.
+      let jl : j ≤ length q = beyond q known j d in
+      elim (dec_nat j k) [
+        | inl e ↦
+            let mine : take j (key_of m.target) ≡ q = ap (λ (n : ℕ). take n (key_of m.target)) (e ∙ kl) ∙ l.1 in
+            inr (e, subst (λ (x : Key). steps_to_master 4 w x a < steps_to_master 4 w (take j (key_of m.target)) o) (sym at) (subst (λ (x : Key). steps_to_master 4 w q a < steps_to_master 4 w x o) (sym mine) near))
+        | inr other ↦ inl (let e : k ≡ length q = kl in omega (arith, other))
+      ] in
       record {
         lower = next_lower a k (take (k - 1) c.held.prefix ++ drop (k - 1) m.target) false res level;
         further = next_further a k (take (k - 1) c.held.prefix ++ drop (k - 1) m.target) false res (let f : 0 < length q = held_filled w good a q held in omega arith) level;

@@ -1,9 +1,10 @@
 -- Each reference that knowledge makes an agent need leads on (X.518, sections 18 and 19): its agents can go on from there,
 -- and a message that follows it is nearer than all before.
-use Rattle.std.specs.Prelude.{List, ◌≡◌, ℕ, true, Option, ◌⊎◌, false, [], ◌∷◌, ◌++◌, ◌+◌, ◌<◌, ◌≤◌, length, if◌then◌else◌}
+use Rattle.std.specs.Prelude.{List, ◌≡◌, ℕ, true, Option, Some, ◌⊎◌, false, [], ◌∷◌, ◌++◌, ◌+◌, ◌<◌, ◌≤◌, length, if◌then◌else◌}
 use Rattle.std.specs.Option.{is_some}
 use Rattle.x5_model.specs.Keys.{Key}
-use Rattle.x5_model.specs.Values.{key_of}
+use Rattle.x5_model.specs.Values.{Name, key_of}
+use Rattle.x5_model.specs.Requests.{Request}
 use Rattle.x5_model.specs.Members.{In}
 use Rattle.x5_model.specs.References.{Progress, Start, Next, Done, Reference, TraceItem, Chained}
 use Rattle.x5_model_tree.specs.World.{World}
@@ -12,8 +13,8 @@ use Rattle.x5_model_tree.specs.Consistent.{IsConsistent}
 use Rattle.x5_model_tree.specs.Described.{IsDescribed}
 use Rattle.x5_model_run.specs.History.{Point, knowledge_at, holdings_at}
 use Rattle.x5_model_run.specs.Journal.{Line, is_done, item_of, is_wide, same_item}
-use Rattle.x5_model_run.specs.Chain.{IsCarried, asks_part}
-use Rattle.x5_model_run.specs.Needs.{subset_of, resolution_needs, part_needs, copied_needs, passing_needs, due_probes, needs}
+use Rattle.x5_model_run.specs.Chain.{Scene, scene_at, IsCarried, opening, asks_part, AllLicensed}
+use Rattle.x5_model_run.specs.Needs.{target_of, new_name, subset_of, resolution_needs, part_needs, copied_needs, passing_needs, due_probes, needs}
 use Rattle.x5_model_run.specs.Placed.{fits, is_brought, Placed}
 use Rattle.x5_model_run.specs.Stage.{Stage, stage_of, is_lower}
 
@@ -124,3 +125,27 @@ TracesGoOn = (p : Point) (sender : Option ℕ) (opener : Line) (r : Reference) (
 -- receiver's among them.
 abbrev pub NoLongTrace : Type 0
 NoLongTrace = (w : World) (to : ℕ) (m : Chained) → IsGoing w (with_own to m) → ((i : TraceItem) → In i (with_own to m) → level_of i ≤ 16) → length m.trace ≤ 96
+
+-- So it is in the whole journal of a request: each line's message is placed, and its trace goes on. The user's own is.
+abbrev pub JournalsArePlaced : Type 0
+JournalsArePlaced = (p : Point) (s : Scene) (lines : List Line) (l : Line) → IsSound p → s.holdings ≡ holdings_at p
+    → Placed p s.message s.first → IsGoing (knowledge_at p) (with_own s.first s.message)
+    → AllLicensed s lines → In l lines → Placed p l.message l.receiver × IsGoing (knowledge_at p) (with_own l.receiver l.message)
+
+abbrev pub OpeningIsPlaced : Type 0
+OpeningIsPlaced = (p : Point) (first : ℕ) (r : Request) → Placed p (opening r) first × IsGoing (knowledge_at p) (with_own first (opening r))
+
+-- A message whose names, that of its trace and the new one of an update have so many RDNs at most; so has what follows it.
+pub record IsWithin (n : ℕ) (to : ℕ) (m : Chained) : Type 0 where
+  pub target : length m.target ≤ n
+  pub fresh : (name : Name) → new_name m.request.body ≡ Some name → length name ≤ n
+  pub items : (i : TraceItem) → In i (with_own to m) → level_of i ≤ n
+
+abbrev pub NamesStayWithin : Type 0
+NamesStayWithin = (n : ℕ) (p : Point) (sender : Option ℕ) (opener : Line) (r : Reference) (m : Chained) (a : ℕ) → IsSound p → fits opener.message ≡ true → PinsWithin n (knowledge_at p)
+    → In r (needs (holdings_at p opener.receiver) opener.message) → In a r.agents → IsCarried sender opener r m
+    → IsWithin n opener.receiver opener.message → IsWithin n a m
+
+abbrev pub NoJournalIsLong : Type 0
+NoJournalIsLong = (p : Point) (first : ℕ) (r : Request) (lines : List Line) (l : Line) → IsSound p → PinsWithin 16 (knowledge_at p) → length (target_of r.body) ≤ 16
+    → ((name : Name) → new_name r.body ≡ Some name → length name ≤ 16) → AllLicensed (scene_at p first r) lines → In l lines → length l.message.trace ≤ 96
