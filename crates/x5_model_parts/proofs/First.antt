@@ -1,5 +1,5 @@
 -- While no update was accepted and no context moved, a line finds what consistent knowledge gives.
-use Rattle.std.proofs.Common.{◌≡◌, ◌≤◌, inl, inr, ◌↔◌, true, List, [], ◌∷◌, length, map, refl, sym, subst, ◌∙◌}
+use Rattle.std.proofs.Common.{◌≡◌, ◌≤◌, inl, inr, ◌↔◌, true, List, [], ◌∷◌, length, map, refl, sym, subst, ◌∙◌, ℕ, zero, suc, ◌-◌, drop}
 use Rattle.x5_model.specs.Words.{distinct}
 use Rattle.x5_model.specs.Members.{In, Once}
 use Rattle.x5_model.specs.Keys.{Key, same_key, parent}
@@ -103,16 +103,27 @@ pub knowledge_still : (w : World) (past : List Did) → KeepTree past → knowle
 knowledge_still w [] h = refl
 knowledge_still w (d ∷ before) h = still_knowledge w before d.deed (knowledge_by w before) h.0 ∙ knowledge_still w before h.1
 
+keep_drop : (n : ℕ) (past : List Did) → KeepTree past → KeepTree (drop n past)
+keep_drop zero past h = h
+keep_drop (suc n) [] h = tt
+keep_drop (suc n) (d ∷ before) h = keep_drop n before h.1
+
 pub stands_at_first : StandsAtFirst
 stands_at_first w past described consistent short h =
     let same : w ≡ knowledge_by w past = sym (knowledge_still w past h) in
-    let tree : whole w ≡ tree_by w past = sym (tree_still w past h) in
-    let pins_same : (q : Key) → In q (whole w).pins ↔ In q (pins w) = λ q. (λ i. i, λ i. i) in
-    record {
-      described = subst (λ (x : World). IsDescribed x) same described;
-      consistent = subst (λ (x : World). IsConsistent x) same consistent;
-      coherent = subst (λ (x : World). Coherent (with_entries (λ c. keys_of (part (tree_by w past) c.prefix)) (knowledge_of x))) same
-          (subst (λ (t : Tree). Coherent (with_entries (λ c. keys_of (part t c.prefix)) (knowledge_of w))) tree (first_coherent w described consistent));
-      pins_are = subst (λ (x : World). (q : Key) → In q (tree_by w past).pins ↔ In q (pins x)) same (subst (λ (t : Tree). (q : Key) → In q t.pins ↔ In q (pins w)) tree pins_same);
-      short = subst (λ (x : World). (q : Key) → In q (pins x) → length q ≤ 16) same short;
-    }
+    let stood : (t : Tree) → whole w ≡ t → Coherent (with_entries (λ c. keys_of (part t c.prefix)) (knowledge_of (knowledge_by w past))) = λ t tree.
+    subst (λ (x : World). Coherent (with_entries (λ c. keys_of (part t c.prefix)) (knowledge_of x))) same
+    (subst (λ (t : Tree). Coherent (with_entries (λ c. keys_of (part t c.prefix)) (knowledge_of w))) tree (first_coherent w described consistent)) in
+    let pinned : (t : Tree) → whole w ≡ t → (q : Key) → In q t.pins ↔ In q (pins (knowledge_by w past)) = λ t tree.
+    subst (λ (x : World). (q : Key) → In q t.pins ↔ In q (pins x)) same (subst (λ (t : Tree). (q : Key) → In q t.pins ↔ In q (pins w)) tree (λ q. (λ i. i, λ i. i))) in (
+      record {
+        described = subst (λ (x : World). IsDescribed x) same described;
+        consistent = subst (λ (x : World). IsConsistent x) same consistent;
+        coherent = stood (tree_by w past) (sym (tree_still w past h));
+        pins_are = pinned (tree_by w past) (sym (tree_still w past h));
+        short = subst (λ (x : World). (q : Key) → In q (pins x) → length q ≤ 16) same short;
+      },
+      λ g moment i e.
+          let at : whole w ≡ tree_by w (drop (length past - moment) past) = sym (tree_still w (drop (length past - moment) past) (keep_drop (length past - moment) past h)) in
+          record { coherent = stood (tree_by w (drop (length past - moment) past)) at; pins_are = pinned (tree_by w (drop (length past - moment) past)) at },
+    )

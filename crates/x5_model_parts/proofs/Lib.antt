@@ -12,3 +12,4 @@ pub mod Parting
 pub mod Joining
 pub mod Nesting
 pub mod First
+pub mod Copying

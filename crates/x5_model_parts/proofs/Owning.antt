@@ -156,7 +156,7 @@ module _ (p : Point) (st : Stands p) where
         let z = both_true (are_references w a.subordinate) _ y.1 in
         (once_decides same_key key_decides (map (λ (r : Specific). key_of r.pin) a.subordinate)).0 (both_true _ (distinct same_key (map (λ (r : Specific). key_of r.pin) a.subordinate)) z.0).1
 
-    nssrs_once : (c : Context) → In c a.contexts → Once (map (λ (n : Nssr). key_of n.at) c.nssrs)
+    pub nssrs_once : (c : Context) → In c a.contexts → Once (map (λ (n : Nssr). key_of n.at) c.nssrs)
     nssrs_once c i =
         let x = both_true (is_rooted c c.entries) _ (described_context c i) in
         let y = both_true (list_all is_kept c.entries) _ x.1 in

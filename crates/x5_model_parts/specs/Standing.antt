@@ -1,13 +1,13 @@
 -- What a line of a run over consistent knowledge finds: the contexts with the entries that the tree has of them by then.
-use Rattle.std.specs.Prelude.{◌≤◌, ◌↔◌, List, [], ◌∷◌, length, ⊤}
+use Rattle.std.specs.Prelude.{◌≡◌, ◌≤◌, ◌↔◌, List, [], ◌∷◌, length, ⊤, Some, ℕ}
 use Rattle.x5_model.specs.Members.{In}
 use Rattle.x5_model.specs.Keys.{Key}
-use Rattle.x5_model_tree.specs.World.{World}
+use Rattle.x5_model_tree.specs.World.{Agreement, World}
 use Rattle.x5_model_tree.specs.Tree.{keys_of, part}
 use Rattle.x5_model_tree.specs.Masters.{pins}
 use Rattle.x5_model_tree.specs.Consistent.{IsConsistent}
 use Rattle.x5_model_tree.specs.Described.{IsDescribed}
-use Rattle.x5_model_run.specs.History.{Deed, Nothing, Outs, Loses, Accepts, Refreshes, Splits, Unsplits, Did, Point, tree_at, knowledge_at}
+use Rattle.x5_model_run.specs.History.{Deed, Nothing, Outs, Loses, Accepts, Refreshes, Splits, Unsplits, Did, Point, tree_at, tree_of_moment, as_of, knowledge_at}
 use Rattle.x5_model_theory.specs.Knowledge.{Knowledge}
 use Rattle.x5_model_theory.specs.Coherent.{Coherent}
 use Rattle.x5_model_theory.specs.Described.{knowledge_of}
@@ -26,6 +26,14 @@ pub record Stands (p : Point) : Type 0 where
   pub pins_are : (q : Key) → In q (tree_at p).pins ↔ In q (pins (knowledge_at p))
   pub short : (q : Key) → In q (pins (knowledge_at p)) → length q ≤ 16
 
+-- So it was at each moment as of which an agent has a copy.
+pub record StoodAt (p : Point) (moment : ℕ) : Type 0 where
+  pub coherent : Coherent (with_entries (λ c. keys_of (part (tree_of_moment p moment) c.prefix)) (knowledge_of (knowledge_at p)))
+  pub pins_are : (q : Key) → In q (tree_of_moment p moment).pins ↔ In q (pins (knowledge_at p))
+
+abbrev pub CopiesStand : Point → Type 0
+CopiesStand p = (g : Agreement) (moment : ℕ) → In g (knowledge_at p).agreements → as_of p g.number ≡ Some moment → StoodAt p moment
+
 -- So it is at least while no update was accepted and no context was moved.
 abbrev pub keeps_tree : Deed → Type 0
 keeps_tree Nothing = ⊤
@@ -42,4 +50,4 @@ KeepTree (d ∷ before) = keeps_tree d.deed × KeepTree before
 
 abbrev pub StandsAtFirst : Type 0
 StandsAtFirst = (w : World) (past : List Did) → IsDescribed w → IsConsistent w → ((q : Key) → In q (pins w) → length q ≤ 16) → KeepTree past
-    → Stands (record { described = w; past = past })
+    → Stands (record { described = w; past = past }) × CopiesStand (record { described = w; past = past })
