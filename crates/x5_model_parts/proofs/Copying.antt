@@ -32,7 +32,7 @@ use Rattle.x5_model_theory.proofs.Holding.{of_place, copy_is, copy_prefix}
 use Rattle.x5_model_parts.specs.Standing.{knowledge_now, Stands, StoodAt, CopiesStand}
 use Rattle.x5_model_parts.proofs.Asking.{false_true}
 use Rattle.x5_model_parts.proofs.Seeing.{is_held, IsTellable, Like}
-use Rattle.x5_model_parts.proofs.Spots.{none_or_some}
+use Rattle.x5_model_parts.proofs.Spots.{held_in}
 use Rattle.x5_model_parts.proofs.Lone.{once_filter, once_append}
 use Rattle.x5_model_parts.proofs.Owning.{map_map, filled_in, area_of_mastered, mastered_of_area, pin_of_area, pointer_right, referred, of_referred, references_once, nssrs_once, own_once, own_area_is, area_at, area_in, own_like, own_low, own_in, served_own}
 
@@ -130,7 +130,7 @@ module _ (p : Point) (st : Stands p) (o : ℕ) (a : Agent) (ia : In (o, a) (numb
         ]
 
     -- a copy, as it was sent
-    abbrev sent_of : Agreement → ℕ → Mastered → Held
+    abbrev pub sent_of : Agreement → ℕ → Mastered → Held
     sent_of g moment x = record {
       prefix = g.context;
       entries = part (tree_of_moment p moment) (key_of g.context);
@@ -296,3 +296,105 @@ module _ (p : Point) (st : Stands p) (o : ℕ) (a : Agent) (ia : In (o, a) (numb
 
       pub sent_headed : In (key_of g.context) (keys_of (part (tree_of_moment p moment) (key_of g.context)))
       sent_headed = subst (λ (z : Key). In z (keys_of (part (tree_of_moment p moment) (key_of g.context)))) ex ((sent_entries (pin_of x)).0 ((stood g moment ig when).coherent.headed (holding (then_of moment) (area_of x)) then_area))
+
+    -- what may be answered from by a copy, was sent
+    abbrev pub IsSent : Held → Type 0
+    IsSent c =
+        (g : Agreement) × (moment : ℕ) × (x : Mastered) × In g (knowledge_at p).agreements × (g.consumer ≡ o) × (as_of p g.number ≡ Some moment) × In x (mastered (knowledge_at p)) × (pin_of x ≡ key_of g.context) × (c ≡ sent_of g moment x)
+
+    pub usable_sent : (r : Request) (c : Held) → In c (usable_copies r (agent_holdings p o a)) → IsSent c
+    usable_sent r c i = go (may_copy r) i
+      where
+        stamped : (x : Copy) → In x (agent_holdings p o a).copies → is_some x.stamp ≡ true → c ≡ x.held → IsSent c
+        stamped x j s e =
+            let g = copy_is p o a x j in
+            at g.0 g.1 g.2 (as_of p g.0.number) refl (subst (λ (y : Copy). is_some y.stamp ≡ true) g.3 s) (e ∙ ap (λ (y : Copy). y.held) g.3)
+          where
+            at : (g : Agreement) → In g (knowledge_at p).agreements → g.consumer ≡ o → (y : Option ℕ) → as_of p g.number ≡ y → is_some (as_of p g.number) ≡ true → c ≡ copy_as_of p g (as_of p g.number) → IsSent c
+            at g ig consumer None f s e = absurd (false_true (ap is_some (sym f) ∙ s))
+            at g ig consumer (Some moment) f s e =
+                let z = copied_of g ig in
+                (g, moment, z.0, ig, consumer, f, z.1, z.2, e ∙ ap (copy_as_of p g) f ∙ sent_is g moment z.0 z.3)
+
+        go : (b : Bool) → In c (if b then map (λ (x : Copy). x.held) (filter (λ (x : Copy). is_some x.stamp) (agent_holdings p o a).copies) else []) → IsSent c
+        go false j = elim j [ ]
+        go true j =
+            let x = of_map (λ (x : Copy). x.held) c (filter (λ (x : Copy). is_some x.stamp) (agent_holdings p o a).copies) j in
+            let f = of_filter (λ (x : Copy). is_some x.stamp) x.0 (agent_holdings p o a).copies x.1 in
+            stamped x.0 f.0 f.1 x.2
+
+    -- an agent has one copy of a context
+    new_agreements : (before : List Key) (gs : List Agreement) (g : Agreement) → In g (first_agreements before gs) → In (key_of g.context) before → ⊥
+    new_agreements before [] g i j = elim i [ ]
+    new_agreements before (x ∷ gs) g i j = go (has same_key before (key_of x.context)) refl i (λ l. new_agreements before gs g l j) (λ l. new_agreements (key_of x.context ∷ before) gs g l (there j))
+      where
+        go : (b : Bool) → has same_key before (key_of x.context) ≡ b → In g (if b then first_agreements before gs else (x ∷ first_agreements (key_of x.context ∷ before) gs))
+            → (In g (first_agreements before gs) → ⊥) → (In g (first_agreements (key_of x.context ∷ before) gs) → ⊥) → ⊥
+        go true e l f h = f l
+        go false e l f h =
+            elim (in_first g x (first_agreements (key_of x.context ∷ before) gs) l) [
+              | inl same ↦ false_true (sym e ∙ has_in same_key key_decides (key_of x.context) before (subst (λ (y : Agreement). In (key_of y.context) before) same j))
+              | inr k ↦ h k
+            ]
+
+    once_agreements : (before : List Key) (gs : List Agreement) → Once (map (λ (g : Agreement). key_of g.context) (first_agreements before gs))
+    once_agreements before [] = tt
+    once_agreements before (x ∷ gs) = go (has same_key before (key_of x.context)) (once_agreements before gs) (once_agreements (key_of x.context ∷ before) gs)
+      where
+        go : (b : Bool) → Once (map (λ (g : Agreement). key_of g.context) (first_agreements before gs)) → Once (map (λ (g : Agreement). key_of g.context) (first_agreements (key_of x.context ∷ before) gs))
+            → Once (map (λ (g : Agreement). key_of g.context) (if b then first_agreements before gs else (x ∷ first_agreements (key_of x.context ∷ before) gs)))
+        go true f h = f
+        go false f h = (
+          λ i.
+              let c = of_map (λ (g : Agreement). key_of g.context) (key_of x.context) (first_agreements (key_of x.context ∷ before) gs) i in
+              new_agreements (key_of x.context ∷ before) gs c.0 c.1 (subst (λ (k : Key). In k (key_of x.context ∷ before)) c.2 here),
+          h,
+        )
+
+    same_maps : {A B : Type 0} (f g : A → B) → ((x : A) → f x ≡ g x) → (xs : List A) → map f xs ≡ map g xs
+    same_maps f g e [] = refl
+    same_maps {A} {B} f g e (x ∷ xs) = ap (λ (y : B). y ∷ map f xs) (e x) ∙ ap (λ (ys : List B). g x ∷ ys) (same_maps f g e xs)
+
+    copies_once : (r : Request) → Once (map (λ (c : Held). key_of c.prefix) (usable_copies r (agent_holdings p o a)))
+    copies_once r = go (may_copy r)
+      where
+        all_copies : Once (map (λ (x : Copy). key_of x.held.prefix) (map (copy_by p) (agreements_of (knowledge_at p) o)))
+        all_copies =
+            subst (λ (ks : List Key). Once ks) (sym (map_map (copy_by p) (λ (x : Copy). key_of x.held.prefix) (agreements_of (knowledge_at p) o)
+            ∙ same_maps (λ (g : Agreement). key_of (copy_by p g).held.prefix) (λ (g : Agreement). key_of g.context) (λ g. ap key_of (copy_prefix p g (as_of p g.number))) (agreements_of (knowledge_at p) o)))
+            (once_agreements [] (filter (λ (g : Agreement). g.consumer == o) (knowledge_at p).agreements))
+
+        go : (b : Bool) → Once (map (λ (c : Held). key_of c.prefix) (if b then map (λ (x : Copy). x.held) (filter (λ (x : Copy). is_some x.stamp) (agent_holdings p o a).copies) else []))
+        go false = tt
+        go true =
+            subst (λ (ks : List Key). Once ks) (sym (map_map (λ (x : Copy). x.held) (λ (c : Held). key_of c.prefix) (filter (λ (x : Copy). is_some x.stamp) (agent_holdings p o a).copies)))
+            (once_filter (λ (x : Copy). key_of x.held.prefix) (λ (x : Copy). is_some x.stamp) (agent_holdings p o a).copies all_copies)
+
+    abbrev free_of : Held → Bool
+    free_of d = not (masters_pin (agent_holdings p o a) (key_of d.prefix))
+
+    own_or_sent : (P : Held → Type 0) → ((c : Held) → In c h.own → P c) → ((c : Held) → IsSent c → P c) → (c : Held) → In c (served m.request (agent_holdings p o a)) → P c
+    own_or_sent P f e c i =
+        elim (in_either c (agent_holdings p o a).own (filter free_of (usable_copies m.request (agent_holdings p o a))) i) [
+          | inl j ↦ f c j
+          | inr j ↦ e c (usable_sent m.request c (of_filter free_of c (usable_copies m.request (agent_holdings p o a)) j).0)
+        ]
+
+    -- and where copies may be used
+    pub all_serving : Serving p o a m
+    all_serving = record {
+      like = own_or_sent (λ c. (d : Area) × Like (knowledge_now p) (served m.request (agent_holdings p o a)) d c)
+          (λ c i. (let x = own_like p st o a ia (served m.request (agent_holdings p o a)) (λ d j. own_in p st o a ia m.request d j) c i in (x.0, x.2)))
+          (λ c s. (now_area s.2, subst (λ (y : Held). Like (knowledge_now p) (served m.request (agent_holdings p o a)) (now_area s.2) y) (sym s.8) (sent_like s.0 s.1 s.3 s.5 s.2 s.6 s.7 (served m.request (agent_holdings p o a)))));
+      once = once_append (λ (c : Held). key_of c.prefix) (agent_holdings p o a).own (filter free_of (usable_copies m.request (agent_holdings p o a))) (own_once p st o a ia)
+          (once_filter (λ (c : Held). key_of c.prefix) free_of (usable_copies m.request (agent_holdings p o a)) (copies_once m.request))
+          (λ c d i j e.
+          (let f = of_filter free_of d (usable_copies m.request (agent_holdings p o a)) j in
+          false_true (sym (not_true (masters_pin (agent_holdings p o a) (key_of d.prefix)) f.1) ∙ ap (λ (q : Key). masters_pin (agent_holdings p o a) q) (sym e) ∙ held_in (agent_holdings p o a).own c i)));
+      low = λ c e i. own_or_sent
+          (λ c. In e (keys_of c.entries) → IsPrefix (key_of c.prefix) e × ((d : Area) → In d (knowledge_now p).areas → IsPrefix d.prefix e → length d.prefix ≤ length (key_of c.prefix)))
+          (λ c i j. own_low p st o a ia c e i j)
+          (λ c s. subst (λ (y : Held). In e (keys_of y.entries) → IsPrefix (key_of y.prefix) e × ((d : Area) → In d (knowledge_now p).areas → IsPrefix d.prefix e → length d.prefix ≤ length (key_of y.prefix))) (sym s.8) (sent_low s.0 s.1 s.3 s.5 s.2 s.6 s.7 e)) c i;
+      headed = own_or_sent (λ c. In (key_of c.prefix) (keys_of c.entries)) headed_own
+          (λ c s. subst (λ (y : Held). In (key_of y.prefix) (keys_of y.entries)) (sym s.8) (sent_headed s.0 s.1 s.3 s.5 s.2 s.6 s.7));
+    }
