@@ -18,7 +18,7 @@ use Rattle.x5_model_tree.specs.Tree.{Tree, keys_of, is_there, part}
 use Rattle.x5_model_tree.specs.Masters.{Mastered, pin_of, numbered, mastered}
 use Rattle.x5_model_tree.specs.Ask.{in_subset}
 use Rattle.x5_model_run.specs.Journal.{is_done, is_wide, same_name}
-use Rattle.x5_model_run.specs.Holdings.{Held, Holdings, may_copy, served, known_pin, is_first_level}
+use Rattle.x5_model_run.specs.Holdings.{Held, Holdings, served, known_pin, is_first_level}
 use Rattle.x5_model_run.specs.Needs.{target_of, resolves, subset_of, is_excluded, begins_at, answers_root}
 use Rattle.x5_model_run.specs.History.{Point, knowledge_at, tree_at, agent_holdings}
 use Rattle.x5_model_theory.specs.Knowledge.{Knowledge, Area, Spot}
@@ -40,10 +40,11 @@ use Rattle.x5_model_parts.proofs.Seeing.{is_held, Like, Sees}
 use Rattle.x5_model_parts.proofs.Spots.{of_held, held_in}
 use Rattle.x5_model_parts.proofs.Covering.{not_it}
 use Rattle.x5_model_parts.proofs.Lone.{once_filter}
-use Rattle.x5_model_parts.proofs.Owning.{area_of_mastered, mastered_of_area, pin_short, pointer_right, referred, of_referred, own_kept, own_once, own_area_is, area_at, area_in, own_like_of, own_like, own_low, own_in, served_own, root_once, of_root, in_root}
+use Rattle.x5_model_parts.proofs.Owning.{area_of_mastered, mastered_of_area, pin_short, pointer_right, referred, of_referred, own_kept, own_once, own_area_is, own_like_of, own_in, root_once, of_root, in_root}
+use Rattle.x5_model_parts.proofs.Copying.{Serving}
 use Rattle.x5_model_parts.proofs.Touching.{only_one, IsLow, looks_from_base, looks_from_root, start_areas, of_start, in_starts, looks_from_pins}
 
-module _ (p : Point) (st : Stands p) (o : ℕ) (a : Agent) (ia : In (o, a) (numbered (knowledge_at p))) (m : Chained) (masters_alone : may_copy m.request ≡ false) where
+module _ (p : Point) (st : Stands p) (o : ℕ) (a : Agent) (ia : In (o, a) (numbered (knowledge_at p))) (m : Chained) (facts : Serving p o a m) where
   abbrev w : World
   w = knowledge_at p
 
@@ -65,17 +66,14 @@ module _ (p : Point) (st : Stands p) (o : ℕ) (a : Agent) (ia : In (o, a) (numb
   abbrev filling : Area → List Key
   filling c = keys_of (part (tree_at p) c.prefix)
 
-  of_all : (c : Held) → In c all → In c h.own
-  of_all c i = subst (λ (xs : List Held). In c xs) (served_own p st o a ia m.request masters_alone) i
-
   in_all : (c : Held) → In c h.own → In c all
   in_all c i = own_in p st o a ia m.request c i
 
   like : (c : Held) → In c all → (d : Area) × Like k all d c
-  like c i = (let x = own_like p st o a ia all in_all c (of_all c i) in (x.0, x.2))
+  like c i = facts.like c i
 
   all_once : Once (map (λ (c : Held). key_of c.prefix) all)
-  all_once = subst (λ (xs : List Held). Once (map (λ (c : Held). key_of c.prefix) xs)) (sym (served_own p st o a ia m.request masters_alone)) (own_once p st o a ia)
+  all_once = facts.once
 
   holds_own : HoldsItsOwn k o held
   holds_own q i e = (let x = own_kept p st o a ia q i e in ap (is_held all) (sym x.2) ∙ held_in all x.0 (in_all x.0 x.1))
@@ -89,7 +87,7 @@ module _ (p : Point) (st : Stands p) (o : ℕ) (a : Agent) (ia : In (o, a) (numb
   low_of : (c : Held) (base : Key) → (i : In c all) → In base (keys_of c.entries) → IsLow p st (like c i).0 base
   low_of c base i j =
       let v = like c i in
-      let g = own_low p st o a ia c base (of_all c i) j in
+      let g = facts.low c base i j in
       record {
         area = v.1.area;
         on = subst (λ (x : Key). IsPrefix x base) (sym v.1.prefix) g.0;
@@ -446,7 +444,7 @@ module _ (p : Point) (st : Stands p) (o : ℕ) (a : Agent) (ia : In (o, a) (numb
       (f.0, (key_decides (key_of c.prefix) (key_of m.target)).0 f.1)) in
       let first = of_list c0 i in
       let v = like c0 first.0 in
-      let there_base : In (key_of m.target) (keys_of c0.entries) = subst (λ (y : Key). In y (keys_of c0.entries)) first.1 (headed_own c0 (of_all c0 first.0)) in (
+      let there_base : In (key_of m.target) (keys_of c0.entries) = subst (λ (y : Key). In y (keys_of c0.entries)) first.1 (facts.headed c0 first.0) in (
         from_base k o held (like c0 first.0).0 sub (key_of m.target),
         base_sees sub asked fit (ap (λ (b : Bool). is_done m.progress && b) narrow ∙ never (is_done m.progress)) (no_root_when_done done) c0 first.0 i there_base
             (λ c j. (let x = of_list c j in (x.0, x.1 ∙ sym first.1)))
@@ -457,11 +455,6 @@ module _ (p : Point) (st : Stands p) (o : ℕ) (a : Agent) (ia : In (o, a) (numb
       never : (b : Bool) → (b && false) ≡ false
       never true = refl
       never false = refl
-
-      headed_own : (c : Held) → In c (agent_holdings p o a).own → In (key_of c.prefix) (keys_of c.entries)
-      headed_own c j =
-          let x = own_area_is p st o a ia c j in
-          subst (λ (y : Held). In (key_of y.prefix) (keys_of y.entries)) (sym x.2) (st.coherent.headed (area_at p st o a ia x.0) (area_in p st o a ia x.0 x.1))
 
   found_sees : (sub : Subset) → subset_of m ≡ Some sub → same_name (target_of m.request.body) m.target ≡ true → resolves h m ≡ true → (x : Option Key) → known_pin m.request h (key_of m.target) ≡ x
       → (c0 : Held) → In c0 (begins_at h m sub) → Seen

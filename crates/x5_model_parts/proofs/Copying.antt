@@ -1,7 +1,7 @@
 -- What an agent may answer from, copies too, is the knowledge of the line: pins keep their parents, and NSSRs their
 -- entries, so a copy of an earlier moment tells of the same pins.
-use Rattle.std.proofs.Common.{◌≡◌, ℕ, zero, suc, ◌+◌, ◌<◌, ◌≤◌, ◌==◌, Bool, true, false, not, ◌&&◌, ◌⊎◌, inl, inr, ◌↔◌, List, [], ◌∷◌, ◌++◌, length, map, refl, sym, ap, subst, ◌∙◌, arith, Option, Some, None, if◌then◌else◌}
-use Rattle.std.specs.List.{filter, find}
+use Rattle.std.proofs.Common.{◌≡◌, ℕ, ◌+◌, ◌<◌, ◌≤◌, ◌==◌, Bool, true, false, not, ◌&&◌, inl, inr, ◌↔◌, List, [], ◌∷◌, ◌++◌, length, map, refl, sym, ap, subst, ◌∙◌, arith, Option, Some, None, if◌then◌else◌}
+use Rattle.std.specs.List.{filter}
 use Rattle.std.specs.Option.{is_some}
 use Rattle.std.proofs.lemmas.Bool.Decides.{Decides-eqb}
 use Rattle.x5_model.specs.Words.{has, in_option}
@@ -14,27 +14,27 @@ use Rattle.x5_model.specs.References.{Chained}
 use Rattle.x5_model.proofs.KeyLaws.{key_decides}
 use Rattle.x5_model.proofs.Lists.{both_true, and_true, not_true, in_first, in_either, in_left, in_right, in_map, of_map, of_flat, of_find, not_found, of_filter, in_filter, has_in, true_or_false}
 use Rattle.x5_model.proofs.Prefixes.{prefix_length, same_by_length, parent_length}
-use Rattle.x5_model_tree.specs.World.{Specific, Nssr, Context, Agent, Agreement, World}
-use Rattle.x5_model_tree.specs.Tree.{Tree, key_at, keys_of, is_there, part, belongs}
-use Rattle.x5_model_tree.specs.Masters.{Mastered, pin_of, numbered, agent_at, mastered, pins, masters}
+use Rattle.x5_model_tree.specs.World.{Specific, Context, Agent, Agreement, World}
+use Rattle.x5_model_tree.specs.Tree.{key_at, keys_of, is_there, part, belongs}
+use Rattle.x5_model_tree.specs.Masters.{Mastered, pin_of, numbered, mastered, pins, masters}
 use Rattle.x5_model_tree.proofs.Exact.{conditions_hold}
 use Rattle.x5_model_tree.proofs.Longest.{belongs_decides}
 use Rattle.x5_model_run.specs.Holdings.{Held, Copy, Holdings, may_copy, masters_pin, usable_copies, served}
 use Rattle.x5_model_run.specs.History.{Point, knowledge_at, tree_at, tree_of_moment, as_of, references_below, sent_references, mastered_at, copy_as_of, copy_by, first_agreements, agreements_of, agent_holdings}
-use Rattle.x5_model_theory.specs.Knowledge.{Knowledge, Area, Spot, Supply, IsReferred, IsMastered}
+use Rattle.x5_model_theory.specs.Knowledge.{Knowledge, Area, IsMastered}
 use Rattle.x5_model_theory.specs.Coherent.{Coherent, IsFed, fed}
 use Rattle.x5_model_theory.specs.Described.{spot_of, area_of, supply_of, knowledge_of}
 use Rattle.x5_model_theory.specs.Changing.{holding, with_entries}
 use Rattle.x5_model_theory.proofs.Places.{at_agent}
 use Rattle.x5_model_theory.proofs.Views.{there_decides, masters_decides, at_place}
 use Rattle.x5_model_theory.proofs.Cohering.{one_master}
-use Rattle.x5_model_theory.proofs.Holding.{of_place, copy_is, copy_prefix}
+use Rattle.x5_model_theory.proofs.Holding.{copy_is, copy_prefix}
 use Rattle.x5_model_parts.specs.Standing.{knowledge_now, Stands, StoodAt, CopiesStand}
 use Rattle.x5_model_parts.proofs.Asking.{false_true}
-use Rattle.x5_model_parts.proofs.Seeing.{is_held, IsTellable, Like}
+use Rattle.x5_model_parts.proofs.Seeing.{IsTellable, Like}
 use Rattle.x5_model_parts.proofs.Spots.{held_in}
 use Rattle.x5_model_parts.proofs.Lone.{once_filter, once_append}
-use Rattle.x5_model_parts.proofs.Owning.{map_map, filled_in, area_of_mastered, mastered_of_area, pin_of_area, pointer_right, referred, of_referred, references_once, nssrs_once, own_once, own_area_is, area_at, area_in, own_like, own_low, own_in, served_own}
+use Rattle.x5_model_parts.proofs.Owning.{map_map, filled_in, mastered_of_area, pointer_right, referred, of_referred, references_once, nssrs_once, own_once, own_area_is, area_at, area_in, own_like, own_low, own_in, served_own}
 
 -- what is needed of what may be answered from
 pub record Serving (p : Point) (o : ℕ) (a : Agent) (m : Chained) : Type 0 where
@@ -240,10 +240,13 @@ module _ (p : Point) (st : Stands p) (o : ℕ) (a : Agent) (ia : In (o, a) (numb
                       let at_pin : is_there (part (tree_of_moment p moment) (key_of g.context)) (parent (key_of r.0.pin)) ≡ true =
                       (there_decides (part (tree_of_moment p moment) (key_of g.context)) (parent (key_of r.0.pin))).1 (subst (λ (z : Key). In (parent z) (keys_of (part (tree_of_moment p moment) (key_of g.context)))) (y.2 ∙ sym r.2) before) in
                       let below : In r.0 (references_below (part (tree_of_moment p moment) (key_of g.context)) b.0.subordinate) =
-                      in_filter (λ (y : Specific). is_there (part (tree_of_moment p moment) (key_of g.context)) (parent (key_of y.pin))) r.0 b.0.subordinate r.1 at_pin in
-                      (r.0, subst (λ (xs : List Specific). In r.0 xs) (sym references)
-                        (in_right r.0 (map mine (filter is_mine (mastered (knowledge_at p)))) (others_of b.0)
-                        (in_filter (λ (y : Specific). not (masters (knowledge_at p) x.master (key_of y.pin))) r.0 (references_below (part (tree_of_moment p moment) (key_of g.context)) b.0.subordinate) below (ap not free))), r.2)
+                      in_filter (λ (y : Specific). is_there (part (tree_of_moment p moment) (key_of g.context)) (parent (key_of y.pin))) r.0 b.0.subordinate r.1 at_pin in (
+                        r.0,
+                        subst (λ (xs : List Specific). In r.0 xs) (sym references)
+                            (in_right r.0 (map mine (filter is_mine (mastered (knowledge_at p)))) (others_of b.0)
+                            (in_filter (λ (y : Specific). not (masters (knowledge_at p) x.master (key_of y.pin))) r.0 (references_below (part (tree_of_moment p moment) (key_of g.context)) b.0.subordinate) below (ap not free))),
+                        r.2,
+                      )
                 ]
           ]
 

@@ -1,5 +1,5 @@
 -- The parts of a list or search join to the whole, in the words of the definitions.
-use Rattle.std.proofs.Common.{◌≡◌, ℕ, ◌<◌, Bool, true, false, ◌&&◌, ◌||◌, ◌⊎◌, inl, inr, ◌↔◌, List, [], ◌∷◌, length, map, refl, sym, ap, subst, ◌∙◌, Option, Some, None, if◌then◌else◌}
+use Rattle.std.proofs.Common.{◌≡◌, ℕ, ◌<◌, Bool, true, false, ◌&&◌, ◌||◌, ◌⊎◌, inl, inr, ◌↔◌, List, [], ◌∷◌, length, map, refl, sym, ap, subst, ◌∙◌, Option, Some, None, if◌then◌else◌, not}
 use Rattle.std.specs.Option.{is_some}
 use Rattle.x5_model.specs.Words.{in_option}
 use Rattle.x5_model.specs.Members.{In, here, there}
@@ -8,15 +8,15 @@ use Rattle.x5_model.specs.Values.{key_of}
 use Rattle.x5_model.specs.Requests.{Subset, Base, OneLevel, WholeSubtree}
 use Rattle.x5_model.specs.References.{Progress, RefType, Subordinate, Reference, Chained}
 use Rattle.x5_model.proofs.KeyLaws.{key_decides}
-use Rattle.x5_model.proofs.Lists.{both_true, in_first, in_map, of_map, in_flat}
+use Rattle.x5_model.proofs.Lists.{both_true, in_first, in_map, of_map, in_flat, in_either, of_filter}
 use Rattle.x5_model.proofs.Prefixes.{prefix_itself, prefix_length, child_decides}
 use Rattle.x5_model_tree.specs.World.{Agent, World}
 use Rattle.x5_model_tree.specs.Tree.{part, keys_of}
 use Rattle.x5_model_tree.specs.Masters.{Mastered, pin_of, numbered, agent_at, mastered, master_among}
 use Rattle.x5_model_run.specs.Journal.{Line, is_done, is_wide, same_name, same_kind}
-use Rattle.x5_model_run.specs.Holdings.{Held, Holdings, served}
+use Rattle.x5_model_run.specs.Holdings.{Held, Holdings, served, Copy, may_copy, masters_pin, usable_copies}
 use Rattle.x5_model_run.specs.Needs.{target_of, subset_of, evaluated, is_excluded}
-use Rattle.x5_model_run.specs.History.{Point, knowledge_at, tree_at, agent_holdings, no_holdings, holdings_at}
+use Rattle.x5_model_run.specs.History.{Point, knowledge_at, tree_at, agent_holdings, no_holdings, holdings_at, tree_of_moment}
 use Rattle.x5_model_run.specs.Chain.{IsCarried, asks_part}
 use Rattle.x5_model_run.specs.Covers.{covers}
 use Rattle.x5_model_theory.specs.Knowledge.{Knowledge, Area, Spot}
@@ -29,18 +29,20 @@ use Rattle.x5_model_theory.proofs.Places.{at_agent}
 use Rattle.x5_model_theory.proofs.Holding.{of_place}
 use Rattle.x5_model_theory.proofs.Scoping.{in_subset_below}
 use Rattle.x5_model_theory.proofs.LooksFrom.{specific_leads, nonspecific_leads}
-use Rattle.x5_model_parts.specs.Standing.{knowledge_now}
-use Rattle.x5_model_parts.specs.Parts.{begins_here, BeginsHere, spots, rest_needs, looks_into, SpotsAreMasters, SpotsAreOnce, SpotsAreTouched, SpotsAreApart, AllAreParts, PartsAreApart, ScopeIsCovered}
+use Rattle.x5_model_parts.specs.Standing.{knowledge_now, CopiesStand}
+use Rattle.x5_model_parts.specs.Parts.{begins_here, BeginsHere, spots, rest_needs, looks_into, IsOwn, IsCopied, SpotsAreRight, SpotsAreOnce, SpotsAreTouched, SpotsAreApart, AllAreParts, PartsAreApart, ScopeIsCovered}
 use Rattle.x5_model_parts.proofs.Asking.{false_true, rdn_keys}
 use Rattle.x5_model_parts.proofs.Seeing.{Sees}
 use Rattle.x5_model_parts.proofs.Spots.{spot_is}
 use Rattle.x5_model_parts.proofs.Needing.{IsTo, IsAmong, view_of}
 use Rattle.x5_model_parts.proofs.Covering.{not_it, InScope, scope_covered, covered_scope, scope_touched, spot_touched, spot_apart, all_parts}
 use Rattle.x5_model_parts.proofs.Apart.{spots_once, needs_apart}
-use Rattle.x5_model_parts.proofs.Owning.{filled_in, area_of_mastered, mastered_of_area, own_area_is, served_own}
+use Rattle.x5_model_parts.proofs.Owning.{filled_in, area_of_mastered, mastered_of_area, own_area_is}
+use Rattle.x5_model_parts.proofs.Copying.{Serving, own_serving, all_serving, usable_sent}
 use Rattle.x5_model_parts.proofs.Touching.{IsLow, looks_from_base, start_areas, of_start, in_starts, looks_from_pins}
 use Rattle.x5_model_parts.proofs.Beginning.{sees}
 use Rattle.x5_model_parts.proofs.Parting.{excluded_by, target_fits, target_is, exclusions_are, narrow_asked, wide_asked}
+use Rattle.std.specs.List.{filter}
 
 -- ---- the agent, and what it sees
 
@@ -63,7 +65,8 @@ sight p l b = go (agent_at (knowledge_at p) l.receiver) refl b.agent
         let is : holdings_at p l.receiver ≡ agent_holdings p l.receiver a = holdings_of p l.receiver a e in
         let place : In (l.receiver, a) (numbered (knowledge_at p)) = of_place (knowledge_at p) l.receiver a e in
         let fit : same_name (target_of l.message.request.body) l.message.target ≡ true = (both_true (same_name (target_of l.message.request.body) l.message.target) _ b.fit).0 in
-        let v = sees p b.stands l.receiver a place l.message b.masters_alone fit (subst (λ (h : Holdings). begins_here h l.message ≡ true) is b.begins) in
+        let facts : Serving p l.receiver a l.message = elim b.copies [ inl none ↦ own_serving p b.stands l.receiver a place l.message none | inr stood ↦ all_serving p b.stands l.receiver a place l.message stood ] in
+        let v = sees p b.stands l.receiver a place l.message facts fit (subst (λ (h : Holdings). begins_here h l.message ≡ true) is b.begins) in
         record {
           agent = a;
           place = place;
@@ -89,25 +92,53 @@ only_master (x ∷ ms) m pin i e f =
       | inr j ↦ more j
     ]
 
-pub spots_are_masters : SpotsAreMasters
-spots_are_masters p l c b i =
+pub spots_are_right : SpotsAreRight
+spots_are_right p l c b i =
     let v = sight p l b in
     let s = v.sees_it in
     let x = spot_is (knowledge_at p) (tree_at p) (knowledge_now p) l.receiver (holdings_at p l.receiver) l.message v.look s c i in
-    let mine : In c (agent_holdings p l.receiver v.agent).own =
-    subst (λ (xs : List Held). In c xs) (served_own p b.stands l.receiver v.agent v.place l.message.request b.masters_alone) (subst (λ (h : Holdings). In c (served l.message.request h)) v.is x.0) in
-    let d = own_area_is p b.stands l.receiver v.agent v.place c mine in
-    let n : Mastered = at_agent l.receiver d.0 in
-    let inside : In n (mastered (knowledge_at p)) =
-    in_flat (λ (y : ℕ × Agent). map (at_agent y.0) y.1.contexts) n (l.receiver, v.agent) (numbered (knowledge_at p)) v.place (in_map (at_agent l.receiver) d.0 v.agent.contexts d.1) in
-    let same : pin_of n ≡ key_of c.prefix = ap (λ (y : Held). key_of y.prefix) (sym d.2) in (
-      subst (λ (y : Held). y.entries ≡ part (tree_at p) (key_of y.prefix)) (sym d.2) refl,
-      only_master (mastered (knowledge_at p)) n (key_of c.prefix) inside same
-          (λ y iy e.
-          (let one = area_of_mastered p b.stands y iy in
-          let two = area_of_mastered p b.stands n inside in
-          sym one.3 ∙ ap (λ (z : Area). z.master) (one_master (knowledge_now p) one.0 two.0 b.stands.coherent one.1 two.1 (one.2 ∙ e ∙ sym same ∙ sym two.2)) ∙ two.3)),
-    )
+    let y : In c (served l.message.request (agent_holdings p l.receiver v.agent)) = subst (λ (h : Holdings). In c (served l.message.request h)) v.is x.0 in
+    elim (in_either c (agent_holdings p l.receiver v.agent).own (filter (λ (d : Held). not (masters_pin (agent_holdings p l.receiver v.agent) (key_of d.prefix))) (usable_copies l.message.request (agent_holdings p l.receiver v.agent))) y) [
+      | inl mine ↦ inl (own v.agent v.place mine)
+      | inr j ↦ inr (copied v.agent v.place b.copies
+          (of_filter (λ (d : Held). not (masters_pin (agent_holdings p l.receiver v.agent) (key_of d.prefix))) c (usable_copies l.message.request (agent_holdings p l.receiver v.agent)) j).0)
+    ]
+  where
+    own : (a : Agent) → In (l.receiver, a) (numbered (knowledge_at p)) → In c (agent_holdings p l.receiver a).own → IsOwn p l c
+    own a ia mine =
+        let d = own_area_is p b.stands l.receiver a ia c mine in
+        let n : Mastered = at_agent l.receiver d.0 in
+        let inside : In n (mastered (knowledge_at p)) = in_flat (λ (y : ℕ × Agent). map (at_agent y.0) y.1.contexts) n (l.receiver, a) (numbered (knowledge_at p)) ia (in_map (at_agent l.receiver) d.0 a.contexts d.1) in
+        let same : pin_of n ≡ key_of c.prefix = ap (λ (y : Held). key_of y.prefix) (sym d.2) in (
+          subst (λ (y : Held). y.entries ≡ part (tree_at p) (key_of y.prefix)) (sym d.2) refl,
+          only_master (mastered (knowledge_at p)) n (key_of c.prefix) inside same
+              (λ y iy e.
+              (let one = area_of_mastered p b.stands y iy in
+              let two = area_of_mastered p b.stands n inside in
+              sym one.3 ∙ ap (λ (z : Area). z.master) (one_master (knowledge_now p) one.0 two.0 b.stands.coherent one.1 two.1 (one.2 ∙ e ∙ sym same ∙ sym two.2)) ∙ two.3)),
+        )
+
+    used : (a : Agent) → In c (usable_copies l.message.request (agent_holdings p l.receiver a)) → may_copy l.message.request ≡ true
+    used a j = go (may_copy l.message.request) j
+      where
+        go : (x : Bool) → In c (if x then map (λ (y : Copy). y.held) (filter (λ (y : Copy). is_some y.stamp) (agent_holdings p l.receiver a).copies) else []) → x ≡ true
+        go true k = refl
+        go false k = elim k [ ]
+
+    copied : (a : Agent) → In (l.receiver, a) (numbered (knowledge_at p)) → (may_copy l.message.request ≡ false) ⊎ CopiesStand p → In c (usable_copies l.message.request (agent_holdings p l.receiver a)) → IsCopied p l c
+    copied a ia (inl none) j = absurd (false_true (sym none ∙ used a j))
+    copied a ia (inr stood) j =
+        let x = usable_sent p b.stands l.receiver a ia l.message stood l.message.request c j in
+        record {
+          allowed = used a j;
+          agreement = x.0;
+          moment = x.1;
+          stands = x.3;
+          consumer = x.4;
+          context = ap (λ (y : Held). key_of y.prefix) (sym x.8);
+          refreshed = x.5;
+          entries = subst (λ (y : Held). y.entries ≡ part (tree_of_moment p x.1) (key_of y.prefix)) (sym x.8) refl;
+        }
 
 pub spots_are_once : SpotsAreOnce
 spots_are_once p l b = (let v = sight p l b in spots_once (knowledge_at p) (tree_at p) (knowledge_now p) l.receiver (holdings_at p l.receiver) l.message v.look v.sees_it)

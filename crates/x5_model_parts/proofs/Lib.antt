@@ -6,10 +6,10 @@ pub mod Covering
 pub mod Lone
 pub mod Apart
 pub mod Owning
+pub mod Copying
 pub mod Touching
 pub mod Beginning
 pub mod Parting
 pub mod Joining
 pub mod Nesting
 pub mod First
-pub mod Copying

@@ -15,7 +15,7 @@ use Rattle.x5_model_tree.specs.World.{Agent, World}
 use Rattle.x5_model_tree.specs.Masters.{Mastered, pin_of, numbered, agent_at}
 use Rattle.x5_model_tree.specs.Ask.{in_subset}
 use Rattle.x5_model_run.specs.Journal.{Line, is_done, is_wide}
-use Rattle.x5_model_run.specs.Holdings.{Held, Holdings, served}
+use Rattle.x5_model_run.specs.Holdings.{Held, Holdings, served, may_copy}
 use Rattle.x5_model_run.specs.Needs.{subset_of, begins_at, answers_root, is_excluded}
 use Rattle.x5_model_run.specs.History.{Point, knowledge_at, tree_at, agent_holdings, no_holdings, holdings_at}
 use Rattle.x5_model_run.specs.Chain.{IsCarried}
@@ -28,7 +28,7 @@ use Rattle.x5_model_theory.proofs.Views.{at_place}
 use Rattle.x5_model_theory.proofs.Scoping.{is_context, below_start, nssr_entry}
 use Rattle.x5_model_theory.proofs.LooksFrom.{same_entries, same_wide_entries}
 use Rattle.x5_model_parts.specs.Standing.{knowledge_now}
-use Rattle.x5_model_parts.specs.Parts.{begins_here, BeginsHere, rest_needs, PartsBegin, NeedsAreNested, asks_for, SameAreAsked}
+use Rattle.x5_model_parts.specs.Parts.{begins_here, BeginsHere, rest_needs, PartsBegin, PartsGoOn, NeedsAreNested, asks_for, SameAreAsked}
 use Rattle.x5_model_parts.proofs.Asking.{false_true, subset_decides, rdn_keys}
 use Rattle.x5_model_parts.proofs.Seeing.{Sees}
 use Rattle.x5_model_parts.proofs.Spots.{none_or_some}
@@ -64,9 +64,9 @@ module _ (p : Point) (l : Line) (b : BeginsHere p l) where
   -- ---- a part begins
 
   -- who is asked masters a context
-  asked_masters : (r : Reference) (a : ℕ) → Viewed r → In a r.agents → (d : Area) × In d k.areas × (d.master ≡ a)
-  asked_masters r a (inl v) i = (v.0, v.1.area, sym (v.1.agents a i b.masters_alone))
-  asked_masters r a (inr v) i =
+  asked_masters : may_copy l.message.request ≡ false → (r : Reference) (a : ℕ) → Viewed r → In a r.agents → (d : Area) × In d k.areas × (d.master ≡ a)
+  asked_masters none r a (inl v) i = (v.0, v.1.area, sym (v.1.agents a i none))
+  asked_masters none r a (inr v) i =
       let same : a ≡ v.1 = the_agent p l b r v.0 v.1 a v.2 i in
       let n = v.2.needs in
       let area : In n.above look.knowledge.areas = is_context look s.may n.above n.evaluated in
@@ -97,15 +97,15 @@ module _ (p : Point) (l : Line) (b : BeginsHere p l) where
   begins_with : (h : Holdings) (m : Chained) (sub : Subset) → subset_of m ≡ Some sub → begins_by h m sub ≡ true → begins_here h m ≡ true
   begins_with h m sub e t = ap (λ (x : Option Subset). in_option false (begins_by h m) x) e ∙ t
 
-  begins_there : (sender : Option ℕ) (r : Reference) (m : Chained) (a : ℕ) (v : Viewed r) → In a r.agents → IsCarried sender l r m → (agent : Agent) → In (a, agent) (numbered w) → begins_here (agent_holdings p a agent) m ≡ true
-  begins_there sender r m a (inr v) i carried agent ia =
+  begins_there : may_copy l.message.request ≡ false → (sender : Option ℕ) (r : Reference) (m : Chained) (a : ℕ) (v : Viewed r) → In a r.agents → IsCarried sender l r m → (agent : Agent) → In (a, agent) (numbered w) → begins_here (agent_holdings p a agent) m ≡ true
+  begins_there none sender r m a (inr v) i carried agent ia =
       let wide : is_wide r.kind ≡ true = ap is_wide v.2.kind in
       let done : (is_done m.progress && is_wide m.kind) ≡ true = ap (λ (x : Progress). is_done x && is_wide m.kind) (carried.progress_is ∙ v.2.progress) ∙ ap is_wide carried.kind_is ∙ wide in
       begins_with (agent_holdings p a agent) m look.subset (wide_asked l sender r m carried (asks p l b r (inr v)) look.subset s.subset wide (not_base p l b v.0 look.subset look.base v.2.needs.in_scope))
       (or_left _ _ done)
-  begins_there sender r m a (inl v) i carried agent ia =
+  begins_there none sender r m a (inl v) i carried agent ia =
       let narrow : is_wide r.kind ≡ false = ap is_wide v.1.kind in
-      let master : v.0.master ≡ a = sym (v.1.agents a i b.masters_alone) in
+      let master : v.0.master ≡ a = sym (v.1.agents a i none) in
       let c = own_kept p b.stands a agent ia v.0 v.1.area master in
       let target : key_of m.target ≡ v.0.prefix = sym (target_is l sender r m carried (asks p l b r (inl v)) look.subset s.subset) ∙ v.1.target in
       let sub : Subset = narrowed look.subset in
@@ -120,18 +120,29 @@ module _ (p : Point) (l : Line) (b : BeginsHere p l) where
       begins_with (agent_holdings p a agent) m sub (narrow_asked l sender r m carried (asks p l b r (inl v)) look.subset s.subset v.1.progress narrow)
       (or_right _ _ (or_right _ _ (not_empty c.0 (begins_at (agent_holdings p a agent) m sub) begins)))
 
-  pub part_begins : (sender : Option ℕ) (r : Reference) (q : Line) → In r (rest_needs p l) → In q.receiver r.agents → IsCarried sender l r q.message → BeginsHere p q
-  part_begins sender r q i ia carried =
+  pub part_begins : may_copy l.message.request ≡ false → (sender : Option ℕ) (r : Reference) (q : Line) → In r (rest_needs p l) → In q.receiver r.agents → IsCarried sender l r q.message → BeginsHere p q
+  part_begins none sender r q i ia carried =
       let v : Viewed r = the_view p l b r i in
-      let d = asked_masters r q.receiver v ia in
+      let d = asked_masters none r q.receiver v ia in
       let a = an_agent q.receiver d.0 d.1 d.2 in
       let part = asks p l b r v in
       record {
         stands = b.stands;
         agent = ap is_some a.2;
         fit = part_fitting l sender r q.message carried part look.subset s.subset;
-        begins = subst (λ (h : Holdings). begins_here h q.message ≡ true) (sym (ap (λ (x : Option Agent). in_option (no_holdings q.receiver) (agent_holdings p q.receiver) x) a.2)) (begins_there sender r q.message q.receiver v ia carried a.0 a.1);
-        masters_alone = no_copies l sender r q.message carried part look.subset s.subset b.masters_alone;
+        begins = subst (λ (h : Holdings). begins_here h q.message ≡ true) (sym (ap (λ (x : Option Agent). in_option (no_holdings q.receiver) (agent_holdings p q.receiver) x) a.2)) (begins_there none sender r q.message q.receiver v ia carried a.0 a.1);
+        copies = inl (no_copies l sender r q.message carried part look.subset s.subset none);
+      }
+
+  pub part_goes_on : (sender : Option ℕ) (r : Reference) (q : Line) → In r (rest_needs p l) → IsCarried sender l r q.message → is_some (agent_at (knowledge_at p) q.receiver) ≡ true → begins_here (holdings_at p q.receiver) q.message ≡ true → BeginsHere p q
+  part_goes_on sender r q i carried agent begins =
+      let part = asks p l b r (the_view p l b r i) in
+      record {
+        stands = b.stands;
+        agent = agent;
+        fit = part_fitting l sender r q.message carried part look.subset s.subset;
+        begins = begins;
+        copies = elim b.copies [ inl none ↦ inl (no_copies l sender r q.message carried part look.subset s.subset none) | inr stood ↦ inr stood ];
       }
 
   -- ---- what it needs lies within it
@@ -169,12 +180,13 @@ module _ (p : Point) (l : Line) (b : BeginsHere p l) where
       (covers_decides w r x).1 (d.0.prefix, start_covered sender r q v ia carried c d.0 d.1, prefix_chain d.0.prefix (parent x) x (prefix_chain d.0.prefix above.prefix (parent x) d.2 on) (parent_is_prefix x))
 
 pub parts_begin : PartsBegin
-parts_begin p l q sender r b i ia carried = part_begins p l b sender r q i ia carried
+parts_begin p l q sender r b none i ia carried = part_begins p l b none sender r q i ia carried
+
+pub parts_go_on : PartsGoOn
+parts_go_on p l q sender r b i carried agent begins = part_goes_on p l b sender r q i carried agent begins
 
 pub needs_are_nested : NeedsAreNested
-needs_are_nested p l q sender r u x b i ia carried iu ix =
-    let c : BeginsHere p q = parts_begin p l q sender r b i ia carried in
-    go c (the_view p q c u iu)
+needs_are_nested p l q sender r u x b i ia carried c iu ix = go c (the_view p q c u iu)
   where
     go : (c : BeginsHere p q) → View p q c u → covers (knowledge_at p) r x ≡ true
     go c (inl v) =

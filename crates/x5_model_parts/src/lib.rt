@@ -3,7 +3,7 @@
 #![tactic(auto)]
 
 ghost use Rattle.x5_model_parts.specs.Standing.{StandsAtFirst};
-ghost use Rattle.x5_model_parts.specs.Parts.{SpotsAreMasters, SpotsAreOnce, SpotsAreTouched, SpotsAreApart, AllAreParts, PartsAreApart, ScopeIsCovered, PartsBegin, NeedsAreNested, SameAreAsked};
+ghost use Rattle.x5_model_parts.specs.Parts.{SpotsAreRight, SpotsAreOnce, SpotsAreTouched, SpotsAreApart, AllAreParts, PartsAreApart, ScopeIsCovered, PartsBegin, PartsGoOn, NeedsAreNested, SameAreAsked};
 
 /// While no update was accepted and no context moved, each line of a run over consistent knowledge stands on what the
 /// knowledge says by keys.
@@ -11,11 +11,11 @@ pub fn standing()
     ensures { StandsAtFirst }
 {}
 
-/// Where an agent begins a list or search and no copies may be used: the contexts that are looked into are those that
+/// Where an agent begins a list or search: the contexts that are looked into are those that
 /// it evaluates on the spot and those that its needed references cover, each once; what is asked by a reference looks
 /// into what it covers; and what that needs covers no more (X.518, section 19).
 pub fn parts()
-    ensures masters { SpotsAreMasters }
+    ensures right { SpotsAreRight }
     ensures once { SpotsAreOnce }
     ensures touched { SpotsAreTouched }
     ensures spots_apart { SpotsAreApart }
@@ -23,6 +23,7 @@ pub fn parts()
     ensures apart { PartsAreApart }
     ensures scopes { ScopeIsCovered }
     ensures begin { PartsBegin }
+    ensures go_on { PartsGoOn }
     ensures nested { NeedsAreNested }
     ensures same_asked { SameAreAsked }
 {}

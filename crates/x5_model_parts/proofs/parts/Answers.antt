@@ -1,10 +1,10 @@
 -- The answers to the goals that the tactics leave.
-use Rattle.x5_model_parts.proofs.Joining.{spots_are_masters, spots_are_once, spots_are_touched, spots_are_apart, all_are_parts, parts_are_apart, scope_is_covered}
-use Rattle.x5_model_parts.proofs.Nesting.{parts_begin, needs_are_nested, same_are_asked}
+use Rattle.x5_model_parts.proofs.Joining.{spots_are_right, spots_are_once, spots_are_touched, spots_are_apart, all_are_parts, parts_are_apart, scope_is_covered}
+use Rattle.x5_model_parts.proofs.Nesting.{parts_begin, parts_go_on, needs_are_nested, same_are_asked}
 use Rattle.x5_model_parts.proofs.parts.Goals as goal
 
-pub returns-clause-masters : goal.returns-clause-masters
-returns-clause-masters c = spots_are_masters
+pub returns-clause-right : goal.returns-clause-right
+returns-clause-right c = spots_are_right
 
 pub returns-clause-once : goal.returns-clause-once
 returns-clause-once c = spots_are_once
@@ -32,3 +32,6 @@ returns-clause-nested c = needs_are_nested
 
 pub returns-clause-same_asked : goal.returns-clause-same_asked
 returns-clause-same_asked c = same_are_asked
+
+pub returns-clause-go_on : goal.returns-clause-go_on
+returns-clause-go_on c = parts_go_on
