@@ -13,3 +13,4 @@ pub mod Parting
 pub mod Joining
 pub mod Nesting
 pub mod First
+pub mod Onward

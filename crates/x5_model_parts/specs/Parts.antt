@@ -1,7 +1,7 @@
 -- How a list or search falls into parts, in the words of the definitions themselves (X.518, section 19): what an agent
 -- evaluates on the spot, and what each reference that it needs stands for. So whoever proves an answer right joins the
 -- parts, and need not know of the theory below.
-use Rattle.std.specs.Prelude.{◌≡◌, ℕ, Bool, true, false, not, ◌&&◌, ◌||◌, ◌⊎◌, ◌↔◌, Option, Some, List, map}
+use Rattle.std.specs.Prelude.{◌≡◌, ℕ, Bool, true, false, not, ◌&&◌, ◌||◌, ◌⊎◌, ◌↔◌, Option, Some, List, map, ◌++◌}
 use Rattle.std.specs.Option.{is_some}
 use Rattle.x5_model.specs.Words.{is_empty, in_option}
 use Rattle.x5_model.specs.Members.{In, Once}
@@ -15,11 +15,12 @@ use Rattle.x5_model_tree.specs.Masters.{agent_at, master_of}
 use Rattle.x5_model_tree.specs.Ask.{in_subset}
 use Rattle.x5_model_run.specs.Journal.{Line, is_done, is_wide}
 use Rattle.x5_model_run.specs.Holdings.{Held, Holdings, may_copy}
-use Rattle.x5_model_run.specs.Needs.{subset_of, begins_at, evaluated, answers_root, part_needs}
+use Rattle.x5_model_run.specs.Needs.{subset_of, begins_at, evaluated, answers_root, part_needs, resolution_needs, copied_needs}
 use Rattle.x5_model_run.specs.History.{Point, knowledge_at, tree_at, tree_of_moment, as_of, holdings_at}
 use Rattle.x5_model_run.specs.Chain.{IsCarried}
 use Rattle.x5_model_run.specs.Covers.{covered_roots, covers, are_apart, touched}
 use Rattle.x5_model_run.specs.Placed.{fits}
+use Rattle.x5_model_theory.specs.Leading.{IsSound}
 use Rattle.x5_model_parts.specs.Standing.{Stands, CopiesStand}
 
 -- The agent begins a list or search here: it came by a nonSpecific reference with a completed name, or the base is the root
@@ -113,3 +114,10 @@ asks_for m e = in_option false (λ subset. in_subset subset (key_of m.target) e)
 abbrev pub SameAreAsked : Type 0
 SameAreAsked = (p : Point) (l : Line) (sender : Option ℕ) (r : Reference) (m : Chained) (e : Key) → BeginsHere p l → In r (rest_needs p l)
     → IsCarried sender l r m → covers (knowledge_at p) r e ≡ true → asks_for m e ≡ asks_for l.message e
+
+-- A reference of name resolution, and one to the supplier of a copy that can't be used, goes on with the same question: what
+-- is carried looks into the same contexts and asks for the same entries.
+abbrev pub SameIsPassedOn : Type 0
+SameIsPassedOn = (p : Point) (l : Line) (sender : Option ℕ) (r : Reference) (m : Chained) (a : ℕ) → IsSound p → fits l.message ≡ true
+    → In r (resolution_needs (holdings_at p l.receiver) l.message ++ copied_needs (holdings_at p l.receiver) l.message) → In a r.agents → IsCarried sender l r m
+    → (m.request ≡ l.message.request) × ((looks_into p a m ≡ looks_into p l.receiver l.message) × ((e : Key) → asks_for m e ≡ asks_for l.message e))

@@ -3,7 +3,7 @@
 #![tactic(auto)]
 
 ghost use Rattle.x5_model_parts.specs.Standing.{StandsAtFirst};
-ghost use Rattle.x5_model_parts.specs.Parts.{SpotsAreRight, SpotsAreOnce, SpotsAreTouched, SpotsAreApart, AllAreParts, PartsAreApart, ScopeIsCovered, PartsBegin, PartsGoOn, NeedsAreNested, SameAreAsked};
+ghost use Rattle.x5_model_parts.specs.Parts.{SpotsAreRight, SpotsAreOnce, SpotsAreTouched, SpotsAreApart, AllAreParts, PartsAreApart, ScopeIsCovered, PartsBegin, PartsGoOn, NeedsAreNested, SameAreAsked, SameIsPassedOn};
 
 /// While no update was accepted and no context moved, each line of a run over consistent knowledge stands on what the
 /// knowledge says by keys.
@@ -26,4 +26,9 @@ pub fn parts()
     ensures go_on { PartsGoOn }
     ensures nested { NeedsAreNested }
     ensures same_asked { SameAreAsked }
+{}
+
+/// Where a name is resolved elsewhere, the question stays the same (X.518, section 18).
+pub fn passing()
+    ensures { SameIsPassedOn }
 {}

@@ -101,7 +101,7 @@ pick_part true part x y z p q = absurd (false_true (sym p))
 pick_part false true x y z p q = refl
 pick_part false false x y z p q = absurd (false_true q)
 
-pick_same : (probe part : Bool) (x y z : Request) → probe ≡ false → part ≡ false → (if probe then x else (if part then y else z)) ≡ z
+pub pick_same : (probe part : Bool) (x y z : Request) → probe ≡ false → part ≡ false → (if probe then x else (if part then y else z)) ≡ z
 pick_same true part x y z p q = absurd (false_true (sym p))
 pick_same false true x y z p q = absurd (false_true (sym q))
 pick_same false false x y z p q = refl
@@ -110,7 +110,7 @@ pub no_update : (b : Bool) (c : Bool) → b ≡ false → (b && c) ≡ false
 no_update true c e = absurd (false_true (sym e))
 no_update false c e = refl
 
-same_target : (b c : Bool) → c ≡ true → (b && not c) ≡ false
+pub same_target : (b c : Bool) → c ≡ true → (b && not c) ≡ false
 same_target true true e = refl
 same_target false c e = refl
 same_target true false e = absurd (false_true e)
