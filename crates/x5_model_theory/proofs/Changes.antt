@@ -11,17 +11,17 @@ use Rattle.x5_model_theory.proofs.Deciding.{dec_nat, dec_key}
 use Rattle.x5_model_theory.proofs.Tests.{each_map}
 
 -- what the other entries have to meet
-record Fits (k : Knowledge) (f : Area → List Key) : Type 0 where
-  headed : (c : Area) → In c k.areas → In c.prefix (f c)
-  below : (c : Area) (e : Key) → In c k.areas → In e (f c) → IsPrefix c.prefix e
-  closed : (c : Area) (e : Key) → In c k.areas → In e (f c) → (e ≡ c.prefix) ⊎ In (parent e) (f c)
-  apart : (c : Area) → In c k.areas → Once (f c)
-  nssr_at : (c : Area) (n : Spot) → In c k.areas → In n c.nssrs → In n.at (f c)
-  parents : (c : Area) → In c k.areas → (length c.prefix ≡ 1) ⊎ ((d : Area) × In d k.areas × In (parent c.prefix) (f d))
-  no_longer : (c d : Area) (e : Key) → In c k.areas → In d k.areas → In e (f c) → IsPrefix d.prefix e → length d.prefix ≤ length c.prefix
-  placed : (r : Pointer) → In r k.subordinate
+pub record Fits (k : Knowledge) (f : Area → List Key) : Type 0 where
+  pub headed : (c : Area) → In c k.areas → In c.prefix (f c)
+  pub below : (c : Area) (e : Key) → In c k.areas → In e (f c) → IsPrefix c.prefix e
+  pub closed : (c : Area) (e : Key) → In c k.areas → In e (f c) → (e ≡ c.prefix) ⊎ In (parent e) (f c)
+  pub apart : (c : Area) → In c k.areas → Once (f c)
+  pub nssr_at : (c : Area) (n : Spot) → In c k.areas → In n c.nssrs → In n.at (f c)
+  pub parents : (c : Area) → In c k.areas → (length c.prefix ≡ 1) ⊎ ((d : Area) × In d k.areas × In (parent c.prefix) (f d))
+  pub no_longer : (c d : Area) (e : Key) → In c k.areas → In d k.areas → In e (f c) → IsPrefix d.prefix e → length d.prefix ≤ length c.prefix
+  pub placed : (r : Pointer) → In r k.subordinate
       → ((c : Area) × In c k.areas × (c.master ≡ r.owner) × In (parent r.pin) (f c)) ⊎ ((length r.pin ≡ 1) × (k.superior r.owner ≡ None))
-  known : (c d : Area) → In c k.areas → In d k.areas → In (parent d.prefix) (f c)
+  pub known : (c d : Area) → In c k.areas → In d k.areas → In (parent d.prefix) (f c)
       → (d.master ≡ c.master) ⊎ (IsReferred k c.master d.prefix ⊎ ((n : Spot) × In n c.nssrs × (n.at ≡ parent d.prefix) × In d.master n.agents))
 
 module _ (k : Knowledge) (f : Area → List Key) (good : Coherent k) (fits : Fits k f) where
@@ -51,7 +51,7 @@ module _ (k : Knowledge) (f : Area → List Key) (good : Coherent k) (fits : Fit
   same_prefixes [] = refl
   same_prefixes (c ∷ cs) = ap (λ (ps : List Key). c.prefix ∷ ps) (same_prefixes cs)
 
-  kept : Coherent (with_entries f k)
+  pub kept : Coherent (with_entries f k)
   kept = record {
     filled = each (λ c. 0 < length c.prefix) good.filled;
     headed = each (λ c. In c.prefix c.entries) fits.headed;

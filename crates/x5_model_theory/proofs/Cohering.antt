@@ -84,7 +84,7 @@ feeding w pin (suc k) (suc n) a s h t m = go (supplier_of w a pin) refl t (λ b 
 pub agreements_apart : (w : World) → IsConsistent w → Once (map given w.agreements)
 agreements_apart w c = once_apart given same_given given_decides w.agreements (λ g i. ((conditions_hold w c).supplied g i).1.0)
 
-numbered_in : (n : ℕ) (a : ℕ × Agent) (xs : List Agent) → In a (enumerate_from n xs) → In a.1 xs
+pub numbered_in : (n : ℕ) (a : ℕ × Agent) (xs : List Agent) → In a (enumerate_from n xs) → In a.1 xs
 numbered_in n a [] i = elim i [ ]
 numbered_in n a (x ∷ xs) i = elim (in_first a (n, x) (enumerate_from (n + 1) xs) i) [ inl e ↦ subst (λ (y : Agent). In y (x ∷ xs)) (ap (λ (p : ℕ × Agent). p.1) (sym e)) here | inr j ↦ there (numbered_in (n + 1) a xs j) ]
 

@@ -50,7 +50,7 @@ brought_by_key p m n a Done kind e b = go (is_wide kind) b
     go false t = subst (λ (y : Key). holds (knowledge_at p) a y ≡ true) e t
     go true t = subst (λ (y : Key). stands_at (knowledge_at p) y a ≡ true) e t
 
-leads_on : (p : Point) (o : ℕ) (m : Chained) (r : Reference) (a : ℕ) → IsSound p → In r (passing_needs (holdings_at p o) m) → In a r.agents → Leads p o m r a
+pub leads_on : (p : Point) (o : ℕ) (m : Chained) (r : Reference) (a : ℕ) → IsSound p → In r (passing_needs (holdings_at p o) m) → In a r.agents → Leads p o m r a
 leads_on p o m r a sound i j = go (is_some (fault_of m.request.body)) i
   where
     go : (b : Bool) → In r (if b then [] else (resolution_needs (holdings_at p o) m ++ part_needs (holdings_at p o) m ++ copied_needs (holdings_at p o) m)) → Leads p o m r a
@@ -67,7 +67,7 @@ leads_on p o m r a sound i j = go (is_some (fault_of m.request.body)) i
 -- ---- what is asked fits
 
 -- a list or search
-query_of : (m : Chained) → is_some (subset_of m) ≡ true → is_query_below m.request.body ≡ true
+pub query_of : (m : Chained) → is_some (subset_of m) ≡ true → is_query_below m.request.body ≡ true
 query_of m e = go m.request.body e
   where
     go : (b : Body) → is_some (subset_of (record m { request = record m.request { body = b } })) ≡ true → is_query_below b ≡ true
@@ -81,7 +81,7 @@ query_of m e = go m.request.body e
     go (ModifyDn name rdn drops) e = e
 
 -- which is no update, and whose part asks for the part's base
-part_fits : (by_user wide : Bool) (t : Name) (r : Request) → is_query_below r.body ≡ true
+pub part_fits : (by_user wide : Bool) (t : Name) (r : Request) → is_query_below r.body ≡ true
     → (is_update r.body ≡ false) × (target_of (part_request by_user wide t r).body ≡ t) × (is_query_below (part_request by_user wide t r).body ≡ true)
 part_fits by_user wide t r e = go r.body e
   where
@@ -96,21 +96,21 @@ part_fits by_user wide t r e = go r.body e
     go (ModifyDn name rdn drops) e = absurd (false_true e)
 
 -- by the two tests that a request with a reference goes by
-pick_part : (probe part : Bool) (x y z : Request) → probe ≡ false → part ≡ true → (if probe then x else (if part then y else z)) ≡ y
+pub pick_part : (probe part : Bool) (x y z : Request) → probe ≡ false → part ≡ true → (if probe then x else (if part then y else z)) ≡ y
 pick_part true part x y z p q = absurd (false_true (sym p))
 pick_part false true x y z p q = refl
 pick_part false false x y z p q = absurd (false_true q)
 
-pick_same : (probe part : Bool) (x y z : Request) → probe ≡ false → part ≡ false → (if probe then x else (if part then y else z)) ≡ z
+pub pick_same : (probe part : Bool) (x y z : Request) → probe ≡ false → part ≡ false → (if probe then x else (if part then y else z)) ≡ z
 pick_same true part x y z p q = absurd (false_true (sym p))
 pick_same false true x y z p q = absurd (false_true (sym q))
 pick_same false false x y z p q = refl
 
-no_update : (b : Bool) (c : Bool) → b ≡ false → (b && c) ≡ false
+pub no_update : (b : Bool) (c : Bool) → b ≡ false → (b && c) ≡ false
 no_update true c e = absurd (false_true (sym e))
 no_update false c e = refl
 
-same_target : (b c : Bool) → c ≡ true → (b && not c) ≡ false
+pub same_target : (b c : Bool) → c ≡ true → (b && not c) ≡ false
 same_target true true e = refl
 same_target false c e = refl
 same_target true false e = absurd (false_true e)

@@ -13,4 +13,7 @@ pub mod Longest
 pub mod Rows
 pub mod Parts
 pub mod Following
+pub mod Probing
+pub mod Bounding
+pub mod Carrying
 pub mod Changes

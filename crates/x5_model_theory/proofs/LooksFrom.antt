@@ -28,7 +28,7 @@ laid k good = record {
 only_root : (e : Key) → In e ([] ∷ []) → e ≡ []
 only_root e i = elim (in_first e [] [] i) [ inl same ↦ same | inr j ↦ elim j [ ] ]
 
-root_parent : (p : Key) → length p ≡ 1 → parent p ≡ []
+pub root_parent : (p : Key) → length p ≡ 1 → parent p ≡ []
 root_parent p h = let e : length p - 1 ≡ 0 = omega arith in ap (λ (n : ℕ). take n p) e
 
 -- and these and the root

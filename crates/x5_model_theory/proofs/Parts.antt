@@ -9,34 +9,34 @@ use Rattle.x5_model.specs.Keys.{Key, IsPrefix, same_key, is_child, is_root, pare
 use Rattle.x5_model.specs.Values.{Name, key_of}
 use Rattle.x5_model.specs.Entries.{Named}
 use Rattle.x5_model.specs.Requests.{Subset}
-use Rattle.x5_model.specs.References.{Progress, Start, Next, Done, Reference, Subordinate, NonSpecific, Supplier, Chained}
+use Rattle.x5_model.specs.References.{Progress, Start, Next, Done, Reference, Subordinate, NonSpecific, Supplier, TraceItem, Chained}
 use Rattle.x5_model.proofs.KeyLaws.{key_decides}
-use Rattle.x5_model.proofs.Lists.{both_true, not_true, in_first, in_either, in_left, in_right, in_map, of_map, in_flat, of_flat, any_in, of_any, of_find, of_filter, has_in}
+use Rattle.x5_model.proofs.Lists.{both_true, not_true, in_first, in_either, in_left, in_right, in_map, of_map, in_flat, of_flat, any_in, of_any, of_find, of_filter, has_in, of_has}
 use Rattle.x5_model.proofs.Prefixes.{prefix_length, child_decides, parent_length, parent_is_prefix}
 use Rattle.x5_model_tree.specs.World.{Specific, Nssr, Context, Agent, Agreement, World}
 use Rattle.x5_model_tree.specs.Tree.{key_at, keys_of, is_there, entry_at, part, belongs}
-use Rattle.x5_model_tree.specs.Masters.{Mastered, pin_of, numbered, mastered, agent_at, masters, supplier_of}
+use Rattle.x5_model_tree.specs.Masters.{Mastered, pin_of, pins, numbered, mastered, agent_at, masters, supplier_of}
 use Rattle.x5_model_tree.specs.Ask.{in_subset}
-use Rattle.x5_model_run.specs.Holdings.{Held, Copy, Holdings, may_copy, usable_agents, held_at, copy_at, masters_pin, usable_copies, served, subordinates, known_pin, is_first_level}
+use Rattle.x5_model_run.specs.Holdings.{Held, Copy, Holdings, may_copy, usable_agents, held_at, copy_at, masters_pin, usable_copies, served, subordinates, known_pin, holds_within, is_first_level}
 use Rattle.x5_model_run.specs.History.{Point, knowledge_at, tree_at, tree_of_moment, as_of, own_context, references_below, sent_references, mastered_at, copy_as_of, agent_holdings, no_holdings, holdings_at}
-use Rattle.x5_model_run.specs.Journal.{item_of, is_wide}
+use Rattle.x5_model_run.specs.Journal.{item_of, is_done, is_wide}
 use Rattle.x5_model_run.specs.Needs.{others, reference, resolves, subset_of, by_pin, is_excluded, begins_at, and_below, evaluated, answers_root, below_needs, in_scope, treated_below, wide_needs, part_needs, copied_needs}
 use Rattle.x5_model_run.specs.Placed.{stands_at}
 use Rattle.x5_model_run.specs.Stage.{stage_of, is_lower, steps_to_master}
-use Rattle.x5_model_theory.specs.Knowledge.{Supply, IsMastered}
+use Rattle.x5_model_theory.specs.Knowledge.{Area, Supply, IsMastered}
 use Rattle.x5_model_theory.specs.Coherent.{IsFed}
-use Rattle.x5_model_theory.specs.Described.{knowledge_of, supply_of}
-use Rattle.x5_model_theory.specs.Leading.{IsSound, Leads, PartsLead, CopiesLead}
+use Rattle.x5_model_theory.specs.Described.{area_of, spot_of, knowledge_of, supply_of}
+use Rattle.x5_model_theory.specs.Leading.{IsSound, PinsWithin, level_of, IsFurther, Leads, PartsLead, CopiesLead}
 use Rattle.x5_model_theory.proofs.Tests.{false_true}
 use Rattle.x5_model_theory.proofs.Views.{there_decides}
-use Rattle.x5_model_theory.proofs.Stages.{lower_decides, key_length}
+use Rattle.x5_model_theory.proofs.Stages.{lower_decides, key_length, same_progress_is}
 use Rattle.x5_model_theory.proofs.Holding.{good_at, IsHeld, holds_decides, by_agent, own_is, copy_is, usable_is, subordinates_right, usable_holds}
 use Rattle.x5_model_theory.proofs.Deciding.{dec_nat}
 use Rattle.x5_model_theory.proofs.Longest.{belongs_below}
 use Rattle.x5_model_theory.proofs.Supplying.{supplier_is}
 use Rattle.x5_model_theory.proofs.Cohering.{agreements_apart}
 use Rattle.x5_model_theory.proofs.Distances.{supplier_nearer}
-use Rattle.x5_model_theory.proofs.Rows.{copy_of, supplier_of_fed}
+use Rattle.x5_model_theory.proofs.Rows.{resolved, within_is, beyond, copy_of, supplier_of_fed}
 
 -- a copy's entries are below its prefix, its references just below an entry, and its NSSRs are the master's
 abbrev as_sent : Point → Agreement → List Named → Option Mastered → Held
@@ -233,6 +233,58 @@ module _ (p : Point) (o : ℕ) (m : Chained) where
         λ e. (below_all 16 base_key s (least_of (is_wide m.kind)) (begins_at h m s) c (λ d l. (let b = begins s d m.progress l in (b.0, b.1 e))) j).1,
       )
 
+  -- so far as its message came, what is evaluated is further
+  abbrev here_at : Progress → TraceItem
+  here_at x = record { agent = o; target = m.target; progress = x; wide = is_wide m.kind }
+
+  found_level : (subset : Subset) (c : Held) (k : ℕ) (x : Option Key) → holds_within h base_key k ≡ true → known_pin m.request h base_key ≡ x → In c (found subset x) → k ≤ length (key_of c.prefix)
+  found_level subset c k None e known i = go (is_first_level h && is_root base_key) refl i
+    where
+      go : (b : Bool) → (is_first_level h && is_root base_key) ≡ b → In c (if b then filter (λ (c : Held). (length c.prefix == 1) && in_subset subset base_key (key_of c.prefix)) all else []) → k ≤ length (key_of c.prefix)
+      go true f j =
+          let root : length base_key ≡ 0 = (Decides-eqb (length base_key) 0).0 (both_true (is_first_level h) (is_root base_key) f).1 in
+          let y = within_is h base_key k e in
+          let le : length (key_of y.0) ≤ length base_key = prefix_length (key_of y.0) base_key y.2 in
+          let ge : k ≤ length (key_of y.0) = y.3 in
+          omega arith
+      go false f j = elim j [ ]
+  found_level subset c k (Some q) e known i =
+      let f = of_filter (λ (c : Held). same_key (key_of c.prefix) q && is_there c.entries base_key) c all i in
+      let same : length (key_of c.prefix) ≡ length q = ap length ((key_decides (key_of c.prefix) q).0 (both_true (same_key (key_of c.prefix) q) _ f.1).0) in
+      let le : k ≤ length q = beyond p o m q known k e in
+      omega arith
+
+  done_level : (b : Bool) (n : ℕ) → least_of b ≤ n → (if b then length m.target + 1 else length m.target) ≤ n
+  done_level true n h = (let e : length (key_of m.target) ≡ length m.target = key_length m.target in omega arith)
+  done_level false n h = (let e : length (key_of m.target) ≡ length m.target = key_length m.target in omega arith)
+
+  begins_level : (subset : Subset) (c : Held) (x : Progress) → In c (begins_at h (record m { progress = x }) subset) → level_of (record { agent = o; target = m.target; progress = x; wide = is_wide m.kind }) ≤ length (key_of c.prefix)
+  begins_level subset c Start i = omega arith
+  begins_level subset c (Next k) i = go (holds_within h base_key k) refl i
+    where
+      go : (b : Bool) → holds_within h base_key k ≡ b → In c (if b then found subset (known_pin m.request h base_key) else []) → k ≤ length (key_of c.prefix)
+      go true e j = found_level subset c k (known_pin m.request h base_key) e refl j
+      go false e j = elim j [ ]
+  begins_level subset c Done i = done_level (is_wide m.kind) (length (key_of c.prefix)) ((begins subset c Done i).1 refl)
+
+  evaluated_level : (c : Held) → In c (evaluated h m) → level_of (item_of o m) ≤ length (key_of c.prefix)
+  evaluated_level c i = go (subset_of m) i
+    where
+      go : (x : Option Subset) → In c (in_option [] (λ (subset : Subset). and_below 16 all base_key subset (begins_at h m subset)) x) → level_of (item_of o m) ≤ length (key_of c.prefix)
+      go None j = elim j [ ]
+      go (Some s) j = (below_all 16 base_key s (level_of (item_of o m)) (begins_at h m s) c (λ d l. ((begins s d m.progress l).0, begins_level s d m.progress l)) j).1
+
+  -- at the root nothing is resolved
+  root_level : resolves h m ≡ true → is_root base_key ≡ true → level_of (item_of o m) ≡ 0
+  root_level e root =
+      resolved h m (λ x. level_of (record { agent = o; target = m.target; progress = x; wide = is_wide m.kind }) ≡ 0) e refl
+      (λ j d.
+      (let none : length base_key ≡ 0 = (Decides-eqb (length base_key) 0).0 root in
+      let y = within_is h base_key j d in
+      let le : length (key_of y.0) ≤ length base_key = prefix_length (key_of y.0) base_key y.2 in
+      let ge : j ≤ length (key_of y.0) = y.3 in
+      omega arith))
+
   abbrev mark_of : Bool → ℕ
   mark_of b = if b then 1 else 0
 
@@ -252,8 +304,24 @@ module _ (p : Point) (o : ℕ) (m : Chained) where
   least_is true = omega arith
   least_is false = omega arith
 
+  within_pins : {agent : ℕ} (n : ℕ) (q : Key) → PinsWithin n w → IsMastered (knowledge_of w) agent q → {j : ℕ} → length q ≡ j → j ≤ n
+  within_pins n q f c {j} e =
+      let x = of_map area_of c.0 (mastered w) c.1 in
+      let is : pin_of x.0 ≡ q = ap (λ (y : Area). y.prefix) (sym x.2) ∙ c.3 in
+      let le : length q ≤ n = f q (subst (λ (y : Key). In y (pins w)) is (in_map pin_of x.0 (mastered w) x.1)) in
+      omega arith
+
+  -- who stands in an NSSR masters a pin just below
+  stood_pin : (at : Key) (a : ℕ) → IsSound p → stands_at w at a ≡ true → (d : Area) × In d (knowledge_of w).areas × (parent d.prefix ≡ at)
+  stood_pin at a sound e =
+      let x = of_any (λ (x : Mastered). list_any (λ (y : Nssr). same_key (key_of y.at) at && has ◌==◌ y.agents a) x.context.nssrs) (mastered w) e in
+      let y = of_any (λ (y : Nssr). same_key (key_of y.at) at && has ◌==◌ y.agents a) x.0.context.nssrs x.2 in
+      let b = both_true (same_key (key_of y.0.at) at) _ y.2 in
+      let d = (good_at p sound).nssr_masters (area_of x.0) (spot_of y.0) a (in_map area_of x.0 (mastered w) x.1) (in_map spot_of y.0 x.0.context.nssrs y.1) (of_has ◌==◌ Decides-eqb a y.0.agents b.1) in
+      (d.0, d.1, d.3 ∙ (key_decides (key_of y.0.at) at).0 b.0)
+
   -- 5
-  below_leads : (subset : Subset) (ks : List Specific) (r : Reference) (a : ℕ) → IsSound p → is_some (subset_of m) ≡ true → ((k : Specific) → In k ks → In k (subordinates m.request h) × (m.progress ≡ Done → length m.target < length k.pin))
+  below_leads : (subset : Subset) (ks : List Specific) (r : Reference) (a : ℕ) → IsSound p → is_some (subset_of m) ≡ true → ((k : Specific) → In k ks → In k (subordinates m.request h) × (m.progress ≡ Done → length m.target < length k.pin) × (level_of (item_of o m) < length k.pin))
       → In r (below_needs h m subset ks) → In a r.agents → Leads p o m r a
   below_leads subset ks r a sound asked f i j =
       let made : Specific → Reference = λ k. reference k.pin Done Subordinate (usable_agents m.request k.access) in
@@ -265,6 +333,8 @@ module _ (p : Point) (o : ℕ) (m : Chained) where
       let held : IsHeld w a (key_of k.0.pin) = usable_holds w m.request k.0 a right (subst (λ (x : Reference). In a x.agents) k.2 j) in
       subst (λ (x : Reference). Leads p o m x a) (sym k.2) (record {
         lower = done_lower a k.0.pin false (λ e. inl (q.1 e));
+        further = inl q.2;
+        bounded = λ n tl f. within_pins n (key_of k.0.pin) f right.0 (key_length k.0.pin);
         brought = (holds_decides w a (key_of k.0.pin)).1 held;
         keeps = inl refl;
         late = inr asked;
@@ -278,7 +348,7 @@ module _ (p : Point) (o : ℕ) (m : Chained) where
       let f : 0 < length c.0.prefix = (good_at p sound).filled c.0 c.1 in
       subst (λ (x : Key). 0 < length x) c.3 f
 
-  below_part : (c : Held) (k : Specific) → IsSound p → In c (evaluated h m) → In k c.subordinate → In k (subordinates m.request h) × (m.progress ≡ Done → length m.target < length k.pin)
+  below_part : (c : Held) (k : Specific) → IsSound p → In c (evaluated h m) → In k c.subordinate → In k (subordinates m.request h) × (m.progress ≡ Done → length m.target < length k.pin) × (level_of (item_of o m) < length k.pin)
   below_part c k sound i j =
       let e = evaluated_is c i in
       let mine = served_subordinate c k e.0 j in
@@ -293,6 +363,11 @@ module _ (p : Point) (o : ℕ) (m : Chained) where
             let z : length base_key ≤ least_of (is_wide m.kind) = least_is (is_wide m.kind) in
             let t : length (key_of m.target) ≡ length m.target = key_length m.target in
             let s : length (key_of k.pin) ≡ length k.pin = key_length k.pin in
+            omega arith,
+        let a : length (key_of c.prefix) ≤ length (parent (key_of k.pin)) = prefix_length (key_of c.prefix) (parent (key_of k.pin)) pre in
+            let b : length (parent (key_of k.pin)) + 1 ≡ length (key_of k.pin) = parent_length (key_of k.pin) (pin_filled k sound mine) in
+            let s : length (key_of k.pin) ≡ length k.pin = key_length k.pin in
+            let l : level_of (item_of o m) ≤ length (key_of c.prefix) = evaluated_level c i in
             omega arith,
       )
 
@@ -338,6 +413,13 @@ module _ (p : Point) (o : ℕ) (m : Chained) where
                   | inl less ↦ inl less
                   | inr level ↦ inr (level.0, elim level.1 [ inl q ↦ inl q | inr q ↦ absurd q.1 ])
                 ]);
+            further = inl (let l : level_of (item_of o m) ≤ length (key_of c.prefix) = evaluated_level c ic in omega arith);
+            bounded = λ bound tl f.
+                let d = stood_pin (key_of y.name) a sound stood in
+                let full : 0 < length d.0.prefix = (good_at p sound).filled d.0 d.1 in
+                let up : length (parent d.0.prefix) + 1 ≡ length d.0.prefix = parent_length d.0.prefix full in
+                let same : length (parent d.0.prefix) ≡ length (key_at y) = ap length d.2 in
+                within_pins bound d.0.prefix f (d.0, d.1, refl, refl) (omega arith);
             brought = stood;
             keeps = inl refl;
             late = inr asked;
@@ -352,11 +434,16 @@ module _ (p : Point) (o : ℕ) (m : Chained) where
 
       at_root : (subset : Subset) (b : Bool) → answers_root h m ≡ b → In r (if b then below_needs h m subset h.root else []) → Leads p o m r a
       at_root subset true e l =
+          let root : is_root base_key ≡ true = (both_true (is_root (key_of m.target)) _ (both_true (is_first_level h) _ (both_true (is_some (subset_of m)) _ e).1).1).0 in
           let res : resolves h m ≡ true = (both_true (resolves h m) _ (both_true (is_root (key_of m.target)) _ (both_true (is_first_level h) _ (both_true (is_some (subset_of m)) _ e).1).1).1).0 in
           below_leads subset h.root r a sound (both_true (is_some (subset_of m)) _ e).0
           (λ k q. (
             in_right k (flat_map (λ (d : Held). d.subordinate) h.own ++ flat_map (λ (d : Held). d.subordinate) (usable_copies m.request h)) h.root q,
             λ done. absurd (false_true (subst (λ (x : Progress). resolves h (record m { progress = x }) ≡ true) done res)),
+            let none : level_of (item_of o m) ≡ 0 = root_level res root in
+                let f : 0 < length (key_of k.pin) = pin_filled k sound (in_right k (flat_map (λ (d : Held). d.subordinate) h.own ++ flat_map (λ (d : Held). d.subordinate) (usable_copies m.request h)) h.root q) in
+                let s : length (key_of k.pin) ≡ length k.pin = key_length k.pin in
+                omega arith,
           )) l j
       at_root subset false e l = elim l [ ]
 
@@ -395,8 +482,12 @@ module _ (p : Point) (o : ℕ) (m : Chained) where
       let held : IsHeld v a q = supplier_of_fed v q o a good free s is g.2 g.4 (sym supplier) chain in
       let near : steps_to_master 4 v q a < steps_to_master 4 v q o = supplier_nearer v q 3 o a apart chain free by in
       let narrow : is_wide m.kind ≡ false = not_true (is_wide m.kind) (both_true _ (not (is_wide m.kind)) pinned).1 in
+      let done : m.progress ≡ Done = same_progress_is m.progress Done (both_true (is_done m.progress) (not (is_wide m.kind)) pinned).0 in
       record {
         lower = done_lower p o m a m.target false (λ done. inr (refl, inr (ap (λ (b : Bool). if b then 1 else 0) narrow, near)));
+        further = subst (λ (x : Progress). IsFurther v (record { agent = o; target = m.target; progress = x; wide = is_wide m.kind }) (record { agent = a; target = m.target; progress = Done; wide = false })) (sym done)
+            (subst (λ (b : Bool). IsFurther v (record { agent = o; target = m.target; progress = Done; wide = b }) (record { agent = a; target = m.target; progress = Done; wide = false })) (sym narrow) (inr (refl, near)));
+        bounded = λ n tl f. tl;
         brought = (holds_decides v a q).1 held;
         keeps = inr (refl, refl);
         late = inr asked;

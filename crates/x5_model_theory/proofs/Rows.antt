@@ -8,8 +8,8 @@ use Rattle.x5_model.specs.Values.{Name, key_of}
 use Rattle.x5_model.specs.Entries.{Named}
 use Rattle.x5_model.specs.References.{Progress, Start, Next, Done, Reference, RefType, Superior, Subordinate, Cross, NonSpecific, Supplier, Chained}
 use Rattle.x5_model.proofs.KeyLaws.{key_decides}
-use Rattle.x5_model.proofs.Lists.{both_true, in_first, in_either, in_left, in_map, of_map, of_any, of_find, not_found, of_filter}
-use Rattle.x5_model.proofs.Prefixes.{prefix_length, prefix_decides, same_by_length}
+use Rattle.x5_model.proofs.Lists.{both_true, not_true, in_first, in_either, in_left, in_map, of_map, of_any, of_find, not_found, of_filter}
+use Rattle.x5_model.proofs.Prefixes.{prefix_itself, prefix_length, prefix_decides, same_by_length}
 use Rattle.x5_model_tree.specs.World.{Specific, Nssr, Agent, Agreement, World}
 use Rattle.x5_model_tree.specs.Tree.{key_at, keys_of, is_there, lowest, belongs}
 use Rattle.x5_model_tree.specs.Masters.{numbered, holds, superior_of, supplier_of}
@@ -22,7 +22,7 @@ use Rattle.x5_model_run.specs.Stage.{Stage, stage_of, is_lower, steps_to_master}
 use Rattle.x5_model_theory.specs.Knowledge.{Supply, IsMastered}
 use Rattle.x5_model_theory.specs.Coherent.{Coherent, IsFed, fed}
 use Rattle.x5_model_theory.specs.Described.{knowledge_of, supply_of}
-use Rattle.x5_model_theory.specs.Leading.{IsSound, message_for, Leads, ResolutionLeads}
+use Rattle.x5_model_theory.specs.Leading.{IsSound, message_for, IsFurther, Leads, ResolutionLeads}
 use Rattle.x5_model_theory.proofs.Tests.{false_true}
 use Rattle.x5_model_theory.proofs.Views.{there_decides, superior_at}
 use Rattle.x5_model_theory.proofs.Stages.{lower_decides, key_length}
@@ -59,6 +59,15 @@ fed_holds : (w : World) (q : Key) (n a : ℕ) → IsFed (knowledge_of w) q n a �
 fed_holds w q n a (IsFed.ends m) = inl m
 fed_holds w q n a (fed s i c p f) = inr (s, i, c, p)
 
+-- what is held is no root
+fed_filled : (w : World) (q : Key) (n a : ℕ) → Coherent (knowledge_of w) → IsFed (knowledge_of w) q n a → 0 < length q
+fed_filled w q n a good (IsFed.ends m) = subst (λ (x : Key). 0 < length x) m.3 (good.filled m.0 m.1)
+fed_filled w q n a good (fed {hops = j} s i c p f) = fed_filled w q j s.supplier good f
+
+held_filled : (w : World) → Coherent (knowledge_of w) → (a : ℕ) (q : Key) → IsHeld w a q → 0 < length q
+held_filled w good a q (inl m) = subst (λ (x : Key). 0 < length x) m.3 (good.filled m.0 m.1)
+held_filled w good a q (inr s) = subst (λ (x : Key). 0 < length x) s.3 (fed_filled w s.0.prefix 4 s.0.consumer good (good.supplied s.0 s.1))
+
 pub supplier_of_fed : (w : World) (q : Key) (o a : ℕ) → Coherent (knowledge_of w) → (IsMastered (knowledge_of w) o q → ⊥) → (s : Supply) → In s (knowledge_of w).supplies → s.consumer ≡ o → s.prefix ≡ q → s.supplier ≡ a
     → IsFed (knowledge_of w) q 4 o → IsHeld w a q
 supplier_of_fed w q o a good free s i c p is (IsFed.ends m) = absurd (free m)
@@ -79,7 +88,7 @@ module _ (p : Point) (o : ℕ) (m : Chained) where
   abbrev h : Holdings
   h = holdings_at p o
 
-  next_lower : (a k : ℕ) (target : Name) (wide : Bool) → resolves h m ≡ true
+  pub next_lower : (a k : ℕ) (target : Name) (wide : Bool) → resolves h m ≡ true
       → ((j : ℕ) → holds_within h (key_of m.target) j ≡ true → (j < k) ⊎ ((j ≡ k) × (steps_to_master 4 w (take k (key_of target)) a < steps_to_master 4 w (take j (key_of m.target)) o)))
       → is_lower (stage_of w (item_of o m)) (stage_of w (record { agent = a; target = target; progress = Next k; wide = wide })) ≡ true
   next_lower a k target wide e f =
@@ -89,8 +98,15 @@ module _ (p : Point) (o : ℕ) (m : Chained) where
       (λ j d. (lower_decides (stage_of w (record { agent = o; target = m.target; progress = Next j; wide = is_wide m.kind })) after).1
       (elim (f j d) [ inl less ↦ inr (refl, inl less) | inr level ↦ inr (refl, inr (level.0, inr (refl, level.1))) ]))
 
+  pub next_further : (a k : ℕ) (target : Name) (wide : Bool) → resolves h m ≡ true → 0 < k
+      → ((j : ℕ) → holds_within h (key_of m.target) j ≡ true → (j < k) ⊎ ((j ≡ k) × (steps_to_master 4 w (take k (key_of target)) a < steps_to_master 4 w (take j (key_of m.target)) o)))
+      → IsFurther w (item_of o m) (record { agent = a; target = target; progress = Next k; wide = wide })
+  next_further a k target wide e some f =
+      resolved h m (λ x. IsFurther w (record { agent = o; target = m.target; progress = x; wide = is_wide m.kind }) (record { agent = a; target = target; progress = Next k; wide = wide })) e
+      (inl some) (λ j d. f j d)
+
   -- of a longer known pin
-  beyond : (q : Key) → known_pin m.request h (key_of m.target) ≡ Some q → (j : ℕ) → holds_within h (key_of m.target) j ≡ true → j ≤ length q
+  pub beyond : (q : Key) → known_pin m.request h (key_of m.target) ≡ Some q → (j : ℕ) → holds_within h (key_of m.target) j ≡ true → j ≤ length q
   beyond q e j d =
       let x = within_is h (key_of m.target) j d in
       let l = longest_some (map key_of (known_pins m.request h)) (key_of m.target) q e in
@@ -113,6 +129,9 @@ module _ (p : Point) (o : ℕ) (m : Chained) where
         lower = start (λ x. is_lower (stage_of w (record { agent = o; target = m.target; progress = x; wide = is_wide m.kind })) (stage_of w (record { agent = s; target = m.target; progress = Start; wide = false })) ≡ true)
             ((lower_decides (stage_of w (record { agent = o; target = m.target; progress = Start; wide = is_wide m.kind })) (stage_of w (record { agent = s; target = m.target; progress = Start; wide = false }))).1
             (inr (refl, inr (refl, inr (refl, superior_nearer w 15 o s ((good_at p sound).chain o io) up)))));
+        further = start (λ x. IsFurther w (record { agent = o; target = m.target; progress = x; wide = is_wide m.kind }) (record { agent = s; target = m.target; progress = Start; wide = false }))
+            (inr (refl, superior_nearer w 15 o s ((good_at p sound).chain o io) up));
+        bounded = λ n l f. omega arith;
         brought = refl;
         keeps = inr (refl, refl);
         late = inl refl;
@@ -134,12 +153,12 @@ module _ (p : Point) (o : ℕ) (m : Chained) where
       let f = of_filter (λ (y : Named). belongs (tree_at p).pins (key_of d.0.prefix) (key_at y)) e (tree_at p).entries (subst (λ (x : Held). In e x.entries) d.2 j) in
       (subst (λ (x : Held). IsPrefix (key_of x.prefix) (key_at e)) (sym d.2) (belongs_below (tree_at p).pins (key_of d.0.prefix) (key_at e) f.1), f.0))
 
-  held_is : (q : Key) (c : Held) → held_at h.own q ≡ Some c → In c h.own × (key_of c.prefix ≡ q)
+  pub held_is : (q : Key) (c : Held) → held_at h.own q ≡ Some c → In c h.own × (key_of c.prefix ≡ q)
   held_is q c e = let f = of_find (λ (x : Held). same_key (key_of x.prefix) q) c h.own e in (f.0, (key_decides (key_of c.prefix) q).0 f.1)
 
   multicast_led : (q : Key) (c : Held) (e : Named) (agents : List ℕ) (a : ℕ) → resolves h m ≡ true → known_pin m.request h (key_of m.target) ≡ Some q → In c h.own → key_of c.prefix ≡ q
-      → In e c.entries → IsPrefix (key_at e) (key_of m.target) → Leads p o m (proceeding (length e.name + 1) e.name m.target NonSpecific agents) a
-  multicast_led q c e agents a res known ic is ie on =
+      → In e c.entries → IsPrefix (key_at e) (key_of m.target) → same_name e.name m.target ≡ false → Leads p o m (proceeding (length e.name + 1) e.name m.target NonSpecific agents) a
+  multicast_led q c e agents a res known ic is ie on other =
       let part = own_part c e ic ie in
       let k : ℕ = length e.name + 1 in
       let back : k - 1 ≡ length e.name = omega arith in
@@ -152,6 +171,13 @@ module _ (p : Point) (o : ℕ) (m : Chained) where
       ap (take (k - 1)) same ∙ ap (λ (n : ℕ). take n (key_of m.target)) (back ∙ sym el) ∙ on in
       record {
         lower = next_lower a k target true res (λ j d. let jl : j ≤ length q = beyond q known j d in inl (omega arith));
+        further = next_further a k target true res (omega arith) (λ j d. let jl : j ≤ length q = beyond q known j d in inl (omega arith));
+        bounded = λ n l f.
+            let le : length (key_at e) ≤ length (key_of m.target) = prefix_length (key_at e) (key_of m.target) on in
+            let tl : length (key_of m.target) ≡ length m.target = key_length m.target in
+            let ne : length (key_at e) ≡ length (key_of m.target) → ⊥ = λ level.
+            false_true (sym other ∙ (key_decides (key_of e.name) (key_of m.target)).1 (same_by_length (key_at e) (key_of m.target) (key_of m.target) on (prefix_itself (key_of m.target)) level)) in
+            omega (arith, ne);
         brought = (there_decides (tree_at p).entries (take (k - 1) (key_of target))).1 (subst (λ (x : Key). In x (keys_of (tree_at p).entries)) (sym at) (in_map key_at e (tree_at p).entries part.1));
         keeps = inr (same, refl);
         late = inl refl;
@@ -160,6 +186,10 @@ module _ (p : Point) (o : ℕ) (m : Chained) where
   of_when : (b : Bool) (x r : Reference) → In r (when b x) → r ≡ x
   of_when true x r i = elim (in_first r x [] i) [ inl e ↦ e | inr j ↦ elim j [ ] ]
   of_when false x r i = elim i [ ]
+
+  when_true : (b : Bool) (x r : Reference) → In r (when b x) → b ≡ true
+  when_true true x r i = refl
+  when_true false x r i = elim i [ ]
 
   multicast_leads : (q : Key) (c : Held) (r : Reference) (a : ℕ) → resolves h m ≡ true → known_pin m.request h (key_of m.target) ≡ Some q → held_at h.own q ≡ Some c → In r (multicast_needs h m c) → Leads p o m r a
   multicast_leads q c r a res known held i = from_entry (lowest c.entries (key_of m.target)) refl i
@@ -173,11 +203,18 @@ module _ (p : Point) (o : ℕ) (m : Chained) where
           let one : r ≡ proceeding (length e.name + 1) e.name m.target NonSpecific (others h.me n.agents) = of_when (not (same_name e.name m.target) && not (is_empty (others h.me n.agents))) _ r j in
           let f = held_is q c held in
           let l = lowest_is c.entries (key_of m.target) e low in
-          subst (λ (x : Reference). Leads p o m x a) (sym one) (multicast_led q c e (others h.me n.agents) a res known f.0 f.1 l.0 l.1)
+          let other : same_name e.name m.target ≡ false = not_true (same_name e.name m.target) (both_true (not (same_name e.name m.target)) _ (when_true (not (same_name e.name m.target) && not (is_empty (others h.me n.agents))) _ r j)).0 in
+          subst (λ (x : Reference). Leads p o m x a) (sym one) (multicast_led q c e (others h.me n.agents) a res known f.0 f.1 l.0 l.1 other)
 
       from_entry : (x : Option Named) → lowest c.entries (key_of m.target) ≡ x → In r (in_option [] (λ (e : Named). in_option [] (ask e) (nssr_at c.nssrs (key_of e.name))) x) → Leads p o m r a
       from_entry None low j = elim j [ ]
       from_entry (Some e) low j = from_nssr e low (nssr_at c.nssrs (key_of e.name)) j
+
+  on_way : (q : Key) (k n : ℕ) → k ≡ length q → IsPrefix q (key_of m.target) → length m.target ≤ n → k ≤ n
+  on_way q k n kl on tl =
+      let le : length q ≤ length (key_of m.target) = prefix_length q (key_of m.target) on in
+      let e : length (key_of m.target) ≡ length m.target = key_length m.target in
+      omega arith
 
   -- to agents that hold the context of the longest known pin
   specific_brought : (q : Key) (kept : Name) (kind : RefType) (agents : List ℕ) (a : ℕ) → is_wide kind ≡ false → known_pin m.request h (key_of m.target) ≡ Some q → key_of kept ≡ q → IsHeld w a q
@@ -256,15 +293,19 @@ module _ (p : Point) (o : ℕ) (m : Chained) where
       let same : key_of (take (k - 1) c.held.prefix ++ drop (k - 1) m.target) ≡ key_of m.target = respelled_key (k - 1) c.held.prefix m.target le on in
       let kl : k ≡ length q = sym (key_length c.held.prefix) ∙ ap length prefix in
       let at : take k (key_of (take (k - 1) c.held.prefix ++ drop (k - 1) m.target)) ≡ q = ap (take k) same ∙ ap (λ (n : ℕ). take n (key_of m.target)) kl ∙ l.1 in
+      let level : (j : ℕ) → holds_within h (key_of m.target) j ≡ true
+      → (j < k) ⊎ ((j ≡ k) × (steps_to_master 4 w (take k (key_of (take (k - 1) c.held.prefix ++ drop (k - 1) m.target))) a < steps_to_master 4 w (take j (key_of m.target)) o)) = λ j d.
+      let jl : j ≤ length q = beyond q known j d in
+      elim (dec_nat j k) [
+        | inl e ↦
+            let mine : take j (key_of m.target) ≡ q = ap (λ (n : ℕ). take n (key_of m.target)) (e ∙ kl) ∙ l.1 in
+            inr (e, subst (λ (x : Key). steps_to_master 4 w x a < steps_to_master 4 w (take j (key_of m.target)) o) (sym at) (subst (λ (x : Key). steps_to_master 4 w q a < steps_to_master 4 w x o) (sym mine) near))
+        | inr other ↦ inl (let e : k ≡ length q = kl in omega (arith, other))
+      ] in
       record {
-        lower = next_lower a k (take (k - 1) c.held.prefix ++ drop (k - 1) m.target) false res (λ j d.
-            let jl : j ≤ length q = beyond q known j d in
-            elim (dec_nat j k) [
-              | inl e ↦
-                  let mine : take j (key_of m.target) ≡ q = ap (λ (n : ℕ). take n (key_of m.target)) (e ∙ kl) ∙ l.1 in
-                  inr (e, subst (λ (x : Key). steps_to_master 4 w x a < steps_to_master 4 w (take j (key_of m.target)) o) (sym at) (subst (λ (x : Key). steps_to_master 4 w q a < steps_to_master 4 w x o) (sym mine) near))
-              | inr other ↦ inl (let e : k ≡ length q = kl in omega (arith, other))
-            ]);
+        lower = next_lower a k (take (k - 1) c.held.prefix ++ drop (k - 1) m.target) false res level;
+        further = next_further a k (take (k - 1) c.held.prefix ++ drop (k - 1) m.target) false res (let f : 0 < length q = held_filled w good a q held in omega arith) level;
+        bounded = λ n tl f. on_way q k n kl l.1 tl;
         brought = specific_brought q c.held.prefix Supplier (c.supplier ∷ []) a refl known prefix held;
         keeps = inr (same, refl);
         late = inl refl;
@@ -299,16 +340,19 @@ module _ (p : Point) (o : ℕ) (m : Chained) where
       ] in
       omega (arith, other)
 
-  specific_led : (q : Key) (k : Specific) (kind : RefType) (a : ℕ) → is_wide kind ≡ false → resolves h m ≡ true → known_pin m.request h (key_of m.target) ≡ Some q → held_at h.own q ≡ None → copy_at h q ≡ None
+  specific_led : (q : Key) (k : Specific) (kind : RefType) (a : ℕ) → Coherent (knowledge_of w) → is_wide kind ≡ false → resolves h m ≡ true → known_pin m.request h (key_of m.target) ≡ Some q → held_at h.own q ≡ None → copy_at h q ≡ None
       → IsRightAccess w k → key_of k.pin ≡ q → In a (usable_agents m.request k.access) → Leads p o m (proceeding (length k.pin) k.pin m.target kind (usable_agents m.request k.access)) a
-  specific_led q k kind a narrow res known own copies right is i =
+  specific_led q k kind a good narrow res known own copies right is i =
       let kl : length k.pin ≡ length q = sym (key_length k.pin) ∙ ap length is in
+      let filled : 0 < length q = subst (λ (x : Key). 0 < length x) (right.0.3 ∙ is) (good.filled right.0.0 right.0.1) in
       let l = longest_some (map key_of (known_pins m.request h)) (key_of m.target) q known in
       let on : IsPrefix (key_of k.pin) (key_of m.target) = subst (λ (x : Key). IsPrefix x (key_of m.target)) (sym is) l.1 in
       let le : length k.pin - 1 ≤ length k.pin = omega arith in
       let same : key_of (take (length k.pin - 1) k.pin ++ drop (length k.pin - 1) m.target) ≡ key_of m.target = respelled_key (length k.pin - 1) k.pin m.target le on in
       record {
         lower = next_lower a (length k.pin) (take (length k.pin - 1) k.pin ++ drop (length k.pin - 1) m.target) (is_wide kind) res (λ j d. inl (let less : j < length q = not_held_longer q known own copies j d in omega arith));
+        further = next_further a (length k.pin) (take (length k.pin - 1) k.pin ++ drop (length k.pin - 1) m.target) (is_wide kind) res (let f : 0 < length q = filled in omega arith) (λ j d. inl (let less : j < length q = not_held_longer q known own copies j d in omega arith));
+        bounded = λ n tl f. on_way q (length k.pin) n kl l.1 tl;
         brought = specific_brought q k.pin kind (usable_agents m.request k.access) a narrow known is (subst (λ (x : Key). IsHeld w a x) is (usable_holds w m.request k a right i));
         keeps = inr (same, refl);
         late = inl refl;
@@ -324,7 +368,7 @@ module _ (p : Point) (o : ℕ) (m : Chained) where
       led : (kind : RefType) (k : Specific) → is_wide kind ≡ false → IsRightAccess w k → key_of k.pin ≡ q → In r (go kind k) → Leads p o m r a
       led kind k narrow right is l =
           let one : r ≡ proceeding (length k.pin) k.pin m.target kind (usable_agents m.request k.access) = elim (in_first r _ [] l) [ inl x ↦ x | inr y ↦ elim y [ ] ] in
-          subst (λ (x : Reference). Leads p o m x a) (sym one) (specific_led q k kind a narrow res known own copies right is (subst (λ (x : Reference). In a x.agents) one j))
+          subst (λ (x : Reference). Leads p o m x a) (sym one) (specific_led q k kind a (good_at p sound) narrow res known own copies right is (subst (λ (x : Reference). In a x.agents) one j))
 
       by_cross : (x : Option Specific) → specific_at h.cross q ≡ x → In r (in_option [] (go Cross) x) → Leads p o m r a
       by_cross None e l = elim l [ ]

@@ -41,7 +41,7 @@ module _ (l : Look) (may : MayLook l) where
   is_context q (further d e i f up w h) = i
 
   -- and stands at a start or below
-  below_start : (q : Area) → IsEvaluated l q → (r : Area) × In r l.starts × IsPrefix r.prefix q.prefix
+  pub below_start : (q : Area) → IsEvaluated l q → (r : Area) × In r l.starts × IsPrefix r.prefix q.prefix
   below_start q (start i) = (q, i, prefix_itself q.prefix)
   below_start q (further d e i f up w h) =
       let s = below_start d e in (
@@ -86,7 +86,7 @@ module _ (l : Look) (may : MayLook l) where
       held_on_way c p d f ip fp (prefix_by_length p.prefix c.prefix (parent r.prefix) pu cu short) e up
 
   -- two contexts with one entry are one
-  one_context : (c d : Area) (e : Key) → In c l.knowledge.areas → In d l.knowledge.areas → In e c.entries → In e d.entries → c ≡ d
+  pub one_context : (c d : Area) (e : Key) → In c l.knowledge.areas → In d l.knowledge.areas → In e c.entries → In e d.entries → c ≡ d
   one_context c d e ic id ec ed =
       let cp : IsPrefix c.prefix e = may.laid.below c e ic ec in
       let dp : IsPrefix d.prefix e = may.laid.below d e id ed in
@@ -241,7 +241,7 @@ module _ (l : Look) (may : MayLook l) where
   evaluated_touched q (further d e i f up w h) = below_evaluated q d q e up (prefix_itself q.prefix) w
 
   -- the parent of a pin of a nonSpecific reference's scope is an entry of the context that has the NSSR
-  nssr_entry : (n : Spot) (a : ℕ) (p : Key) → (w : NeedsNonSpecific l n a) → parent p ≡ n.at → In (parent p) w.above.entries
+  pub nssr_entry : (n : Spot) (a : ℕ) (p : Key) → (w : NeedsNonSpecific l n a) → parent p ≡ n.at → In (parent p) w.above.entries
   nssr_entry n a p w e = subst (λ (x : Key). In x w.above.entries) (sym e) (may.laid.nssr_at w.above n (is_context w.above w.evaluated) w.nssr)
 
   no_more : (q : Area) → IsTaken q → IsTouched l q
@@ -254,7 +254,7 @@ module _ (l : Look) (may : MayLook l) where
   spots_apart q p e s i = false_true (sym s.not_held ∙ held_on_way q p s.above e s.area s.filled i.below s.evaluated s.just_below)
 
   -- a pin of a nonSpecific reference's scope is in the subset, and isn't held
-  pin_within : (n : Spot) (a : ℕ) (q : Area) → (w : NeedsNonSpecific l n a) → (i : InNonSpecific l n a q) → InSubset l.subset l.base i.pin.prefix
+  pub pin_within : (n : Spot) (a : ℕ) (q : Area) → (w : NeedsNonSpecific l n a) → (i : InNonSpecific l n a q) → InSubset l.subset l.base i.pin.prefix
   pin_within n a q w i = in_subset_below l.subset l.base i.pin.prefix i.filled (subst (λ (x : Key). IsInScope l.subset l.base x) (sym i.just_below) w.in_scope)
 
   pin_not_held : (n : Spot) (a : ℕ) (q : Area) → (w : NeedsNonSpecific l n a) → (i : InNonSpecific l n a q) → l.holds i.pin.prefix ≡ true → ⊥

@@ -6,7 +6,7 @@ ghost use Rattle.x5_model_theory.specs.Coherent.{ConsistentIsCoherent};
 ghost use Rattle.x5_model_theory.specs.Scopes.{AllAreTaken, NoMoreAreTaken, SpotsApart, WideSpotsApart, SpecificApart, MixedApart, NonSpecificApart};
 ghost use Rattle.x5_model_theory.specs.Looking.{BaseMayLook, RootMayLook, PinsMayLook, EntriesAreTouched, SpecificLeads, NonSpecificLeads, SameEntries, SameWideEntries, SpecificCovers, NonSpecificCovers};
 ghost use Rattle.x5_model_theory.specs.Changing.{AddingKeeps, RemovingKeeps, RenamingKeeps, ReorderingKeeps};
-ghost use Rattle.x5_model_theory.specs.Leading.{NeverLower, LowerChain, NoLoop, ResolutionLeads, PartsLead, CopiesLead, FollowedIsPlaced, TracesRise, NoItemTwice};
+ghost use Rattle.x5_model_theory.specs.Leading.{NeverLower, LowerChain, NoLoop, ResolutionLeads, PartsLead, CopiesLead, FollowedIsPlaced, ProbesArePlaced, TracesRise, NoItemTwice, TracesGoOn, NoLongTrace, JournalsArePlaced, OpeningIsPlaced, NamesStayWithin, NoJournalIsLong};
 
 /// Consistent knowledge gives the facts by keys on which the rest stands: of contexts, references, superiors and agreements.
 pub fn coherence()
@@ -41,7 +41,8 @@ pub fn looks()
 {}
 
 /// Each reference that an agent needs leads on: its agents can go on from there, the message that follows it is nearer
-/// than all before, and so no message comes twice to one agent with one target and progress (X.518, section 19).
+/// than all before, and so no message comes twice to one agent with one target and progress, and a trace has 96 items
+/// at most (X.518, section 19).
 pub fn leading()
     ensures never_lower { NeverLower }
     ensures lower_chain { LowerChain }
@@ -50,8 +51,20 @@ pub fn leading()
     ensures parts { PartsLead }
     ensures copies { CopiesLead }
     ensures followed { FollowedIsPlaced }
+    ensures probes { ProbesArePlaced }
     ensures traces { TracesRise }
     ensures no_item_twice { NoItemTwice }
+    ensures going { TracesGoOn }
+    ensures no_long_trace { NoLongTrace }
+{}
+
+/// So each message of a request over consistent knowledge is placed where it comes, and passes by 96 agents at most
+/// (X.518, section 17: request validation).
+pub fn journeys()
+    ensures placed { JournalsArePlaced }
+    ensures opening { OpeningIsPlaced }
+    ensures within { NamesStayWithin }
+    ensures short { NoJournalIsLong }
 {}
 
 /// An entry more below an entry, an entry less that is no pin, above no pin and above no entry, another last RDN of an

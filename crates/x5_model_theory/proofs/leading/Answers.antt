@@ -2,6 +2,8 @@ use Rattle.x5_model_theory.proofs.Stages.{never_lower, lower_chain, no_loop}
 use Rattle.x5_model_theory.proofs.Rows.{resolution_leads}
 use Rattle.x5_model_theory.proofs.Parts.{parts_lead_on, copies_lead_on}
 use Rattle.x5_model_theory.proofs.Following.{followed_is_placed, traces_rise, no_item_twice}
+use Rattle.x5_model_theory.proofs.Probing.{probes_are_placed}
+use Rattle.x5_model_theory.proofs.Bounding.{traces_go_on, no_long_trace}
 use Rattle.x5_model_theory.proofs.leading.Goals as goal
 
 pub returns-clause-never_lower : goal.returns-clause-never_lower
@@ -25,8 +27,17 @@ returns-clause-copies c = copies_lead_on
 pub returns-clause-followed : goal.returns-clause-followed
 returns-clause-followed c = followed_is_placed
 
+pub returns-clause-probes : goal.returns-clause-probes
+returns-clause-probes c = probes_are_placed
+
 pub returns-clause-traces : goal.returns-clause-traces
 returns-clause-traces c = traces_rise
 
 pub returns-clause-no_item_twice : goal.returns-clause-no_item_twice
 returns-clause-no_item_twice c = no_item_twice
+
+pub returns-clause-going : goal.returns-clause-going
+returns-clause-going c = traces_go_on
+
+pub returns-clause-no_long_trace : goal.returns-clause-no_long_trace
+returns-clause-no_long_trace c = no_long_trace

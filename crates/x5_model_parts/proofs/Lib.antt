@@ -1,0 +1,16 @@
+pub mod Asking
+pub mod Seeing
+pub mod Spots
+pub mod Needing
+pub mod Covering
+pub mod Lone
+pub mod Apart
+pub mod Owning
+pub mod Copying
+pub mod Touching
+pub mod Beginning
+pub mod Parting
+pub mod Joining
+pub mod Nesting
+pub mod First
+pub mod Onward
