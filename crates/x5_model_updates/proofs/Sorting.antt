@@ -25,7 +25,7 @@ use Rattle.x5_model_run.specs.History.{knowledge_at, tree_at, own_context, agent
 use Rattle.x5_model_theory.proofs.Places.{at_agent}
 use Rattle.x5_model_theory.proofs.Views.{at_place}
 use Rattle.x5_model_theory.proofs.Cohering.{map_map}
-use Rattle.x5_model_updates.specs.Judging.{in_order, OwnGroundSorted, OrderRefuses, OrderAccepts}
+use Rattle.x5_model_updates.specs.Judging.{in_order, HoldsItsContexts, OwnGroundSorted, OrderRefuses, OrderAccepts}
 use Rattle.x5_model_updates.specs.Afterwards.{new_key}
 use Rattle.x5_model_updates.proofs.Lookups.{agree, OneEach, same_entry_at, same_lowest, same_matched}
 use Rattle.x5_model_updates.proofs.Outcomes.{clashes, add_none, add_taken, add_free, remove_none, remove_some, modify_none, modify_some, rename_none, rename_some, none_or_some, ok_or_err, refused_over, accepted_over, over_update}
@@ -232,14 +232,14 @@ same_ground t known b cs = λ i. record { entries = sorted_entries (entries i); 
     taken_keys : flat_map (λ (c : Context). map key_at (filter (λ e. not (counts_in known c e)) c.entries)) (map (now_context t) cs) ≡ flat_map (uncounted known) (map (own_context t b) cs)
     taken_keys = flat_map-map (λ (c : Context). map key_at (filter (λ e. not (counts_in known c e)) c.entries)) (now_context t) cs ∙ sym (flat_map-map (uncounted known) (own_context t b) cs)
 
+pub holds_its_contexts : HoldsItsContexts
+holds_its_contexts p o a s i =
+    ap (λ (x : Option Agent). (in_option (no_holdings o) (agent_holdings p o) x).own) (at_place (knowledge_at p) o a i)
+    ∙ ap (map (own_context (tree_at p) a)) (all_held [] a.contexts (own_once 0 (knowledge_at p).agents (o, a) i (conditions_hold (knowledge_at p) s.consistent).one_master) (λ c j l. elim l [ ]))
+
 pub own_ground_sorted : OwnGroundSorted
 own_ground_sorted p o a r s i =
     let b = was_numbered (tree_at p) 0 (knowledge_at p).agents (o, a) i in
-    let held : held_contexts [] b.0.contexts ≡ b.0.contexts =
-    all_held [] b.0.contexts (own_once 0 (knowledge_at p).agents (o, b.0) b.1 (conditions_hold (knowledge_at p) s.consistent).one_master) (λ c j l. elim l [ ]) in
-    let is : (holdings_at p o).own ≡ map (own_context (tree_at p) b.0) b.0.contexts =
-    ap (λ (x : Option Agent). (in_option (no_holdings o) (agent_holdings p o) x).own) (at_place (knowledge_at p) o b.0 b.1)
-    ∙ ap (map (own_context (tree_at p) b.0)) held in
     ap (λ (x : Agent). own_ground (map key_of (known_pins r (holdings_at p o))) x.contexts) b.2
     ∙ same_ground (tree_at p) (map key_of (known_pins r (holdings_at p o))) b.0 b.0.contexts
-    ∙ ap (λ (xs : List Held). in_order (held_ground (map key_of (known_pins r (holdings_at p o))) xs)) (sym is)
+    ∙ ap (λ (xs : List Held). in_order (held_ground (map key_of (known_pins r (holdings_at p o))) xs)) (sym (holds_its_contexts p o b.0 s b.1))

@@ -18,7 +18,7 @@ use Rattle.x5_model_tree.specs.Ask.{is_update}
 use Rattle.x5_model_tree.specs.Apply.{Ground, Outcome, own_ground, apply_over, apply}
 use Rattle.x5_model_run.specs.Holdings.{Held, known_pins, ground_at, holds_within}
 use Rattle.x5_model_run.specs.Needs.{target_of, resolves, new_name, due_probes}
-use Rattle.x5_model_run.specs.History.{Point, knowledge_at, tree_at, world_at, holdings_at}
+use Rattle.x5_model_run.specs.History.{Point, knowledge_at, tree_at, world_at, own_context, holdings_at}
 use Rattle.x5_model_run.specs.Right.{master_at}
 use Rattle.x5_model_updates.specs.Standing.{Stands}
 
@@ -85,6 +85,10 @@ RefusesPresent = (p : Point) (o : ℕ) (m : Chained) (mine : List Named) (name :
 abbrev pub JudgedAfter : Type 0
 JudgedAfter = (p : Point) (o : ℕ) (m : Chained) (mine : List Named) (u : Tree) (e : Named) → IsJudge p o m → judged p o m ≡ Ok mine → apply (tree_at p) m.request ≡ Ok u
     → In e mine ↔ ((c : Mastered) × In c (mastered (knowledge_at p)) × (c.master ≡ o) × In e (part u (pin_of c)))
+
+-- An agent holds each context that it masters, with its part of the tree.
+abbrev pub HoldsItsContexts : Type 0
+HoldsItsContexts = (p : Point) (o : ℕ) (a : Agent) → Stands p → In (o, a) (numbered (knowledge_at p)) → (holdings_at p o).own ≡ map (own_context (tree_at p) a) a.contexts
 
 -- The ground that is made of the agent's contexts in the world of the moment, and of the pins that it knows, is the same
 -- with its entries in order; and in which order they stand is nothing to what is refused, accepted and had afterwards.
