@@ -7,6 +7,7 @@ pub mod Updates
 pub mod Messages
 pub mod Resolution
 pub mod Searching
+pub mod Joined
 pub mod Probing
 pub mod Judging
 pub mod Shadowing
