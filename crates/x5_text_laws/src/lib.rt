@@ -1,10 +1,11 @@
 //! What is printed reads back: laws of the texts of `x5_model_text`, each the contract of a function.
 #![tactic(auto)]
 
-ghost use Rattle.std.specs.Prelude.{◌≡◌, ℕ, ◌<◌, List, map, Some, Ok};
+ghost use Rattle.std.specs.Prelude.{◌≡◌, ℕ, ◌<◌, List, length, map, None, Some, Ok};
 ghost use Rattle.std.specs.List.{AllByRecursion};
-ghost use Rattle.x5_model.specs.Values.{TypeRef, Known, TextValue};
-ghost use Rattle.x5_model.specs.Types.{table};
+ghost use Rattle.x5_model.specs.Values.{TypeRef, Known, TextValue, OctetsValue};
+ghost use Rattle.x5_model.specs.Types.{table, OctetsKind};
+ghost use Rattle.x5_model.specs.Normal.{value_over};
 ghost use Rattle.x5_model_text.specs.TypeText.{type_of_text};
 ghost use Rattle.x5_model_text.specs.NameText.{kind_of_type, text_of_value, value_of_resolved, value_of_text};
 ghost use Rattle.x5_model_text.specs.ValueText.{escaped, resolved};
@@ -24,4 +25,10 @@ pub fn texts_read_back()
 /// The printed keyword of each type of the table, read, is the type.
 pub fn keywords_read_back()
     ensures { map (λ r. type_of_text r.keyword) table ≡ map (λ r. Some (Known r.number)) table }
+{}
+
+/// Octets within the limit, printed and read for a type of octets, are themselves.
+#[tactic(auto, using(crate::proofs::Octets::octets_read_back))]
+pub fn octets_read_back()
+    ensures { (type : TypeRef) (octets : List ℕ) → kind_of_type type ≡ OctetsKind → AllByRecursion (λ b. b < 256) octets → 0 < length octets → value_over (OctetsValue octets) ≡ None → value_of_text type (text_of_value (OctetsValue octets)) ≡ Ok (OctetsValue octets) }
 {}
