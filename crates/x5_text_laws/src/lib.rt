@@ -1,11 +1,11 @@
 //! What is printed reads back: laws of the texts of `x5_model_text`, each the contract of a function.
 #![tactic(auto)]
 
-ghost use Rattle.std.specs.Prelude.{◌≡◌, ℕ, ◌<◌, List, length, map, None, Some, Ok};
+ghost use Rattle.std.specs.Prelude.{◌≡◌, ℕ, ◌<◌, true, List, length, map, None, Some, Ok};
 ghost use Rattle.std.specs.List.{AllByRecursion};
-ghost use Rattle.x5_model.specs.Values.{TypeRef, Known, TextValue, OctetsValue};
-ghost use Rattle.x5_model.specs.Types.{table, OctetsKind};
-ghost use Rattle.x5_model.specs.Normal.{value_over};
+ghost use Rattle.x5_model.specs.Values.{TypeRef, Known, TextValue, OctetsValue, OidValue};
+ghost use Rattle.x5_model.specs.Types.{table, OctetsKind, OidKind};
+ghost use Rattle.x5_model.specs.Normal.{is_oid, value_over};
 ghost use Rattle.x5_model_text.specs.TypeText.{type_of_text};
 ghost use Rattle.x5_model_text.specs.NameText.{kind_of_type, text_of_value, value_of_resolved, value_of_text};
 ghost use Rattle.x5_model_text.specs.ValueText.{escaped, resolved};
@@ -31,4 +31,10 @@ pub fn keywords_read_back()
 #[tactic(auto, using(crate::proofs::Octets::octets_read_back))]
 pub fn octets_read_back()
     ensures { (type : TypeRef) (octets : List ℕ) → kind_of_type type ≡ OctetsKind → AllByRecursion (λ b. b < 256) octets → 0 < length octets → value_over (OctetsValue octets) ≡ None → value_of_text type (text_of_value (OctetsValue octets)) ≡ Ok (OctetsValue octets) }
+{}
+
+/// An object identifier within the limit, printed and read for a type of object identifiers, is itself.
+#[tactic(auto, using(crate::proofs::Oids::oids_read_back))]
+pub fn oids_read_back()
+    ensures { (type : TypeRef) (arcs : List ℕ) → kind_of_type type ≡ OidKind → is_oid arcs ≡ true → value_over (OidValue arcs) ≡ None → value_of_text type (text_of_value (OidValue arcs)) ≡ Ok (OidValue arcs) }
 {}
