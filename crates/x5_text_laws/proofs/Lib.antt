@@ -3,3 +3,7 @@ pub mod Plain
 pub mod Octets
 pub mod Pieces
 pub mod Oids
+pub mod Utf8
+pub mod Sorting
+pub mod Limits
+pub mod Keywords
