@@ -7,3 +7,4 @@ pub mod Utf8
 pub mod Sorting
 pub mod Limits
 pub mod Keywords
+pub mod NamesRead

@@ -87,7 +87,7 @@ sorted_more r p absent h =
 abbrev pub are_below : ℕ → Pairs → Bool
 are_below n r = list_all (λ q. nat_lt q.0 n) r
 
-below_later : (n m : ℕ) (r : Pairs) → n ≤ m → are_below n r ≡ true → are_below m r ≡ true
+pub below_later : (n m : ℕ) (r : Pairs) → n ≤ m → are_below n r ≡ true → are_below m r ≡ true
 below_later n m [] le h = refl
 below_later n m (q ∷ r) le h =
     let parts = and_parts (nat_lt q.0 n) (are_below n r) h in
