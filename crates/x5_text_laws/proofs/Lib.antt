@@ -8,3 +8,4 @@ pub mod Sorting
 pub mod Limits
 pub mod Keywords
 pub mod NamesRead
+pub mod GivenNames
