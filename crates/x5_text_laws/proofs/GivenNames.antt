@@ -124,17 +124,17 @@ none_given : (limited : Bool) → GivenRdn limited []
 none_given limited = record { pairs = refl; utf8 = refl; order = refl; small = λ e. refl }
 
 -- what the sorted RDN is
-record SortedRdn (limited : Bool) (r : Pairs) : Type 0 where
-  rdn : is_rdn (sorted r) ≡ true
-  utf8 : are_utf8 (sorted r) ≡ true
-  small : limited ≡ true → is_small (sorted r) ≡ true
+pub record SortedRdn (limited : Bool) (r : Pairs) : Type 0 where
+  pub rdn : is_rdn (sorted r) ≡ true
+  pub utf8 : are_utf8 (sorted r) ≡ true
+  pub small : limited ≡ true → is_small (sorted r) ≡ true
 
 pub sorted_small : (r : Pairs) → is_small r ≡ true → is_small (sorted r) ≡ true
 sorted_small r h =
     let parts = and_parts (nat_le (length r) 4) (list_all is_short r) h in
     ap₂ ◌&&◌ (ap (λ n. nat_le n 4) (sorted_length r) ∙ parts.0) (sorted_all is_short r parts.1)
 
-rdn_given : (limited : Bool) (at : ℕ) (t : Text) (r : Pairs) → rdn_at limited at t ≡ Ok r → SortedRdn limited r
+pub rdn_given : (limited : Bool) (at : ℕ) (t : Text) (r : Pairs) → rdn_at limited at t ≡ Ok r → SortedRdn limited r
 rdn_given limited at t r h =
     let g = pairs_given limited at [] (slice_split (λ b. b == plus) t) r h (none_given limited) in
     let count = g.1 in

@@ -9,3 +9,4 @@ pub mod Limits
 pub mod Keywords
 pub mod NamesRead
 pub mod GivenNames
+pub mod Names

@@ -155,7 +155,7 @@ pairs_no_slash (p ∷ q ∷ r) h =
     list_all-append (λ x. not (x == slash)) (text_of_pair p) (plus ∷ text_of_pairs (q ∷ r))
     ∙ ap₂ ◌&&◌ (pair_free slash p (lit< tt) refl (word_of p parts.0).no_slash) (pairs_no_slash (q ∷ r) parts.1)
 
-rdn_read : (limited : Bool) (at : ℕ) (r : Pairs) → is_rdn r ≡ true → are_utf8 r ≡ true → is_small r ≡ true → rdn_at limited at (text_of_pairs r) ≡ Ok r
+pub rdn_read : (limited : Bool) (at : ℕ) (r : Pairs) → is_rdn r ≡ true → are_utf8 r ≡ true → is_small r ≡ true → rdn_at limited at (text_of_pairs r) ≡ Ok r
 rdn_read limited at [] valid utf8 small = cc
 rdn_read limited at (p ∷ r) valid utf8 small =
     let outer = and_parts (nat_lt 0 (length (p ∷ r)) && list_all is_pair (p ∷ r)) (ascends_from 0 (p ∷ r)) valid in
@@ -180,7 +180,7 @@ rdns_read limited at before (r ∷ n) valid utf8 small few =
     ∙ rdns_read limited (at + length (text_of_pairs r) + 1) (before ++ r ∷ []) n v.1 u.1 s.1 count
     ∙ ap Ok (append_assoc before (r ∷ []) n)
 
-rdn_no_slash : (r : Pairs) → is_rdn r ≡ true → is_free slash (text_of_pairs r) ≡ true
+pub rdn_no_slash : (r : Pairs) → is_rdn r ≡ true → is_free slash (text_of_pairs r) ≡ true
 rdn_no_slash r h =
     let outer = and_parts (nat_lt 0 (length r) && list_all is_pair r) (ascends_from 0 r) h in
     pairs_no_slash r (and_parts (nat_lt 0 (length r)) (list_all is_pair r) outer.0).1

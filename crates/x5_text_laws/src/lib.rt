@@ -1,14 +1,15 @@
 //! What is printed reads back: laws of the texts of `x5_model_text`, each the contract of a function.
 #![tactic(auto)]
 
-ghost use Rattle.std.specs.Prelude.{◌≡◌, ℕ, ◌<◌, true, List, length, map, None, Some, Ok};
-ghost use Rattle.std.specs.List.{AllByRecursion};
-ghost use Rattle.x5_model.specs.Values.{TypeRef, Known, TextValue, OctetsValue, OidValue};
+ghost use Rattle.std.specs.Prelude.{◌≡◌, ℕ, ◌<◌, true, List, [], ◌∷◌, length, map, None, Some, Ok};
+ghost use Rattle.std.specs.List.{AllByRecursion, list_all};
+ghost use Rattle.x5_model.specs.Values.{TypeRef, Known, TextValue, OctetsValue, OidValue, NameValue, Name, written};
 ghost use Rattle.x5_model.specs.Types.{table, OctetsKind, OidKind};
-ghost use Rattle.x5_model.specs.Normal.{is_oid, value_over};
+ghost use Rattle.x5_model.specs.Normal.{is_oid, value_over, IsStored, stored};
 ghost use Rattle.x5_model_text.specs.TypeText.{type_of_text};
-ghost use Rattle.x5_model_text.specs.NameText.{kind_of_type, text_of_value, value_of_resolved, value_of_text};
+ghost use Rattle.x5_model_text.specs.NameText.{kind_of_type, text_of_pairs, text_of_written, text_of_name, name_of_text, rdn_of_text, text_of_value, value_of_resolved, value_of_text};
 ghost use Rattle.x5_model_text.specs.ValueText.{escaped, resolved};
+ghost use Rattle.x5_text_laws.specs.Given.{are_utf8, IsGivenName};
 
 /// A text with its escapes resolves to itself, wherever it stands.
 #[tactic(auto, using(crate::proofs::Escapes::resolved_escaped))]
@@ -37,4 +38,23 @@ pub fn octets_read_back()
 #[tactic(auto, using(crate::proofs::Oids::oids_read_back))]
 pub fn oids_read_back()
     ensures { (type : TypeRef) (arcs : List ℕ) → kind_of_type type ≡ OidKind → is_oid arcs ≡ true → value_over (OidValue arcs) ≡ None → value_of_text type (text_of_value (OidValue arcs)) ≡ Ok (OidValue arcs) }
+{}
+
+/// What a text gives as a name, or as an RDN alone, has pairs in order, of types that may name, each once, with texts of their kinds, and passes no limit.
+pub fn read_names_are_given()
+    ensures names { (text : List ℕ) (name : NameValue) → name_of_text text ≡ Ok name → IsGivenName name }
+    ensures rdns { (text : List ℕ) (rdn : List (ℕ × List ℕ)) → rdn_of_text text ≡ Ok rdn → IsGivenName (rdn ∷ []) }
+{}
+
+/// The text of such a name reads as the very same name, and that of an RDN as the RDN; so what was read, printed and read again is the same.
+#[tactic(auto, using(crate::proofs::Names::name_read_back, crate::proofs::Names::name_read_again, crate::proofs::Names::rdn_read_back))]
+pub fn names_read_back()
+    ensures names { (name : NameValue) → IsGivenName name → name_of_text (text_of_written name) ≡ Ok name }
+    ensures again { (text : List ℕ) (name : NameValue) → name_of_text text ≡ Ok name → name_of_text (text_of_written name) ≡ Ok name }
+    ensures rdns { (rdn : List (ℕ × List ℕ)) → IsGivenName (rdn ∷ []) → rdn_of_text (text_of_pairs rdn) ≡ Ok rdn }
+{}
+
+/// The text of a name with its normal forms reads as that name, spelling and key.
+pub fn stored_names_read_back()
+    ensures { (name : Name) → IsStored name → list_all are_utf8 (written name) ≡ true → (name_of_text (text_of_name name) ≡ Ok (written name)) × (stored (written name) ≡ name) }
 {}
