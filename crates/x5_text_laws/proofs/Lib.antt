@@ -10,3 +10,5 @@ pub mod Keywords
 pub mod NamesRead
 pub mod GivenNames
 pub mod Names
+pub mod NameUtf8
+pub mod Values

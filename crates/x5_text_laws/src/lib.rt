@@ -3,13 +3,13 @@
 
 ghost use Rattle.std.specs.Prelude.{◌≡◌, ℕ, ◌<◌, true, List, [], ◌∷◌, length, map, None, Some, Ok};
 ghost use Rattle.std.specs.List.{AllByRecursion, list_all};
-ghost use Rattle.x5_model.specs.Values.{TypeRef, Known, TextValue, OctetsValue, OidValue, NameValue, Name, written};
+ghost use Rattle.x5_model.specs.Values.{TypeRef, Known, TextValue, OctetsValue, OidValue, NameValue, Name, Value, written};
 ghost use Rattle.x5_model.specs.Types.{table, OctetsKind, OidKind};
 ghost use Rattle.x5_model.specs.Normal.{is_oid, value_over, IsStored, stored};
 ghost use Rattle.x5_model_text.specs.TypeText.{type_of_text};
 ghost use Rattle.x5_model_text.specs.NameText.{kind_of_type, text_of_pairs, text_of_written, text_of_name, name_of_text, rdn_of_text, text_of_value, value_of_resolved, value_of_text};
 ghost use Rattle.x5_model_text.specs.ValueText.{escaped, resolved};
-ghost use Rattle.x5_text_laws.specs.Given.{are_utf8, IsGivenName};
+ghost use Rattle.x5_text_laws.specs.Given.{are_utf8, IsGivenName, IsGiven};
 
 /// A text with its escapes resolves to itself, wherever it stands.
 #[tactic(auto, using(crate::proofs::Escapes::resolved_escaped))]
@@ -57,4 +57,15 @@ pub fn names_read_back()
 /// The text of a name with its normal forms reads as that name, spelling and key.
 pub fn stored_names_read_back()
     ensures { (name : Name) → IsStored name → list_all are_utf8 (written name) ≡ true → (name_of_text (text_of_name name) ≡ Ok (written name)) × (stored (written name) ≡ name) }
+{}
+
+/// What a text gives as a value of a type is octets, an object identifier or a name where the type's kind has those, or a text that can't be read as one; and it passes no limit.
+pub fn read_values_are_given()
+    ensures { (type : TypeRef) (text : List ℕ) (value : Value) → value_of_text type text ≡ Ok value → IsGiven (kind_of_type type) value }
+{}
+
+/// The text of such a value, read for that type, is the very same value; so what was read, printed and read again is the same.
+pub fn values_read_back()
+    ensures values { (type : TypeRef) (value : Value) → IsGiven (kind_of_type type) value → value_of_text type (text_of_value value) ≡ Ok value }
+    ensures again { (type : TypeRef) (text : List ℕ) (value : Value) → value_of_text type text ≡ Ok value → value_of_text type (text_of_value value) ≡ Ok value }
 {}
