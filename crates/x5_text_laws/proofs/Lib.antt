@@ -12,3 +12,4 @@ pub mod GivenNames
 pub mod Names
 pub mod NameUtf8
 pub mod Values
+pub mod FoldTable
