@@ -13,3 +13,5 @@ pub mod Names
 pub mod NameUtf8
 pub mod Values
 pub mod FoldTable
+pub mod Folding
+pub mod Spacing
