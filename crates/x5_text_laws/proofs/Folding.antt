@@ -86,10 +86,6 @@ stable_folded t s =
     ∙ ap encodes (stable_folds s.characters s.stable)
     ∙ s.text
 
--- folding twice is folding once
-pub folded_again : (t : Text) → IsUtf8 t → folded (folded t) ≡ folded t
-folded_again t h = stable_folded (folded t) (folded_stable t h)
-
 pub stable_nil : Stable []
 stable_nil = record { characters = []; stable = refl; text = refl }
 

@@ -15,3 +15,5 @@ pub mod Values
 pub mod FoldTable
 pub mod Folding
 pub mod Spacing
+pub mod NormalForms
+mod Examples

@@ -1,11 +1,12 @@
 //! What is printed reads back: laws of the texts of `x5_model_text`, each the contract of a function.
 #![tactic(auto)]
 
-ghost use Rattle.std.specs.Prelude.{◌≡◌, ℕ, ◌<◌, true, List, [], ◌∷◌, length, map, None, Some, Ok};
+ghost use Rattle.std.specs.Prelude.{◌≡◌, ℕ, ◌<◌, Bool, true, List, [], ◌∷◌, length, map, None, Some, Ok};
 ghost use Rattle.std.specs.List.{AllByRecursion, list_all};
+ghost use Rattle.std.specs.Str.{is_utf8};
 ghost use Rattle.x5_model.specs.Values.{TypeRef, Known, TextValue, OctetsValue, OidValue, NameValue, Name, Value, written};
-ghost use Rattle.x5_model.specs.Types.{table, OctetsKind, OidKind};
-ghost use Rattle.x5_model.specs.Normal.{is_oid, value_over, IsStored, stored};
+ghost use Rattle.x5_model.specs.Types.{Kind, table, OctetsKind, OidKind};
+ghost use Rattle.x5_model.specs.Normal.{is_oid, is_part_of_kind, is_text_of_kind, folded, part_normal, text_normal, value_over, normal_of, IsStored, stored};
 ghost use Rattle.x5_model_text.specs.TypeText.{type_of_text};
 ghost use Rattle.x5_model_text.specs.NameText.{kind_of_type, text_of_pairs, text_of_written, text_of_name, name_of_text, rdn_of_text, text_of_value, value_of_resolved, value_of_text};
 ghost use Rattle.x5_model_text.specs.ValueText.{escaped, resolved};
@@ -68,4 +69,20 @@ pub fn read_values_are_given()
 pub fn values_read_back()
     ensures values { (type : TypeRef) (value : Value) → IsGiven (kind_of_type type) value → value_of_text type (text_of_value value) ≡ Ok value }
     ensures again { (type : TypeRef) (text : List ℕ) (value : Value) → value_of_text type text ≡ Ok value → value_of_text type (text_of_value value) ≡ Ok value }
+{}
+
+/// Folding the case of a text twice is folding it once.
+#[tactic(auto, using(crate::proofs::NormalForms::folds_once))]
+pub fn folding_stands()
+    ensures { (text : List ℕ) → is_utf8 text ≡ true → folded (folded text) ≡ folded text }
+{}
+
+/// The normal form of a text, or of a part of one, is its own normal form, and its characters may stand where the text's may. Where it isn't empty (as that of spaces alone is) it is of the kind as well,
+/// and where it passes no limit (case folding can make a text longer) the kind has a normal form of it, itself.
+#[tactic(auto, using(crate::proofs::NormalForms::normal_twice, crate::proofs::NormalForms::part_kind_stays, crate::proofs::NormalForms::kind_stays, crate::proofs::NormalForms::normal_again))]
+pub fn normal_forms_stand()
+    ensures twice { (kind : Kind) (first last : Bool) (text : List ℕ) → is_utf8 text ≡ true → part_normal kind first last (part_normal kind first last text) ≡ part_normal kind first last text }
+    ensures characters { (kind : Kind) (first last : Bool) (text : List ℕ) → is_utf8 text ≡ true → is_part_of_kind kind text ≡ true → is_part_of_kind kind (part_normal kind first last text) ≡ true }
+    ensures kind { (kind : Kind) (text : List ℕ) → is_utf8 text ≡ true → is_text_of_kind kind text ≡ true → 0 < length (text_normal kind text) → is_text_of_kind kind (text_normal kind text) ≡ true }
+    ensures normal { (kind : Kind) (text normal : List ℕ) → is_utf8 text ≡ true → normal_of kind (TextValue text) ≡ Ok normal → 0 < length normal → value_over (TextValue normal) ≡ None → normal_of kind (TextValue normal) ≡ Ok normal }
 {}
