@@ -63,6 +63,19 @@ pair_from limited before number text may new fits =
     let inner = and_parts (is_text_of_kind (kind_of number) text) (not limited || nat_le (length text) 1024) outer.1 in
     record { pair = and_from (may_name number) _ may inner.0; utf8 = outer.0; short = is_limited limited (nat_le (length text) 1024) inner.1; new = new }
 
+type_given : (before : Pairs) (word : Text) (n : ℕ) → new_type before word ≡ Ok n → (may_name n ≡ true) × (has_type n before ≡ false)
+type_given before word n h =
+    let number = bound (naming (type_of_text word)) (λ m. if has_type m before then Err RepeatedType else Ok m) n h in
+    let fresh = unblocked (has_type number.0 before) (Ok number.0) n RepeatedType number.2 in
+    let same : number.0 ≡ n = answer fresh.1 in
+    (ap may_name (sym same) ∙ named (type_of_text word) number.0 number.1, ap (λ m. has_type m before) (sym same) ∙ fresh.0)
+
+text_given : (limited : Bool) (number at : ℕ) (t u : Text) → text_at limited number at t ≡ Ok u → fits_type limited number u ≡ true
+text_given limited number at t u h =
+    let text = bound (spelled (resolved at t)) (λ v. if fits_type limited number v then Ok v else Err (BadSpelling at)) u h in
+    let fits = passed (fits_type limited number text.0) text.0 u (BadSpelling at) text.2 in
+    ap (fits_type limited number) (sym fits.1) ∙ fits.0
+
 pair_given : (limited : Bool) (at : ℕ) (before : Pairs) (t : Text) (p : ℕ × Text) → pair_at limited at before t ≡ Ok p → GivenPair limited before p
 pair_given limited at before t p h =
     let cut = position_or_len (λ b. b == equals) t in
@@ -71,16 +84,9 @@ pair_given limited at before t p h =
     let one : pair_cut limited at before t cut ≡ Ok p = allowed (nat_lt cut (length t)) (pair_cut limited at before t cut) p (BadSpelling (at + length t)) h in
     let type = bound (new_type before word) (λ n. text_at limited n (at + cut + 1) rest >>= λ v. Ok (n, v)) p one in
     let value = bound (text_at limited type.0 (at + cut + 1) rest) (λ v. Ok (type.0, v)) p type.2 in
-    let number = bound (naming (type_of_text word)) (λ n. if has_type n before then Err RepeatedType else Ok n) type.0 type.1 in
-    let fresh = unblocked (has_type number.0 before) (Ok number.0) type.0 RepeatedType number.2 in
-    let same : number.0 ≡ type.0 = answer fresh.1 in
-    let text = bound (spelled (resolved (at + cut + 1) rest)) (λ u. if fits_type limited type.0 u then Ok u else Err (BadSpelling (at + cut + 1))) value.0 value.1 in
-    let fits = passed (fits_type limited type.0 text.0) text.0 value.0 (BadSpelling (at + cut + 1)) text.2 in
-    subst (GivenPair limited before) (answer value.2)
-    (pair_from limited before type.0 value.0
-        (ap may_name (sym same) ∙ named (type_of_text word) number.0 number.1)
-        (ap (λ n. has_type n before) (sym same) ∙ fresh.0)
-        (ap (fits_type limited type.0) (sym fits.1) ∙ fits.0))
+    let number = type_given before word type.0 type.1 in
+    let fits = text_given limited type.0 (at + cut + 1) rest value.0 value.1 in
+    subst (GivenPair limited before) (answer value.2) (pair_from limited before type.0 value.0 number.0 number.1 fits)
 
 -- ---- an RDN
 

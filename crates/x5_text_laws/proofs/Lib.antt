@@ -4,6 +4,7 @@ pub mod Octets
 pub mod Pieces
 pub mod Oids
 pub mod Utf8
+pub mod Types
 pub mod Sorting
 pub mod Limits
 pub mod Keywords
@@ -16,4 +17,6 @@ pub mod FoldTable
 pub mod Folding
 pub mod Spacing
 pub mod NormalForms
+pub mod Telling
+pub mod Words
 mod Examples

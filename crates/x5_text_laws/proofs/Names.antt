@@ -2,8 +2,8 @@
 use Rattle.std.proofs.Common.{◌≡◌, ℕ, ◌≤◌, Bool, true, false, ◌&&◌, ◌==◌, nat_lt, List, [], ◌∷◌, length, map, Result, Ok, Err, refl, sym, ap, ap₂, subst, ◌∙◌, arith}
 use Rattle.std.proofs.lemmas.Bool.{and_parts}
 use Rattle.std.specs.List.{list_all, slice_split}
-use Rattle.x5_model.specs.Values.{Text, NameValue, Rdn, Name, written}
-use Rattle.x5_model.specs.Normal.{is_pair, is_rdn, is_name, ascends, IsStored, stored}
+use Rattle.x5_model.specs.Values.{Text, NameValue, Name, written, written_pair}
+use Rattle.x5_model.specs.Normal.{is_pair, is_rdn, is_name, ascends, name_over, IsStored, stored, stored_pair}
 use Rattle.x5_model_text.specs.NameText.{NameFault, BadSpelling, ◌>>=◌, slash, text_of_pairs, text_of_written, text_of_name, sorted, rdn_at, rdn_alone, rdn_of_text, written_name, name_of_text}
 use Rattle.x5_text_laws.specs.Given.{are_utf8, IsGivenName}
 use Rattle.x5_text_laws.proofs.GivenNames.{answer, bound, name_given, rdn_given}
@@ -37,6 +37,21 @@ name_read_again t n h = name_read_back n (name_given t n h)
 
 pub stored_read_back : (n : Name) → IsStored n → list_all are_utf8 (written n) ≡ true → (name_of_text (text_of_name n) ≡ Ok (written n)) × (stored (written n) ≡ n)
 stored_read_back n h utf8 = (name_read_back (written n) (record { valid = h.valid; short = h.short; utf8 = utf8 }), sym h.normal)
+
+-- what was read, with its normal forms
+written_stored : (n : NameValue) → written (stored n) ≡ n
+written_stored [] = refl
+written_stored (r ∷ n) = ap₂ ◌∷◌ (pairs r) (written_stored n)
+  where
+    pairs : (r : Pairs) → map written_pair (map stored_pair r) ≡ r
+    pairs [] = refl
+    pairs (p ∷ r) = ap (λ q. p ∷ q) (pairs r)
+
+pub stored_given : (t : Text) (n : NameValue) → name_of_text t ≡ Ok n → IsStored (stored n)
+stored_given t n h =
+    let g = name_given t n h in
+    let same = written_stored n in
+    record { valid = ap is_name same ∙ g.valid; short = ap (name_over 0) same ∙ g.short; normal = ap stored (sym same) }
 
 -- ---- an RDN alone
 

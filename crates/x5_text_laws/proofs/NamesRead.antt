@@ -15,7 +15,7 @@ use Rattle.x5_model_text.specs.ValueText.{backslash, is_escaped, escaped_octet, 
 use Rattle.x5_model_text.specs.NameText.{NameFault, BadSpelling, TooManyRdns, TooManyPairs, RepeatedType, ◌>>=◌, slash, plus, equals, text_of_pair, text_of_pairs, slash_and_pairs, text_of_written, spelled, naming, has_type, fits_text, fits_type, text_at, new_type, pair_cut, pair_at, pairs_at, rdn_at, rdns_at, behind_slash, written_name}
 use Rattle.x5_text_laws.specs.Given.{are_utf8}
 use Rattle.x5_text_laws.proofs.Escapes.{resolved_escaped}
-use Rattle.x5_text_laws.proofs.Keywords.{Keyword, keyword}
+use Rattle.x5_text_laws.proofs.Keywords.{Keyword, keyword, keyword_names}
 use Rattle.x5_text_laws.proofs.Limits.{is_short, is_small}
 use Rattle.x5_text_laws.proofs.Pieces.{is_free, cut_all, cut_first, cut_joined}
 use Rattle.x5_text_laws.proofs.Sorting.{Pairs, are_below, below_later, below_absent, below_more}
@@ -51,7 +51,7 @@ record Fine (p : ℕ × Text) : Type 0 where
 type_read : (before : Pairs) (p : ℕ × Text) → Fine p → has_type p.0 before ≡ false → new_type before (keyword_of p.0) ≡ Ok p.0
 type_read before p h absent =
     let may = (and_parts (may_name p.0) (is_text_of_kind (kind_of p.0) p.1) h.pair).0 in
-    ap (λ r. r >>= λ n. if has_type n before then Err RepeatedType else Ok n) (keyword p.0 may).read
+    ap (λ r. r >>= λ n. if has_type n before then Err RepeatedType else Ok n) (keyword_names p.0 may)
     ∙ ap (λ t. if t then Err RepeatedType else Ok p.0) absent
 
 fitting : (limited : Bool) (p : ℕ × Text) → Fine p → fits_type limited p.0 p.1 ≡ true

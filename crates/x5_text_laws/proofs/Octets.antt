@@ -16,7 +16,7 @@ use Rattle.x5_text_laws.proofs.Plain.{is_plain, plain_read}
 hex_plain : (d : ℕ) → d < 16 → is_plain (slice_index lower_digits d) ≡ true
 hex_plain d h = agree_below_at (λ n. is_plain (slice_index lower_digits n)) (λ n. true) 16 d refl h
 
-encoded_plain : (bs : List ℕ) → AllByRecursion (λ b. b < 256) bs → list_all is_plain (encode_lower bs) ≡ true
+pub encoded_plain : (bs : List ℕ) → AllByRecursion (λ b. b < 256) bs → list_all is_plain (encode_lower bs) ≡ true
 unfolding encode_with
 encoded_plain [] h = refl
 encoded_plain (b ∷ bs) h =

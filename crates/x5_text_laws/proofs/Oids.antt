@@ -1,6 +1,6 @@
 -- Object identifiers in dotted decimals read back.
-use Rattle.std.proofs.Common.{◌≡◌, ℕ, ◌+◌, ◌*◌, ◌^◌, ◌<◌, ◌≤◌, Bool, true, false, ◌&&◌, ◌||◌, ◌==◌, not, if◌then◌else◌, nat_lt, zero, suc, List, [], ◌∷◌, ◌++◌, length, map, get_or, slice_index, None, Some, Ok, refl, sym, ap, ap₂, ◌∙◌, inl, inr, arith, rules, length-append}
-use Rattle.std.proofs.lemmas.Bool.{and_parts, and_from, cases_lt, lt-ltb, ltb-true, eqb-true, ne_eqb, eq-eqb, or_from, or_right, or_left}
+use Rattle.std.proofs.Common.{◌≡◌, ℕ, ◌+◌, ◌*◌, ◌^◌, ◌<◌, ◌≤◌, Bool, true, false, ◌&&◌, ◌||◌, ◌==◌, not, if◌then◌else◌, nat_lt, zero, suc, List, [], ◌∷◌, ◌++◌, length, map, get_or, slice_index, Option, None, Some, Ok, refl, sym, ap, ap₂, ◌∙◌, inl, inr, arith, rules, length-append}
+use Rattle.std.proofs.lemmas.Bool.{cases_Bool, and_parts, and_from, cases_lt, lt-ltb, ltb-true, eqb-true, ne_eqb, eq-eqb, or_from, or_right, or_left}
 use Rattle.std.proofs.lemmas.Bool.Decides.{nat_tests}
 use Rattle.std.proofs.lemmas.Fmt.{decimal_digit, decimal_nonempty, first_decimal, digits_decimal, digits_value-decimal}
 use Rattle.std.proofs.lemmas.List.Folds.{list_all-append}
@@ -22,7 +22,7 @@ use Rattle.x5_text_laws.proofs.Plain.{is_plain, digits_plain, plain_read}
 numerals : IsNumeralModel (λ ds. list_all is_ascii_digit ds ≡ true) (digits_value 10)
 numerals = numerals_by_value _ (search rules)
 
-digits_of_arc : (n : ℕ) → n < 2 ^ 32 → list_all is_ascii_digit (decimal n) ≡ true
+pub digits_of_arc : (n : ℕ) → n < 2 ^ 32 → list_all is_ascii_digit (decimal n) ≡ true
 digits_of_arc n h = digits_decimal numerals n (omega arith)
 
 no_zero_first : (n : ℕ) → n < 2 ^ 32 → ((length (decimal n) == 1) || not (slice_index (decimal n) 0 == 48)) ≡ true
@@ -42,7 +42,7 @@ arc_read n h =
     ∙ ap (λ v. if nat_lt v (2 ^ 32) then Some v else None) value
     ∙ ap (λ b. if b then Some n else None) (lt-ltb n (2 ^ 32) h)
 
-abbrev are_arcs : List ℕ → Bool
+abbrev pub are_arcs : List ℕ → Bool
 are_arcs ns = list_all (λ n. nat_lt n (2 ^ 32)) ns
 
 arcs_read : (ns : List ℕ) → are_arcs ns ≡ true → arcs_of (map decimal ns) ≡ Some ns
@@ -86,7 +86,7 @@ oid_at n ns h =
     ap (λ ts. if_oid (arcs_of ts)) (cut_joined dot (decimal n) (map decimal ns) (arcs_no_dot (n ∷ ns) h))
     ∙ ap if_oid (arcs_read (n ∷ ns) h)
 
-arcs_of_oid : (a b : ℕ) (ns : List ℕ) → is_oid (a ∷ b ∷ ns) ≡ true → are_arcs (a ∷ b ∷ ns) ≡ true
+pub arcs_of_oid : (a b : ℕ) (ns : List ℕ) → is_oid (a ∷ b ∷ ns) ≡ true → are_arcs (a ∷ b ∷ ns) ≡ true
 arcs_of_oid a b ns h = (and_parts (nat_lt a 3 && (nat_lt 1 a || nat_lt b 40)) (are_arcs (a ∷ b ∷ ns)) h).1
 
 pub oid_read : (arcs : List ℕ) → is_oid arcs ≡ true → oid_of_text (text_of_oid arcs) ≡ Some arcs
@@ -101,6 +101,14 @@ oid_text type (a ∷ b ∷ ns) h =
     let all = arcs_of_oid a b ns h in
     let first = ltb-true a (2 ^ 32) (and_parts (nat_lt a (2 ^ 32)) (are_arcs (b ∷ ns)) all).0 in
     plain_read type (text_of_oid (a ∷ b ∷ ns)) (oid_plain a (b ∷ ns) all) (oid_some a (b ∷ ns) first)
+
+-- what reads as an object identifier is one
+pub oid_valid : (o : Option (List ℕ)) (arcs : List ℕ) → if_oid o ≡ Some arcs → is_oid arcs ≡ true
+oid_valid None arcs h = cc
+oid_valid (Some ns) arcs h = elim (cases_Bool (is_oid ns)) [
+  | inl good ↦ (let e : Some ns ≡ Some arcs = sym (ap (λ b. if b then Some ns else None) good) ∙ h in let same : ns ≡ arcs = cc in ap is_oid (sym same) ∙ good)
+  | inr bad ↦ (let e : None ≡ Some arcs = sym (ap (λ b. if b then Some ns else None) bad) ∙ h in cc)
+]
 
 pub oids_read_back : (type : TypeRef) (arcs : List ℕ) → kind_of_type type ≡ OidKind → is_oid arcs ≡ true → value_over (OidValue arcs) ≡ None → value_of_text type (text_of_value (OidValue arcs)) ≡ Ok (OidValue arcs)
 oids_read_back type arcs kind h short =

@@ -16,7 +16,7 @@ use Rattle.x5_text_laws.proofs.Escapes.{resolved_escaped}
 abbrev pub is_plain : ℕ → Bool
 is_plain b = nat_lt b 128 && not (is_escaped b)
 
-one_plain : (b : ℕ) → is_plain b ≡ true → (b < 128) × (is_escaped b ≡ false)
+pub one_plain : (b : ℕ) → is_plain b ≡ true → (b < 128) × (is_escaped b ≡ false)
 one_plain b h = let parts = and_parts (nat_lt b 128) (not (is_escaped b)) h in (grind (arith, nat_tests), not-true (is_escaped b) parts.1)
 
 pub plain_octets : (t : Text) → list_all is_plain t ≡ true → AllByRecursion (λ b. b < 256) t

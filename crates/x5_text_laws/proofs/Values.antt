@@ -21,7 +21,7 @@ use Rattle.x5_text_laws.proofs.GivenNames.{short_given}
 use Rattle.x5_text_laws.proofs.Names.{given_read, name_stands}
 use Rattle.x5_text_laws.proofs.NameUtf8.{name_utf8, written_some}
 use Rattle.x5_text_laws.proofs.Octets.{octets_read_back}
-use Rattle.x5_text_laws.proofs.Oids.{oids_read_back}
+use Rattle.x5_text_laws.proofs.Oids.{oid_valid, oids_read_back}
 use Rattle.x5_text_laws.proofs.Utf8.{utf8_octets}
 
 -- ---- what was read of a resolved text
@@ -56,13 +56,6 @@ text_given : (k : Kind) (t : Text) (v : Value) → is_utf8 t ≡ true → 0 < le
 text_given k t v utf8 some kept h =
     let i = inside (value_over (TextValue t)) (TextValue t) v h in
     subst (IsGiven k) i.1 (record { utf8 = utf8; some = some; short = i.0; kept = kept })
-
-oid_valid : (o : Option (List ℕ)) (arcs : List ℕ) → if_oid o ≡ Some arcs → is_oid arcs ≡ true
-oid_valid None arcs h = cc
-oid_valid (Some ns) arcs h = elim (cases_Bool (is_oid ns)) [
-  | inl good ↦ (let e : Some ns ≡ Some arcs = sym (ap (λ b. if b then Some ns else None) good) ∙ h in let same : ns ≡ arcs = cc in ap is_oid (sym same) ∙ good)
-  | inr bad ↦ (let e : None ≡ Some arcs = sym (ap (λ b. if b then Some ns else None) bad) ∙ h in cc)
-]
 
 oid_given : (t : Text) (o : Option (List ℕ)) (v : Value) → oid_of_text t ≡ o → is_utf8 t ≡ true → 0 < length t → bounded (or_text t (option_map OidValue o)) ≡ Ok v → IsGiven OidKind v
 oid_given t None v e utf8 some h = text_given OidKind t v utf8 some (ap (λ o. not (is_some o)) e) h

@@ -1,13 +1,18 @@
--- What texts can give: the names and the values that reading answers.
-use Rattle.std.specs.Prelude.{◌≡◌, ℕ, ◌<◌, Bool, true, false, not, List, length, None, is_some, is_ok}
-use Rattle.std.specs.List.{AllByRecursion, list_all}
+-- What texts can give: the types, names and values that reading answers.
+use Rattle.std.specs.Prelude.{◌≡◌, ℕ, ◌<◌, Bool, true, false, ◌&&◌, ◌||◌, ◌==◌, not, List, [], ◌∷◌, length, None, is_some, is_ok}
+use Rattle.std.specs.List.{AllByRecursion, list_all, list_any}
 use Rattle.std.specs.Str.{is_utf8}
-use Rattle.x5_model.specs.Values.{Text, NameValue, Value, TextValue, OctetsValue, OidValue, NameOf}
-use Rattle.x5_model.specs.Types.{Kind, TextKind, PrintableKind, CountryKind, NumericKind, TelephoneKind, OidKind, NameKind, OctetsKind}
+use Rattle.x5_model.specs.Values.{Text, TypeRef, Known, Unknown, NameValue, Value, TextValue, OctetsValue, OidValue, NameOf}
+use Rattle.x5_model.specs.Types.{is_known, Kind, TextKind, PrintableKind, CountryKind, NumericKind, TelephoneKind, OidKind, NameKind, OctetsKind}
 use Rattle.x5_model.specs.Normal.{is_oid, is_name, name_over, value_over}
-use Rattle.x5_model_text.specs.TypeText.{oid_of_text}
-use Rattle.x5_model_text.specs.ValueText.{octets_of_text}
-use Rattle.x5_model_text.specs.NameText.{written_name}
+use Rattle.x5_model_text.specs.TypeText.{known_below, oid_of_text}
+use Rattle.x5_model_text.specs.ValueText.{backslash, is_escaped, octets_of_text}
+use Rattle.x5_model_text.specs.NameText.{slash, plus, equals, written_name}
+
+-- a type that a text can give: one of the table, or another object identifier
+abbrev pub is_given_type : TypeRef → Bool
+is_given_type (Known n) = is_known n
+is_given_type (Unknown arcs) = is_oid arcs && not (is_some (known_below arcs))
 
 abbrev pub are_utf8 : List (ℕ × Text) → Bool
 are_utf8 r = list_all (λ p. is_utf8 p.1) r
@@ -54,3 +59,13 @@ IsGiven k (TextValue t) = IsGivenText k t
 IsGiven k (OctetsValue bs) = AreGivenOctets k bs
 IsGiven k (OidValue arcs) = IsGivenOid k arcs
 IsGiven k (NameOf n) = (k ≡ NameKind) × IsGivenName n
+
+-- ---- what is printed
+
+-- an octet that stands in the printed text of a value: none that is escaped but the backslash before an escape's digits
+abbrev pub is_printed : ℕ → Bool
+is_printed b = not (is_escaped b) || (b == backslash)
+
+-- in that of a name there are also those that join its RDNs, its pairs, and a type and its value
+abbrev pub is_printed_in_name : ℕ → Bool
+is_printed_in_name b = is_printed b || list_any (λ c. c == b) (slash ∷ plus ∷ equals ∷ [])

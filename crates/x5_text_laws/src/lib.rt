@@ -4,13 +4,13 @@
 ghost use Rattle.std.specs.Prelude.{◌≡◌, ℕ, ◌<◌, Bool, true, List, [], ◌∷◌, length, map, None, Some, Ok};
 ghost use Rattle.std.specs.List.{AllByRecursion, list_all};
 ghost use Rattle.std.specs.Str.{is_utf8};
-ghost use Rattle.x5_model.specs.Values.{TypeRef, Known, TextValue, OctetsValue, OidValue, NameValue, Name, Value, written};
-ghost use Rattle.x5_model.specs.Types.{Kind, table, OctetsKind, OidKind};
-ghost use Rattle.x5_model.specs.Normal.{is_oid, is_part_of_kind, is_text_of_kind, folded, part_normal, text_normal, value_over, normal_of, IsStored, stored};
-ghost use Rattle.x5_model_text.specs.TypeText.{type_of_text};
+ghost use Rattle.x5_model.specs.Values.{TypeRef, Known, TextValue, OctetsValue, OidValue, NameOf, NameValue, Name, Value, written};
+ghost use Rattle.x5_model.specs.Types.{Kind, table, OctetsKind, OidKind, NameKind};
+ghost use Rattle.x5_model.specs.Normal.{is_oid, is_part_of_kind, is_text_of_kind, folded, part_normal, text_normal, value_over, normal_of, normal_form, written_key, IsStored, stored};
+ghost use Rattle.x5_model_text.specs.TypeText.{text_of_type, type_of_text};
 ghost use Rattle.x5_model_text.specs.NameText.{kind_of_type, text_of_pairs, text_of_written, text_of_name, name_of_text, rdn_of_text, text_of_value, value_of_resolved, value_of_text};
 ghost use Rattle.x5_model_text.specs.ValueText.{escaped, resolved};
-ghost use Rattle.x5_text_laws.specs.Given.{are_utf8, IsGivenName, IsGiven};
+ghost use Rattle.x5_text_laws.specs.Given.{is_given_type, are_utf8, IsGivenName, IsGiven, is_printed, is_printed_in_name};
 
 /// A text with its escapes resolves to itself, wherever it stands.
 #[tactic(auto, using(crate::proofs::Escapes::resolved_escaped))]
@@ -29,6 +29,14 @@ pub fn keywords_read_back()
     ensures { map (λ r. type_of_text r.keyword) table ≡ map (λ r. Some (Known r.number)) table }
 {}
 
+/// What a text gives as a type is one of the table or another object identifier; the text of such a type reads as the type.
+#[tactic(auto, using(crate::proofs::Types::type_given, crate::proofs::Types::type_back, crate::proofs::Types::type_again))]
+pub fn types_read_back()
+    ensures given { (text : List ℕ) (type : TypeRef) → type_of_text text ≡ Some type → is_given_type type ≡ true }
+    ensures types { (type : TypeRef) → is_given_type type ≡ true → type_of_text (text_of_type type) ≡ Some type }
+    ensures again { (text : List ℕ) (type : TypeRef) → type_of_text text ≡ Some type → type_of_text (text_of_type type) ≡ Some type }
+{}
+
 /// Octets within the limit, printed and read for a type of octets, are themselves.
 #[tactic(auto, using(crate::proofs::Octets::octets_read_back))]
 pub fn octets_read_back()
@@ -45,6 +53,7 @@ pub fn oids_read_back()
 pub fn read_names_are_given()
     ensures names { (text : List ℕ) (name : NameValue) → name_of_text text ≡ Ok name → IsGivenName name }
     ensures rdns { (text : List ℕ) (rdn : List (ℕ × List ℕ)) → rdn_of_text text ≡ Ok rdn → IsGivenName (rdn ∷ []) }
+    ensures stored { (text : List ℕ) (name : NameValue) → name_of_text text ≡ Ok name → IsStored (stored name) }
 {}
 
 /// The text of such a name reads as the very same name, and that of an RDN as the RDN; so what was read, printed and read again is the same.
@@ -85,4 +94,20 @@ pub fn normal_forms_stand()
     ensures characters { (kind : Kind) (first last : Bool) (text : List ℕ) → is_utf8 text ≡ true → is_part_of_kind kind text ≡ true → is_part_of_kind kind (part_normal kind first last text) ≡ true }
     ensures kind { (kind : Kind) (text : List ℕ) → is_utf8 text ≡ true → is_text_of_kind kind text ≡ true → 0 < length (text_normal kind text) → is_text_of_kind kind (text_normal kind text) ≡ true }
     ensures normal { (kind : Kind) (text normal : List ℕ) → is_utf8 text ≡ true → normal_of kind (TextValue text) ≡ Ok normal → 0 < length normal → value_over (TextValue normal) ≡ None → normal_of kind (TextValue normal) ≡ Ok normal }
+{}
+
+/// The normal forms of two names, or of two object identifiers, are the same only where their keys, or their arcs, are.
+#[tactic(auto, using(crate::proofs::Telling::names_told, crate::proofs::Telling::oids_told))]
+pub fn normal_forms_tell_apart()
+    ensures names { (name other : NameValue) → IsGivenName name → IsGivenName other → normal_form NameKind (NameOf name) ≡ normal_form NameKind (NameOf other) → written_key name ≡ written_key other }
+    ensures oids { (arcs other : List ℕ) → is_oid arcs ≡ true → is_oid other ≡ true → normal_form OidKind (OidValue arcs) ≡ normal_form OidKind (OidValue other) → arcs ≡ other }
+{}
+
+/// What is printed of a value is one word: no space, no control character, nothing that ends or joins words, pairs or filters. In a name's text stand also `/`, `+` and `=`, and both are UTF-8.
+#[tactic(auto, using(crate::proofs::Words::value_word, crate::proofs::Words::name_word, crate::proofs::Words::value_utf8, crate::proofs::NameUtf8::name_utf8))]
+pub fn printed_texts_are_words()
+    ensures values { (kind : Kind) (value : Value) → IsGiven kind value → list_all is_printed (text_of_value value) ≡ true }
+    ensures names { (name : NameValue) → IsGivenName name → list_all is_printed_in_name (text_of_written name) ≡ true }
+    ensures values_utf8 { (kind : Kind) (value : Value) → IsGiven kind value → is_utf8 (text_of_value value) ≡ true }
+    ensures names_utf8 { (name : NameValue) → IsGivenName name → is_utf8 (text_of_written name) ≡ true }
 {}
