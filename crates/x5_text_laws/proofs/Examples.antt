@@ -1,5 +1,5 @@
 -- Texts that are printed and read again, and normal forms: each line computes.
-use Rattle.std.proofs.Common.{◌≡◌, ℕ, List, [], ◌∷◌, ◌++◌, length, Ok, Err, codes, refl}
+use Rattle.std.proofs.Common.{◌≡◌, [], ◌∷◌, ◌++◌, length, Ok, Err, codes, refl}
 use Rattle.std.specs.Str.{chars, is_utf8}
 use Rattle.hex.specs.Hex.{encode_with}
 use Rattle.caseless.proofs.Computing.{caseless}

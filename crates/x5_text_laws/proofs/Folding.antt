@@ -1,9 +1,8 @@
 -- Folded texts: they're folded already, and dropping characters of ASCII keeps them so.
-use Rattle.std.proofs.Common.{◌≡◌, ℕ, ◌+◌, ◌*◌, ◌/◌, ◌%◌, ◌<◌, ◌≤◌, Bool, true, false, ◌&&◌, ◌||◌, ◌==◌, not, cond, nat_lt, List, [], ◌∷◌, ◌++◌, length, map, filter, flat_map, IsUtf8, IsAscii, refl, sym, ap, ap₂, subst, ◌∙◌, inl, inr, append_assoc, append-nil, arith}
-use Rattle.std.proofs.lemmas.Bool.{cases_Bool, cases_lt, cases_eq, and_parts, and_from, cond_both, ltb-true, ltb-false, ne_eqb, eq-eqb}
-use Rattle.std.proofs.lemmas.Bool.Decides.{nat_tests}
+use Rattle.std.proofs.Common.{◌≡◌, ℕ, ◌+◌, ◌/◌, ◌%◌, ◌<◌, ◌≤◌, Bool, true, ◌&&◌, ◌==◌, not, List, [], ◌∷◌, ◌++◌, IsUtf8, refl, sym, ap, ap₂, ◌∙◌, arith}
+use Rattle.std.proofs.lemmas.Bool.{and_parts, and_from, cond_both, ne_eqb, eq-eqb}
 use Rattle.std.proofs.lemmas.List.Folds.{list_all-append}
-use Rattle.std.proofs.lemmas.Str.{chars-encodes, encode_ascii, encodes-chars, scalars-chars}
+use Rattle.std.proofs.lemmas.Str.{chars-encodes, scalars-chars}
 use Rattle.std.specs.List.{list_all}
 use Rattle.std.specs.Str.{chars}
 use Rattle.ucd_table.proofs.GroupsCheck.{same_string, same_string-true}
@@ -75,7 +74,7 @@ unfolding folded
 folded_stable t h = record {
   characters = default_case_fold (chars t);
   stable = folds_stable (chars t) (scalars-chars t h);
-  text = refl
+  text = refl;
 }
 
 pub stable_folded : (t : Text) → Stable t → folded t ≡ t
@@ -93,7 +92,7 @@ pub stable_cons : (c : ℕ) (t : Text) → is_stable c ≡ true → Stable t →
 stable_cons c t h s = record {
   characters = c ∷ s.characters;
   stable = ap₂ ◌&&◌ h s.stable;
-  text = ap (λ u. encode c ++ u) s.text
+  text = ap (λ u. encode c ++ u) s.text;
 }
 
 -- ---- the octets of a character beyond ASCII are none of ASCII

@@ -1,6 +1,6 @@
 -- What a text gives as a name is fit to be printed and read again.
-use Rattle.std.proofs.Common.{◌≡◌, ℕ, ◌+◌, ◌<◌, ◌≤◌, Bool, true, false, ◌&&◌, ◌||◌, ◌==◌, not, if◌then◌else◌, nat_lt, nat_le, suc, List, [], ◌∷◌, ◌++◌, length, map, Option, None, Some, Result, Ok, Err, refl, sym, subst, ap, ap₂, ◌∙◌, arith}
-use Rattle.std.proofs.lemmas.Bool.{and_parts, and_from, lt-ltb, le-leb, leb-true, leb-false}
+use Rattle.std.proofs.Common.{◌≡◌, ℕ, ◌+◌, ◌<◌, ◌≤◌, Bool, true, false, ◌&&◌, ◌||◌, ◌==◌, not, if◌then◌else◌, nat_lt, nat_le, List, [], ◌∷◌, ◌++◌, length, map, Option, None, Some, Result, Ok, Err, refl, sym, subst, ap, ap₂, ◌∙◌, arith}
+use Rattle.std.proofs.lemmas.Bool.{and_parts, and_from, lt-ltb, le-leb, leb-false}
 use Rattle.std.proofs.lemmas.List.{length_push, length-map}
 use Rattle.std.proofs.lemmas.List.Folds.{list_all-append, list_all-map}
 use Rattle.std.proofs.lemmas.List.Splits.{length-slice_split}
@@ -8,12 +8,12 @@ use Rattle.std.specs.List.{list_all, before_first, after_first, position_or_len,
 use Rattle.std.specs.Str.{is_utf8}
 use Rattle.x5_model.specs.Values.{Text, TypeRef, Known, Unknown, NameValue}
 use Rattle.x5_model.specs.Types.{kind_of, may_name}
-use Rattle.x5_model.specs.Normal.{is_text_of_kind, is_pair, is_rdn, is_name, ascends, name_over}
+use Rattle.x5_model.specs.Normal.{is_text_of_kind, is_pair, is_rdn, ascends, name_over}
 use Rattle.x5_model_text.specs.TypeText.{type_of_text}
 use Rattle.x5_model_text.specs.ValueText.{resolved}
 use Rattle.x5_model_text.specs.NameText.{NameFault, BadSpelling, UnknownType, TooManyRdns, TooManyPairs, RepeatedType, ◌>>=◌, slash, plus, equals, spelled, naming, has_type, fits_text, fits_type, text_at, new_type, pair_cut, pair_at, pairs_at, sorted, rdn_at, rdns_at, behind_slash, written_name, name_of_text}
 use Rattle.x5_text_laws.specs.Given.{are_utf8, IsGivenName}
-use Rattle.x5_text_laws.proofs.Limits.{is_short, is_small, Small, name_small, small_name}
+use Rattle.x5_text_laws.proofs.Limits.{is_short, is_small, name_small, small_name}
 use Rattle.x5_text_laws.proofs.Sorting.{Pairs, sorted_all, sorted_length, sorted_more}
 
 -- ---- what an answer says of the steps before it
@@ -120,7 +120,7 @@ pairs_given limited at before (t ∷ ts) r h given =
       pairs = push_all is_pair before step.0 given.pairs p.pair;
       utf8 = push_all (λ q. is_utf8 q.1) before step.0 given.utf8 p.utf8;
       order = sorted_more before step.0 p.new given.order;
-      small = λ e. push_small before step.0 (room limited 4 (length before) open_.0 e) (given.small e) (p.short e)
+      small = λ e. push_small before step.0 (room limited 4 (length before) open_.0 e) (given.small e) (p.short e);
     } in
     let rest = pairs_given limited (at + length t + 1) (before ++ step.0 ∷ []) ts r step.2 more in
     let count : length r ≡ length before + length (t ∷ ts) = (let e = rest.1 in let l = length_push before step.0 in omega (arith, e, l)) in
@@ -151,7 +151,7 @@ rdn_given limited at t r h =
     record {
       rdn = and_from _ _ (and_from (nat_lt 0 (length (sorted r))) (list_all is_pair (sorted r)) (lt-ltb 0 (length (sorted r)) some) (sorted_all is_pair r given.pairs)) given.order;
       utf8 = sorted_all (λ q. is_utf8 q.1) r given.utf8;
-      small = λ e. sorted_small r (given.small e)
+      small = λ e. sorted_small r (given.small e);
     }
 
 -- ---- a name
@@ -173,7 +173,7 @@ rdns_given limited at before (t ∷ ts) n h given =
       rdns = push_all (λ q. is_rdn (sorted q)) before step.0 given.rdns r.rdn;
       utf8 = push_all (λ q. are_utf8 (sorted q)) before step.0 given.utf8 r.utf8;
       small = λ e. push_all (λ q. is_small (sorted q)) before step.0 (given.small e) (r.small e);
-      few = λ e. (let lt = room limited 16 (length before) open_.0 e in let l = length_push before step.0 in omega (arith, lt, l))
+      few = λ e. (let lt = room limited 16 (length before) open_.0 e in let l = length_push before step.0 in omega (arith, lt, l));
     } in
     rdns_given limited (at + length t + 1) (before ++ step.0 ∷ []) ts n step.2 more
 
@@ -194,7 +194,7 @@ sorted_name n rdns utf8 small few =
     record {
       valid = list_all-map is_rdn sorted n ∙ rdns;
       short = small_name 0 (map sorted n) (omega (arith, count)) (list_all-map is_small sorted n ∙ small);
-      utf8 = list_all-map are_utf8 sorted n ∙ utf8
+      utf8 = list_all-map are_utf8 sorted n ∙ utf8;
     }
 
 pub name_given : (t : Text) (n : NameValue) → name_of_text t ≡ Ok n → IsGivenName n

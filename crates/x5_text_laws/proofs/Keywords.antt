@@ -64,7 +64,7 @@ by_row n (Some r) e h =
       no_equals = ap (is_free 61) (sym word) ∙ second.0;
       no_slash = ap (is_free 47) (sym word) ∙ third.0;
       no_plus = ap (is_free 43) (sym word) ∙ fourth.0;
-      plain = ap (list_all is_plain) (sym word) ∙ fourth.1
+      plain = ap (list_all is_plain) (sym word) ∙ fourth.1;
     }
 
 pub known_keyword : (n : ℕ) → is_known n ≡ true → Keyword n

@@ -1,9 +1,9 @@
 -- The limits of names by lengths alone.
-use Rattle.std.proofs.Common.{◌≡◌, ℕ, ◌+◌, ◌<◌, ◌≤◌, Bool, true, false, ◌&&◌, if◌then◌else◌, nat_lt, nat_le, suc, List, [], ◌∷◌, length, Option, None, Some, refl, ap, ap₂, ◌∙◌, arith}
-use Rattle.std.proofs.lemmas.Bool.{cases_Bool, and_parts, le-ltb, ltb-false, le-leb, leb-true}
+use Rattle.std.proofs.Common.{◌≡◌, ℕ, ◌+◌, ◌≤◌, Bool, true, false, ◌&&◌, if◌then◌else◌, nat_lt, nat_le, [], ◌∷◌, length, Option, None, Some, refl, ap, ap₂, arith}
+use Rattle.std.proofs.lemmas.Bool.{and_parts, le-ltb, ltb-false, le-leb, leb-true}
 use Rattle.std.specs.List.{list_all}
 use Rattle.x5_model.specs.Values.{Text, NameValue}
-use Rattle.x5_model.specs.Normal.{most_octets, most_pairs, most_rdns, first_of, over, rdn_over, name_over}
+use Rattle.x5_model.specs.Normal.{first_of, over, rdn_over, name_over}
 use Rattle.x5_text_laws.proofs.Sorting.{Pairs}
 
 abbrev pub is_short : ℕ × Text → Bool

@@ -1,20 +1,20 @@
 -- The text of a given name is UTF-8, so it can be a value.
-use Rattle.std.proofs.Common.{◌≡◌, ℕ, ◌<◌, ◌≤◌, Bool, true, false, ◌&&◌, nat_lt, List, [], ◌∷◌, ◌++◌, length, flat_map, Ok, Err, IsUtf8, IsAscii, refl, ap, ◌∙◌, length-append, lit<, arith}
+use Rattle.std.proofs.Common.{◌≡◌, ℕ, ◌<◌, true, ◌&&◌, nat_lt, [], ◌∷◌, ◌++◌, length, flat_map, IsUtf8, lit<, arith}
 use Rattle.std.proofs.lemmas.Bool.{and_parts}
 use Rattle.std.proofs.lemmas.Str.{IsUtf8-append, IsUtf8-nil, IsUtf8-from_ascii, IsUtf8-from_is_utf8, is_utf8-from_IsUtf8}
 use Rattle.std.proofs.lemmas.Str.Ascii.{IsAscii-nil, IsAscii-cons}
 use Rattle.std.specs.List.{list_all}
 use Rattle.std.specs.Str.{is_utf8}
-use Rattle.x5_model.specs.Values.{Text, TypeRef, NameValue, NameOf}
-use Rattle.x5_model.specs.Types.{NameKind, kind_of, may_name}
-use Rattle.x5_model.specs.Normal.{WrongSyntax, is_text_of_kind, is_pair, is_rdn, is_name, ascends, within, name_over}
+use Rattle.x5_model.specs.Values.{Text, NameValue}
+use Rattle.x5_model.specs.Types.{kind_of, may_name}
+use Rattle.x5_model.specs.Normal.{is_text_of_kind, is_pair, is_rdn, is_name, ascends}
 use Rattle.x5_model_text.proofs.EscapeLaws.{IsUtf8-escaped}
 use Rattle.x5_model_text.specs.TypeText.{keyword_of}
 use Rattle.x5_model_text.specs.ValueText.{escaped}
 use Rattle.x5_model_text.specs.NameText.{slash, plus, equals, text_of_pair, text_of_pairs, slash_and_pairs, text_of_written}
 use Rattle.x5_text_laws.specs.Given.{are_utf8, IsGivenName}
 use Rattle.x5_text_laws.proofs.Keywords.{keyword}
-use Rattle.x5_text_laws.proofs.Plain.{is_plain, plain_ascii}
+use Rattle.x5_text_laws.proofs.Plain.{plain_ascii}
 use Rattle.x5_text_laws.proofs.Sorting.{Pairs}
 
 octet_then : (b : ℕ) (t : Text) → b < 128 → IsUtf8 t → IsUtf8 (b ∷ t)

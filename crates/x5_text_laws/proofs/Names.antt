@@ -1,13 +1,13 @@
 -- Whole names, printed and read.
-use Rattle.std.proofs.Common.{◌≡◌, ℕ, ◌≤◌, Bool, true, false, ◌&&◌, ◌==◌, nat_lt, List, [], ◌∷◌, length, map, Result, Ok, Err, refl, sym, ap, ap₂, subst, ◌∙◌, arith}
+use Rattle.std.proofs.Common.{◌≡◌, Bool, true, ◌&&◌, ◌==◌, nat_lt, List, [], ◌∷◌, length, map, Ok, Err, refl, sym, ap, ap₂, subst, ◌∙◌, arith}
 use Rattle.std.proofs.lemmas.Bool.{and_parts}
 use Rattle.std.specs.List.{list_all, slice_split}
 use Rattle.x5_model.specs.Values.{Text, NameValue, Name, written, written_pair}
 use Rattle.x5_model.specs.Normal.{is_pair, is_rdn, is_name, ascends, name_over, IsStored, stored, stored_pair}
-use Rattle.x5_model_text.specs.NameText.{NameFault, BadSpelling, ◌>>=◌, slash, text_of_pairs, text_of_written, text_of_name, sorted, rdn_at, rdn_alone, rdn_of_text, written_name, name_of_text}
+use Rattle.x5_model_text.specs.NameText.{BadSpelling, ◌>>=◌, slash, text_of_pairs, text_of_written, text_of_name, sorted, rdn_at, rdn_alone, rdn_of_text, written_name, name_of_text}
 use Rattle.x5_text_laws.specs.Given.{are_utf8, IsGivenName}
 use Rattle.x5_text_laws.proofs.GivenNames.{answer, bound, name_given, rdn_given}
-use Rattle.x5_text_laws.proofs.Limits.{is_small, Small, name_small, rdn_small, small_name}
+use Rattle.x5_text_laws.proofs.Limits.{is_small, name_small, small_name}
 use Rattle.x5_text_laws.proofs.NamesRead.{rdn_no_slash, rdn_read, written_read}
 use Rattle.x5_text_laws.proofs.Pieces.{cut_all}
 use Rattle.x5_text_laws.proofs.Sorting.{Pairs, sorted_stands}
@@ -74,7 +74,7 @@ alone_given (t ∷ []) r h =
     let one : IsGivenName (sorted step.0 ∷ []) = record {
       valid = ap (λ b. b && true) g.rdn;
       short = small_name 0 (sorted step.0 ∷ []) (omega arith) (ap (λ b. b && true) (g.small refl));
-      utf8 = ap (λ b. b && true) g.utf8
+      utf8 = ap (λ b. b && true) g.utf8;
     } in
     subst (λ q. IsGivenName (q ∷ [])) (answer step.2) one
 alone_given (t ∷ u ∷ ts) r h = let step = bound (rdn_at true 0 t) (λ q. Err (BadSpelling (length t))) r h in cc (step.2)

@@ -1,18 +1,18 @@
 -- A name's text reads as the name.
-use Rattle.std.proofs.Common.{◌≡◌, ℕ, ◌+◌, ◌/◌, ◌%◌, ◌<◌, ◌≤◌, Bool, true, false, ◌&&◌, ◌||◌, ◌==◌, not, if◌then◌else◌, cond, nat_lt, nat_le, suc, List, [], ◌∷◌, ◌++◌, length, map, flat_map, None, Some, Result, Ok, Err, refl, sym, ap, ap₂, ◌∙◌, inl, inr, append_assoc, append-nil, length-append, drop, lit<, arith}
-use Rattle.std.proofs.lemmas.Bool.{cases_Bool, cases_lt, both_ways, ne_eqb, and_parts, and_from, or_right, lt-ltb, le-ltb, le-leb, leb-true, lt-leb, ltb-true, and_right, eq-eqb}
+use Rattle.std.proofs.Common.{◌≡◌, ℕ, ◌+◌, ◌/◌, ◌%◌, ◌<◌, ◌≤◌, Bool, true, false, ◌&&◌, ◌==◌, not, if◌then◌else◌, cond, nat_lt, nat_le, [], ◌∷◌, ◌++◌, length, map, flat_map, Ok, Err, refl, sym, ap, ap₂, ◌∙◌, inl, inr, append_assoc, append-nil, length-append, drop, lit<, arith}
+use Rattle.std.proofs.lemmas.Bool.{cases_Bool, cases_lt, both_ways, ne_eqb, and_parts, and_from, or_right, lt-ltb, leb-true, lt-leb, and_right, eq-eqb}
 use Rattle.std.proofs.lemmas.Bool.Decides.{nat_tests}
 use Rattle.std.proofs.lemmas.List.{take_at, drop_at, length_push}
 use Rattle.std.proofs.lemmas.List.Folds.{list_all-append}
 use Rattle.std.specs.Char.{digit_char}
-use Rattle.std.specs.List.{list_all, before_first, after_first, position_or_len, slice_split, join_with_byte}
+use Rattle.std.specs.List.{list_all, before_first, after_first, position_or_len, slice_split}
 use Rattle.std.specs.Str.{is_utf8}
 use Rattle.x5_model.specs.Values.{Text, NameValue}
 use Rattle.x5_model.specs.Types.{kind_of, may_name}
-use Rattle.x5_model.specs.Normal.{is_text_of_kind, is_pair, is_rdn, is_name, ascends_from, name_over}
-use Rattle.x5_model_text.specs.TypeText.{keyword_of, type_of_text}
-use Rattle.x5_model_text.specs.ValueText.{backslash, is_escaped, escaped_octet, escaped, resolved}
-use Rattle.x5_model_text.specs.NameText.{NameFault, BadSpelling, TooManyRdns, TooManyPairs, RepeatedType, ◌>>=◌, slash, plus, equals, text_of_pair, text_of_pairs, slash_and_pairs, text_of_written, spelled, naming, has_type, fits_text, fits_type, text_at, new_type, pair_cut, pair_at, pairs_at, rdn_at, rdns_at, behind_slash, written_name}
+use Rattle.x5_model.specs.Normal.{is_text_of_kind, is_pair, is_rdn, is_name, ascends_from}
+use Rattle.x5_model_text.specs.TypeText.{keyword_of}
+use Rattle.x5_model_text.specs.ValueText.{backslash, is_escaped, escaped_octet, escaped}
+use Rattle.x5_model_text.specs.NameText.{BadSpelling, TooManyRdns, TooManyPairs, RepeatedType, ◌>>=◌, slash, plus, equals, text_of_pair, text_of_pairs, slash_and_pairs, text_of_written, spelled, has_type, fits_text, fits_type, text_at, new_type, pair_cut, pair_at, pairs_at, rdn_at, rdns_at, behind_slash, written_name}
 use Rattle.x5_text_laws.specs.Given.{are_utf8}
 use Rattle.x5_text_laws.proofs.Escapes.{resolved_escaped}
 use Rattle.x5_text_laws.proofs.Keywords.{Keyword, keyword, keyword_names}
@@ -87,14 +87,14 @@ first_fine : (p : ℕ × Text) (r : Pairs) → FineRdn (p ∷ r) → Fine p
 first_fine p r h = record {
   pair = (and_parts (is_pair p) (list_all is_pair r) h.pairs).0;
   utf8 = (and_parts (is_utf8 p.1) (are_utf8 r) h.utf8).0;
-  short = (and_parts (is_short p) (list_all is_short r) h.texts).0
+  short = (and_parts (is_short p) (list_all is_short r) h.texts).0;
 }
 
 others_fine : (p : ℕ × Text) (r : Pairs) → FineRdn (p ∷ r) → FineRdn r
 others_fine p r h = record {
   pairs = (and_parts (is_pair p) (list_all is_pair r) h.pairs).1;
   utf8 = (and_parts (is_utf8 p.1) (are_utf8 r) h.utf8).1;
-  texts = (and_parts (is_short p) (list_all is_short r) h.texts).1
+  texts = (and_parts (is_short p) (list_all is_short r) h.texts).1;
 }
 
 pairs_read : (limited : Bool) (at least : ℕ) (before r : Pairs) → are_below least before ≡ true → ascends_from least r ≡ true → FineRdn r → length before + length r ≤ 4 → pairs_at limited at before (map text_of_pair r) ≡ Ok (before ++ r)

@@ -1,12 +1,12 @@
 -- A normal form is its own normal form.
-use Rattle.std.proofs.Common.{◌≡◌, ℕ, ◌+◌, ◌*◌, ◌/◌, ◌%◌, ◌<◌, ◌≤◌, Bool, true, false, ◌&&◌, ◌||◌, ◌==◌, not, cond, if◌then◌else◌, nat_lt, suc, List, [], ◌∷◌, ◌++◌, length, map, filter, flat_map, Option, None, Some, Result, Ok, Err, IsUtf8, IsAscii, refl, sym, ap, ap₂, subst, ◌∙◌, inl, inr, arith}
-use Rattle.std.proofs.lemmas.Bool.{cases_Bool, cases_lt, and_parts, and_from, or_right, not-true, lt-ltb, ltb-true, le-ltb, cond_both}
+use Rattle.std.proofs.Common.{◌≡◌, ℕ, ◌+◌, ◌/◌, ◌%◌, ◌<◌, ◌≤◌, Bool, true, false, ◌&&◌, ◌||◌, ◌==◌, not, if◌then◌else◌, nat_lt, List, [], ◌∷◌, ◌++◌, length, map, filter, Option, None, Some, Result, Ok, Err, IsUtf8, IsAscii, refl, sym, ap, ap₂, ◌∙◌, inl, inr, arith}
+use Rattle.std.proofs.lemmas.Bool.{cases_Bool, cases_lt, and_parts, and_from, or_right, lt-ltb, ltb-true, cond_both}
 use Rattle.std.proofs.lemmas.Bool.Decides.{nat_tests}
 use Rattle.std.proofs.lemmas.List.{length-map}
 use Rattle.std.proofs.lemmas.List.Folds.{list_all-append, list_all-map}
-use Rattle.std.proofs.lemmas.Str.{IsUtf8-from_is_utf8, chars-IsAscii, encodes-chars, encode_ascii, scalars-chars}
+use Rattle.std.proofs.lemmas.Str.{IsUtf8-from_is_utf8, chars-IsAscii, encodes-chars, encode_ascii}
 use Rattle.std.proofs.lemmas.Str.Ascii.{IsAscii-nil, IsAscii-cons}
-use Rattle.std.specs.Char.{is_ascii_alphabetic, is_ascii_alphanumeric, is_ascii_digit, to_ascii_lowercase}
+use Rattle.std.specs.Char.{is_ascii_alphabetic, is_ascii_digit, to_ascii_lowercase}
 use Rattle.std.specs.List.{list_all, list_any}
 use Rattle.std.specs.Str.{chars, is_utf8}
 use Rattle.ucd_case.proofs.CaseFoldingLemmas.{full_fold-ascii}
@@ -16,10 +16,9 @@ use lib.Dec.{ltb}
 use lib.Utf8.{encode, encodes, scalar}
 use Rattle.x5_model.specs.Values.{Text, TextValue}
 use Rattle.x5_model.specs.Types.{Kind, TextKind, PrintableKind, CountryKind, NumericKind, TelephoneKind, OidKind, NameKind, OctetsKind}
-use Rattle.x5_model.specs.Normal.{ValueFault, WrongSyntax, is_space, is_control, is_printable, may_stand, is_enough, is_part_of_kind, is_text_of_kind, folded, spaced, is_dialled, part_normal, text_normal, within, over, value_over, normal_of, part_normal_of}
+use Rattle.x5_model.specs.Normal.{ValueFault, WrongSyntax, is_space, is_control, is_printable, may_stand, is_enough, is_part_of_kind, is_text_of_kind, folded, spaced, is_dialled, part_normal, text_normal, within, value_over, normal_of}
 use Rattle.x5_text_laws.proofs.FoldTable.{is_fold, are_folds, folds}
-use Rattle.x5_text_laws.proofs.Folding.{Stable, folded_stable, stable_folded}
-use Rattle.x5_text_laws.proofs.Pieces.{is_free}
+use Rattle.x5_text_laws.proofs.Folding.{folded_stable, stable_folded}
 use Rattle.x5_text_laws.proofs.Spacing.{spaced_all, spaced_twice, spaced_free, spaced_stable, filter_stands, filter_passes, filter_all, dialled_stable, dialled_free}
 
 -- ---- twice is once

@@ -1,12 +1,12 @@
 -- Octets in hexadecimal digits read back.
-use Rattle.std.proofs.Common.{◌≡◌, ℕ, ◌*◌, ◌/◌, ◌%◌, ◌<◌, ◌≤◌, Bool, true, false, ◌&&◌, if◌then◌else◌, nat_lt, zero, suc, List, [], ◌∷◌, length, slice_index, None, Some, Ok, refl, ap, ap₂, ◌∙◌, lit<, arith}
+use Rattle.std.proofs.Common.{◌≡◌, ℕ, ◌/◌, ◌%◌, ◌<◌, true, ◌&&◌, if◌then◌else◌, zero, suc, List, [], ◌∷◌, length, slice_index, None, Some, Ok, refl, ap, ap₂, ◌∙◌, lit<, arith}
 use Rattle.std.proofs.lemmas.Bool.{agree_below_at, lt-ltb}
 use Rattle.std.specs.List.{AllByRecursion, list_all}
 use Rattle.std.specs.Option.{option_map}
 use Rattle.std.specs.Result.{result_ok}
 use Rattle.hex.specs.Hex.{IsBytes, lower_digits, encode_with, encode_lower, decode_of}
 use Rattle.hex.proofs.HexLemmas.{length-encode_with, decode_of-encode_lower}
-use Rattle.x5_model.specs.Values.{Text, TypeRef, OctetsValue}
+use Rattle.x5_model.specs.Values.{TypeRef, OctetsValue}
 use Rattle.x5_model.specs.Types.{OctetsKind}
 use Rattle.x5_model.specs.Normal.{within, value_over}
 use Rattle.x5_model_text.specs.NameText.{kind_of_type, text_of_value, value_as, value_of_text}

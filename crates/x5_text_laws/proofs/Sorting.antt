@@ -1,8 +1,8 @@
 -- Pairs in the order of type numbers: sorting keeps them, keeps what each is, and leaves sorted pairs as they stand.
 use Rattle.std.proofs.Common.{◌≡◌, ℕ, ◌+◌, ◌<◌, ◌≤◌, Bool, true, false, ◌&&◌, ◌||◌, ◌==◌, not, if◌then◌else◌, nat_lt, nat_le, suc, List, [], ◌∷◌, ◌++◌, length, refl, sym, ap, ap₂, ◌∙◌, inl, inr, append_assoc, append-nil, arith}
-use Rattle.std.proofs.lemmas.Bool.{cases_Bool, and_parts, and_from, or_parts, lt-ltb, ltb-true, ltb-false, le-ltb, le-leb, leb-true, not_from_false, not-true, eqb-false, ne_eqb}
+use Rattle.std.proofs.lemmas.Bool.{cases_Bool, and_parts, or_parts, lt-ltb, ltb-true, ltb-false, le-ltb, le-leb, leb-true, not_from_false, not-true, eqb-false, ne_eqb}
 use Rattle.std.proofs.lemmas.List.Folds.{list_all-append}
-use Rattle.std.specs.List.{list_all, list_any}
+use Rattle.std.specs.List.{list_all}
 use Rattle.x5_model.specs.Values.{Text}
 use Rattle.x5_model.specs.Normal.{ascends, ascends_from}
 use Rattle.x5_model_text.specs.NameText.{has_type, inserted, sorted, sorted_onto}

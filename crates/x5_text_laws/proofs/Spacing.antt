@@ -1,6 +1,6 @@
 -- Spaces dropped and runs made one: doing it twice is doing it once, and folded texts stay folded.
-use Rattle.std.proofs.Common.{◌≡◌, ℕ, ◌<◌, ◌≤◌, Bool, true, false, ◌&&◌, ◌||◌, ◌==◌, not, cond, if◌then◌else◌, List, [], ◌∷◌, ◌++◌, length, filter, refl, sym, ap, ap₂, subst, ◌∙◌, inl, inr, append-nil, lit<, arith}
-use Rattle.std.proofs.lemmas.Bool.{cases_Bool, cases_eq, and_parts, not-true, ne_eqb, eqb-true, eqb-false, or_from, or_parts}
+use Rattle.std.proofs.Common.{◌≡◌, ℕ, ◌≤◌, Bool, true, false, ◌&&◌, ◌||◌, ◌==◌, not, if◌then◌else◌, List, [], ◌∷◌, ◌++◌, length, filter, refl, sym, ap, ap₂, subst, ◌∙◌, inl, inr, append-nil, lit<, arith}
+use Rattle.std.proofs.lemmas.Bool.{cases_Bool, cases_eq, and_parts, not-true, or_from, or_parts}
 use Rattle.std.proofs.lemmas.Str.{encode_ascii, length-encode, len_utf8_bounds}
 use Rattle.std.specs.List.{list_all}
 use lib.Utf8.{encode, encodes}
@@ -210,9 +210,9 @@ stable_dialled (c ∷ cs) h =
     elim (cases_eq c 32) [
       | inl space ↦ subst (λ t. Stable (filter is_dialled t)) (sym (space_first c space (encodes cs))) rest
       | inr other ↦ elim (cases_eq c 45) [
-          | inl hyphen ↦ subst (λ t. Stable (filter is_dialled t)) (sym (ap (λ x. encode x ++ encodes cs) hyphen ∙ ap (λ u. u ++ encodes cs) (encode_ascii 45 (lit< tt)))) rest
-          | inr another ↦ subst Stable (sym (filtered is_dialled (encode c) (encodes cs) (both_free (encode c) (encode_free c 32 (lit< tt) other) (encode_free c 45 (lit< tt) another)))) (stable_cons c (filter is_dialled (encodes cs)) parts.0 rest)
-        ]
+        | inl hyphen ↦ subst (λ t. Stable (filter is_dialled t)) (sym (ap (λ x. encode x ++ encodes cs) hyphen ∙ ap (λ u. u ++ encodes cs) (encode_ascii 45 (lit< tt)))) rest
+        | inr another ↦ subst Stable (sym (filtered is_dialled (encode c) (encodes cs) (both_free (encode c) (encode_free c 32 (lit< tt) other) (encode_free c 45 (lit< tt) another)))) (stable_cons c (filter is_dialled (encodes cs)) parts.0 rest)
+      ]
     ]
 
 pub dialled_stable : (t : Text) → Stable t → Stable (filter is_dialled t)

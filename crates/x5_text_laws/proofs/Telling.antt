@@ -1,6 +1,6 @@
 -- Normal forms of object identifiers and of names tell these apart.
-use Rattle.std.proofs.Common.{◌≡◌, ℕ, ◌^◌, ◌<◌, ◌≤◌, Bool, true, false, ◌&&◌, ◌||◌, ◌==◌, not, nat_lt, zero, suc, List, [], ◌∷◌, ◌++◌, length, map, flat_map, take, drop, refl, sym, ap, ap₂, ◌∙◌, append_assoc, length-append, arith}
-use Rattle.std.proofs.lemmas.Bool.{and_parts, and_from, ltb-true, lt-ltb, both_ways, not-true, eq-eqb, ne_eqb}
+use Rattle.std.proofs.Common.{◌≡◌, ℕ, ◌^◌, Bool, true, ◌&&◌, ◌==◌, not, nat_lt, zero, suc, List, [], ◌∷◌, ◌++◌, length, map, flat_map, take, drop, refl, sym, ap, ap₂, ◌∙◌, append_assoc, length-append, arith}
+use Rattle.std.proofs.lemmas.Bool.{and_parts, and_from, ltb-true, both_ways, not-true, eq-eqb, ne_eqb}
 use Rattle.std.proofs.lemmas.Bool.Decides.{nat_tests}
 use Rattle.std.proofs.lemmas.List.{take_at, drop_at}
 use Rattle.std.proofs.lemmas.Nat.{from_be_bytes-to_be_bytes_4}
@@ -109,7 +109,7 @@ pair_sound p h utf8 =
     let parts = and_parts (may_name p.0) (is_text_of_kind (kind_of p.0) p.1) h in
     let part = (and_parts (is_part_of_kind (kind_of p.0) p.1) (is_enough (kind_of p.0) p.1) parts.1).0 in
     and_from (not (p.0 == 0)) (is_free 0 (text_normal (kind_of p.0) p.1)) (number_above p.0 parts.0)
-      (text_above (kind_of p.0) (text_normal (kind_of p.0) p.1) (part_kind_stays (kind_of p.0) true true p.1 utf8 part))
+    (text_above (kind_of p.0) (text_normal (kind_of p.0) p.1) (part_kind_stays (kind_of p.0) true true p.1 utf8 part))
 
 rdn_sound : (r : Pairs) → list_all is_pair r ≡ true → are_utf8 r ≡ true → list_all is_sound (map normal_pair r) ≡ true
 rdn_sound [] h utf8 = refl
@@ -145,8 +145,8 @@ same_arcs (n ∷ ns) (m ∷ ms) h k e =
     let first : to_be_bytes w32 n ≡ to_be_bytes w32 m = sym (take_at (to_be_bytes w32 n) (oid_normal ns) 4 (four n)) ∙ ap (take 4) e ∙ take_at (to_be_bytes w32 m) (oid_normal ms) 4 (four m) in
     let rest : oid_normal ns ≡ oid_normal ms = sym (drop_at (to_be_bytes w32 n) (oid_normal ns) 4 (four n)) ∙ ap (drop 4) e ∙ drop_at (to_be_bytes w32 m) (oid_normal ms) 4 (four m) in
     ap₂ ◌∷◌
-      (sym (from_be_bytes-to_be_bytes_4 n (ltb-true n (2 ^ 32) a.0)) ∙ ap (from_be_bytes w32) first ∙ from_be_bytes-to_be_bytes_4 m (ltb-true m (2 ^ 32) b.0))
-      (same_arcs ns ms a.1 b.1 rest)
+    (sym (from_be_bytes-to_be_bytes_4 n (ltb-true n (2 ^ 32) a.0)) ∙ ap (from_be_bytes w32) first ∙ from_be_bytes-to_be_bytes_4 m (ltb-true m (2 ^ 32) b.0))
+    (same_arcs ns ms a.1 b.1 rest)
 
 oid_arcs : (ns : List ℕ) → is_oid ns ≡ true → are_arcs ns ≡ true
 oid_arcs [] h = cc

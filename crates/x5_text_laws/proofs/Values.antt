@@ -1,7 +1,6 @@
 -- Values of each kind, printed and read.
-use Rattle.std.proofs.Common.{◌≡◌, ℕ, ◌+◌, ◌*◌, ◌<◌, ◌≤◌, Bool, true, false, ◌&&◌, ◌==◌, not, if◌then◌else◌, nat_lt, zero, suc, List, [], ◌∷◌, length, map, Option, None, Some, is_some, Result, Ok, Err, is_ok, refl, sym, ap, ap₂, subst, ◌∙◌, inl, inr, arith}
+use Rattle.std.proofs.Common.{◌≡◌, ℕ, ◌<◌, true, false, ◌&&◌, ◌==◌, not, if◌then◌else◌, nat_lt, suc, List, [], ◌∷◌, length, map, Option, None, Some, is_some, Result, Ok, Err, is_ok, refl, sym, ap, ap₂, subst, ◌∙◌, inl, inr, arith}
 use Rattle.std.proofs.lemmas.Bool.{cases_Bool, and_parts, ltb-true, lt-ltb}
-use Rattle.std.proofs.lemmas.Str.{IsUtf8-from_is_utf8, is_utf8-from_IsUtf8}
 use Rattle.std.specs.List.{AllByRecursion, slice_split}
 use Rattle.std.specs.Option.{option_map}
 use Rattle.std.specs.Result.{result_ok}
@@ -11,11 +10,11 @@ use Rattle.hex.specs.declared.error.FromHexError.{FromHexError}
 use Rattle.hex.proofs.HexLemmas.{decode_of-ok}
 use Rattle.x5_model.specs.Values.{Text, TypeRef, NameValue, Value, TextValue, OctetsValue, OidValue, NameOf}
 use Rattle.x5_model.specs.Types.{Kind, TextKind, PrintableKind, CountryKind, NumericKind, TelephoneKind, OidKind, NameKind, OctetsKind}
-use Rattle.x5_model.specs.Normal.{ValueFault, WrongSyntax, TooLong, is_oid, within, name_over, value_over}
-use Rattle.x5_model_text.specs.TypeText.{dot, arcs_of, if_oid, oid_of_text}
-use Rattle.x5_model_text.specs.ValueText.{escaped, resolved, or_text, octets_of_text, bounded, oid_or_text, octets_or_text}
+use Rattle.x5_model.specs.Normal.{ValueFault, WrongSyntax, within, name_over, value_over}
+use Rattle.x5_model_text.specs.TypeText.{dot, arcs_of, oid_of_text}
+use Rattle.x5_model_text.specs.ValueText.{resolved, or_text, octets_of_text, bounded}
 use Rattle.x5_model_text.specs.NameText.{NameFault, text_of_written, text_of_value, sorted, written_name, name_or_text, value_as, kind_of_type, value_of_resolved, value_of_text}
-use Rattle.x5_text_laws.specs.Given.{is_kept, IsGivenName, IsGivenText, AreGivenOctets, IsGivenOid, IsGiven}
+use Rattle.x5_text_laws.specs.Given.{is_kept, IsGivenName, IsGivenText, IsGiven}
 use Rattle.x5_text_laws.proofs.Escapes.{resolved_escaped}
 use Rattle.x5_text_laws.proofs.GivenNames.{short_given}
 use Rattle.x5_text_laws.proofs.Names.{given_read, name_stands}
@@ -138,7 +137,7 @@ text_back : (type : TypeRef) (t : Text) → IsGivenText (kind_of_type type) t �
 text_back type t h =
     ap (value_of_resolved (kind_of_type type)) (resolved_escaped 0 t (utf8_octets t h.utf8))
     ∙ to_resolved (kind_of_type type) t (Ok (TextValue t)) h.utf8 h.some
-      (kept_as (kind_of_type type) t h.kept ∙ ap (λ o. within o (TextValue t)) h.short)
+    (kept_as (kind_of_type type) t h.kept ∙ ap (λ o. within o (TextValue t)) h.short)
 
 name_value_back : (type : TypeRef) (n : NameValue) → kind_of_type type ≡ NameKind → IsGivenName n → value_of_text type (text_of_value (NameOf n)) ≡ Ok (NameOf n)
 name_value_back type n kind h =
@@ -146,7 +145,7 @@ name_value_back type n kind h =
     let utf8 = name_utf8 n h in
     ap (value_of_resolved (kind_of_type type)) (resolved_escaped 0 t (utf8_octets t utf8))
     ∙ to_resolved (kind_of_type type) t (Ok (NameOf n)) utf8 (written_some n)
-      (ap (λ k. value_as k t) kind ∙ ap (name_or_text t) (given_read false n h) ∙ ap₂ (λ o m. within o (NameOf m)) h.short (name_stands n h.valid))
+    (ap (λ k. value_as k t) kind ∙ ap (name_or_text t) (given_read false n h) ∙ ap₂ (λ o m. within o (NameOf m)) h.short (name_stands n h.valid))
 
 pub value_back : (type : TypeRef) (v : Value) → IsGiven (kind_of_type type) v → value_of_text type (text_of_value v) ≡ Ok v
 value_back type (TextValue t) h = text_back type t h

@@ -1,5 +1,5 @@
 -- What is printed is one word, and UTF-8.
-use Rattle.std.proofs.Common.{◌≡◌, ℕ, ◌/◌, ◌%◌, ◌<◌, Bool, true, false, ◌&&◌, ◌||◌, ◌==◌, not, if◌then◌else◌, nat_lt, List, [], ◌∷◌, ◌++◌, length, flat_map, None, refl, sym, ap, ap₂, ◌∙◌, inl, inr, arith}
+use Rattle.std.proofs.Common.{◌≡◌, ℕ, ◌/◌, ◌%◌, ◌<◌, true, ◌&&◌, ◌==◌, not, if◌then◌else◌, nat_lt, List, [], ◌∷◌, length, flat_map, refl, ap, ap₂, ◌∙◌, inl, inr, arith}
 use Rattle.std.proofs.lemmas.Bool.{cases_Bool, agree_below_at, and_parts, not_from_false, or_left}
 use Rattle.std.proofs.lemmas.List.Folds.{list_all-append}
 use Rattle.std.proofs.lemmas.Str.{IsUtf8-from_is_utf8, is_utf8-from_IsUtf8}
@@ -13,7 +13,7 @@ use Rattle.x5_model_text.proofs.EscapeLaws.{IsUtf8-escaped}
 use Rattle.hex.specs.Hex.{encode_lower}
 use Rattle.x5_model_text.specs.TypeText.{keyword_of, text_of_oid}
 use Rattle.x5_model_text.specs.ValueText.{backslash, is_escaped, escaped_octet, escaped}
-use Rattle.x5_model_text.specs.NameText.{slash, plus, equals, text_of_pair, text_of_pairs, slash_and_pairs, text_of_written, text_of_value}
+use Rattle.x5_model_text.specs.NameText.{plus, equals, text_of_pair, text_of_pairs, slash_and_pairs, text_of_written, text_of_value}
 use Rattle.x5_text_laws.specs.Given.{are_utf8, IsGivenName, IsGiven, is_printed, is_printed_in_name}
 use Rattle.x5_text_laws.proofs.Keywords.{keyword}
 use Rattle.x5_text_laws.proofs.NameUtf8.{name_utf8}
