@@ -38,10 +38,15 @@ number : text_normal TelephoneKind (codes "+44 20-7946 0018") ≡ codes "+442079
 unfolding caseless folded chars encode
 number = refl
 
--- spaces alone have an empty normal form, which is of no kind
+-- spaces alone have an empty normal form, which is no text of the kind
 spaces : normal_of TextKind (TextValue (codes "   ")) ≡ Ok []
 unfolding caseless folded chars encode
 spaces = refl
+
+-- so have hyphens alone, of a telephone number
+hyphens : normal_of TelephoneKind (TextValue (codes "- -")) ≡ Ok []
+unfolding caseless folded chars encode
+hyphens = refl
 
 nothing : normal_of TextKind (TextValue []) ≡ Err WrongSyntax
 nothing = refl

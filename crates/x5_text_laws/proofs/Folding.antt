@@ -1,8 +1,8 @@
 -- Folded texts: they're folded already, and dropping characters of ASCII keeps them so.
-use Rattle.std.proofs.Common.{◌≡◌, ℕ, ◌+◌, ◌/◌, ◌%◌, ◌<◌, ◌≤◌, Bool, true, ◌&&◌, ◌==◌, not, List, [], ◌∷◌, ◌++◌, IsUtf8, refl, sym, ap, ap₂, ◌∙◌, arith}
-use Rattle.std.proofs.lemmas.Bool.{and_parts, and_from, cond_both, ne_eqb, eq-eqb}
+use Rattle.std.proofs.Common.{◌≡◌, ℕ, ◌+◌, ◌/◌, ◌%◌, ◌<◌, ◌≤◌, Bool, true, ◌&&◌, ◌==◌, not, List, [], ◌∷◌, ◌++◌, nat_le, IsUtf8, refl, sym, ap, ap₂, ◌∙◌, inl, inr, arith}
+use Rattle.std.proofs.lemmas.Bool.{cases_lt, ltb-true, and_parts, and_from, cond_both, ne_eqb, eq-eqb, le-leb, leb-true}
 use Rattle.std.proofs.lemmas.List.Folds.{list_all-append}
-use Rattle.std.proofs.lemmas.Str.{chars-encodes, scalars-chars}
+use Rattle.std.proofs.lemmas.Str.{chars-encodes, encode_ascii, scalars-chars}
 use Rattle.std.specs.List.{list_all}
 use Rattle.std.specs.Str.{chars}
 use Rattle.ucd_table.proofs.GroupsCheck.{same_string, same_string-true}
@@ -13,7 +13,7 @@ use lib.Utf8.{encode, encodes, scalar, scalars}
 use Rattle.x5_model.specs.Values.{Text}
 use Rattle.x5_model.specs.Normal.{is_control, folded}
 use Rattle.x5_text_laws.proofs.FoldTable.{is_fold, are_folds, folds}
-use Rattle.x5_text_laws.proofs.Pieces.{is_free}
+use Rattle.x5_text_laws.proofs.Pieces.{all_of, is_free}
 
 -- ---- characters
 
@@ -97,22 +97,30 @@ stable_cons c t h s = record {
 
 -- ---- the octets of a character beyond ASCII are none of ASCII
 
-pub encode_free : (c x : ℕ) → x < 128 → (c ≡ x → ⊥) → is_free x (encode c) ≡ true
+abbrev pub is_high : ℕ → Bool
+is_high b = nat_le 128 b
+
+high_two : (a b : ℕ) → 128 ≤ a → 128 ≤ b → list_all is_high (a ∷ b ∷ []) ≡ true
+high_two a b h i = ap₂ ◌&&◌ (le-leb 128 a h) (ap (λ t. t && true) (le-leb 128 b i))
+
+high_three : (a b c : ℕ) → 128 ≤ a → 128 ≤ b → 128 ≤ c → list_all is_high (a ∷ b ∷ c ∷ []) ≡ true
+high_three a b c h i j = ap₂ ◌&&◌ (le-leb 128 a h) (high_two b c i j)
+
+pub encode_high : (c : ℕ) → 128 ≤ c → list_all is_high (encode c) ≡ true
 unfolding encode
+encode_high c high =
+    cond_both (ltb c 128) _ _ (λ t. list_all is_high t ≡ true) (λ e. absurd (let low = ltb-true c 128 e in omega arith))
+    (λ e. cond_both (ltb c 2048) _ _ (λ t. list_all is_high t ≡ true) (λ f. high_two (192 + c / 64) (128 + c % 64) (omega arith) (omega arith))
+    (λ f. cond_both (ltb c 65536) _ _ (λ t. list_all is_high t ≡ true) (λ g. high_three (224 + c / 4096) (128 + c / 64 % 64) (128 + c % 64) (omega arith) (omega arith) (omega arith))
+    (λ g. ap₂ ◌&&◌ (le-leb 128 (240 + c / 262144) (omega arith)) (high_three (128 + c / 4096 % 64) (128 + c / 64 % 64) (128 + c % 64) (omega arith) (omega arith) (omega arith)))))
+
+-- a test that a character passes, and each octet beyond ASCII, holds of the character's octets
+pub encode_all : (test : ℕ → Bool) (c : ℕ) → test c ≡ true → ((b : ℕ) → is_high b ≡ true → test b ≡ true) → list_all test (encode c) ≡ true
+encode_all test c h above = elim (cases_lt c 128) [
+  | inl low ↦ ap (list_all test) (encode_ascii c low) ∙ ap (λ t. t && true) h
+  | inr high ↦ all_of is_high test above (encode c) (encode_high c high)
+]
+
+pub encode_free : (c x : ℕ) → x < 128 → (c ≡ x → ⊥) → is_free x (encode c) ≡ true
 encode_free c x low other =
-    cond_both (ltb c 128) _ _ (λ t. is_free x t ≡ true) (λ e. ap (λ b. not b && true) (ne_eqb c x other))
-    (λ e. cond_both (ltb c 2048) _ _ (λ t. is_free x t ≡ true) (λ f. two (192 + c / 64) (128 + c % 64) (omega arith) (omega arith))
-    (λ f. cond_both (ltb c 65536) _ _ (λ t. is_free x t ≡ true) (λ g. three (224 + c / 4096) (128 + c / 64 % 64) (128 + c % 64) (omega arith) (omega arith) (omega arith))
-    (λ g. four (240 + c / 262144) (128 + c / 4096 % 64) (128 + c / 64 % 64) (128 + c % 64) (omega arith) (omega arith) (omega arith) (omega arith))))
-  where
-    apart : (b : ℕ) → 128 ≤ b → not (b == x) ≡ true
-    apart b h = ap not (ne_eqb b x (λ e. omega (arith, e)))
-
-    two : (a b : ℕ) → 128 ≤ a → 128 ≤ b → is_free x (a ∷ b ∷ []) ≡ true
-    two a b h i = ap₂ ◌&&◌ (apart a h) (ap (λ t. t && true) (apart b i))
-
-    three : (a b d : ℕ) → 128 ≤ a → 128 ≤ b → 128 ≤ d → is_free x (a ∷ b ∷ d ∷ []) ≡ true
-    three a b d h i j = ap₂ ◌&&◌ (apart a h) (two b d i j)
-
-    four : (a b d e : ℕ) → 128 ≤ a → 128 ≤ b → 128 ≤ d → 128 ≤ e → is_free x (a ∷ b ∷ d ∷ e ∷ []) ≡ true
-    four a b d e h i j k = ap₂ ◌&&◌ (apart a h) (three b d e i j k)
+    encode_all (λ b. not (b == x)) c (ap not (ne_eqb c x other)) (λ b h. ap not (ne_eqb b x (let high = leb-true 128 b h in λ e. omega (arith, e, high))))

@@ -1,6 +1,6 @@
 -- A normal form is its own normal form.
-use Rattle.std.proofs.Common.{◌≡◌, ℕ, ◌+◌, ◌/◌, ◌%◌, ◌<◌, ◌≤◌, Bool, true, false, ◌&&◌, ◌||◌, ◌==◌, not, if◌then◌else◌, nat_lt, List, [], ◌∷◌, ◌++◌, length, map, filter, Option, None, Some, Result, Ok, Err, IsUtf8, IsAscii, refl, sym, ap, ap₂, ◌∙◌, inl, inr, arith}
-use Rattle.std.proofs.lemmas.Bool.{cases_Bool, cases_lt, and_parts, and_from, or_right, lt-ltb, ltb-true, cond_both}
+use Rattle.std.proofs.Common.{◌≡◌, ℕ, ◌<◌, ◌≤◌, Bool, true, false, ◌&&◌, ◌||◌, ◌==◌, not, if◌then◌else◌, nat_lt, List, [], ◌∷◌, ◌++◌, length, map, filter, Option, None, Some, Result, Ok, Err, IsUtf8, IsAscii, refl, sym, ap, ap₂, ◌∙◌, inl, inr, arith}
+use Rattle.std.proofs.lemmas.Bool.{cases_Bool, cases_lt, and_parts, and_from, or_right, lt-ltb, ltb-true, leb-true}
 use Rattle.std.proofs.lemmas.Bool.Decides.{nat_tests}
 use Rattle.std.proofs.lemmas.List.{length-map}
 use Rattle.std.proofs.lemmas.List.Folds.{list_all-append, list_all-map}
@@ -12,13 +12,13 @@ use Rattle.std.specs.Str.{chars, is_utf8}
 use Rattle.ucd_case.proofs.CaseFoldingLemmas.{full_fold-ascii}
 use Rattle.ucd_case.specs.CaseFolding.{full_folding, full_fold, or_itself}
 use Rattle.caseless.specs.Caseless.{default_case_fold}
-use lib.Dec.{ltb}
 use lib.Utf8.{encode, encodes, scalar}
 use Rattle.x5_model.specs.Values.{Text, TextValue}
 use Rattle.x5_model.specs.Types.{Kind, TextKind, PrintableKind, CountryKind, NumericKind, TelephoneKind, OidKind, NameKind, OctetsKind}
 use Rattle.x5_model.specs.Normal.{ValueFault, WrongSyntax, is_space, is_control, is_printable, may_stand, is_enough, is_part_of_kind, is_text_of_kind, folded, spaced, is_dialled, part_normal, text_normal, within, value_over, normal_of}
 use Rattle.x5_text_laws.proofs.FoldTable.{is_fold, are_folds, folds}
-use Rattle.x5_text_laws.proofs.Folding.{folded_stable, stable_folded}
+use Rattle.x5_text_laws.proofs.Folding.{encode_all, folded_stable, stable_folded}
+use Rattle.x5_text_laws.proofs.Pieces.{all_of}
 use Rattle.x5_text_laws.proofs.Spacing.{spaced_all, spaced_twice, spaced_free, spaced_stable, filter_stands, filter_passes, filter_all, dialled_stable, dialled_free}
 
 -- ---- twice is once
@@ -62,18 +62,7 @@ high_fine : (b : ℕ) → 128 ≤ b → not (is_control b) ≡ true
 high_fine b h = grind (arith, nat_tests)
 
 char_fine : (c : ℕ) → not (is_control c) ≡ true → list_all is_free_of_control (encode c) ≡ true
-unfolding encode
-char_fine c h =
-    cond_both (ltb c 128) _ _ (λ t. list_all is_free_of_control t ≡ true) (λ e. ap (λ b. b && true) h)
-    (λ e. cond_both (ltb c 2048) _ _ (λ t. list_all is_free_of_control t ≡ true) (λ f. two (192 + c / 64) (128 + c % 64) (omega arith) (omega arith))
-    (λ f. cond_both (ltb c 65536) _ _ (λ t. list_all is_free_of_control t ≡ true) (λ g. three (224 + c / 4096) (128 + c / 64 % 64) (128 + c % 64) (omega arith) (omega arith) (omega arith))
-    (λ g. ap₂ ◌&&◌ (high_fine (240 + c / 262144) (omega arith)) (three (128 + c / 4096 % 64) (128 + c / 64 % 64) (128 + c % 64) (omega arith) (omega arith) (omega arith)))))
-  where
-    two : (a b : ℕ) → 128 ≤ a → 128 ≤ b → list_all is_free_of_control (a ∷ b ∷ []) ≡ true
-    two a b h i = ap₂ ◌&&◌ (high_fine a h) (ap (λ t. t && true) (high_fine b i))
-
-    three : (a b d : ℕ) → 128 ≤ a → 128 ≤ b → 128 ≤ d → list_all is_free_of_control (a ∷ b ∷ d ∷ []) ≡ true
-    three a b d h i j = ap₂ ◌&&◌ (high_fine a h) (two b d i j)
+char_fine c h = encode_all is_free_of_control c h (λ b high. high_fine b (leb-true 128 b high))
 
 fine_char : (c : ℕ) → list_all is_free_of_control (encode c) ≡ true → not (is_control c) ≡ true
 fine_char c h = elim (cases_lt c 128) [
@@ -142,12 +131,6 @@ ascii_folds (b ∷ t) h =
 folded_ascii : (t : Text) → are_low t ≡ true → folded t ≡ map to_ascii_lowercase t
 unfolding folded
 folded_ascii t h = ap (λ cs. encodes (default_case_fold cs)) (chars-IsAscii t (low_ascii t h)) ∙ ascii_folds t h
-
-all_of : (test other : ℕ → Bool) → ((b : ℕ) → test b ≡ true → other b ≡ true) → (t : Text) → list_all test t ≡ true → list_all other t ≡ true
-all_of test other f [] h = refl
-all_of test other f (b ∷ t) h =
-    let parts = and_parts (test b) (list_all test t) h in
-    ap₂ ◌&&◌ (f b parts.0) (all_of test other f t parts.1)
 
 -- a test that lower case keeps, of ASCII alone, holds of the folded text
 folded_all : (test : ℕ → Bool) → ((b : ℕ) → test b ≡ true → nat_lt b 128 ≡ true) → ((b : ℕ) → test b ≡ true → test (to_ascii_lowercase b) ≡ true) → (t : Text) → list_all test t ≡ true → list_all test (folded t) ≡ true

@@ -1,9 +1,16 @@
--- A text that is joined from pieces is cut into them again, where no piece has the octet at which it's cut.
-use Rattle.std.proofs.Common.{◌≡◌, ℕ, Bool, true, ◌==◌, not, List, [], ◌∷◌, ◌++◌, refl, ap, ◌∙◌}
+-- A text that is joined from pieces is cut into them again, where no piece has the octet at which it's cut; tests of all octets.
+use Rattle.std.proofs.Common.{◌≡◌, ℕ, Bool, true, ◌&&◌, ◌==◌, not, List, [], ◌∷◌, ◌++◌, refl, ap, ap₂, ◌∙◌}
 use Rattle.std.proofs.lemmas.Bool.{and_parts, not-true, eq-eqb}
 use Rattle.std.proofs.lemmas.List.Splits.{slice_split-cons_yes, slice_split-cons_no}
 use Rattle.std.specs.List.{list_all, slice_split, onto_first, join_with_byte}
 use Rattle.x5_model.specs.Values.{Text}
+
+-- what each octet is by one test it is by another
+pub all_of : (test other : ℕ → Bool) → ((b : ℕ) → test b ≡ true → other b ≡ true) → (t : Text) → list_all test t ≡ true → list_all other t ≡ true
+all_of test other f [] h = refl
+all_of test other f (b ∷ t) h =
+    let parts = and_parts (test b) (list_all test t) h in
+    ap₂ ◌&&◌ (f b parts.0) (all_of test other f t parts.1)
 
 abbrev pub is_free : ℕ → Text → Bool
 is_free c t = list_all (λ b. not (b == c)) t

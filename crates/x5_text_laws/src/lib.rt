@@ -1,4 +1,4 @@
-//! What is printed reads back: laws of the texts of `x5_model_text`, each the contract of a function.
+//! What is printed reads back, and a normal form is its own: laws of the texts of `x5_model_text` and of the normal forms of `x5_model`. Each is the contract of a function that does nothing.
 #![tactic(auto)]
 
 ghost use Rattle.std.specs.Prelude.{◌≡◌, ℕ, ◌<◌, Bool, true, List, [], ◌∷◌, length, map, None, Some, Ok};
