@@ -5,7 +5,8 @@ ghost use Rattle.std.specs.Cmp.Lexicographic.{lists_per, lists_equiv};
 ghost use Rattle.std.specs.Ordering.{as_partial_cmp};
 ghost use Rattle.std.proofs.Common.{refl};
 ghost use Rattle.x5_model.specs.Keys as model;
-ghost use Rattle.x5_names.specs.KeyOrder.{same_pair_laws, same_pair_equivalence, pair_cmp_total, pair_ties, pair_partial_order, rdn_cmp_total, rdn_ties, rdn_partial_order, key_cmp_total, key_ties, key_partial_order};
+ghost use Rattle.x5_model.proofs.KeyLaws.{pair_cmp_total, pair_ties, rdn_cmp_total, rdn_ties, key_cmp_total, key_ties};
+ghost use Rattle.x5_names.specs.KeyOrder.{same_pair_laws, same_pair_equivalence, pair_partial_order, rdn_partial_order, key_partial_order};
 
 use std::alloc::{AllocError, Global};
 use std::cmp::Ordering;

@@ -4,6 +4,7 @@ use crate::{Name, Rdn};
 use std::alloc::Global;
 use std::cmp::Ordering;
 use std::test::Fail;
+use x5_syntax::TypeRef;
 
 fn name(alloc: Global, text: &str) -> Result<Name, Fail> {
     Ok(Name::parse(alloc, text)?)
@@ -46,5 +47,23 @@ fn takes_names_apart(rt: HostRuntime) -> Result<(), Fail> {
         Name::parse(alloc, grown.text(alloc)?.as_str())?.key() == whole.key(),
         true
     );
+    Ok(())
+}
+
+#[test]
+fn prints_types_and_rdns(rt: HostRuntime) -> Result<(), Fail> {
+    let alloc = rt.alloc();
+    let types = [
+        ("TELEPHONEnumber", "telephoneNumber"),
+        ("2.5.4.3", "CN"),
+        ("2.5.4.1", "2.5.4.1"),
+        ("1.3.6.1", "1.3.6.1"),
+    ];
+    for (text, wanted) in types {
+        let found = TypeRef::parse(alloc, text)?.ok_or("a type")?;
+        assert_eq!(rt; found.text(alloc)?.as_str(), wanted);
+    }
+    let rdn = Rdn::parse(alloc, "ou=R & D+2.5.4.3=a\\2fb")?;
+    assert_eq!(rt; rdn.text(alloc)?.as_str(), "CN=a\\2fb+OU=R\\20&\\20D");
     Ok(())
 }

@@ -1,6 +1,6 @@
 -- A text with its escapes resolves to itself.
-use Rattle.std.proofs.Common.{◌≡◌, ℕ, suc, ◌+◌, ◌*◌, ◌/◌, ◌%◌, ◌<◌, Bool, true, false, not, ◌==◌, if◌then◌else◌, cond, nat_lt, List, [], ◌∷◌, ◌++◌, length, None, Some, Result, Ok, Err, refl, sym, ◌∙◌, ap, ap₂, inl, inr, ◌⊎◌, arith}
-use Rattle.std.proofs.lemmas.Bool.{cases_lt}
+use Rattle.std.proofs.Common.{◌≡◌, ℕ, suc, ◌+◌, ◌*◌, ◌/◌, ◌%◌, ◌<◌, Bool, true, false, not, ◌==◌, if◌then◌else◌, cond, nat_lt, List, [], ◌∷◌, ◌++◌, length, None, Some, Result, Ok, Err, refl, sym, ◌∙◌, ap, ap₂, inl, inr, arith}
+use Rattle.std.proofs.lemmas.Bool.{cases_Bool, cases_lt}
 use Rattle.std.proofs.lemmas.Bool.Decides.{nat_tests}
 use Rattle.std.proofs.lemmas.List.Splits.{slice_split-cons_yes, slice_split-cons_no}
 use Rattle.std.specs.List.{AllByRecursion, slice_split, onto_first, position_or_len}
@@ -13,10 +13,6 @@ use Rattle.x5_model_text.specs.ValueText.{backslash, is_escaped, escaped, at_pla
 
 split : Text → List Text
 split t = slice_split (λ b. b == backslash) t
-
-cases_bool : (b : Bool) → (b ≡ true) ⊎ (b ≡ false)
-cases_bool true = inl refl
-cases_bool false = inr refl
 
 digit_value_of : (d : ℕ) → d < 16 → hex_digit_value (digit_char d) ≡ Some d
 digit_value_of d h = elim (cases_lt d 10) [
@@ -109,7 +105,7 @@ kept x t h c = record { first = x ∷ c.first; others = c.others; is = slice_spl
 cut : (t : Text) → Cut t
 unfolding split
 cut [] = record { first = []; others = []; is = refl }
-cut (x ∷ t) = elim (cases_bool (x == backslash)) [
+cut (x ∷ t) = elim (cases_Bool (x == backslash)) [
   | inl same ↦ record { first = []; others = split t; is = slice_split-cons_yes (λ b. b == backslash) x t same }
   | inr other ↦ kept x t other (cut t)
 ]
@@ -139,7 +135,7 @@ escaped_case b at t rest small h =
 pub resolved_escaped : (at : ℕ) (text : Text) → AllByRecursion (λ b. b < 256) text → resolved at (escaped text) ≡ Ok text
 unfolding split one
 resolved_escaped at [] h = refl
-resolved_escaped at (b ∷ t) h = elim (cases_bool (is_escaped b)) [
+resolved_escaped at (b ∷ t) h = elim (cases_Bool (is_escaped b)) [
   | inl e ↦ ap (λ c. resolved at (one b c ++ escaped t)) e ∙ escaped_case b at t (escaped t) h.0 (resolved_escaped (at + 3) t h.1)
   | inr e ↦ ap (λ c. resolved at (one b c ++ escaped t)) e ∙ plain_case b at t (escaped t) e (resolved_escaped (at + 1) t h.1)
 ]

@@ -1,1 +1,22 @@
 pub mod Escapes
+pub mod Plain
+pub mod Octets
+pub mod Pieces
+pub mod Oids
+pub mod Utf8
+pub mod Types
+pub mod Sorting
+pub mod Limits
+pub mod Keywords
+pub mod NamesRead
+pub mod GivenNames
+pub mod Names
+pub mod NameUtf8
+pub mod Values
+pub mod FoldTable
+pub mod Folding
+pub mod Spacing
+pub mod NormalForms
+pub mod Telling
+pub mod Words
+mod Examples

@@ -1,4 +1,4 @@
-use Rattle.std.proofs.Common.{◌≡◌, ◌++◌, map, drop}
+use Rattle.std.proofs.Common.{◌≡◌, ◌++◌, drop}
 use Rattle.x5_model.specs.Normal.{stored}
 use Rattle.x5_names.proofs.spelled.rdns_from.Given as goal
 

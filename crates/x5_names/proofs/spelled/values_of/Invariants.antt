@@ -1,4 +1,4 @@
-use Rattle.std.proofs.Common.{◌≡◌, ◌++◌, map, drop}
+use Rattle.std.proofs.Common.{◌≡◌, ◌++◌, drop}
 use Rattle.x5_model.specs.Values.{written}
 use Rattle.x5_names.proofs.spelled.values_of.Given as goal
 

@@ -1,4 +1,4 @@
-use Rattle.std.proofs.Common.{◌≡◌, ◌++◌, map, drop}
+use Rattle.std.proofs.Common.{◌≡◌, ◌++◌, drop}
 use Rattle.x5_model.specs.Values.{key_of_rdn}
 use Rattle.x5_names.proofs.spelled.Rdn.key.Given as goal
 
