@@ -1,2 +1,3 @@
 pub mod EscapeLaws
 mod Examples
+mod FilterExamples

@@ -1,3 +1,4 @@
 pub mod TypeText
 pub mod ValueText
 pub mod NameText
+pub mod Filters
