@@ -1,9 +1,10 @@
 //! Filters as text (docs/FORMATS.md, filters as text).
 
-ghost use Rattle.std.specs.Prelude.{◌≡◌, ◌+◌, ◌^◌, ◌<◌, ◌≤◌, ◌++◌, [], length, map, IfOk, IfSome};
+ghost use Rattle.std.specs.Prelude.{◌≡◌, ◌==◌, ◌+◌, ◌^◌, ◌<◌, ◌≤◌, ◌++◌, [], length, map, IfOk, IfSome};
 ghost use Rattle.std.specs.List.{position, slice_split};
 ghost use Rattle.std.specs.Option.{option_copied};
 ghost use Rattle.x5_model_text.specs.Filters as text_of;
+ghost use Rattle.x5_model_text.specs.NameText.{kind_of_type};
 ghost use Rattle.x5_syntax.specs.TypeView.{type_view};
 ghost use Rattle.x5_syntax.specs.ValueView.{value_view};
 ghost use Rattle.x5_syntax.specs.Escapes.{span};
@@ -17,7 +18,7 @@ use crate::filter::{
 };
 use std::alloc::{AllocError, AllocFailed, Global};
 use thiserror::Error;
-use x5_syntax::{EscapeFault, NoMemory, Octets, SyntaxFault, TypeRef, Value, resolve};
+use x5_syntax::{EscapeFault, NoMemory, Octets, SyntaxFault, TypeId, TypeRef, Value, resolve};
 
 /// How deep filters may be nested.
 pub const DEEPEST: usize = 16;
@@ -102,7 +103,7 @@ fn spelled_at(alloc: Global, at: usize, text: &str) -> Result<Octets, FilterFaul
 /// The value of the type that a text spells, which stands at the place.
 fn value_at(alloc: Global, kind: &TypeRef, at: usize, text: &str) -> Result<Value, FilterFault>
     requires { at + length text.now + 1 < 2 ^ 64 }
-    ensures { Reads value_view result (text_of.value_at (type_view kind.now) at text.now) }
+    ensures { Reads value_view result (text_of.value_at (kind_of_type (type_view kind.now)) at text.now) }
 {
     spelled_at(alloc, at, text)?;
     match Value::from_text(alloc, kind, text) {
@@ -124,4 +125,103 @@ fn assertion_at(
 {
     let value = value_at(alloc, &kind, at, text)?;
     Ok(Assertion::new(alloc, kind, value)?)
+}
+
+/// A part of a value, which stands at the place, unless it's empty. It's kept as a text, as a common name is.
+fn piece_at(
+    alloc: Global,
+    place: PiecePlace,
+    at: usize,
+    text: &str,
+) -> Result<Option<Piece>, FilterFault>
+    requires { at + length text.now + 1 < 2 ^ 64 }
+    ensures { Reads (λ piece. piece) result (text_of.piece_at (place_view place) at text.now) }
+{
+    if text.is_empty() {
+        return Ok(None);
+    }
+    let common_name = TypeRef::Known(TypeId::new(3).unwrap());
+    let value = value_at(alloc, &common_name, at, text)?;
+    Ok(Some(Piece { place, value }))
+}
+
+/// The parts, with one more behind them if there is one.
+fn with_piece(before: PieceList, piece: Option<Piece>) -> Result<PieceList, NoMemory>
+    ensures { IfOk result (λ pieces. pieces ≡ text_of.with_piece before piece) }
+{
+    let mut pieces = before;
+    if let Some(piece) = piece {
+        pieces.push(piece)?;
+    }
+    Ok(pieces)
+}
+
+/// Where a part stands before which there is a star, by the parts behind it.
+fn behind_star(others: &[&str]) -> PiecePlace
+    ensures { place_view result ≡ text_of.behind_star (map (λ x. x.now) others.now) }
+{
+    if others.is_empty() {
+        PiecePlace::Last
+    } else {
+        PiecePlace::Any
+    }
+}
+
+/// The parts before and those that follow them, each behind a star; the first of these stands at the place.
+fn pieces_at(
+    alloc: Global,
+    before: PieceList,
+    at: usize,
+    parts: &[&str],
+) -> Result<PieceList, FilterFault>
+    requires { at + span (map (λ x. x.now) parts.now) < 2 ^ 64 }
+    ensures { Reads (λ pieces. pieces) result (text_of.pieces_at before at (map (λ x. x.now) parts.now)) }
+{
+    let mut pieces = before;
+    let mut place = at;
+    for (i, part) in parts.iter().enumerate() {
+        let piece = piece_at(alloc, behind_star(&parts[i + 1..]), place, part)?;
+        pieces = with_piece(pieces, piece)?;
+        place += part.len() + 1;
+    }
+    Ok(pieces)
+}
+
+/// The parts of a value; the first stands at the place.
+fn all_pieces(alloc: Global, at: usize, parts: &[&str]) -> Result<PieceList, FilterFault>
+    requires { at + span (map (λ x. x.now) parts.now) < 2 ^ 64 }
+    ensures { Reads (λ pieces. pieces) result (text_of.all_pieces at (map (λ x. x.now) parts.now)) }
+{
+    let none = PieceList::new(alloc);
+    let Some((first, others)) = parts.split_first() else {
+        return Ok(none);
+    };
+    let piece = piece_at(alloc, PiecePlace::Initial, at, first)?;
+    let pieces = with_piece(none, piece)?;
+    pieces_at(alloc, pieces, at + first.len() + 1, others)
+}
+
+/// The parts of a text between the separators, one more than there are separators.
+fn parts_between<'a>(
+    alloc: Global,
+    text: &'a str,
+    separator: char,
+) -> Result<Vec<&'a str>, AllocError>
+    requires { separator < 128 }
+    ensures { IfOk result (λ parts. map (λ x. x.now) parts.items ≡ slice_split (λ b. b == separator) text.entry.now) }
+{
+    text.split(separator).collect(alloc)
+}
+
+/// The item of the parts of a value, whose text stands at the place.
+fn substrings_at(alloc: Global, kind: TypeRef, at: usize, text: &str) -> Result<Item, FilterFault>
+    requires { at + length text.now + 1 < 2 ^ 64 }
+    ensures { Reads item_view result (text_of.substrings_at (type_view kind) at text.now) }
+{
+    let parts = parts_between(alloc, text, '*')?;
+    let pieces = all_pieces(alloc, at, &parts)?;
+    if pieces.as_slice().is_empty() {
+        return Err(FilterFault::Bad(at + text.len()));
+    }
+    Ok(Item::Substrings(SubstringItem::new(alloc, kind, pieces)?))
 }

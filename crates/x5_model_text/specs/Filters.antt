@@ -3,14 +3,15 @@
 use Rattle.std.specs.Prelude.{ℕ, zero, suc, ◌+◌, ◌-◌, Bool, not, if◌then◌else◌, ◌==◌, nat_lt, List, [], ◌∷◌, ◌++◌, length, min, Option, None, Some, Result, Ok, Err, codes}
 use Rattle.std.specs.Option.{option_map}
 use Rattle.std.specs.List.{list_any, position, position_or_len, before_first, after_first, slice_split}
-use Rattle.x5_model.specs.Values.{Text, TypeRef, Unknown, Value}
+use Rattle.x5_model.specs.Values.{Text, TypeRef, Value}
+use Rattle.x5_model.specs.Types.{Kind, TextKind}
 use Rattle.x5_model.specs.Words.{in_option, same_octets}
 use Rattle.x5_model.specs.Normal.{ValueFault}
 use Rattle.x5_model.specs.Assertions.{assertion_of, substring_item_of}
 use Rattle.x5_model.specs.Filters.{Assertion, PiecePlace, Initial, Any, Last, Piece, Item, Equality, Substrings, GreaterOrEqual, LessOrEqual, Present, Approximate, Filter, Is, And, Or, Not, Filters, Nil, More}
 use Rattle.x5_model_text.specs.TypeText.{type_of_text}
 use Rattle.x5_model_text.specs.ValueText.{resolved}
-use Rattle.x5_model_text.specs.NameText.{equals, value_of_text}
+use Rattle.x5_model_text.specs.NameText.{equals, kind_of_type, value_of_resolved}
 
 -- how deep filters may be nested; one without members has nesting 1
 abbrev pub deepest : ℕ
@@ -53,25 +54,29 @@ abbrev pub or_place : ℕ → Result Value ValueFault → Result Value ℕ
 or_place at (Ok v) = Ok v
 or_place at (Err fault) = Err at
 
-abbrev pub value_at : TypeRef → ℕ → Text → Result Value ℕ
-value_at type at t = do
+abbrev pub value_at : Kind → ℕ → Text → Result Value ℕ
+value_at kind at t = do
   u ← spelled_at at t
-  or_place at (value_of_text type t)
+  or_place at (value_of_resolved kind (resolved 0 t))
 
 abbrev pub assertion_at : TypeRef → ℕ → Text → Result Assertion ℕ
 assertion_at type at t = do
-  v ← value_at type at t
+  v ← value_at (kind_of_type type) at t
   Ok (assertion_of type v)
 
--- ---- parts of a value, between stars: each is a text, as the values of a type that nobody knows
+-- ---- parts of a value, between stars: each is kept as a text, and none is empty
 
-abbrev pub piece_at : PiecePlace → ℕ → Text → Result (List Piece) ℕ
-piece_at place at [] = Ok []
+abbrev pub piece_at : PiecePlace → ℕ → Text → Result (Option Piece) ℕ
+piece_at place at [] = Ok None
 piece_at place at (b ∷ t) = do
-  v ← value_at (Unknown []) at (b ∷ t)
-  Ok (record { place = place; value = v } ∷ [])
+  v ← value_at TextKind at (b ∷ t)
+  Ok (Some (record { place = place; value = v }))
 
--- the place of a part before which a star stands, by the parts behind it
+abbrev pub with_piece : List Piece → Option Piece → List Piece
+with_piece before None = before
+with_piece before (Some p) = before ++ p ∷ []
+
+-- where a part stands before which there is a star, by the parts behind it
 abbrev pub behind_star : List Text → PiecePlace
 behind_star [] = Last
 behind_star (t ∷ ts) = Any
@@ -81,13 +86,13 @@ abbrev pub pieces_at : List Piece → ℕ → List Text → Result (List Piece) 
 pieces_at before at [] = Ok before
 pieces_at before at (t ∷ ts) = do
   p ← piece_at (behind_star ts) at t
-  pieces_at (before ++ p) (at + length t + 1) ts
+  pieces_at (with_piece before p) (at + length t + 1) ts
 
 abbrev pub all_pieces : ℕ → List Text → Result (List Piece) ℕ
 all_pieces at [] = Ok []
 all_pieces at (t ∷ ts) = do
   p ← piece_at Initial at t
-  pieces_at p (at + length t + 1) ts
+  pieces_at (with_piece [] p) (at + length t + 1) ts
 
 -- one part at least isn't empty, else one is due where the text ends
 abbrev pub some_pieces : ℕ → List Piece → Result (List Piece) ℕ
