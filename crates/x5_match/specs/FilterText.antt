@@ -1,12 +1,7 @@
 -- What reading a filter gives.
-use Rattle.std.specs.Prelude.{◌≡◌, ℕ, List, [], ◌∷◌, Option, None, Some, Result, Ok, Err}
-use Rattle.x5_model.specs.Filters as model
+use Rattle.std.specs.Prelude.{◌≡◌, ℕ, Result, Ok, Err}
 use Rattle.x5_syntax.specs.declared.escapes.EscapeFault.{EscapeFault}
 use Rattle.x5_syntax.specs.declared.escapes.EscapeFault.TheVariants as escapes
-use Rattle.x5_syntax.specs.declared.values.SyntaxFault.{SyntaxFault}
-use Rattle.x5_syntax.specs.declared.values.SyntaxFault.TheVariants as syntax
-use Rattle.x5_match.specs.FilterView.{filter_view}
-use Rattle.x5_match.specs.declared.filter.Filter.{Filter}
 use Rattle.x5_match.specs.declared.parse.FilterFault.{FilterFault}
 use Rattle.x5_match.specs.declared.parse.FilterFault.TheVariants.{Bad, NoMemory}
 

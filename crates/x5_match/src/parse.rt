@@ -3,6 +3,7 @@
 ghost use Rattle.std.specs.Prelude.{◌≡◌, ◌==◌, ◌+◌, ◌^◌, ◌<◌, ◌≤◌, ◌++◌, [], length, map, IfOk, IfSome};
 ghost use Rattle.std.specs.List.{position, slice_split};
 ghost use Rattle.std.specs.Option.{option_copied};
+ghost use Rattle.x5_model.specs.Filters.{Equality};
 ghost use Rattle.x5_model_text.specs.Filters as text_of;
 ghost use Rattle.x5_model_text.specs.NameText.{kind_of_type};
 ghost use Rattle.x5_syntax.specs.TypeView.{type_view};
@@ -224,4 +225,228 @@ fn substrings_at(alloc: Global, kind: TypeRef, at: usize, text: &str) -> Result<
         return Err(FilterFault::Bad(at + text.len()));
     }
     Ok(Item::Substrings(SubstringItem::new(alloc, kind, pieces)?))
+}
+
+/// The item of a value that an `=` asserts.
+fn equality_at(alloc: Global, kind: TypeRef, at: usize, text: &str) -> Result<Item, FilterFault>
+    requires { at + length text.now + 1 < 2 ^ 64 }
+    ensures { Reads item_view result (text_of.asserted Equality (text_of.assertion_at (type_view kind) at text.now)) }
+{
+    Ok(Item::Equality(assertion_at(alloc, kind, at, text)?))
+}
+
+/// The item of what an `=` asserts: a value, a `*` alone, or parts between stars.
+fn equal_at(alloc: Global, kind: TypeRef, at: usize, text: &str) -> Result<Item, FilterFault>
+    requires { at + length text.now + 1 < 2 ^ 64 }
+    ensures { Reads item_view result (text_of.equal_at (type_view kind) at text.now) }
+{
+    let octets = text.as_bytes();
+    if !octets.contains(&b'*') {
+        equality_at(alloc, kind, at, text)
+    } else if octets == b"*".as_slice() {
+        Ok(Item::Present(kind))
+    } else {
+        substrings_at(alloc, kind, at, text)
+    }
+}
+
+/// The type that a word spells, which stands at the place.
+fn type_at(alloc: Global, at: usize, word: &str) -> Result<TypeRef, FilterFault>
+    ensures { Reads type_view result (text_of.type_at at word.now) }
+{
+    match TypeRef::parse(alloc, word)? {
+        Some(kind) => Ok(kind),
+        None => Err(FilterFault::Bad(at)),
+    }
+}
+
+/// The assertion of a value, of the type that the word spells, each at its place.
+fn compared_at(
+    alloc: Global,
+    at: usize,
+    word: &str,
+    place: usize,
+    text: &str,
+) -> Result<Assertion, FilterFault>
+    requires { place + length text.now + 1 < 2 ^ 64 }
+    ensures { Reads (λ a. a) result (text_of.compared_at at word.now place text.now) }
+{
+    let kind = type_at(alloc, at, word)?;
+    assertion_at(alloc, kind, place, text)
+}
+
+/// What stands before the sign, if the text ends in it.
+fn before_last<'a>(text: &'a str, sign: char) -> Option<&'a str>
+    requires { sign < 128 }
+    ensures { option_copied result ≡ text_of.before_last sign text.entry.now }
+{
+    text.strip_suffix(sign)
+}
+
+/// The item of what stands before its first `=` and behind it, each at its place.
+fn item_by_sides(
+    alloc: Global,
+    at: usize,
+    left: &str,
+    place: usize,
+    right: &str,
+) -> Result<Item, FilterFault>
+    requires { place + length right.now + 1 < 2 ^ 64 }
+    ensures { Reads item_view result (text_of.item_by_sides at left.now place right.now) }
+{
+    if let Some(word) = before_last(left, '>') {
+        let assertion = compared_at(alloc, at, word, place, right)?;
+        return Ok(Item::GreaterOrEqual(assertion));
+    }
+    if let Some(word) = before_last(left, '<') {
+        let assertion = compared_at(alloc, at, word, place, right)?;
+        return Ok(Item::LessOrEqual(assertion));
+    }
+    if let Some(word) = before_last(left, '~') {
+        let assertion = compared_at(alloc, at, word, place, right)?;
+        return Ok(Item::Approximate(assertion));
+    }
+    let kind = type_at(alloc, at, left)?;
+    equal_at(alloc, kind, place, right)
+}
+
+/// An item without its brackets, which stands at the place.
+fn item_at(alloc: Global, at: usize, text: &str) -> Result<Item, FilterFault>
+    requires { at + length text.now + 1 < 2 ^ 64 }
+    ensures { Reads item_view result (text_of.item_at at text.now) }
+{
+    let Some((left, right)) = text.split_once('=') else {
+        return Err(FilterFault::Bad(at + text.len()));
+    };
+    item_by_sides(alloc, at, left, at + left.len() + 1, right)
+}
+
+/// The filter, if its last bracket stands at the front of the text, and what stands behind that; `all` is the length of the
+/// whole text, of which the text is the end.
+fn closed<'a>(all: usize, filter: Filter, text: &'a str) -> Result<(Filter, &'a str), FilterFault>
+    requires { length text.now ≤ all }
+    ensures read { Reads (λ p. (filter_view p.0, p.1.now)) result (text_of.closed all (filter_view filter) text.entry.now) }
+    ensures behind { IfOk result (λ p. length p.1.now < length text.entry.now) }
+{
+    match text.strip_prefix(')') {
+        Some(behind) => Ok((filter, behind)),
+        None => Err(FilterFault::Bad(all - text.len())),
+    }
+}
+
+/// An item at the front of a text, and what stands behind its last bracket.
+fn item_from<'a>(alloc: Global, all: usize, text: &'a str) -> Result<(Filter, &'a str), FilterFault>
+    requires within { length text.now ≤ all }
+    requires small { all + 1 < 2 ^ 64 }
+    ensures read { Reads (λ p. (filter_view p.0, p.1.now)) result (text_of.item_read all text.entry.now) }
+    ensures behind { IfOk result (λ p. length p.1.now < length text.entry.now) }
+{
+    let at = all - text.len();
+    let Some((word, behind)) = text.split_once(')') else {
+        item_at(alloc, at, text)?;
+        return Err(FilterFault::Bad(all));
+    };
+    let item = item_at(alloc, at, word)?;
+    Ok((Filter::Item(item), behind))
+}
+
+/// Filters at the front of a text, one behind another, and what stands behind them.
+#[cycle(filter)]
+fn members_from<'a>(
+    alloc: Global,
+    nesting: usize,
+    all: usize,
+    text: &'a str,
+) -> Result<(FilterList, &'a str), FilterFault>
+    requires within { length text.now ≤ all }
+    requires small { all + 1 < 2 ^ 64 }
+    requires deep { nesting < 2 ^ 32 }
+    ensures read { Reads (λ p. (filters_of p.0.items, p.1.now)) result (text_of.members_read (text_of.filter_read nesting all) (length text.entry.now) text.entry.now) }
+    ensures behind { IfOk result (λ p. length p.1.now ≤ length text.entry.now) }
+{
+    let mut members = Vec::new(alloc);
+    let mut rest = text;
+    'members: while rest.starts_with('(') {
+        match filter_from(alloc, nesting, all, rest) {
+            Ok((member, behind)) => {
+                members.push(member)?;
+                rest = behind;
+            }
+            Err(fault) => return Err(fault),
+        }
+    }
+    Ok((members, rest))
+}
+
+/// What stands behind the first bracket of a filter whose members have this nesting at most, and what stands behind the filter.
+#[cycle(filter)]
+fn inside_from<'a>(
+    alloc: Global,
+    nesting: usize,
+    all: usize,
+    text: &'a str,
+) -> Result<(Filter, &'a str), FilterFault>
+    requires within { length text.now ≤ all }
+    requires small { all + 1 < 2 ^ 64 }
+    requires deep { nesting < 2 ^ 32 }
+    ensures read { Reads (λ p. (filter_view p.0, p.1.now)) result (text_of.inside_read (text_of.filter_read nesting all) all text.entry.now) }
+    ensures behind { IfOk result (λ p. length p.1.now < length text.entry.now) }
+{
+    if let Some(inside) = text.strip_prefix('&') {
+        match members_from(alloc, nesting, all, inside) {
+            Ok((members, behind)) => closed(all, Filter::And(members), behind),
+            Err(fault) => Err(fault),
+        }
+    } else if let Some(inside) = text.strip_prefix('|') {
+        match members_from(alloc, nesting, all, inside) {
+            Ok((members, behind)) => closed(all, Filter::Or(members), behind),
+            Err(fault) => Err(fault),
+        }
+    } else if let Some(inside) = text.strip_prefix('!') {
+        match filter_from(alloc, nesting, all, inside) {
+            Ok((member, behind)) => closed(all, Filter::Not(Box::new(alloc, member)?), behind),
+            Err(fault) => Err(fault),
+        }
+    } else {
+        item_from(alloc, all, text)
+    }
+}
+
+/// A filter of this nesting at most at the front of a text, and what stands behind it.
+#[cycle(filter)]
+fn filter_from<'a>(
+    alloc: Global,
+    nesting: usize,
+    all: usize,
+    text: &'a str,
+) -> Result<(Filter, &'a str), FilterFault>
+    requires within { length text.now ≤ all }
+    requires small { all + 1 < 2 ^ 64 }
+    requires deep { nesting < 2 ^ 32 }
+    ensures read { Reads (λ p. (filter_view p.0, p.1.now)) result (text_of.filter_read nesting all text.entry.now) }
+    ensures behind { IfOk result (λ p. length p.1.now < length text.entry.now) }
+{
+    match text.strip_prefix('(') {
+        Some(inside) if nesting > 0 => inside_from(alloc, nesting - 1, all, inside),
+        _ => Err(FilterFault::Bad(all - text.len())),
+    }
+}
+
+impl Filter {
+    /// The filter that a text spells.
+    pub fn parse(alloc: Global, text: &str) -> Result<Filter, FilterFault>
+        ensures { Reads filter_view result (text_of.filter_of_text text.now) }
+    {
+        let all = text.len();
+        match filter_from(alloc, DEEPEST, all, text) {
+            Ok((filter, behind)) => {
+                if behind.is_empty() {
+                    Ok(filter)
+                } else {
+                    Err(FilterFault::Bad(all - behind.len()))
+                }
+            }
+            Err(fault) => Err(fault),
+        }
+    }
 }

@@ -107,17 +107,17 @@ substrings_at type at t = do
 
 -- ---- items: a type, one of the signs = >= <= ~=, and what is asserted of the type
 
-abbrev pub compared_at : (Assertion → Item) → TypeRef → ℕ → Text → Result Item ℕ
-compared_at relation type at t = do
-  a ← assertion_at type at t
-  Ok (relation a)
-
 abbrev pub has_star : Text → Bool
 has_star t = list_any (λ b. b == star) t
 
+abbrev pub asserted : (Assertion → Item) → Result Assertion ℕ → Result Item ℕ
+asserted relation read = do
+  a ← read
+  Ok (relation a)
+
 abbrev pub equal_at : TypeRef → ℕ → Text → Result Item ℕ
 equal_at type at t =
-    if not (has_star t) then compared_at Equality type at t
+    if not (has_star t) then asserted Equality (assertion_at type at t)
     else if same_octets t (star ∷ []) then Ok (Present type)
     else substrings_at type at t
 
@@ -125,36 +125,37 @@ equal_at type at t =
 abbrev pub type_at : ℕ → Text → Result TypeRef ℕ
 type_at at word = in_option (Err at) Ok (type_of_text word)
 
--- what stands before the octet that ends the text, if it does
+-- an assertion of the value at a place, of the type that the word spells
+abbrev pub compared_at : ℕ → Text → ℕ → Text → Result Assertion ℕ
+compared_at at word place t = do
+  type ← type_at at word
+  assertion_at type place t
+
+-- what stands before the octet, if the text ends in it
 abbrev pub before_last : ℕ → Text → Option Text
 before_last c [] = None
 before_last c (b ∷ []) = if b == c then Some [] else None
 before_last c (b ∷ d ∷ t) = option_map (λ front. b ∷ front) (before_last c (d ∷ t))
 
--- what stands before and behind the first `=` of an item, and the place of either
-pub record Sides : Type 0 where
-  pub at : ℕ
-  pub left : Text
-  pub place : ℕ
-  pub right : Text
+-- an item by what stands before its first `=`, and behind it, each at its place: the left side is a word and > or < or ~, or
+-- the word alone
+abbrev pub item_of_sides : ℕ → Text → ℕ → Text → Option Text → Option Text → Option Text → Result Item ℕ
+item_of_sides at left place right (Some word) below near = asserted GreaterOrEqual (compared_at at word place right)
+item_of_sides at left place right None (Some word) near = asserted LessOrEqual (compared_at at word place right)
+item_of_sides at left place right None None (Some word) = asserted Approximate (compared_at at word place right)
+item_of_sides at left place right None None None = do
+  type ← type_at at left
+  equal_at type place right
 
-abbrev pub typed : Sides → Text → (TypeRef → ℕ → Text → Result Item ℕ) → Result Item ℕ
-typed s word asserted = do
-  type ← type_at s.at word
-  asserted type s.place s.right
+abbrev pub item_by_sides : ℕ → Text → ℕ → Text → Result Item ℕ
+item_by_sides at left place right =
+    item_of_sides at left place right (before_last 62 left) (before_last 60 left) (before_last 126 left)
 
--- the item of this sign before the `=`, or else another
-abbrev pub signed : ℕ → (Assertion → Item) → Sides → Result Item ℕ → Result Item ℕ
-signed sign relation s other = in_option other (λ word. typed s word (compared_at relation)) (before_last sign s.left)
-
-abbrev pub item_of_sides : Sides → Result Item ℕ
-item_of_sides s =
-    signed 62 GreaterOrEqual s (signed 60 LessOrEqual s (signed 126 Approximate s (typed s s.left equal_at)))
-
--- an item without its brackets, at the place
+-- an item without its brackets
 abbrev pub item_at : ℕ → Text → Result Item ℕ
 item_at at t = let cut = position_or_len (λ b. b == equals) t in
-    if nat_lt cut (length t) then item_of_sides (record { at = at; left = before_first (λ b. b == equals) t; place = at + cut + 1; right = after_first (λ b. b == equals) t })
+    if nat_lt cut (length t)
+    then item_by_sides at (before_first (λ b. b == equals) t) (at + cut + 1) (after_first (λ b. b == equals) t)
     else Err (at + length t)
 
 -- ---- filters: each reading gives what it has read and the text behind it; `all` is the length of the whole text, which tells
