@@ -1,10 +1,11 @@
-//! Filters as text (docs/FORMATS.md, filters as text).
+//! Filters read from text (x5_model_text: specs/Filters, specs/FilterGrammar).
 
 ghost use Rattle.std.specs.Prelude.{◌≡◌, ◌==◌, ◌+◌, ◌^◌, ◌<◌, ◌≤◌, ◌++◌, [], length, map, IfOk, IfSome};
 ghost use Rattle.std.specs.List.{position, slice_split};
 ghost use Rattle.std.specs.Option.{option_copied};
 ghost use Rattle.x5_model.specs.Filters.{Equality};
 ghost use Rattle.x5_model_text.specs.Filters as text_of;
+ghost use Rattle.x5_model_text.specs.FilterGrammar.{Spells};
 ghost use Rattle.x5_model_text.specs.NameText.{kind_of_type};
 ghost use Rattle.x5_syntax.specs.TypeView.{type_view};
 ghost use Rattle.x5_syntax.specs.ValueView.{value_view};
@@ -433,9 +434,10 @@ fn filter_from<'a>(
 }
 
 impl Filter {
-    /// The filter that a text spells.
+    /// The filter that a text spells, nested 16 deep at most; `Bad` tells the first octet outside the grammar.
     pub fn parse(alloc: Global, text: &str) -> Result<Filter, FilterFault>
-        ensures { Reads filter_view result (text_of.filter_of_text text.now) }
+        ensures read { Reads filter_view result (text_of.filter_of_text text.now) }
+        ensures spelled { IfOk result (λ filter. Spells text_of.deepest (filter_view filter) text.now) }
     {
         let all = text.len();
         match filter_from(alloc, DEEPEST, all, text) {
