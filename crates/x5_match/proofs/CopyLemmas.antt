@@ -2,12 +2,8 @@
 use Rattle.std.proofs.Common.{◌≡◌, ℕ, suc, ◌+◌, ◌<◌, ◌≤◌, refl, sym, ◌∙◌, List, [], ◌∷◌, ◌++◌, length, drop, get_or, ap, rules, add-one, drop-cons, Vec, Global}
 use Rattle.std.proofs.lemmas.List.{drop_all}
 use Rattle.x5_model.specs.Filters as model
-use Rattle.x5_match.specs.FilterView.{filter_view, row_view}
+use Rattle.x5_match.specs.FilterView.{filter_view, row_view, filters_of}
 use Rattle.x5_match.specs.declared.filter.Filter.{Filter, And, Or, Row_of-Filter, end_of-Filter, more_of-Filter, items-the_row-Filter, the_lemmas}
-
-abbrev pub filters_of : List Filter → model.Filters
-filters_of [] = model.Nil
-filters_of (f ∷ fs) = model.More (filter_view f) (filters_of fs)
 
 -- members behind those before them
 abbrev pub filters_behind : List Filter → model.Filters → model.Filters

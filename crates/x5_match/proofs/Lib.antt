@@ -1,3 +1,4 @@
 pub mod OccurrenceLemmas
 pub mod FilterLemmas
 pub mod CopyLemmas
+pub mod ParseLemmas

@@ -1,11 +1,10 @@
 -- The first occurrence of a part is as good as any: what stands behind it is the most.
-use Rattle.std.proofs.Common.{◌≡◌, ℕ, zero, suc, ◌+◌, ◌-◌, ◌≤◌, ◌<◌, Bool, true, false, ◌&&◌, ◌||◌, ◌==◌, if◌then◌else◌, List, [], ◌∷◌, length, take, drop, get_or, add-one, drop-cons, refl, sym, ◌∙◌, ap, arith, Option, None, Some, rules}
+use Rattle.std.proofs.Common.{◌≡◌, ℕ, zero, suc, ◌+◌, ◌-◌, ◌≤◌, ◌<◌, Bool, true, false, ◌&&◌, ◌||◌, ◌==◌, if◌then◌else◌, List, [], ◌∷◌, length, take, drop, get_or, add-one, drop-cons, refl, sym, arith, Option, None, Some}
 use Rattle.std.specs.List.{list_any, starts_with}
-use Rattle.std.proofs.lemmas.Grind.{common_steps}
 use Rattle.std.proofs.lemmas.Bool.{leb-true, le-leb}
 use Rattle.std.specs.Cmp.Derive.{both_true}
 use Rattle.std.proofs.Math.Seq.{take-length}
-use Rattle.x5_model.specs.Words.{tails, in_option, same_octets}
+use Rattle.x5_model.specs.Words.{tails, in_option}
 use Rattle.x5_model.specs.Truth.{ends_so, in_order}
 use Rattle.x5_match.specs.Occurrence.{behind_occurrence}
 

@@ -1,4 +1,5 @@
 -- What the code's filters stand for.
+use Rattle.std.specs.Prelude.{List, [], ◌∷◌}
 use Rattle.x5_model.specs.Filters as model
 use Rattle.x5_syntax.specs.TypeView.{type_view}
 use Rattle.x5_match.specs.declared.filter.Item.{Item}
@@ -23,3 +24,8 @@ abbrev mutual
   pub row_view : {m : _} → Row_of-Filter m → model.Filters
   row_view end_of-Filter = model.Nil
   row_view (more_of-Filter f rest) = model.More (filter_view f) (row_view rest)
+
+-- members in a vector
+abbrev pub filters_of : List Filter → model.Filters
+filters_of [] = model.Nil
+filters_of (f ∷ fs) = model.More (filter_view f) (filters_of fs)

@@ -2,3 +2,4 @@ pub mod TruthView
 pub mod Occurrence
 pub mod PlaceView
 pub mod FilterView
+pub mod FilterText

@@ -6,6 +6,7 @@ mod copies;
 mod entry;
 mod filter;
 mod matching;
+mod parse;
 #[cfg(test)]
 mod tests;
 mod truth;
@@ -17,4 +18,5 @@ pub use filter::{
     normal_for,
 };
 pub use matching::{NormalList, Parts, equal, order, substrings};
+pub use parse::{DEEPEST, FilterFault};
 pub use truth::Truth;

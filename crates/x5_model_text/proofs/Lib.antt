@@ -1,2 +1,4 @@
 pub mod EscapeLaws
 mod Examples
+mod FilterExamples
+pub mod FilterLaws

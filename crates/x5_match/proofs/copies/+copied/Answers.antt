@@ -1,7 +1,7 @@
-use Rattle.std.proofs.Common.{◌≡◌, sym, ap, ◌∙◌}
+use Rattle.std.proofs.Common.{sym, ap, ◌∙◌}
 use Rattle.x5_model.specs.Filters as model
-use Rattle.x5_match.specs.FilterView.{filter_view}
-use Rattle.x5_match.proofs.CopyLemmas.{filters_of, all_copied, and_of_items, or_of_items, one_copied}
+use Rattle.x5_match.specs.FilterView.{filter_view, filters_of}
+use Rattle.x5_match.proofs.CopyLemmas.{all_copied, and_of_items, or_of_items, one_copied}
 use Rattle.x5_match.proofs.copies.+copied.Goals as goal
 
 pub returns-after-loop-member : goal.returns-after-loop-member

@@ -1,5 +1,6 @@
 use Rattle.std.proofs.Common.{◌≡◌, drop}
-use Rattle.x5_match.proofs.CopyLemmas.{filters_of, filters_behind}
+use Rattle.x5_match.specs.FilterView.{filters_of}
+use Rattle.x5_match.proofs.CopyLemmas.{filters_behind}
 use Rattle.x5_match.proofs.copies.+copied.Given as goal
 
 abbrev pub invariant-loop-member : goal.invariant-loop-member

@@ -1,6 +1,6 @@
-use Rattle.std.proofs.Common.{◌≡◌, ◌∙◌, sym, ap, Some, true, false, nat_eq, rules, List, ℕ}
+use Rattle.std.proofs.Common.{◌≡◌, ◌∙◌, sym, ap, Some, true, false, nat_eq, rules}
 use Rattle.std.specs.List.{starts_with}
-use Rattle.x5_match.proofs.OccurrenceLemmas.{occurrence-here, occurrence-later, occurrence-none}
+use Rattle.x5_match.proofs.OccurrenceLemmas.{occurrence-here, occurrence-later}
 use Rattle.x5_match.proofs.matching.behind.Goals as goal
 
 pub returns-in-Some : goal.returns-in-Some
