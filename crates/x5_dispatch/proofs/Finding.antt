@@ -1,7 +1,6 @@
 -- A reference on the way to a name is no longer than the name.
-use Rattle.std.proofs.Common.{◌≡◌, ◌≤◌, List, length, Some, sym, arith}
-use Rattle.std.specs.List.{find}
-use Rattle.x5_model.specs.Keys.{Key, is_prefix}
+use Rattle.std.proofs.Common.{◌≡◌, ◌≤◌, length, Some, sym, arith}
+use Rattle.x5_model.specs.Keys.{is_prefix}
 use Rattle.x5_model.specs.Values.{Name, key_of}
 use Rattle.x5_model.proofs.Lists.{of_find}
 use Rattle.x5_model.proofs.Prefixes.{prefix_decides, prefix_length}

@@ -1,6 +1,6 @@
 -- Agents by their names and by their places.
-use Rattle.std.proofs.Common.{◌≡◌, ℕ, zero, suc, ◌+◌, ◌<◌, ◌==◌, Bool, true, false, not, ◌&&◌, List, [], ◌∷◌, map, length, refl, sym, ap, subst, ◌∙◌, arith, inl, inr, one-add, Option, Some, None}
-use Rattle.std.specs.List.{slice_get, position_or_len, find}
+use Rattle.std.proofs.Common.{◌≡◌, ℕ, zero, suc, ◌+◌, ◌<◌, true, false, not, List, [], ◌∷◌, map, length, refl, sym, ap, subst, ◌∙◌, arith, inl, inr, Some}
+use Rattle.std.specs.List.{slice_get}
 use Rattle.std.specs.Option.{option_map}
 use Rattle.std.specs.Cmp.Lexicographic.{bytes_decides}
 use Rattle.std.proofs.lemmas.Option.{slice_get-map, slice_get_within}
@@ -32,9 +32,9 @@ agent_at_place (y ∷ ys) (suc i) name d e =
     let apart : same_octets y name ≡ false = elim (true_or_false (same_octets y name)) [
       | inr f ↦ f
       | inl t ↦ (let same : y ≡ name = (bytes_decides y name).0 t in
-        let u : has same_octets ys name ≡ true = has_in same_octets bytes_decides name ys (in_at ys i name e) in
-        let v : has same_octets ys name ≡ false = ap (has same_octets ys) (sym same) ∙ not_true _ s.0 in
-        cc)
+          let u : has same_octets ys name ≡ true = has_in same_octets bytes_decides name ys (in_at ys i name e) in
+          let v : has same_octets ys name ≡ false = ap (has same_octets ys) (sym same) ∙ not_true _ s.0 in
+          cc)
     ] in
     let more : 1 + agent_of ys name ≡ suc i = omega (arith, rest) in
     rw apart more

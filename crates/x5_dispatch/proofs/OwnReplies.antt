@@ -1,25 +1,24 @@
 -- What an agent answers from its own entries is what the star says of it.
-use Rattle.std.proofs.Common.{◌≡◌, ℕ, zero, suc, ◌-◌, ◌<◌, ◌≤◌, Bool, true, false, cond, List, [], ◌∷◌, map, take, length, arith, Bor, refl, sym, ap, subst, ◌∙◌, Option, Some, None, Result, Ok, Err, IfOk}
+use Rattle.std.proofs.Common.{◌≡◌, ℕ, zero, suc, ◌-◌, ◌<◌, Bool, true, false, cond, List, [], ◌∷◌, map, take, length, arith, Bor, refl, sym, ap, subst, ◌∙◌, Option, Some, None, Result, Ok, Err, IfOk}
 use Rattle.std.specs.List.{find}
 use Rattle.std.specs.Option.{option_map, option_copied, is_some}
-use Rattle.x5_model.specs.Words.{in_option}
 use Rattle.x5_model.specs.Members.{In}
-use Rattle.x5_model.specs.Keys.{Key, IsPrefix, same_key, is_prefix}
+use Rattle.x5_model.specs.Keys.{Key, same_key, is_prefix}
 use Rattle.x5_model.specs.Values.{Name, key_of}
 use Rattle.x5_model.specs.Entries.{Named}
 use Rattle.x5_model.specs.Filters.{Assertion}
 use Rattle.x5_model.specs.Requests.{Selection, Body, Read, Compare, Request}
-use Rattle.x5_model.specs.Answers.{Source, DirError, NoSuchObject, Failed}
+use Rattle.x5_model.specs.Answers.{NoSuchObject, Failed}
 use Rattle.x5_model.specs.Statics.{fault_of}
 use Rattle.x5_model.proofs.Lists.{in_flat, in_map, of_find}
 use Rattle.x5_model.proofs.Prefixes.{prefix_length}
 use Rattle.x5_model.proofs.Ascending.{of_sorted, in_sorted}
 use Rattle.x5_model_tree.specs.World.{Context, Agent, World}
 use Rattle.x5_model_tree.specs.Tree.{key_at, named_below, sorted_entries, entry_at, lowest_within, lowest}
-use Rattle.x5_model_tree.specs.Masters.{numbered, mastered, agent_at}
+use Rattle.x5_model_tree.specs.Masters.{numbered, agent_at}
 use Rattle.x5_model_tree.specs.Described.{IsDescribed}
 use Rattle.x5_model_tree.specs.Good.{IsContext}
-use Rattle.x5_model_tree.specs.Ask.{Told, Refuses, ask}
+use Rattle.x5_model_tree.specs.Ask.{Refuses, ask}
 use Rattle.x5_model_tree.proofs.Longest.{IsLowest, lowest_right, lowest_is, none_lowest}
 use Rattle.x5_model_run.specs.Needs.{target_of}
 use Rattle.x5_model_star.specs.Star.{IsStar}

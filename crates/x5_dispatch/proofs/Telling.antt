@@ -1,10 +1,10 @@
 -- Each course of the code is a course of the star, told by the names of its agents.
-use Rattle.std.proofs.Common.{◌≡◌, ℕ, ◌-◌, ◌≤◌, Bool, true, false, not, nat_le, inl, inr, List, [], ◌∷◌, ◌++◌, map, length, reverse, min, take, drop, refl, sym, ap, subst, ◌∙◌, arith, Option, Some, None}
+use Rattle.std.proofs.Common.{◌≡◌, ℕ, Bool, true, false, not, nat_le, inl, inr, List, [], ◌∷◌, ◌++◌, map, length, reverse, min, refl, sym, ap, subst, ◌∙◌, arith, Option, Some, None}
 use Rattle.std.specs.Prelude.{⊤}
 use Rattle.std.proofs.lemmas.Bool.Decides.{nat_tests}
 use Rattle.std.specs.List.{flat_map, list_all, list_any, slice_get}
 use Rattle.std.specs.Option.{option_map, is_none}
-use Rattle.x5_model.specs.Words.{distinct, same_octets, is_empty, first_of, when}
+use Rattle.x5_model.specs.Words.{is_empty, first_of, when}
 use Rattle.x5_model.specs.Members.{In, here}
 use Rattle.x5_model.specs.Keys.{Key, is_prefix}
 use Rattle.x5_model.specs.Values.{Name, key_of}
@@ -29,9 +29,8 @@ use Rattle.x5_ops.specs.AgentNames.{agent_of}
 use Rattle.x5_ops.specs.RequestViews.{name_of}
 use Rattle.x5_ops.specs.ReferenceViews.{reference_view, item_view}
 use Rattle.x5_ops.specs.AnswerViews.{reply_view}
-use Rattle.x5_ops.specs.JournalViews.{printed_view, messages_view}
+use Rattle.x5_ops.specs.JournalViews.{messages_view}
 use Rattle.x5_ops.specs.KnowledgeViews.{agent_view, specific_view}
-use Rattle.x5_ops.specs.declared.answers.Answer.{Answer}
 use Rattle.x5_ops.specs.declared.answers.Answer.TheVariants as answers
 use Rattle.x5_ops.specs.declared.answers.Reply.{Reply}
 use Rattle.x5_ops.specs.declared.answers.Reply.TheVariants as replies

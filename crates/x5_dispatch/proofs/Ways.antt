@@ -1,16 +1,15 @@
 -- The references that the code follows are those of the star.
-use Rattle.std.proofs.Common.{◌≡◌, ℕ, suc, ◌<◌, Bool, true, false, cond, not, ◌&&◌, ◌||◌, nat_lt, inl, inr, List, [], ◌∷◌, map, length, refl, sym, ap, subst, ◌∙◌, arith, Option, Some, None}
-use Rattle.std.specs.List.{find, list_all, slice_get}
+use Rattle.std.proofs.Common.{◌≡◌, ℕ, suc, ◌<◌, true, false, cond, not, ◌&&◌, ◌||◌, nat_lt, inl, inr, List, [], ◌∷◌, map, length, refl, sym, ap, ◌∙◌, arith, Option, Some, None}
+use Rattle.std.specs.List.{list_all, slice_get}
 use Rattle.std.specs.Option.{option_map, option_and_then, is_some}
-use Rattle.std.proofs.lemmas.Option.{slice_get_cases, slice_get_within}
-use Rattle.x5_model.specs.Words.{distinct, is_empty, some_and}
+use Rattle.std.proofs.lemmas.Option.{slice_get_cases}
+use Rattle.x5_model.specs.Words.{distinct, some_and}
 use Rattle.x5_model.specs.Members.{In}
 use Rattle.x5_model.specs.Keys.{Key, same_key, is_prefix}
 use Rattle.x5_model.specs.Values.{key_of}
 use Rattle.x5_model.proofs.Lists.{both_true, not_true, not_false, of_all, of_find}
 use Rattle.x5_model.proofs.Decide.{less_decides}
-use Rattle.x5_model_tree.specs.World.{Specific, Context, Agent, World}
-use Rattle.x5_model_tree.specs.Masters.{agent_at}
+use Rattle.x5_model_tree.specs.World.{Specific, Agent, World}
 use Rattle.x5_model_tree.specs.Described.{is_agent, is_context, are_references, is_reference, has_superior, IsDescribed}
 use Rattle.x5_model_star.specs.Reads as star
 use Rattle.x5_model_star.proofs.Seats.{in_agents}

@@ -130,12 +130,7 @@ fn compare_at(
 }
 
 /// What a read or compare is answered at an entry.
-fn answer_at(
-    alloc: Global,
-    source: Source,
-    named: &Named,
-    body: &Body,
-) -> Result<Reply, NoMemory>
+fn answer_at(alloc: Global, source: Source, named: &Named, body: &Body) -> Result<Reply, NoMemory>
     requires { IsTrue (reads.is_read (body_view body.now)) }
     ensures told { IfOk result (λ reply. (names : List (List ℕ)) → reply_view names reply ≡ reads.reply_of (source_view names source) (told_at (body_view body.now) named.now)) }
     ensures known { IfOk result (λ reply. IsFrom source.agent reply) }

@@ -106,7 +106,10 @@ fn go_down(
         None => Ok((own_reply(alloc, centre, request)?, journal_of(alloc, lines))),
         Some(step) => {
             lines.push(down_line(alloc, centre, &step, request, t)?)?;
-            Ok((own_reply(alloc, step.agent, request)?, journal_of(alloc, lines)))
+            Ok((
+                own_reply(alloc, step.agent, request)?,
+                journal_of(alloc, lines),
+            ))
         }
     }
 }

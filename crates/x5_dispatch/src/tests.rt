@@ -99,7 +99,10 @@ fn star(alloc: Global) -> Result<Listed<AgentSpec>, Fail> {
         alloc,
         "Alpha",
         None,
-        &["/C=NL:objectClass=2.5.6.2", "/C=NL/OU=North:objectClass=2.5.6.5"],
+        &[
+            "/C=NL:objectClass=2.5.6.2",
+            "/C=NL/OU=North:objectClass=2.5.6.5",
+        ],
         &[("/c=nl/O=Shop", 1), ("/C=NL/OU=North/CN=Hall", 2)],
     )?;
     let beta = agent(
@@ -159,9 +162,13 @@ fn reply_text(alloc: Global, reply: &Reply) -> Result<String, Fail> {
             let shown = entry.attributes.len();
             Ok(format!(in alloc; "entry {} {shown} {source}", name.as_str())?)
         }
-        Reply::Done(Answer::Match {
-            matched, source, ..
-        }) => {
+        Reply::Done(
+            Answer::Match {
+                matched,
+                source,
+                ..
+            },
+        ) => {
             let source = source_text(alloc, source)?;
             Ok(format!(in alloc; "match {matched} {source}")?)
         }
@@ -238,8 +245,18 @@ fn a_read_goes_where_the_entry_is(rt: HostRuntime) -> Result<(), Fail> {
     let alloc = rt.alloc();
     for (to, name, attrs, want) in [
         (0, "/", "*", "user Alpha 1 0 0 /, absent /"),
-        (0, "/c=nl", "*", "user Alpha 1 0 0 /C=nl, entry /C=NL 2 /C=NL Alpha"),
-        (0, "/C=NL/O=None", "*", "user Alpha 1 0 0 /C=NL/O=None, absent /C=NL"),
+        (
+            0,
+            "/c=nl",
+            "*",
+            "user Alpha 1 0 0 /C=nl, entry /C=NL 2 /C=NL Alpha",
+        ),
+        (
+            0,
+            "/C=NL/O=None",
+            "*",
+            "user Alpha 1 0 0 /C=NL/O=None, absent /C=NL",
+        ),
         (0, "/C=BE", "*", "user Alpha 1 0 0 /C=BE, absent /"),
         (
             0,
@@ -284,12 +301,48 @@ fn a_read_goes_where_the_entry_is(rt: HostRuntime) -> Result<(), Fail> {
 fn a_compare_says_whether_a_value_is_there(rt: HostRuntime) -> Result<(), Fail> {
     let alloc = rt.alloc();
     for (to, name, word, text, want) in [
-        (1, "/C=NL/O=Shop/CN=Ada", "description", "SELLS tea", "user Beta 2 0 0 /C=NL/O=Shop/CN=Ada, match true /C=NL/O=Shop Beta"),
-        (1, "/C=NL/O=Shop/CN=Ada", "SN", "Smit", "user Beta 2 0 0 /C=NL/O=Shop/CN=Ada, match false /C=NL/O=Shop Beta"),
-        (1, "/C=NL/O=Shop/CN=Ada", "C", "NL", "user Beta 2 0 0 /C=NL/O=Shop/CN=Ada, attribute 1 C"),
-        (2, "/C=NL", "C", "nl", "user Gamma 2 0 0 /C=NL, Gamma Alpha 2 0 1 /C=NL, match true /C=NL Alpha"),
-        (2, "/C=NL", "C", "NLD", "user Gamma 2 0 0 /C=NL, attribute 2 C"),
-        (2, "/C=NL", "1.2.3", "x", "user Gamma 2 0 0 /C=NL, attribute 3 1.2.3"),
+        (
+            1,
+            "/C=NL/O=Shop/CN=Ada",
+            "description",
+            "SELLS tea",
+            "user Beta 2 0 0 /C=NL/O=Shop/CN=Ada, match true /C=NL/O=Shop Beta",
+        ),
+        (
+            1,
+            "/C=NL/O=Shop/CN=Ada",
+            "SN",
+            "Smit",
+            "user Beta 2 0 0 /C=NL/O=Shop/CN=Ada, match false /C=NL/O=Shop Beta",
+        ),
+        (
+            1,
+            "/C=NL/O=Shop/CN=Ada",
+            "C",
+            "NL",
+            "user Beta 2 0 0 /C=NL/O=Shop/CN=Ada, attribute 1 C",
+        ),
+        (
+            2,
+            "/C=NL",
+            "C",
+            "nl",
+            "user Gamma 2 0 0 /C=NL, Gamma Alpha 2 0 1 /C=NL, match true /C=NL Alpha",
+        ),
+        (
+            2,
+            "/C=NL",
+            "C",
+            "NLD",
+            "user Gamma 2 0 0 /C=NL, attribute 2 C",
+        ),
+        (
+            2,
+            "/C=NL",
+            "1.2.3",
+            "x",
+            "user Gamma 2 0 0 /C=NL, attribute 3 1.2.3",
+        ),
     ] {
         let object = Name::parse(alloc, name)?;
         let kind = type_from(alloc, word)?;

@@ -90,11 +90,7 @@ fn shown_of(
 }
 
 /// What an answer shows of an entry: the selected attributes that it has, in its order.
-pub fn shown(
-    alloc: Global,
-    selection: &Selection,
-    entry: &Entry,
-) -> Result<AttributeList, NoMemory>
+pub fn shown(alloc: Global, selection: &Selection, entry: &Entry) -> Result<AttributeList, NoMemory>
     ensures { IfOk result (λ list. map shown_view list ≡ model.shown (selection_view selection.now) entry.now) }
 {
     shown_of(alloc, selection, entry.attributes())

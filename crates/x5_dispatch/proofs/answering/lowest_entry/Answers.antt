@@ -1,6 +1,5 @@
 -- Where no entry is at the beginning of the key, a shorter one is looked at.
 use Rattle.std.proofs.Common.{◌≡◌, None, arith, sym, ap, ◌∙◌, take}
-use Rattle.x5_model.specs.Keys.{Key}
 use Rattle.x5_model_tree.specs.Tree.{entry_at}
 use Rattle.x5_dispatch.proofs.OwnReplies.{pass_over, copied_none}
 use Rattle.x5_dispatch.proofs.answering.lowest_entry.Goals as goal

@@ -1,12 +1,12 @@
 -- The agent has no context on the way, no entry in it, a shorter one, or the entry itself.
-use Rattle.std.proofs.Common.{◌≡◌, rules, true, false, Option, Some, None, List, sym, ap, refl, ◌∙◌}
+use Rattle.std.proofs.Common.{◌≡◌, rules, true, false, Option, Some, None, sym, ap, ◌∙◌}
 use Rattle.std.specs.Option.{option_copied}
 use Rattle.x5_model.specs.Keys.{same_key}
 use Rattle.x5_model.specs.Values.{Name, key_of}
 use Rattle.x5_model.specs.Requests.{Body}
 use Rattle.x5_model.specs.Answers.{NoSuchObject}
 use Rattle.x5_model_tree.specs.Ask.{Refuses}
-use Rattle.x5_model_tree.specs.Tree.{key_at, lowest}
+use Rattle.x5_model_tree.specs.Tree.{key_at}
 use Rattle.x5_ops.specs.RequestViews.{body_view, name_of}
 use Rattle.x5_ops.specs.declared.knowledge.ContextSpec.{ContextSpec}
 use Rattle.x5_dispatch.specs.Courses.{covering_at, lowest_in, told_by}
