@@ -1,5 +1,5 @@
 -- The way of a request over the described agents, in the terms of the code's types: who is asked in turn, by which
--- messages, and who answers. The proofs lead from here to the star of docs/MODEL.md.
+-- messages, and who answers. The proofs lead from here to the star of x5_model_star.
 use Rattle.std.specs.Prelude.{◌≡◌, ℕ, ◌-◌, false, ◌||◌, if◌then◌else◌, List, [], ◌∷◌, ◌++◌, length, take, drop, min, slice_get, ⊤}
 use Rattle.std.specs.List.{find}
 use Rattle.std.specs.Option.{option_map, option_and_then, is_some}
