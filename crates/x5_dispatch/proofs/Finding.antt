@@ -1,27 +1,16 @@
--- What is found passes the test, and a first part of a name is no longer than the name.
-use Rattle.std.proofs.Common.{◌≡◌, ◌≤◌, ◌&&◌, Bool, true, false, cond, List, [], ◌∷◌, length, Some, refl, sym, subst, arith}
-use Rattle.std.specs.List.{find}
-use Rattle.x5_star.specs.Names.{Name, same_rdn, is_prefix}
-use Rattle.x5_star.specs.declared.agent.Specific.{Specific}
+-- A reference on the way to a name is no longer than the name.
+use Rattle.std.proofs.Common.{◌≡◌, ◌≤◌, length, Some, sym, arith}
+use Rattle.x5_model.specs.Keys.{is_prefix}
+use Rattle.x5_model.specs.Values.{Name, key_of}
+use Rattle.x5_model.proofs.Lists.{of_find}
+use Rattle.x5_model.proofs.Prefixes.{prefix_decides, prefix_length}
+use Rattle.x5_model_star.proofs.Holding.{length_key}
+use Rattle.x5_ops.specs.declared.knowledge.AgentSpec.{AgentSpec}
+use Rattle.x5_ops.specs.declared.knowledge.Specific.{Specific}
+use Rattle.x5_dispatch.specs.Courses.{reference_at}
 
-pub is_prefix-length : (a b : Name) → is_prefix a b ≡ true → length a ≤ length b
-is_prefix-length [] b e = omega arith
-is_prefix-length (x ∷ xs) [] e = cc
-is_prefix-length (x ∷ xs) (y ∷ ys) e =
-    let h : length xs ≤ length ys = is_prefix-length xs ys (second (same_rdn x y) (is_prefix xs ys) e) in omega arith
-  where
-    second : (a b : Bool) → a && b ≡ true → b ≡ true
-    second true b h = h
-    second false b h = cc
-
--- what is found passes the test
-pub find-passes : {X : Type 0} (test : X → Bool) (xs : List X) (x : X) → find test xs ≡ Some x → test x ≡ true
-find-passes test [] x e = cc
-find-passes {X} test (y ∷ ys) x e = choose (test y) refl (find-passes test ys x) e
-  where
-    choose : (b : Bool) → test y ≡ b → (find test ys ≡ Some x → test x ≡ true) → cond b (Some y) (find test ys) ≡ Some x → test x ≡ true
-    choose true t later h = let same : y ≡ x = cc in subst (λ (z : X). test z ≡ true) same t
-    choose false t later h = later h
-
-pub pin-length : (references : List Specific) (name : Name) (reference : Specific) → Some reference ≡ find (λ r. is_prefix r.pin name) references → length reference.pin ≤ length name
-pin-length references name reference e = is_prefix-length reference.pin name (find-passes (λ (r : Specific). is_prefix r.pin name) references reference (sym e))
+pub pin_length : (a : AgentSpec) (name : Name) (k : Specific) → Some k ≡ reference_at a (key_of name) → length k.pin ≤ length name
+pin_length a name k e =
+    let found = of_find (λ (r : Specific). is_prefix (key_of r.pin) (key_of name)) k a.specific (sym e) in
+    let l : length (key_of k.pin) ≤ length (key_of name) = prefix_length (key_of k.pin) (key_of name) ((prefix_decides (key_of k.pin) (key_of name)).0 found.1) in
+    omega (arith, length_key k.pin, length_key name)

@@ -1,2 +1,3 @@
-pub mod Star
+pub mod Courses
 pub mod Views
+pub mod Star

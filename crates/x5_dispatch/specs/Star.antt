@@ -1,117 +1,83 @@
--- What a read over a star of agents is answered, and which messages it takes (X.518, clauses 18 and 19).
-use Rattle.std.specs.Prelude.{◌≡◌, ℕ, false, List, [], ◌∷◌, ◌++◌, length, take, drop, reverse, min, Option, Some, None, IfSome, is_some, slice_get, ◌-◌, ◌≢◌, ◌||◌, if◌then◌else◌, option_and_then}
-use Rattle.std.specs.List.{find}
-use Rattle.std.specs.Option.{option_map}
-use Rattle.x5_star.specs.Names.{Name, is_prefix}
-use Rattle.x5_star.specs.declared.agent.AgentSpec.{AgentSpec}
-use Rattle.x5_star.specs.declared.agent.ContextSpec.{ContextSpec}
-use Rattle.x5_star.specs.declared.agent.Named.{Named}
-use Rattle.x5_star.specs.declared.agent.Specific.{Specific}
-use Rattle.x5_star.specs.declared.journal.Line.{Line}
-use Rattle.x5_star.specs.declared.journal.Line.TheVariants.{Msg}
-use Rattle.x5_star.specs.declared.journal.Fate.TheVariants.{Sent}
-use Rattle.x5_star.specs.declared.request.Progress.TheVariants.{NotStarted, Proceeding}
-use Rattle.x5_star.specs.declared.request.Answer.TheVariants.{Entry}
-use Rattle.x5_star.specs.declared.request.EntryInfo.{EntryInfo}
-use Rattle.x5_star.specs.declared.request.Source.{Source}
-use Rattle.x5_star.specs.declared.request.DirError.TheVariants as error
-use Rattle.x5_star.specs.declared.request.Reply.{Reply}
-use Rattle.x5_star.specs.declared.request.Reply.TheVariants.{Done, Failed}
+-- What a read or compare over a star of agents is answered, and which messages it takes, as the user is told it: agents by
+-- their names, and the messages in the order in which they were sent (X.518, section 18; X.511, sections 9.1 and 9.2).
+use Rattle.std.specs.Prelude.{◌≡◌, ℕ, ◌<◌, Bool, nat_le, List, [], ◌∷◌, map, length, reverse, ⊤, slice_get}
+use Rattle.std.specs.List.{list_all}
+use Rattle.std.specs.declared.option.Option.{Option}
+use Rattle.std.specs.declared.option.Option.TheVariants.{None, Some}
+use Rattle.x5_model.specs.Requests.{Request}
+use Rattle.x5_model.specs.Answers as model
+use Rattle.x5_model_tree.specs.World.{World}
+use Rattle.x5_model_run.specs.Journal as messages
+use Rattle.x5_model_star.specs.Star.{idle}
+use Rattle.x5_model_star.specs.Reads.{IsStarRead}
+use Rattle.x5_ops.specs.AgentNames.{agent_of}
+use Rattle.x5_ops.specs.KnowledgeViews.{agent_view}
+use Rattle.x5_ops.specs.AnswerViews.{reply_view}
+use Rattle.x5_ops.specs.JournalViews.{messages_view}
+use Rattle.x5_ops.specs.declared.answers.Answer.{Answer}
+use Rattle.x5_ops.specs.declared.answers.Answer.TheVariants as answers
+use Rattle.x5_ops.specs.declared.answers.Reply.{Reply}
+use Rattle.x5_ops.specs.declared.answers.Reply.TheVariants as replies
+use Rattle.x5_ops.specs.declared.answers.DirError.TheVariants as errors
+use Rattle.x5_ops.specs.declared.journal.Line.{Line}
+use Rattle.x5_ops.specs.declared.journal.Line.TheVariants.{Msg, Dis, Raw}
+use Rattle.x5_ops.specs.declared.journal.Journal.{Journal}
+use Rattle.x5_ops.specs.declared.knowledge.AgentSpec.{AgentSpec}
 
--- the context of the agent that the name lies in
-abbrev pub covering : AgentSpec → Name → Option ContextSpec
-covering agent name = find (λ context. is_prefix context.prefix name) agent.contexts.items
+-- the world of these agents: there are no shadows, and nothing is down, cut, refusing or lost
+abbrev pub star_world : List AgentSpec → World
+star_world agents = record { agents = map agent_view agents; agreements = []; network = idle }
 
--- the lowest entry on the way to the name: parents stand before children, so it is the last one that is a first part of the name
-abbrev pub lowest : ContextSpec → Name → Option Named
-lowest context name = find (λ named. is_prefix named.name name) (reverse context.entries.items)
+-- no subordinate reference has more RDNs than a name may
+abbrev pub are_short : List AgentSpec → Bool
+are_short agents = list_all (λ a. list_all (λ k. nat_le (length k.pin) 16) a.specific) agents
 
--- the lowest entry of the agent on the way to the name
-abbrev pub way_to : AgentSpec → Name → Option Named
-way_to agent name = option_and_then (λ context. lowest context name) (covering agent name)
+abbrev pub names_in : World → List (List ℕ)
+names_in w = map (λ a. a.name) w.agents
 
-abbrev pub matched_of : Option Named → Name
-matched_of None = []
-matched_of (Some named) = named.name
+-- the text is the name of one of the agents
+pub record IsNamed (names : List (List ℕ)) (text : List ℕ) : Type 0 where
+  pub place : ℕ
+  pub here : slice_get names place ≡ Some text
+  pub known : agent_of names text < length names
 
--- the agent has the entry, and answers it with the context that it is in
-pub record IsFound (agent : AgentSpec) (name : Name) (info : EntryInfo) (source : Source) : Type 0 where
-  pub context : ContextSpec
-  pub covers : covering agent name ≡ Some context
-  pub held : Named
-  pub is_lowest : lowest context name ≡ Some held
-  pub whole : length held.name ≡ length name
-  pub name_is : info.name ≡ held.name
-  pub attributes_are : info.attributes.items ≡ held.entry.attributes.items
-  pub no_copy : info.copy ≡ false
-  pub context_is : source.context ≡ context.prefix
-  pub agent_is : source.agent ≡ agent.name
-  pub now : source.moment ≡ None
+-- a line is a message of a request, between agents that there are, or from the user to one
+abbrev pub IsNamedSender : List (List ℕ) → Option (List ℕ) → Type 0
+IsNamedSender names None = ⊤
+IsNamedSender names (Some from) = IsNamed names from
 
--- the agent doesn't have the entry, and answers the lowest one that it has on the way, or the root
-pub record IsAbsent (agent : AgentSpec) (name matched : Name) : Type 0 where
-  pub matched_is : matched ≡ matched_of (way_to agent name)
-  pub shorter : IfSome (way_to agent name) (λ named. length named.name ≢ length name)
+abbrev pub IsNamedLine : List (List ℕ) → Line → Type 0
+IsNamedLine names (Msg from to operation progress t target fate) = IsNamedSender names from × IsNamed names to
+IsNamedLine names (Dis from to operation agreement fate) = ⊥
+IsNamedLine names (Raw to dsp count fate) = ⊥
 
--- what the agent answers from its own entries
-abbrev pub IsReplyOf : AgentSpec → Name → Reply → Type 0
-IsReplyOf agent name (Done (Entry info source)) = IsFound agent name info source
-IsReplyOf agent name (Failed (error.Name matched)) = IsAbsent agent name matched
+abbrev pub AreNamedLines : List (List ℕ) → List Line → Type 0
+AreNamedLines names [] = ⊤
+AreNamedLines names (l ∷ more) = IsNamedLine names l × AreNamedLines names more
 
--- a subordinate reference on the way to a name, and the agent that it leads to
-pub record Below : Type 0 where
-  pub reference : Specific
-  pub agent : AgentSpec
+-- an answer of a read or compare comes from one of the agents, and an error names none
+abbrev pub IsNamedAnswer : List (List ℕ) → Answer → Type 0
+IsNamedAnswer names (answers.Entry entry source) = IsNamed names source.agent
+IsNamedAnswer names (answers.Match matched copy source) = IsNamed names source.agent
+IsNamedAnswer names (answers.Listed subs sources outcome) = ⊥
+IsNamedAnswer names (answers.Found entries sources outcome) = ⊥
+IsNamedAnswer names answers.Changed = ⊥
 
--- the agent that a subordinate reference of this agent leads to on the way to the name
-abbrev pub way_down : List AgentSpec → AgentSpec → Name → Option Below
-way_down agents agent name =
-    option_and_then (λ reference. option_map (λ below. record { reference = reference; agent = below }) (slice_get agents reference.access.master.0))
-    (find (λ reference. is_prefix reference.pin name) agent.specific.items)
+abbrev pub IsNamedReply : List (List ℕ) → Reply → Type 0
+IsNamedReply names (replies.Done answer) = IsNamedAnswer names answer
+IsNamedReply names (replies.Failed (errors.Name matched)) = ⊤
+IsNamedReply names (replies.Failed (errors.Attribute problem kind)) = ⊤
+IsNamedReply names (replies.Failed (errors.Update problem)) = ⊤
+IsNamedReply names (replies.Failed (errors.Service problem reference item)) = ⊥
+IsNamedReply names (replies.Refer reference) = ⊥
 
--- the superior of an agent that has nothing on the way to the name
-abbrev pub way_up : List AgentSpec → AgentSpec → Name → Option AgentSpec
-way_up agents agent name =
-    if is_some (way_down agents agent name) || is_some (covering agent name) then None
-    else option_and_then (λ id. slice_get agents id.0) agent.superior
-
-abbrev pub user_line : AgentSpec → Name → Line
-user_line asked name = Msg None asked.name 1 NotStarted 0 name Sent
-
-abbrev pub up_line : AgentSpec → AgentSpec → Name → Line
-up_line asked centre name = Msg (Some asked.name) centre.name 1 NotStarted 1 name Sent
-
--- the relative names above the pin's last are spelled as the reference spells them
-abbrev pub target_below : Name → Name → Name
-target_below pin name = take (length pin - 1) pin ++ drop (length pin - 1) name
-
-abbrev pub down_line : AgentSpec → Below → ℕ → Name → Line
-down_line centre step t name = Msg (Some centre.name) step.agent.name 1 (Proceeding (min (length step.reference.pin) 255)) t (target_below step.reference.pin name) Sent
-
-abbrev pub lines_down : AgentSpec → Option Below → ℕ → Name → List Line
-lines_down centre None t name = []
-lines_down centre (Some step) t name = down_line centre step t name ∷ []
-
-abbrev pub agent_below : AgentSpec → Option Below → AgentSpec
-agent_below centre None = centre
-agent_below centre (Some step) = step.agent
-
--- from this agent down to the one that answers
-pub record GoesDown (agents : List AgentSpec) (centre : AgentSpec) (name : Name) (t : ℕ) (before : List Line) (reply : Reply) (lines : List Line) : Type 0 where
-  pub messages : lines ≡ before ++ lines_down centre (way_down agents centre name) t name
-  pub answered : IsReplyOf (agent_below centre (way_down agents centre name)) name reply
-
--- up to the superior where the agent asked has nothing on the way, and then down
-abbrev pub GoesUp : List AgentSpec → AgentSpec → Name → Option AgentSpec → Reply → List Line → Type 0
-GoesUp agents asked name None reply lines = GoesDown agents asked name 1 (user_line asked name ∷ []) reply lines
-GoesUp agents asked name (Some centre) reply lines = GoesDown agents centre name 2 (user_line asked name ∷ up_line asked centre name ∷ []) reply lines
-
--- a read of the root is refused by the agent asked
-pub record IsRefused (asked : AgentSpec) (name : Name) (reply : Reply) (lines : List Line) : Type 0 where
-  pub messages : lines ≡ user_line asked name ∷ []
-  pub answered : reply ≡ Failed (error.Name [])
-
--- what a user is answered who asks this agent for an entry, and the messages that it takes
-abbrev pub IsStarRead : List AgentSpec → AgentSpec → Name → Reply → List Line → Type 0
-IsStarRead agents asked [] reply lines = IsRefused asked [] reply lines
-IsStarRead agents asked (rdn ∷ name) reply lines = GoesUp agents asked (rdn ∷ name) (way_up agents asked (rdn ∷ name)) reply lines
+-- the answer and the messages are those that the star gives, and each agent in them is told by its name
+pub record AnswersStar (w : World) (sent to : ℕ) (r : Request) (reply : Reply) (journal : Journal) : Type 0 where
+  pub sends : messages.Journal
+  pub answers : model.Reply
+  pub reads : IsStarRead w sent to r sends answers
+  pub lines_are : messages_view (names_in w) journal.lines ≡ map messages.printed_line (reverse sends.lines)
+  pub accepted_are : journal.accepted ≡ []
+  pub reply_is : reply_view (names_in w) reply ≡ answers
+  pub lines_named : AreNamedLines (names_in w) journal.lines
+  pub reply_named : IsNamedReply (names_in w) reply

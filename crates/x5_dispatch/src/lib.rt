@@ -1,7 +1,11 @@
-// Reads over a star of agents: one agent at the centre, and one level of agents below it.
+//! Reads and compares over a star of agents: one agent at the top, and one level of agents below it (X.518, section 18: name
+//! resolution by superior and subordinate references; X.511, sections 9.1 and 9.2).
 #![tactic(auto)]
 
 mod answering;
 mod star;
+#[cfg(test)]
+mod tests;
 
-pub use star::star_read;
+pub use answering::is_read;
+pub use star::{are_pins_short, star_read};

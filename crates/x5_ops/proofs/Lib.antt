@@ -8,3 +8,4 @@ pub mod Repeats
 pub mod Dropping
 pub mod Offering
 pub mod Refusing
+pub mod Selecting

@@ -9,6 +9,7 @@ mod journal;
 mod knowledge;
 mod lists;
 pub mod problems;
+mod reading;
 mod references;
 mod requests;
 mod statics;
@@ -29,6 +30,7 @@ pub use knowledge::{
     SupplierList,
 };
 pub use lists::Listed;
+pub use reading::{compares, selection_fault, shown};
 pub use references::{
     AccessList, AccessPoint, Chained, Progress, RdnList, RefType, Reference, ReferenceList, Trace,
     TraceItem,
