@@ -1,0 +1,6 @@
+//! What stands beside all agents' knowledge: the start of the world, from which moments are counted.
+#![tactic(auto)]
+
+mod start;
+
+pub use start::Start;
