@@ -1,10 +1,10 @@
 -- The days after a date are those whose day numbers follow.
-use Rattle.std.proofs.Common.{◌≡◌, ℕ, zero, suc, ◌+◌, ◌<◌, ◌≤◌, Bool, true, false, nat_lt, refl, sym, ap, ap₂, ◌∙◌, arith, rules, ℤ, pos, neg_ℤ, ◌+ℤ◌, ◌<ℤ◌, ◌≤ℤ◌}
+use Rattle.std.proofs.Common.{◌≡◌, ℕ, zero, suc, ◌+◌, ◌*◌, ◌<◌, ◌≤◌, Bool, true, false, nat_lt, refl, sym, ap, ap₂, ◌∙◌, arith, rules, ℤ, pos, neg_ℤ, ◌+ℤ◌, ◌<ℤ◌, ◌≤ℤ◌}
 use Rattle.jiff_core.specs.declared.civil.date.Date.{Date}
-use Rattle.jiff_core.specs.Calendar.{days_in_month, days_from_civil, IsWithin}
+use Rattle.jiff_core.specs.Calendar.{days_in_month, days_from_civil, day_count, IsCivilDate}
 use Rattle.jiff_core.specs.Date.{epoch_day}
 use Rattle.jiff_core.proofs.SignedLemmas.{signed_arith}
-use Rattle.jiff_core.proofs.CalendarLemmas.{days_in_month_bounds}
+use Rattle.jiff_core.proofs.CalendarLemmas.{days_in_month_bounds, days_in_year_bounds, day_count-next_year, day_count-lt_year, day_count-end, days_from_civil-day_count}
 use Rattle.jiff_core.proofs.DateLemmas.{epoch_day_injective, epoch_day_range, epoch_day-lt-max, days_from_civil-day, days_from_civil-next_month, days_from_civil-next_year, days_from_civil-max}
 use Rattle.x5_know.specs.Moments.{Day, day_of, day_after, days_after}
 
@@ -73,3 +73,27 @@ days_after_is (suc n) d later e =
     let range = epoch_day_range later in
     let s = next_of d (omega (arith, signed_arith)) in
     days_after_is n s.next later (omega (arith, signed_arith, s.number)) ∙ ap (days_after n) s.is
+
+-- ---- years
+
+civil : (d : Date) → IsCivilDate d.year d.month d.day
+civil d = (d.year_in, d.month_in, d.day_in)
+
+-- a year has 365 days at least
+years_later : (n : ℕ) (y later : ℤ) → neg_ℤ (pos 10000) ≤ℤ y → later ≡ y +ℤ pos n → day_count y 1 1 + 365 * n ≤ day_count later 1 1
+years_later zero y later low e =
+    let same : later ≡ y = omega (arith, signed_arith, e) in
+    rw same (omega arith)
+years_later (suc n) y later low e =
+    let next : ℤ = y +ℤ pos 1 in
+    let one = day_count-next_year y (y +ℤ pos 1) low refl in
+    let rest = years_later n (y +ℤ pos 1) later (omega (arith, signed_arith)) (omega (arith, signed_arith, e)) in
+    let long = days_in_year_bounds y in
+    omega arith
+
+-- the days up to the year 9000 leave room for as many as moments can count
+pub until_9000 : (d : Date) → d.year ≤ℤ pos 9000 → epoch_day d ≤ℤ pos 2_570_000
+until_9000 d h =
+    let before = day_count-lt_year d.year d.month d.day (pos 9001) 1 1 (civil d) (omega arith) (omega (arith, signed_arith)) in
+    let left = years_later 999 (pos 9001) (pos 10000) (omega (arith, signed_arith)) refl in
+    omega (arith, signed_arith, before, left, day_count-end, days_from_civil-day_count d.year d.month d.day)

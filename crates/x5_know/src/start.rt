@@ -1,7 +1,7 @@
 //! Moments as they are printed: the date and time so many seconds after the world's start.
 
-ghost use Rattle.std.specs.Prelude.{◌≡◌, ◌+◌, ◌<◌, ◌≤◌, ◌/◌, ◌%◌, pos, ◌+ℤ◌, ◌≤ℤ◌, IfOk, string_bytes};
-ghost use Rattle.jiff.specs.Words.{epoch_day};
+ghost use Rattle.std.specs.Prelude.{◌≡◌, ◌+◌, ◌<◌, ◌≤◌, ◌/◌, ◌%◌, pos, ◌+ℤ◌, ◌≤ℤ◌, ◌↔◌, IsSome, IfSome, IfOk, string_bytes};
+ghost use Rattle.jiff.specs.Words.{epoch_day, IsBetween};
 ghost use Rattle.x5_know.specs.Moments.{day_of, days_after, moment_text, stamp_text, two_digits, four_digits};
 
 use jiff::ToSpan;
@@ -31,12 +31,12 @@ impl Model for Start {
 
     ghost view = { λ s. record { day = moments.day_of s.date; second = s.second } };
 
-    ghost invariant = { λ s. (s.second < 86_400) × (epoch_day s.date ≤ℤ pos 2_568_019) };
+    ghost invariant = { λ s. (s.second < 86_400) × (epoch_day s.date ≤ℤ pos 2_570_000) };
 }
 
 /// The date so many days after.
 fn later(date: Date, days: u32) -> Date
-    requires range { epoch_day date ≤ℤ pos 2_568_019 }
+    requires range { epoch_day date ≤ℤ pos 2_570_000 }
     requires count { days ≤ 49_711 }
     ensures { epoch_day result ≡ epoch_day date +ℤ pos days }
 {
@@ -45,7 +45,7 @@ fn later(date: Date, days: u32) -> Date
 
 /// The same, as the days of the calendar follow each other.
 fn later_day(date: Date, days: u32) -> Date
-    requires range { epoch_day date ≤ℤ pos 2_568_019 }
+    requires range { epoch_day date ≤ℤ pos 2_570_000 }
     requires count { days ≤ 49_711 }
     ensures { day_of result ≡ days_after days (day_of date) }
 {
@@ -86,6 +86,18 @@ fn stamp(alloc: Global, date: Date, second: u64) -> Result<String, AllocError>
 }
 
 impl Start {
+    /// The start at that second of the date; None where the year isn't 1900 to 9000, or the day has no such second. No memory.
+    pub fn new(date: Date, second: u32) -> Option<Start>
+        ensures there { IsSome result ↔ IsBetween (pos 1900) (pos 9000) date.year × (second < 86_400) }
+        ensures value { IfSome result (λ start. start ≡ record { day = day_of date; second = second }) }
+    {
+        let year = date.year();
+        if year < 1900 || year > 9000 || u64::from(second) >= DAY {
+            return None;
+        }
+        Some(Start { date, second })
+    }
+
     /// The moment as it's printed.
     pub fn moment_text(&self, alloc: Global, moment: Moment) -> Result<Text, NoMemory>
         ensures { IfOk result (λ text. text ≡ moment_text self.now moment) }
