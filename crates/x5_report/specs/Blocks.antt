@@ -2,6 +2,7 @@
 use Rattle.std.specs.Prelude.{◌≡◌, ℕ, Bool, ◌&&◌, true, List, [], ◌∷◌, ◌++◌, map, reverse, codes}
 use Rattle.std.specs.List.{concat, flat_map}
 use Rattle.x5_model.specs.Values.{Text}
+use Rattle.x5_model_tree.specs.World.{World}
 use Rattle.x5_model_run.specs.Journal as model
 use Rattle.x5_model_run.specs.Refresh as refresh
 use Rattle.x5_model_run.specs.Run as run
@@ -12,7 +13,7 @@ use Rattle.x5_ops.specs.JournalViews.{messages_view}
 use Rattle.x5_ops.specs.declared.journal.Journal.{Journal}
 use Rattle.x5_know.specs.Moments.{Start}
 use Rattle.x5_report.specs.Spelled as spelled
-use Rattle.x5_report.specs.Views.{names_with, journal_known, reply_known, shadows_view, refreshed_view}
+use Rattle.x5_report.specs.Views.{journal_known, reply_known, shadows_view, refreshed_view}
 use Rattle.x5_report.specs.declared.report.LineOutcome.{LineOutcome}
 use Rattle.x5_report.specs.declared.report.LineOutcome.TheVariants.{Set, Answered, Refreshed, NotConsistent}
 
@@ -37,15 +38,19 @@ block_known names j outcome = journal_known names j && outcome_known names outco
 abbrev pub IsJournal : List (List ℕ) → Journal → model.Journal → Type 0
 IsJournal names j m = (map model.printed_line (reverse m.lines) ≡ messages_view names j.lines) × (reverse m.accepted ≡ map (agent_of names) j.accepted)
 
--- The text is that of the block. Of a request it is so for every journal that the code's stands for, and of a refresh for
+-- the names of a world's agents
+abbrev pub names_in : World → List (List ℕ)
+names_in w = map (λ a. a.name) w.agents
+
+-- The text is that of the block, with these names and moments. Of a request it is so for every journal that the code's stands for, and of a refresh for
 -- every block of these messages and this outcome.
-abbrev pub IsBlock : List (List ℕ) → Start → ℕ → Journal → LineOutcome → Text → Type 0
-IsBlock names start line j Set text = (command : run.Command) → text ≡ print.block_text (names_with names start) line command run.Set
-IsBlock names start line j (Answered reply) text =
-    (command : run.Command) (m : model.Journal) → IsJournal names j m → text ≡ print.block_text (names_with names start) line command (run.Replies m (reply_view names reply))
-IsBlock names start line j (Refreshed number f) text =
+abbrev pub IsBlock : print.Names → List (List ℕ) → ℕ → Journal → LineOutcome → Text → Type 0
+IsBlock printing names line j Set text = (command : run.Command) → text ≡ print.block_text printing line command run.Set
+IsBlock printing names line j (Answered reply) text =
+    (command : run.Command) (m : model.Journal) → IsJournal names j m → text ≡ print.block_text printing line command (run.Replies m (reply_view names reply))
+IsBlock printing names line j (Refreshed number f) text =
     (command : run.Command) (b : refresh.RefreshBlock) (heard : Bool) → print.number_of command ≡ number → b.lines ≡ shadows_view names j.lines → b.outcome ≡ refreshed_view heard number f →
-    text ≡ print.block_text (names_with names start) line command (run.Refreshing b)
-IsBlock names start line j NotConsistent text =
+    text ≡ print.block_text printing line command (run.Refreshing b)
+IsBlock printing names line j NotConsistent text =
     (command : run.Command) (b : refresh.RefreshBlock) → b.lines ≡ shadows_view names j.lines → b.outcome ≡ refresh.NotConsistent →
-    text ≡ print.block_text (names_with names start) line command (run.Refreshing b)
+    text ≡ print.block_text printing line command (run.Refreshing b)

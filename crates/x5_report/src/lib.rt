@@ -6,6 +6,8 @@ mod order;
 mod refreshes;
 mod replies;
 mod report;
+#[cfg(test)]
+mod tests;
 mod words;
 
 pub use report::{LineOutcome, block};

@@ -5,6 +5,9 @@ ghost use Rattle.std.specs.List.{concat};
 ghost use Rattle.x5_model_output.specs.Output as print;
 ghost use Rattle.x5_report.specs.Blocks as blocks;
 ghost use Rattle.x5_report.specs.Spelled as spelled;
+ghost use Rattle.x5_report.specs.Views.{names_with};
+ghost use Rattle.x5_know.specs.Moments.{moment_text};
+ghost use Rattle.x5_model_tree.specs.World.{World};
 
 use crate::lines::{accepted, messages, shadows};
 use crate::refreshes::refreshed;
@@ -89,7 +92,8 @@ fn block_string(
 }
 
 /// What is printed of the command in the line: the line's number, the messages of its journal, and what came of it.
-/// Moments are counted from the start.
+/// Moments are counted from the start. Agents are named by the texts of their names, which are those of a world's agents if each
+/// of them is the name of one.
 pub fn block(
     alloc: Global,
     start: &Start,
@@ -97,8 +101,10 @@ pub fn block(
     journal: &Journal,
     outcome: &LineOutcome,
 ) -> Result<Text, NoMemory>
-    ensures { IfOk result (λ text. (names : List (List ℕ)) → blocks.block_known names journal.now outcome.now ≡ true
-        → blocks.IsBlock names start.now line journal.now outcome.now text) }
+    ensures named { IfOk result (λ text. (names : List (List ℕ)) → blocks.block_known names journal.now outcome.now ≡ true
+        → blocks.IsBlock (names_with names start.now) names line journal.now outcome.now text) }
+    ensures in_world { IfOk result (λ text. (w : World) → blocks.block_known (blocks.names_in w) journal.now outcome.now ≡ true
+        → blocks.IsBlock (print.names_of w (moment_text start.now)) (blocks.names_in w) line journal.now outcome.now text) }
 {
     let text = block_string(alloc, start, line, journal, outcome)?;
     Ok(Text::from_string(text))
