@@ -2,5 +2,7 @@
 #![tactic(auto)]
 
 mod start;
+#[cfg(test)]
+mod tests;
 
 pub use start::Start;

@@ -154,7 +154,7 @@ module _ (names : List (List ℕ)) (start : Start) where
       λ i. key_below (key_of a.target) (key_of b.target)
       || (same_key (key_of a.target) (key_of b.target)
       && ((not (journal.is_wide (kind_view a.kind)) && journal.is_wide (kind_view b.kind))
-      || ((journal.is_wide (kind_view a.kind) || not (journal.is_wide (kind_view b.kind))) && octets_below (first_with a a.agents g i) (first_with b b.agents h i))))
+      || ((not (journal.is_wide (kind_view a.kind)) || journal.is_wide (kind_view b.kind)) && octets_below (first_with a a.agents g i) (first_with b b.agents h i))))
 
   unexplored_are : (references : List Reference) → list_all (reference_known names) references ≡ true → flat_map (print.unexplored_line (names_with names start)) (sorted (print.reference_below (names_with names start)) (map (reference_view names) references)) ≡ spelled.unexplored_texts references
   unexplored_are references h =

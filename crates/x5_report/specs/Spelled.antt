@@ -124,7 +124,7 @@ first_agent (a ∷ more) = a.agent
 abbrev pub agent_below : Reference → Reference → Bool
 agent_below a b =
     (not (is_wide (kind_view a.kind)) && is_wide (kind_view b.kind))
-    || ((is_wide (kind_view a.kind) || not (is_wide (kind_view b.kind))) && octets_below (first_agent a.agents) (first_agent b.agents))
+    || ((not (is_wide (kind_view a.kind)) || is_wide (kind_view b.kind)) && octets_below (first_agent a.agents) (first_agent b.agents))
 
 abbrev pub reference_below : Reference → Reference → Bool
 reference_below a b =

@@ -69,7 +69,7 @@ fn is_agent_below(a: &Reference, b: &Reference) -> bool
     let is_less = first.as_bytes().cmp(second.as_bytes()).is_lt();
     let a_is_wide = a.kind.is_wide();
     let b_is_wide = b.kind.is_wide();
-    (!a_is_wide && b_is_wide) || ((a_is_wide || !b_is_wide) && is_less)
+    (!a_is_wide && b_is_wide) || ((!a_is_wide || b_is_wide) && is_less)
 }
 
 /// Whether the reference stands before the other: by target, then as those of one target do.
