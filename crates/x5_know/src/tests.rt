@@ -6,12 +6,7 @@ use std::test::Fail;
 use x5_ops::Moment;
 
 /// The text of the moment after the start at the second of the date; nothing where that's no start.
-fn printed(
-    alloc: Global,
-    date: (i16, i8, i8),
-    second: u32,
-    moment: u32,
-) -> Result<String, Fail> {
+fn printed(alloc: Global, date: (i16, i8, i8), second: u32, moment: u32) -> Result<String, Fail> {
     let (year, month, day) = date;
     let start = match Date::new(year, month, day) {
         Ok(date) => Start::new(date, second),

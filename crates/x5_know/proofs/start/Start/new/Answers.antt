@@ -1,5 +1,5 @@
 -- The year bounds the day.
-use Rattle.std.proofs.Common.{◌≡◌, ◌<◌, arith, pos, ◌≤ℤ◌}
+use Rattle.std.proofs.Common.{◌<◌, arith, pos, ◌≤ℤ◌}
 use Rattle.jiff_core.proofs.SignedLemmas.{signed_arith}
 use Rattle.x5_know.proofs.Days.{until_9000}
 use Rattle.x5_know.proofs.start.Start.new.Goals as goal
