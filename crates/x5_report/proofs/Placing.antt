@@ -10,4 +10,3 @@ insert_at below x y ys false h rest = rw h refl
 pub inserted_is : {A : Type 0} (below : A → A → Bool) (x : A) (ys : List A) → insert_sorted below x ys ≡ insert ys (position_or_len (λ z. not (below z x)) ys) x
 inserted_is below x [] = refl
 inserted_is below x (y ∷ ys) = insert_at below x y ys (below y x) refl (inserted_is below x ys)
-

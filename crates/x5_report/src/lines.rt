@@ -8,9 +8,7 @@ ghost use Rattle.x5_model_text.specs.NameText.{text_of_rdn};
 ghost use Rattle.x5_ops.specs.ReferenceViews.{progress_view};
 ghost use Rattle.x5_report.specs.Spelled as spelled;
 
-use crate::words::{
-    fate_word, kind_word, operation_word, shadow_operation, tried_mark, wide_mark,
-};
+use crate::words::{fate_word, kind_word, operation_word, shadow_operation, tried_mark, wide_mark};
 use std::alloc::{AllocError, Global};
 use x5_memory::NoMemory;
 use x5_names::{Name, Rdn};

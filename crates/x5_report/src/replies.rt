@@ -179,12 +179,7 @@ fn outcome(
 }
 
 /// What is printed of the answer to a read.
-fn read(
-    alloc: Global,
-    start: &Start,
-    found: &EntryInfo,
-    from: &Source,
-) -> Result<String, NoMemory>
+fn read(alloc: Global, start: &Start, found: &EntryInfo, from: &Source) -> Result<String, NoMemory>
     ensures { IfOk result (λ text. string_bytes text ≡ spelled.entry_text found.now ++ spelled.source_text start.now from.now) }
 {
     let mut text = entry(alloc, found)?;

@@ -162,7 +162,11 @@ fn printed(alloc: Global, journal: &Journal, outcome: &LineOutcome) -> Result<St
 fn a_read_prints_its_messages_the_entry_and_the_source(rt: HostRuntime) -> Result<(), Fail> {
     let alloc = rt.alloc();
     let user = message(alloc, 0, ["user", "Beta", "read", "start", "/C=NL", "sent"])?;
-    let asked = message(alloc, 1, ["Beta", "Alpha", "read", "start", "/C=NL", "sent"])?;
+    let asked = message(
+        alloc,
+        1,
+        ["Beta", "Alpha", "read", "start", "/C=NL", "sent"],
+    )?;
     let journal = journal(alloc, vec![in alloc; user, asked]?);
     let shown = attribute(alloc, "C", &["NL"])?;
     let outcome = LineOutcome::Answered(Reply::Done(Answer::Entry {
@@ -179,7 +183,11 @@ fn a_read_prints_its_messages_the_entry_and_the_source(rt: HostRuntime) -> Resul
 #[test]
 fn an_update_prints_who_accepted_it(rt: HostRuntime) -> Result<(), Fail> {
     let alloc = rt.alloc();
-    let user = message(alloc, 0, ["user", "Beta", "add", "start", "/C=NL/O=Acme", "sent"])?;
+    let user = message(
+        alloc,
+        0,
+        ["user", "Beta", "add", "start", "/C=NL/O=Acme", "sent"],
+    )?;
     let mut journal = journal(alloc, vec![in alloc; user]?);
     journal.accepted.push(agent(alloc, "Beta")?)?;
     let outcome = LineOutcome::Answered(Reply::Done(Answer::Changed));
@@ -204,7 +212,15 @@ fn a_search_prints_sources_and_what_is_unexplored_in_order(rt: HostRuntime) -> R
         (RefType::NonSpecific, "Delta", "", true),
     ] {
         let agents = [names];
-        unexplored.push(reference(alloc, kind, "/C=NL/O=Acme", "done", &agents, excluded, tried)?)?;
+        unexplored.push(reference(
+            alloc,
+            kind,
+            "/C=NL/O=Acme",
+            "done",
+            &agents,
+            excluded,
+            tried,
+        )?)?;
     }
     let mut entries = Listed::new(alloc);
     entries.push(entry(alloc, "/C=NL/O=Acme/CN=Desk", true, None)?)?;
@@ -250,11 +266,7 @@ fn a_list_prints_the_rdns_below(rt: HostRuntime) -> Result<(), Fail> {
 }
 
 /// The service error of the number, with a reference or an item.
-fn service(
-    problem: u8,
-    reference: Option<Reference>,
-    item: Option<TraceItem>,
-) -> LineOutcome {
+fn service(problem: u8, reference: Option<Reference>, item: Option<TraceItem>) -> LineOutcome {
     LineOutcome::Answered(Reply::Failed(DirError::Service {
         problem,
         reference,
@@ -267,7 +279,15 @@ fn errors_and_referrals_name_references_and_items(rt: HostRuntime) -> Result<(),
     let alloc = rt.alloc();
     let lab = "/C=NL/O=Acme/OU=Lab";
     let wide = reference(alloc, RefType::NonSpecific, lab, "3", &["Gamma"], "", true)?;
-    let two = reference(alloc, RefType::Subordinate, lab, "2", &["Beta", "Epsilon"], "", false)?;
+    let two = reference(
+        alloc,
+        RefType::Subordinate,
+        lab,
+        "2",
+        &["Beta", "Epsilon"],
+        "",
+        false,
+    )?;
     let item = TraceItem {
         agent: agent(alloc, "X")?,
         target: Name::parse(alloc, "/C=NL")?,
@@ -281,7 +301,10 @@ fn errors_and_referrals_name_references_and_items(rt: HostRuntime) -> Result<(),
             service(2, Some(wide), None),
             "#2\nerror service unavailable nonSpecific /C=NL/O=Acme/OU=Lab next=3 Gamma tried\n",
         ),
-        (service(9, None, Some(item)), "#2\nerror service loopDetected X start /C=NL\n"),
+        (
+            service(9, None, Some(item)),
+            "#2\nerror service loopDetected X start /C=NL\n"
+        ),
         (
             LineOutcome::Answered(Reply::Refer(two)),
             "#2\nreferral subordinate /C=NL/O=Acme/OU=Lab next=2 Beta,Epsilon\n",
@@ -293,7 +316,7 @@ fn errors_and_referrals_name_references_and_items(rt: HostRuntime) -> Result<(),
         (
             LineOutcome::Answered(Reply::Failed(DirError::Update { problem: 5 })),
             "#2\nerror update entryAlreadyExists\n",
-        )
+        ),
     ]? {
         assert_eq!(rt; printed(alloc, &journal, &outcome)?.as_str(), want);
     }
@@ -321,12 +344,15 @@ fn a_refresh_prints_its_messages_and_what_became_of_it(rt: HostRuntime) -> Resul
             LineOutcome::Refreshed(1, Refreshed::Total(Moment(1), 2)),
             "refreshed 1 total 19930101000001Z 2\n",
         ),
-        (LineOutcome::Refreshed(7, Refreshed::Lost), "unrefreshed 7\n"),
+        (
+            LineOutcome::Refreshed(7, Refreshed::Lost),
+            "unrefreshed 7\n"
+        ),
         (
             LineOutcome::Refreshed(1, missed),
             "error shadow missedPrevious - 19930101000101Z\n",
         ),
-        (LineOutcome::NotConsistent, "error shadow inconsistent\n")
+        (LineOutcome::NotConsistent, "error shadow inconsistent\n"),
     ]? {
         let text = printed(alloc, &journal, &outcome)?;
         let head = "#2\ndis Epsilon Beta requestShadowUpdate 1 sent\n";
