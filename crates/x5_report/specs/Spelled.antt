@@ -1,5 +1,5 @@
--- What is printed of journals and replies, each agent by the text that its name is there. `Views` says how this is what
--- the definitions print.
+-- What is printed of journals and replies, each agent by the text that its name is there. `Blocks` says that
+-- this is what the definitions print by the places of agents.
 use Rattle.std.specs.Prelude.{◌≡◌, ℕ, Bool, true, false, not, ◌&&◌, ◌||◌, ◌==◌, if◌then◌else◌, List, [], ◌∷◌, ◌++◌, length, map, codes}
 use Rattle.std.specs.List.{concat, flat_map, join_with_byte}
 use Rattle.std.specs.Fmt.{decimal}

@@ -265,61 +265,79 @@ fn a_list_prints_the_rdns_below(rt: HostRuntime) -> Result<(), Fail> {
     Ok(())
 }
 
-/// The service error of the number, with a reference or an item.
-fn service(problem: u8, reference: Option<Reference>, item: Option<TraceItem>) -> LineOutcome {
-    LineOutcome::Answered(Reply::Failed(DirError::Service {
+/// The case of a service error with a reference or an item.
+fn check_service(
+    alloc: Global,
+    journal: &Journal,
+    reference: Option<Reference>,
+    item: Option<TraceItem>,
+) -> Result<String, Fail> {
+    let problem = if item.is_some() { 9 } else { 2 };
+    let failed = DirError::Service {
         problem,
         reference,
         item,
-    }))
+    };
+    printed(
+        alloc,
+        journal,
+        &LineOutcome::Answered(Reply::Failed(failed)),
+    )
 }
 
 #[test]
-fn errors_and_referrals_name_references_and_items(rt: HostRuntime) -> Result<(), Fail> {
+fn service_errors_name_a_reference_or_an_item(rt: HostRuntime) -> Result<(), Fail> {
     let alloc = rt.alloc();
+    let journal = journal(alloc, Vec::new(alloc));
     let lab = "/C=NL/O=Acme/OU=Lab";
     let wide = reference(alloc, RefType::NonSpecific, lab, "3", &["Gamma"], "", true)?;
-    let two = reference(
-        alloc,
-        RefType::Subordinate,
-        lab,
-        "2",
-        &["Beta", "Epsilon"],
-        "",
-        false,
-    )?;
+    assert_eq!(rt;
+        check_service(alloc, &journal, Some(wide), None)?.as_str(),
+        "#2\nerror service unavailable nonSpecific /C=NL/O=Acme/OU=Lab next=3 Gamma tried\n"
+    );
     let item = TraceItem {
         agent: agent(alloc, "X")?,
         target: Name::parse(alloc, "/C=NL")?,
         progress: Progress::NotStarted,
         wide: false,
     };
-    let matched = Name::parse(alloc, "/C=NL")?;
+    assert_eq!(rt;
+        check_service(alloc, &journal, None, Some(item))?.as_str(),
+        "#2\nerror service loopDetected X start /C=NL\n"
+    );
+    Ok(())
+}
+
+#[test]
+fn a_referral_names_all_agents(rt: HostRuntime) -> Result<(), Fail> {
+    let alloc = rt.alloc();
     let journal = journal(alloc, Vec::new(alloc));
-    for (outcome, want) in vec![in alloc;
-        (
-            service(2, Some(wide), None),
-            "#2\nerror service unavailable nonSpecific /C=NL/O=Acme/OU=Lab next=3 Gamma tried\n",
-        ),
-        (
-            service(9, None, Some(item)),
-            "#2\nerror service loopDetected X start /C=NL\n"
-        ),
-        (
-            LineOutcome::Answered(Reply::Refer(two)),
-            "#2\nreferral subordinate /C=NL/O=Acme/OU=Lab next=2 Beta,Epsilon\n",
-        ),
-        (
-            LineOutcome::Answered(Reply::Failed(DirError::Name { matched })),
-            "#2\nerror name noSuchObject /C=NL\n",
-        ),
-        (
-            LineOutcome::Answered(Reply::Failed(DirError::Update { problem: 5 })),
-            "#2\nerror update entryAlreadyExists\n",
-        ),
-    ]? {
-        assert_eq!(rt; printed(alloc, &journal, &outcome)?.as_str(), want);
-    }
+    let lab = "/C=NL/O=Acme/OU=Lab";
+    let agents = ["Beta", "Epsilon"];
+    let two = reference(alloc, RefType::Subordinate, lab, "2", &agents, "", false)?;
+    let outcome = LineOutcome::Answered(Reply::Refer(two));
+    assert_eq!(rt;
+        printed(alloc, &journal, &outcome)?.as_str(),
+        "#2\nreferral subordinate /C=NL/O=Acme/OU=Lab next=2 Beta,Epsilon\n"
+    );
+    Ok(())
+}
+
+#[test]
+fn other_errors_name_their_problem(rt: HostRuntime) -> Result<(), Fail> {
+    let alloc = rt.alloc();
+    let journal = journal(alloc, Vec::new(alloc));
+    let matched = Name::parse(alloc, "/C=NL")?;
+    let missing = LineOutcome::Answered(Reply::Failed(DirError::Name { matched }));
+    assert_eq!(rt;
+        printed(alloc, &journal, &missing)?.as_str(),
+        "#2\nerror name noSuchObject /C=NL\n"
+    );
+    let refused = LineOutcome::Answered(Reply::Failed(DirError::Update { problem: 5 }));
+    assert_eq!(rt;
+        printed(alloc, &journal, &refused)?.as_str(),
+        "#2\nerror update entryAlreadyExists\n"
+    );
     Ok(())
 }
 
