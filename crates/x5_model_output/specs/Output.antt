@@ -195,7 +195,7 @@ reference_below names a b =
     key_below (key_of a.target) (key_of b.target)
     || (same_key (key_of a.target) (key_of b.target)
     && ((not (is_wide a.kind) && is_wide b.kind)
-    || ((is_wide a.kind || not (is_wide b.kind)) && octets_below (first_name names a) (first_name names b))))
+    || ((not (is_wide a.kind) || is_wide b.kind) && octets_below (first_name names a) (first_name names b))))
 
 abbrev pub unexplored_line : Names → Reference → Text
 unexplored_line names r = concat (codes "unexplored " ∷ reference_text names r ∷ codes "\n" ∷ [])

@@ -1,0 +1,111 @@
+//! The block of a command.
+
+ghost use Rattle.std.specs.Prelude.{◌≡◌, ◌++◌, ◌∷◌, [], List, ℕ, true, codes, flat_map, IfOk, string_bytes};
+ghost use Rattle.std.specs.List.{concat};
+ghost use Rattle.x5_model_output.specs.Output as print;
+ghost use Rattle.x5_report.specs.Blocks as blocks;
+ghost use Rattle.x5_report.specs.Spelled as spelled;
+ghost use Rattle.x5_report.specs.Views.{names_with};
+ghost use Rattle.x5_know.specs.Moments.{moment_text};
+ghost use Rattle.x5_model_tree.specs.World.{World};
+
+use crate::lines::{accepted, messages, shadows};
+use crate::refreshes::refreshed;
+use crate::replies::reply;
+use std::alloc::{AllocError, Global};
+use x5_know::Start;
+use x5_memory::NoMemory;
+use x5_ops::{Journal, Refreshed, Reply};
+use x5_syntax::Text;
+
+/// What came of a command: a changed network; the reply to a request; what became of the refresh of the agreement with the
+/// number; or that knowledge doesn't hold together, so that there are no refreshes.
+#[derive(Debug, Drop)]
+pub enum LineOutcome {
+    Set,
+    Answered(Reply),
+    Refreshed(u32, Refreshed),
+    NotConsistent,
+}
+
+/// The line with the number.
+fn number_line(alloc: Global, line: u32) -> Result<String, AllocError>
+    ensures { IfOk result (λ text. string_bytes text ≡ print.number_line line) }
+{
+    format!(in alloc; "#{line}\n")
+}
+
+/// The messages of a request, and who accepted its update.
+fn journal_lines(alloc: Global, journal: &Journal) -> Result<String, NoMemory>
+    ensures { IfOk result (λ text. string_bytes text ≡ spelled.journal_text journal.now) }
+{
+    let mut text = messages(alloc, journal.lines.as_slice())?;
+    let accepted = accepted(alloc, journal.accepted.as_slice())?;
+    text.push_str(accepted.as_str())?;
+    Ok(text)
+}
+
+/// Three parts of a block.
+fn joined(
+    alloc: Global,
+    number: &String,
+    messages: &String,
+    told: &str,
+) -> Result<String, AllocError>
+    ensures { IfOk result (λ text. string_bytes text ≡ concat (string_bytes number.now ∷ string_bytes messages.now ∷ told.now ∷ [])) }
+{
+    format!(in alloc; "{number}{messages}{told}")
+}
+
+/// The block, each agent by its name.
+fn block_string(
+    alloc: Global,
+    start: &Start,
+    line: u32,
+    journal: &Journal,
+    outcome: &LineOutcome,
+) -> Result<String, NoMemory>
+    ensures { IfOk result (λ text. string_bytes text ≡ blocks.block_text start.now line journal.now outcome.now) }
+{
+    let mut number = number_line(alloc, line)?;
+    match outcome {
+        LineOutcome::Set => {
+            number.push_str("set\n")?;
+            Ok(number)
+        }
+        LineOutcome::Answered(answer) => {
+            let messages = journal_lines(alloc, journal)?;
+            let told = reply(alloc, start, answer)?;
+            Ok(joined(alloc, &number, &messages, told.as_str())?)
+        }
+        LineOutcome::Refreshed(agreement, became) => {
+            let messages = shadows(alloc, journal.lines.as_slice())?;
+            let told = refreshed(alloc, start, *agreement, became)?;
+            Ok(joined(alloc, &number, &messages, told.as_str())?)
+        }
+        LineOutcome::NotConsistent => {
+            let messages = shadows(alloc, journal.lines.as_slice())?;
+            let told = "error shadow inconsistent\n";
+            Ok(joined(alloc, &number, &messages, told)?)
+        }
+    }
+}
+
+/// What is printed of the command in the line: the line's number, the messages of its journal, and what came of it.
+/// Moments are counted from the start. Agents are named by the texts of their names, which are those of a world's agents if each
+/// of them is the name of one.
+pub fn block(
+    alloc: Global,
+    start: &Start,
+    line: u32,
+    journal: &Journal,
+    outcome: &LineOutcome,
+) -> Result<Text, NoMemory>
+    ensures named { IfOk result (λ text. (names : List (List ℕ)) → blocks.block_known names journal.now outcome.now ≡ true
+        → blocks.IsBlock (names_with names start.now) names line journal.now outcome.now text) }
+    ensures in_world { IfOk result (λ text. (w : World) → blocks.block_known (blocks.names_in w) journal.now outcome.now ≡ true
+        → blocks.IsBlock (print.names_of w (moment_text start.now)) (blocks.names_in w) line journal.now outcome.now text) }
+{
+    let text = block_string(alloc, start, line, journal, outcome)?;
+    Ok(Text::from_string(text))
+}

@@ -1,0 +1,153 @@
+//! Words of the output, each for a number or a variant.
+
+ghost use Rattle.std.specs.Prelude.{◌≡◌, codes};
+ghost use Rattle.x5_model_output.specs.Output as print;
+ghost use Rattle.x5_ops.specs.JournalViews.{fate_view};
+ghost use Rattle.x5_ops.specs.ReferenceViews.{kind_view};
+ghost use Rattle.x5_report.specs.Views.{shadow_word};
+
+use x5_ops::{Fate, RefType};
+
+/// The operation's word in a script.
+pub(crate) fn operation_word(operation: u8) -> &'static str
+    ensures { result.now ≡ print.operation_word operation }
+{
+    match operation {
+        1 => "read",
+        2 => "compare",
+        4 => "list",
+        5 => "search",
+        6 => "add",
+        7 => "remove",
+        8 => "modify",
+        _ => "move",
+    }
+}
+
+/// The operation of a refresh.
+pub(crate) fn shadow_operation(operation: u8) -> &'static str
+    ensures { result.now ≡ shadow_word operation }
+{
+    match operation {
+        1 => "requestShadowUpdate",
+        2 => "updateShadow",
+        _ => "coordinateShadowUpdate",
+    }
+}
+
+/// What became of a message.
+pub(crate) fn fate_word(fate: Fate) -> &'static str
+    ensures { result.now ≡ print.fate_word (fate_view fate) }
+{
+    match fate {
+        Fate::Lost => "lost",
+        Fate::NoReply => "noreply",
+        Fate::Sent => "sent",
+    }
+}
+
+/// The kind of a reference.
+pub(crate) fn kind_word(kind: RefType) -> &'static str
+    ensures { result.now ≡ print.kind_word (kind_view kind) }
+{
+    match kind {
+        RefType::Superior => "superior",
+        RefType::Subordinate => "subordinate",
+        RefType::Cross => "cross",
+        RefType::NonSpecific => "nonSpecific",
+        RefType::Supplier => "supplier",
+        RefType::Own => "self",
+    }
+}
+
+/// The problem of an attribute error.
+pub(crate) fn attribute_problem(problem: u8) -> &'static str
+    ensures { result.now ≡ print.attribute_problem problem }
+{
+    match problem {
+        1 => "noSuchAttributeOrValue",
+        2 => "invalidAttributeSyntax",
+        3 => "undefinedAttributeType",
+        5 => "constraintViolation",
+        _ => "attributeOrValueAlreadyExists",
+    }
+}
+
+/// The problem of an update error.
+pub(crate) fn update_problem(problem: u8) -> &'static str
+    ensures { result.now ≡ print.update_problem problem }
+{
+    match problem {
+        1 => "namingViolation",
+        2 => "objectClassViolation",
+        3 => "notAllowedOnNonLeaf",
+        4 => "notAllowedOnRDN",
+        5 => "entryAlreadyExists",
+        6 => "affectsMultipleDSAs",
+        _ => "objectClassModificationProhibited",
+    }
+}
+
+/// The problem of a service error.
+pub(crate) fn service_problem(problem: u8) -> &'static str
+    ensures { result.now ≡ print.service_problem problem }
+{
+    match problem {
+        2 => "unavailable",
+        5 => "unableToProceed",
+        6 => "invalidReference",
+        8 => "administrativeLimitExceeded",
+        _ => "loopDetected",
+    }
+}
+
+/// The problem of a shadow error.
+pub(crate) fn shadow_problem(problem: u8) -> &'static str
+    ensures { result.now ≡ print.shadow_problem problem }
+{
+    match problem {
+        1 => "invalidAgreementID",
+        2 => "inactiveAgreement",
+        5 => "missedPrevious",
+        _ => "fullUpdateRequired",
+    }
+}
+
+/// Whether two values are equal.
+pub(crate) fn truth_word(equal: bool) -> &'static str
+    ensures { result.now ≡ print.truth_word equal }
+{
+    if equal { "true" } else { "false" }
+}
+
+/// What a line of a copy ends with.
+pub(crate) fn copy_mark(copy: bool) -> &'static str
+    ensures { result.now ≡ print.mark copy (codes "copy") }
+{
+    if copy { " copy" } else { "" }
+}
+
+/// What a reference ends with whose agents were asked in vain.
+pub(crate) fn tried_mark(tried: bool) -> &'static str
+    ensures { result.now ≡ print.mark tried (codes "tried") }
+{
+    if tried { " tried" } else { "" }
+}
+
+/// What the item of a message of the type nonSpecific ends with.
+pub(crate) fn wide_mark(wide: bool) -> &'static str
+    ensures { result.now ≡ print.mark wide (codes "nonSpecific") }
+{
+    if wide { " nonSpecific" } else { "" }
+}
+
+/// The line that says that a size limit cut an answer.
+pub(crate) fn limit_line(limited: bool) -> &'static str
+    ensures { result.now ≡ print.limit_line limited }
+{
+    if limited {
+        "limit sizeLimitExceeded\n"
+    } else {
+        ""
+    }
+}
