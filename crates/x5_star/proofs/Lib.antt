@@ -1,1 +1,7 @@
-pub mod NameLaws
+pub mod Each
+pub mod Firsts
+pub mod Growth
+pub mod Lookups
+pub mod Names
+pub mod Stars
+pub mod Steps

@@ -1,3 +1,6 @@
-pub mod Names
-pub mod Agents
-pub mod NameLaws
+pub mod Json
+pub mod Members
+pub mod WorldFile
+pub mod Views
+pub mod Grown
+pub mod HeldView

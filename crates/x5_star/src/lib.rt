@@ -1,18 +1,18 @@
-// Plain types of agents, names, requests, answers and journals, as far as reads over a star of agents
-// need them. The final types, which hold every kind of value and request, take their place.
+//! The world file of a star of agents (docs/FORMATS.md, world file).
 #![tactic(auto)]
 
-mod agent;
-mod journal;
-mod name;
-mod request;
+mod agents;
+mod apart;
+mod described;
+mod entry;
+mod fault;
+mod held;
+mod json;
+mod members;
+mod star;
 #[cfg(test)]
 mod tests;
+mod world;
 
-pub use agent::{Access, AgentId, AgentName, AgentSpec, AgentSpecs, ContextSpec, Named, Specific};
-pub use journal::{Fate, Journal, Line};
-pub use name::{Name, NameFault, Rdn, TypeId};
-pub use request::{
-    Answer, Attribute, Body, Controls, DirError, Entry, EntryInfo, Moment, Progress, READ, Reply,
-    Request, Selection, Source, Value,
-};
+pub use fault::WorldFault;
+pub use world::read_star;
