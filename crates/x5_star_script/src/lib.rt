@@ -1,0 +1,11 @@
+//! The script of reads over a star of agents (docs/FORMATS.md, script).
+#![tactic(auto)]
+
+mod line;
+mod script;
+#[cfg(test)]
+mod tests;
+mod words;
+
+pub use line::{Command, LineFault};
+pub use script::{ScriptFault, read_script};
