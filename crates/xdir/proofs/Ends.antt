@@ -1,68 +1,44 @@
 -- How a run's end follows from the ends of its parts.
-use Rattle.std.proofs.Common.{◌≡◌, ◌≤◌, ◌<◌, ◌+◌, inl, inr, ℕ, List, [], ◌∷◌, ◌++◌, length, take, Option, refl, sym, ap, ◌∙◌, arith, length-append}
+use Rattle.std.proofs.Common.{◌≡◌, ◌≤◌, ◌<◌, ◌+◌, ◌⊎◌, inl, inr, ℕ, List, ◌++◌, length, take, Option, sym, ap, ◌∙◌, arith, length-append}
 use Rattle.std.proofs.Math.Seq.{take-append-add}
-use Rattle.x5_star.specs.declared.agent.AgentSpec.{AgentSpec}
 use Rattle.x5_port.specs.Outside.{Rose, with_octets, TookPrefix}
 use Rattle.x5_port.proofs.Octets.{with_octets-with_octets}
-use Rattle.xdir.specs.declared.script.Command.{Command}
 use Rattle.xdir.specs.declared.top.Status.{Status}
 use Rattle.xdir.specs.declared.top.Status.TheVariants.{Done, Refused, Usage, ReadFault, WriteFault, NoMemory, Inconsistent, TooLong}
-use Rattle.xdir.specs.Run.{IsRun, goes_on, Prints, WritesBlock, Writes}
+use Rattle.xdir.specs.Run.{Wrote, Broke, Ends}
 
 -- a count that rose later
-rose-later : (before mid after : ℕ) → before ≤ mid → Rose mid after → Rose before after
-rose-later before mid after le rose = λ below. let now : mid < after = rose below in omega arith
+pub rose_later : (before mid after : ℕ) → before ≤ mid → Rose mid after → Rose before after
+rose_later before mid after le rose = λ below. let now : mid < after = rose below in omega arith
 
--- a run over the first commands, of which the text was written
-pub record IsSoFar (agents : List AgentSpec) (commands : List Command) (old now : Option (List ℕ)) : Type 0 where
-  pub text : List ℕ
-  pub is_run : IsRun agents commands text
-  pub whole : now ≡ with_octets text old
-
--- a first part of a block after what was written
-took-after : (before block : List ℕ) (old mid new : Option (List ℕ)) → mid ≡ with_octets before old → TookPrefix block mid new → TookPrefix (before ++ block) old new
-took-after before block old mid new e (count, within, is) = (
+-- a first part of a text after what was written
+pub took_after : (before text : List ℕ) (old mid new : Option (List ℕ)) → mid ≡ with_octets before old → TookPrefix text mid new → TookPrefix (before ++ text) old new
+took_after before text old mid new e (count, within, is) = (
   length before + count,
-  (let whole : length (before ++ block) ≡ length before + length block = length-append before block in omega arith),
-  is ∙ ap (λ (taken : Option (List ℕ)). with_octets (take count block) taken) e ∙ with_octets-with_octets before (take count block) old ∙ ap (λ (text : List ℕ). with_octets text old) (sym (take-append-add before block count)),
+  (let whole : length (before ++ text) ≡ length before + length text = length-append before text in omega arith),
+  is ∙ ap (λ (taken : Option (List ℕ)). with_octets (take count text) taken) e ∙ with_octets-with_octets before (take count text) old ∙ ap (λ (octets : List ℕ). with_octets octets old) (sym (take-append-add before text count)),
 )
 
-pub so-far-more : (agents : List AgentSpec) (commands : List Command) (command : Command) (old mid new : Option (List ℕ)) (before after : ℕ) → IsSoFar agents commands old mid → WritesBlock Done agents command mid new before after → IsSoFar agents (commands ++ command ∷ []) old new
-so-far-more agents commands command old mid new before after far wrote = record {
-  text = far.text ++ wrote.block;
-  is_run = goes_on far.is_run wrote.is_block refl;
-  whole = wrote.whole ∙ ap (λ (taken : Option (List ℕ)). with_octets wrote.block taken) far.whole ∙ with_octets-with_octets far.text wrote.block old;
-}
+module _ {P Q : List ℕ → Type 0} (more : (text : List ℕ) → P text → Q text) (old new : Option (List ℕ)) where
+  pub wrote_more : Wrote P old new → Wrote Q old new
+  wrote_more w = record { text = w.text; is = more w.text w.is; whole = w.whole }
 
--- a block that can't be written ends the run
-pub writes-stopped : (status : Status) (agents : List AgentSpec) (commands : List Command) (command : Command) (old mid new : Option (List ℕ)) (first before after : ℕ) → (status ≡ Done → ⊥) → first ≤ before → IsSoFar agents commands old mid → WritesBlock status agents command mid new before after → Writes status old new first after
-writes-stopped Done agents commands command old mid new first before after n le far w = absurd (n refl)
-writes-stopped WriteFault agents commands command old mid new first before after n le far w = (
-  rose-later first before after le w.0,
-  record {
-    text = far.text ++ w.1.block;
-    is = inl (record { agents = agents; commands = commands ++ command ∷ []; is_run = goes_on far.is_run w.1.is_block refl });
-    part = took-after far.text w.1.block old mid new far.whole w.1.part;
-  },
-)
-writes-stopped NoMemory agents commands command old mid new first before after n le far w =
-    inr (record {
-      text = far.text;
-      is = record { agents = agents; commands = commands; is_run = far.is_run };
-      whole = w ∙ far.whole;
-    })
-writes-stopped Refused agents commands command old mid new first before after n le far w = absurd w
-writes-stopped Usage agents commands command old mid new first before after n le far w = absurd w
-writes-stopped ReadFault agents commands command old mid new first before after n le far w = absurd w
-writes-stopped Inconsistent agents commands command old mid new first before after n le far w = w
-writes-stopped TooLong agents commands command old mid new first before after n le far w = absurd w
+  pub broke_more : Broke P old new → Broke Q old new
+  broke_more w = record { text = w.text; is = more w.text w.is; part = w.part }
 
-pub prints-block : (status : Status) (agents : List AgentSpec) (command : Command) (old new : Option (List ℕ)) (before after : ℕ) → WritesBlock status agents command old new before after → Prints status
-prints-block Done agents command old new before after w = tt
-prints-block WriteFault agents command old new before after w = tt
-prints-block NoMemory agents command old new before after w = tt
-prints-block Refused agents command old new before after w = tt
-prints-block Usage agents command old new before after w = w
-prints-block ReadFault agents command old new before after w = w
-prints-block Inconsistent agents command old new before after w = w
-prints-block TooLong agents command old new before after w = w
+-- what is said of the texts may say less
+module _ {output first refusal output' first' refusal' : List ℕ → Type 0} (out : (text : List ℕ) → output text → output' text) (part : (text : List ℕ) → first text → first' text) (refuse : (text : List ℕ) → refusal text → refusal' text) where
+  either : (text : List ℕ) → first text ⊎ refusal text → first' text ⊎ refusal' text
+  either text (inl f) = inl (part text f)
+  either text (inr r) = inr (refuse text r)
+
+  pub ends_more : (status : Status) (old new : Option (List ℕ)) (before after : ℕ) → Ends output first refusal status old new before after → Ends output' first' refusal' status old new before after
+  ends_more Done old new before after w = wrote_more out old new w
+  ends_more Refused old new before after w = wrote_more refuse old new w
+  ends_more WriteFault old new before after w = (w.0, broke_more either old new w.1)
+  ends_more NoMemory old new before after (inl e) = inl e
+  ends_more NoMemory old new before after (inr w) = inr (wrote_more part old new w)
+  ends_more ReadFault old new before after w = w
+  ends_more TooLong old new before after w = w
+  ends_more Usage old new before after w = absurd w
+  ends_more Inconsistent old new before after w = absurd w

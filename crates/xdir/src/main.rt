@@ -2,12 +2,9 @@
 #![tactic(auto)]
 
 mod asked;
-mod fault;
-mod print;
-mod script;
+mod refusals;
+mod run;
 mod show;
-mod star_entry;
-mod star_world;
 #[cfg(test)]
 mod tests;
 mod top;

@@ -1,18 +1,21 @@
-// The top call: a run of a script over a world, or what a file shows, from files to a sink.
-ghost use Rattle.std.specs.Prelude.{◌≡◌, ◌≤◌, ◌↔◌, None, All, IfOk, IfSome, map, string_bytes};
-ghost use Rattle.xdir.specs.Run.{IsBlock, IsKnown, IsRefusal, Prints, RefusesWorld, Stops, Writes, WritesForm, WritesLine, WritesBlock, Reads, ReadsFile, ReadsForm};
+//! The top call: a run of a script over a world, or what a file shows, from files to a sink.
+ghost use Rattle.std.specs.Prelude.{◌≡◌, ◌↔◌, None, IfSome, IsTrue, ◌≤◌, length, map, string_bytes};
+ghost use Rattle.x5_model_tree.specs.Described.{IsDescribed};
+ghost use Rattle.x5_model_star.specs.Star.{IsStar};
+ghost use Rattle.x5_dispatch.specs.Star.{are_short};
+ghost use Rattle.x5_star.specs.Views.{star_world};
+ghost use Rattle.xdir.specs.Run.{IsWorldLine, Prints, Reads, ReadsFile, ReadsForm, StopsAtWorld, WritesForm, WritesScript, WritesScriptFile, Writes, WritesLine};
 ghost use Rattle.xdir.specs.Words.{form_in};
 
-use crate::fault::WorldFault;
-use crate::print::{KNOWLEDGE, block, refused_line, refused_world};
-use crate::script::{Command, LineFault, ScriptFault, read_script};
+use crate::refusals::{NO_STAR, NOT_JSON, refused_line};
+use crate::run::print_run;
 use crate::show::show_file;
-use crate::star_world::read_star;
 use crate::words::{Words, read_words};
 use std::alloc::Global;
-use x5_dispatch::star_read;
-use x5_port::{Failed, FileFault, Files, NoMemory, Sink, put_all};
-use x5_star::AgentSpecs;
+use x5_ops::AgentSpecs;
+use x5_port::{Failed, FileFault, Files, Sink, put_all};
+use x5_star::{WorldFault, read_star};
+use x5_star_script::{LineFault, ScriptFault, read_script};
 
 /// The most octets of a file: 16 MiB.
 pub const MOST_OCTETS: usize = 16_777_216;
@@ -63,6 +66,7 @@ pub fn xdir<F: Files, K: Sink>(
     }
 }
 
+/// Runs the script of one file over the star that another describes.
 fn run_files<F: Files, K: Sink>(
     alloc: Global,
     world: &str,
@@ -71,12 +75,14 @@ fn run_files<F: Files, K: Sink>(
     out: &mut K,
 ) -> Status
     ensures reads { Reads result (record { world = world.now; script = script.now }) (F.contents files.old) (F.fault_count files.old) (F.fault_count files.new) (F.last_failed files.new) (K.octets out.old) (K.octets out.new) }
-    ensures writes { Writes result (K.octets out.old) (K.octets out.new) (K.fault_count out.old) (K.fault_count out.new) }
+    ensures writes { Writes result (F.contents files.old) (record { world = world.now; script = script.now }) (K.octets out.old) (K.octets out.new) (K.fault_count out.old) (K.fault_count out.new) }
 {
     match files.read_whole(alloc, world, MOST_OCTETS) {
         Ok(octets) => match read_star(alloc, &octets) {
             Ok(agents) => run_script(alloc, &agents, script, files, out),
-            Err(fault) => refuse_world(alloc, fault, out),
+            Err(WorldFault::NotJson) => put_refusal(NOT_JSON, out),
+            Err(WorldFault::NotYet) => put_refusal(NO_STAR, out),
+            Err(WorldFault::NoMemory) => Status::NoMemory,
         },
         Err(FileFault::Failed) => Status::ReadFault,
         Err(FileFault::TooLong) => Status::TooLong,
@@ -84,6 +90,17 @@ fn run_files<F: Files, K: Sink>(
     }
 }
 
+/// Prints the line of a file that isn't taken.
+fn put_refusal<K: Sink>(line: &str, out: &mut K) -> Status
+    ensures { WritesLine result line.now (K.octets out.old) (K.octets out.new) (K.fault_count out.old) (K.fault_count out.new) }
+{
+    match put_all(out, line.as_bytes()) {
+        Ok(()) => Status::Refused,
+        Err(Failed) => Status::WriteFault,
+    }
+}
+
+/// Runs the script of a file.
 fn run_script<F: Files, K: Sink>(
     alloc: Global,
     agents: &AgentSpecs,
@@ -91,8 +108,12 @@ fn run_script<F: Files, K: Sink>(
     files: &mut F,
     out: &mut K,
 ) -> Status
+    requires described { IsDescribed (star_world agents.now) }
+    requires star { IsStar (star_world agents.now) }
+    requires short { IsTrue (are_short agents.now) }
+    requires few { length agents.now ≤ 64 }
     ensures reads { ReadsFile result script.now (F.contents files.old) (F.fault_count files.old) (F.fault_count files.new) (F.last_failed files.new) }
-    ensures writes { Writes result (K.octets out.old) (K.octets out.new) (K.fault_count out.old) (K.fault_count out.new) }
+    ensures writes { WritesScriptFile result (F.contents files.old) script.now (star_world agents.now) (K.octets out.old) (K.octets out.new) (K.fault_count out.old) (K.fault_count out.new) }
 {
     match files.read_whole(alloc, script, MOST_OCTETS) {
         Ok(octets) => run_octets(alloc, agents, &octets, out),
@@ -102,99 +123,21 @@ fn run_script<F: Files, K: Sink>(
     }
 }
 
+/// Runs a script, or prints the line of its first line that isn't taken.
 fn run_octets<K: Sink>(alloc: Global, agents: &AgentSpecs, script: &[u8], out: &mut K) -> Status
+    requires described { IsDescribed (star_world agents.now) }
+    requires star { IsStar (star_world agents.now) }
+    requires short { IsTrue (are_short agents.now) }
+    requires few { length agents.now ≤ 64 }
     ensures prints { Prints result }
-    ensures writes { Writes result (K.octets out.old) (K.octets out.new) (K.fault_count out.old) (K.fault_count out.new) }
+    ensures writes { WritesScript result (star_world agents.now) script.now (K.octets out.old) (K.octets out.new) (K.fault_count out.old) (K.fault_count out.new) }
 {
     match read_script(alloc, agents, script) {
         Ok(commands) => print_run(alloc, agents, &commands, out),
-        Err(ScriptFault::Line { number, fault }) => refuse_line(alloc, number, fault, out),
+        Err(ScriptFault::Line { number, fault }) => match refused_line(alloc, number, fault) {
+            Ok(line) => put_refusal(&line, out),
+            Err(_) => Status::NoMemory,
+        },
         Err(ScriptFault::NoMemory) => Status::NoMemory,
     }
-}
-
-fn refuse_world<K: Sink>(alloc: Global, fault: WorldFault, out: &mut K) -> Status
-    ensures stops { Stops result }
-    ensures refuses { RefusesWorld result (K.octets out.old) (K.octets out.new) }
-    ensures writes { Writes result (K.octets out.old) (K.octets out.new) (K.fault_count out.old) (K.fault_count out.new) }
-{
-    match refused_world(alloc, fault) {
-        Ok(line) => put_refusal(out, &line),
-        Err(NoMemory) => Status::NoMemory,
-    }
-}
-
-fn refuse_line<K: Sink>(alloc: Global, number: usize, fault: LineFault, out: &mut K) -> Status
-    ensures stops { Stops result }
-    ensures writes { Writes result (K.octets out.old) (K.octets out.new) (K.fault_count out.old) (K.fault_count out.new) }
-{
-    match refused_line(alloc, number, fault) {
-        Ok(line) => put_refusal(out, &line),
-        Err(NoMemory) => Status::NoMemory,
-    }
-}
-
-// Prints the line of a refusal.
-fn put_refusal<K: Sink>(out: &mut K, line: &String) -> Status
-    requires { IsRefusal (string_bytes line.now) }
-    ensures stops { Stops result }
-    ensures line { WritesLine result (string_bytes line.now) (K.octets out.old) (K.octets out.new) }
-    ensures writes { Writes result (K.octets out.old) (K.octets out.new) (K.fault_count out.old) (K.fault_count out.new) }
-{
-    match put_all(out, line.as_bytes()) {
-        Ok(()) => Status::Refused,
-        Err(Failed) => Status::WriteFault,
-    }
-}
-
-// Prints the knowledge line, and the block of each command.
-fn print_run<K: Sink>(
-    alloc: Global,
-    agents: &AgentSpecs,
-    commands: &[Command],
-    out: &mut K,
-) -> Status
-    requires { All (IsKnown agents.now) commands.now }
-    ensures prints { Prints result }
-    ensures writes { Writes result (K.octets out.old) (K.octets out.new) (K.fault_count out.old) (K.fault_count out.new) }
-{
-    match put_all(out, KNOWLEDGE.as_bytes()) {
-        Ok(()) => {}
-        Err(Failed) => return Status::WriteFault,
-    }
-    for command in commands {
-        match print_block(alloc, agents, command, out) {
-            Status::Done => {}
-            stopped => return stopped,
-        }
-    }
-    Status::Done
-}
-
-// Prints the block of a command.
-fn print_block<K: Sink>(
-    alloc: Global,
-    agents: &AgentSpecs,
-    command: &Command,
-    out: &mut K,
-) -> Status
-    requires { IsKnown agents.now command.now }
-    ensures rising { K.fault_count out.old ≤ K.fault_count out.new }
-    ensures block { WritesBlock result agents.now command.now (K.octets out.old) (K.octets out.new) (K.fault_count out.old) (K.fault_count out.new) }
-{
-    match block_of(alloc, agents, command) {
-        Ok(text) => match put_all(out, text.as_bytes()) {
-            Ok(()) => Status::Done,
-            Err(Failed) => Status::WriteFault,
-        },
-        Err(NoMemory) => Status::NoMemory,
-    }
-}
-
-fn block_of(alloc: Global, agents: &AgentSpecs, command: &Command) -> Result<String, NoMemory>
-    requires { IsKnown agents.now command.now }
-    ensures { IfOk result (λ text. IsBlock agents.now command.now (string_bytes text)) }
-{
-    let (reply, journal) = star_read(alloc, agents, command.to, &command.object)?;
-    block(alloc, command.number, &journal, &reply)
 }
