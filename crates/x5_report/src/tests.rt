@@ -6,8 +6,8 @@ use std::test::Fail;
 use x5_know::Start;
 use x5_ops::{
     AccessPoint, AgentName, Answer, Attribute, DirError, EntryInfo, Fate, Journal, Line, Listed,
-    Moment, Name, Outcome, Progress, Rdn, RefType, Reference, Refreshed, Reply, Source, Sub,
-    TraceItem,
+    Moment, Name, Outcome, Progress, Rdn, RefType, Reference, ReferenceList, Refreshed, Reply,
+    Source, SourceList, Sub, TraceItem,
 };
 use x5_syntax::{Text, TypeId, TypeRef, Value};
 
@@ -138,7 +138,7 @@ fn entry(
     })
 }
 
-/// A journal of these messages.
+/// A journal of these messages, of which nobody accepted one.
 fn journal(alloc: Global, lines: Vec<Line>) -> Journal {
     Journal {
         lines: Listed::from_vec(lines),
@@ -146,163 +146,210 @@ fn journal(alloc: Global, lines: Vec<Line>) -> Journal {
     }
 }
 
+/// A journal without messages.
+fn quiet(alloc: Global) -> Journal {
+    journal(alloc, Vec::new(alloc))
+}
+
 /// What is printed for line 2 of a world that starts with 1993.
-fn printed(alloc: Global, journal: &Journal, outcome: &LineOutcome) -> Result<String, Fail> {
+fn printed(alloc: Global, journal: Journal, outcome: LineOutcome) -> Result<String, Fail> {
     let date = match Date::new(1993, 1, 1) {
         Ok(date) => date,
         Err(_) => Date::MIN,
     };
     match Start::new(date, 0) {
-        Some(start) => Ok(block(alloc, &start, 2, journal, outcome)?.into_string()),
+        Some(start) => Ok(block(alloc, &start, 2, &journal, &outcome)?.into_string()),
         None => Ok(String::new(alloc)),
     }
 }
 
-#[test]
-fn a_read_prints_its_messages_the_entry_and_the_source(rt: HostRuntime) -> Result<(), Fail> {
-    let alloc = rt.alloc();
+fn answered(alloc: Global, journal: Journal, reply: Reply) -> Result<String, Fail> {
+    printed(alloc, journal, LineOutcome::Answered(reply))
+}
+
+fn failed(alloc: Global, error: DirError) -> Result<String, Fail> {
+    answered(alloc, quiet(alloc), Reply::Failed(error))
+}
+
+/// The messages of a read that goes up.
+fn messages(alloc: Global) -> Result<Journal, Fail> {
     let user = message(alloc, 0, ["user", "Beta", "read", "start", "/C=NL", "sent"])?;
     let asked = message(
         alloc,
         1,
         ["Beta", "Alpha", "read", "start", "/C=NL", "sent"],
     )?;
-    let journal = journal(alloc, vec![in alloc; user, asked]?);
+    Ok(journal(alloc, vec![in alloc; user, asked]?))
+}
+
+fn country(alloc: Global) -> Result<Reply, Fail> {
     let shown = attribute(alloc, "C", &["NL"])?;
-    let outcome = LineOutcome::Answered(Reply::Done(Answer::Entry {
-        entry: entry(alloc, "/C=NL", false, Some(shown))?,
-        source: source(alloc, "/C=NL", "Alpha", None)?,
-    }));
+    let entry = entry(alloc, "/C=NL", false, Some(shown))?;
+    let source = source(alloc, "/C=NL", "Alpha", None)?;
+    Ok(Reply::Done(Answer::Entry { entry, source }))
+}
+
+#[test]
+fn a_read_prints_its_messages_the_entry_and_the_source(rt: HostRuntime) -> Result<(), Fail> {
+    let alloc = rt.alloc();
+    let text = answered(alloc, messages(alloc)?, country(alloc)?)?;
     assert_eq!(rt;
-        printed(alloc, &journal, &outcome)?.as_str(),
+        text.as_str(),
         "#2\nmsg user Beta read start t=0 /C=NL sent\nmsg Beta Alpha read start t=1 /C=NL sent\nentry /C=NL\nattr C=NL\nsource /C=NL Alpha now\n"
     );
     Ok(())
 }
 
+/// The journal of an update that Beta accepted.
+fn accepted(alloc: Global) -> Result<Journal, Fail> {
+    let words = ["user", "Beta", "add", "start", "/C=NL/O=Acme", "sent"];
+    let user = message(alloc, 0, words)?;
+    let mut journal = journal(alloc, vec![in alloc; user]?);
+    journal.accepted.push(agent(alloc, "Beta")?)?;
+    Ok(journal)
+}
+
 #[test]
 fn an_update_prints_who_accepted_it(rt: HostRuntime) -> Result<(), Fail> {
     let alloc = rt.alloc();
-    let user = message(
-        alloc,
-        0,
-        ["user", "Beta", "add", "start", "/C=NL/O=Acme", "sent"],
-    )?;
-    let mut journal = journal(alloc, vec![in alloc; user]?);
-    journal.accepted.push(agent(alloc, "Beta")?)?;
-    let outcome = LineOutcome::Answered(Reply::Done(Answer::Changed));
+    let text = answered(alloc, accepted(alloc)?, Reply::Done(Answer::Changed))?;
     assert_eq!(rt;
-        printed(alloc, &journal, &outcome)?.as_str(),
+        text.as_str(),
         "#2\nmsg user Beta add start t=0 /C=NL/O=Acme sent\naccepted Beta\nchanged\n"
     );
     Ok(())
 }
 
-#[test]
-fn a_search_prints_sources_and_what_is_unexplored_in_order(rt: HostRuntime) -> Result<(), Fail> {
-    let alloc = rt.alloc();
-    let journal = journal(alloc, Vec::new(alloc));
+/// Sources, the later context first.
+fn sources(alloc: Global) -> Result<SourceList, Fail> {
     let mut sources = Listed::new(alloc);
     sources.push(source(alloc, "/C=NL/O=Acme/OU=Shop", "Delta", None)?)?;
     sources.push(source(alloc, "/C=NL/O=Acme", "Epsilon", Some(Moment(1)))?)?;
-    let mut unexplored = Listed::new(alloc);
-    for (kind, names, excluded, tried) in [
-        (RefType::NonSpecific, "Gamma", "OU=Shop", true),
-        (RefType::Subordinate, "Gamma", "", false),
-        (RefType::NonSpecific, "Delta", "", true),
-    ] {
-        let agents = [names];
-        unexplored.push(reference(
-            alloc,
-            kind,
-            "/C=NL/O=Acme",
-            "done",
-            &agents,
-            excluded,
-            tried,
-        )?)?;
-    }
+    Ok(sources)
+}
+
+/// A reference to what one agent has below Acme.
+fn below(
+    alloc: Global,
+    kind: RefType,
+    name: &str,
+    excluded: &str,
+    tried: bool,
+) -> Result<Reference, Fail> {
+    reference(
+        alloc,
+        kind,
+        "/C=NL/O=Acme",
+        "done",
+        &[name],
+        excluded,
+        tried,
+    )
+}
+
+/// Unexplored references, not in the order in which they are printed.
+fn unexplored(alloc: Global) -> Result<ReferenceList, Fail> {
+    let mut references = Listed::new(alloc);
+    references.push(below(alloc, RefType::NonSpecific, "Gamma", "OU=Shop", true)?)?;
+    references.push(below(alloc, RefType::Subordinate, "Gamma", "", false)?)?;
+    references.push(below(alloc, RefType::NonSpecific, "Delta", "", true)?)?;
+    Ok(references)
+}
+
+fn found(alloc: Global) -> Result<Reply, Fail> {
     let mut entries = Listed::new(alloc);
     entries.push(entry(alloc, "/C=NL/O=Acme/CN=Desk", true, None)?)?;
-    let outcome = LineOutcome::Answered(Reply::Done(Answer::Found {
+    let sources = sources(alloc)?;
+    let unexplored = unexplored(alloc)?;
+    let outcome = Outcome {
+        limited: true,
+        unexplored,
+    };
+    Ok(Reply::Done(Answer::Found {
         entries,
         sources,
-        outcome: Outcome {
-            limited: true,
-            unexplored,
-        },
-    }));
+        outcome,
+    }))
+}
+
+#[test]
+fn a_search_prints_sources_and_what_is_unexplored_in_order(rt: HostRuntime) -> Result<(), Fail> {
+    let alloc = rt.alloc();
+    let text = answered(alloc, quiet(alloc), found(alloc)?)?;
     assert_eq!(rt;
-        printed(alloc, &journal, &outcome)?.as_str(),
+        text.as_str(),
         "#2\nfound 1\nentry /C=NL/O=Acme/CN=Desk copy\nsource /C=NL/O=Acme Epsilon 19930101000001Z\nsource /C=NL/O=Acme/OU=Shop Delta now\nunexplored subordinate /C=NL/O=Acme done Gamma\nunexplored nonSpecific /C=NL/O=Acme done Delta tried\nunexplored nonSpecific /C=NL/O=Acme done Gamma less OU=Shop tried\nlimit sizeLimitExceeded\n"
     );
     Ok(())
 }
 
-#[test]
-fn a_list_prints_the_rdns_below(rt: HostRuntime) -> Result<(), Fail> {
-    let alloc = rt.alloc();
-    let journal = journal(alloc, Vec::new(alloc));
+fn sub(alloc: Global, rdn: &str, copy: bool) -> Result<Sub, Fail> {
+    let rdn = Rdn::parse(alloc, rdn)?;
+    Ok(Sub { rdn, copy })
+}
+
+fn listed(alloc: Global) -> Result<Reply, Fail> {
     let mut subs = Listed::new(alloc);
-    for (rdn, copy) in [("CN=Desk", true), ("OU=Lab", false)] {
-        subs.push(Sub {
-            rdn: Rdn::parse(alloc, rdn)?,
-            copy,
-        })?;
-    }
-    let outcome = LineOutcome::Answered(Reply::Done(Answer::Listed {
+    subs.push(sub(alloc, "CN=Desk", true)?)?;
+    subs.push(sub(alloc, "OU=Lab", false)?)?;
+    Ok(Reply::Done(Answer::Listed {
         subs,
         sources: Listed::new(alloc),
         outcome: Outcome {
             limited: false,
             unexplored: Listed::new(alloc),
         },
-    }));
+    }))
+}
+
+#[test]
+fn a_list_prints_the_rdns_below(rt: HostRuntime) -> Result<(), Fail> {
+    let alloc = rt.alloc();
+    let text = answered(alloc, quiet(alloc), listed(alloc)?)?;
     assert_eq!(rt;
-        printed(alloc, &journal, &outcome)?.as_str(),
+        text.as_str(),
         "#2\nlisted 2\nsub CN=Desk copy\nsub OU=Lab\n"
     );
     Ok(())
 }
 
-/// The case of a service error with a reference or an item.
-fn check_service(
-    alloc: Global,
-    journal: &Journal,
-    reference: Option<Reference>,
-    item: Option<TraceItem>,
-) -> Result<String, Fail> {
-    let problem = if item.is_some() { 9 } else { 2 };
-    let failed = DirError::Service {
-        problem,
-        reference,
-        item,
+fn unavailable(alloc: Global) -> Result<DirError, Fail> {
+    let lab = "/C=NL/O=Acme/OU=Lab";
+    let wide = reference(alloc, RefType::NonSpecific, lab, "3", &["Gamma"], "", true)?;
+    Ok(DirError::Service {
+        problem: 2,
+        reference: Some(wide),
+        item: None,
+    })
+}
+
+fn loop_detected(alloc: Global) -> Result<DirError, Fail> {
+    let agent = agent(alloc, "X")?;
+    let target = Name::parse(alloc, "/C=NL")?;
+    let item = TraceItem {
+        agent,
+        target,
+        progress: Progress::NotStarted,
+        wide: false,
     };
-    printed(
-        alloc,
-        journal,
-        &LineOutcome::Answered(Reply::Failed(failed)),
-    )
+    Ok(DirError::Service {
+        problem: 9,
+        reference: None,
+        item: Some(item),
+    })
 }
 
 #[test]
 fn service_errors_name_a_reference_or_an_item(rt: HostRuntime) -> Result<(), Fail> {
     let alloc = rt.alloc();
-    let journal = journal(alloc, Vec::new(alloc));
-    let lab = "/C=NL/O=Acme/OU=Lab";
-    let wide = reference(alloc, RefType::NonSpecific, lab, "3", &["Gamma"], "", true)?;
+    let text = failed(alloc, unavailable(alloc)?)?;
     assert_eq!(rt;
-        check_service(alloc, &journal, Some(wide), None)?.as_str(),
+        text.as_str(),
         "#2\nerror service unavailable nonSpecific /C=NL/O=Acme/OU=Lab next=3 Gamma tried\n"
     );
-    let item = TraceItem {
-        agent: agent(alloc, "X")?,
-        target: Name::parse(alloc, "/C=NL")?,
-        progress: Progress::NotStarted,
-        wide: false,
-    };
+    let text = failed(alloc, loop_detected(alloc)?)?;
     assert_eq!(rt;
-        check_service(alloc, &journal, None, Some(item))?.as_str(),
+        text.as_str(),
         "#2\nerror service loopDetected X start /C=NL\n"
     );
     Ok(())
@@ -311,13 +358,12 @@ fn service_errors_name_a_reference_or_an_item(rt: HostRuntime) -> Result<(), Fai
 #[test]
 fn a_referral_names_all_agents(rt: HostRuntime) -> Result<(), Fail> {
     let alloc = rt.alloc();
-    let journal = journal(alloc, Vec::new(alloc));
     let lab = "/C=NL/O=Acme/OU=Lab";
-    let agents = ["Beta", "Epsilon"];
-    let two = reference(alloc, RefType::Subordinate, lab, "2", &agents, "", false)?;
-    let outcome = LineOutcome::Answered(Reply::Refer(two));
+    let names = ["Beta", "Epsilon"];
+    let two = reference(alloc, RefType::Subordinate, lab, "2", &names, "", false)?;
+    let text = answered(alloc, quiet(alloc), Reply::Refer(two))?;
     assert_eq!(rt;
-        printed(alloc, &journal, &outcome)?.as_str(),
+        text.as_str(),
         "#2\nreferral subordinate /C=NL/O=Acme/OU=Lab next=2 Beta,Epsilon\n"
     );
     Ok(())
@@ -326,57 +372,63 @@ fn a_referral_names_all_agents(rt: HostRuntime) -> Result<(), Fail> {
 #[test]
 fn other_errors_name_their_problem(rt: HostRuntime) -> Result<(), Fail> {
     let alloc = rt.alloc();
-    let journal = journal(alloc, Vec::new(alloc));
     let matched = Name::parse(alloc, "/C=NL")?;
-    let missing = LineOutcome::Answered(Reply::Failed(DirError::Name { matched }));
-    assert_eq!(rt;
-        printed(alloc, &journal, &missing)?.as_str(),
-        "#2\nerror name noSuchObject /C=NL\n"
-    );
-    let refused = LineOutcome::Answered(Reply::Failed(DirError::Update { problem: 5 }));
-    assert_eq!(rt;
-        printed(alloc, &journal, &refused)?.as_str(),
-        "#2\nerror update entryAlreadyExists\n"
-    );
+    let text = failed(alloc, DirError::Name { matched })?;
+    assert_eq!(rt; text.as_str(), "#2\nerror name noSuchObject /C=NL\n");
+    let text = failed(alloc, DirError::Update { problem: 5 })?;
+    assert_eq!(rt; text.as_str(), "#2\nerror update entryAlreadyExists\n");
     Ok(())
+}
+
+/// What is printed of a refresh with one message.
+fn refresh(alloc: Global, outcome: LineOutcome) -> Result<String, Fail> {
+    let from = agent(alloc, "Epsilon")?;
+    let to = agent(alloc, "Beta")?;
+    let asked = Line::Dis {
+        from,
+        to,
+        operation: 1,
+        agreement: 1,
+        fate: Fate::Sent,
+    };
+    printed(alloc, journal(alloc, vec![in alloc; asked]?), outcome)
 }
 
 #[test]
 fn a_refresh_prints_its_messages_and_what_became_of_it(rt: HostRuntime) -> Result<(), Fail> {
     let alloc = rt.alloc();
-    let asked = Line::Dis {
-        from: agent(alloc, "Epsilon")?,
-        to: agent(alloc, "Beta")?,
-        operation: 1,
-        agreement: 1,
-        fate: Fate::Sent,
-    };
-    let journal = journal(alloc, vec![in alloc; asked]?);
+    let total = refresh(
+        alloc,
+        LineOutcome::Refreshed(1, Refreshed::Total(Moment(1), 2)),
+    )?;
+    assert_eq!(rt;
+        total.as_str(),
+        "#2\ndis Epsilon Beta requestShadowUpdate 1 sent\nrefreshed 1 total 19930101000001Z 2\n"
+    );
+    let lost = refresh(alloc, LineOutcome::Refreshed(7, Refreshed::Lost))?;
+    assert_eq!(rt;
+        lost.as_str(),
+        "#2\ndis Epsilon Beta requestShadowUpdate 1 sent\nunrefreshed 7\n"
+    );
+    Ok(())
+}
+
+#[test]
+fn a_refused_refresh_names_its_problem(rt: HostRuntime) -> Result<(), Fail> {
+    let alloc = rt.alloc();
     let missed = Refreshed::Failed {
         problem: 5,
         held: None,
         given: Some(Moment(61)),
     };
-    for (outcome, want) in vec![in alloc;
-        (
-            LineOutcome::Refreshed(1, Refreshed::Total(Moment(1), 2)),
-            "refreshed 1 total 19930101000001Z 2\n",
-        ),
-        (
-            LineOutcome::Refreshed(7, Refreshed::Lost),
-            "unrefreshed 7\n"
-        ),
-        (
-            LineOutcome::Refreshed(1, missed),
-            "error shadow missedPrevious - 19930101000101Z\n",
-        ),
-        (LineOutcome::NotConsistent, "error shadow inconsistent\n"),
-    ]? {
-        let text = printed(alloc, &journal, &outcome)?;
-        let head = "#2\ndis Epsilon Beta requestShadowUpdate 1 sent\n";
-        assert_eq!(rt; text.as_str().strip_prefix(head), Some(want));
-    }
-    let set = printed(alloc, &journal, &LineOutcome::Set)?;
-    assert_eq!(rt; set.as_str(), "#2\nset\n");
+    let text = refresh(alloc, LineOutcome::Refreshed(1, missed))?;
+    assert_eq!(rt;
+        text.as_str(),
+        "#2\ndis Epsilon Beta requestShadowUpdate 1 sent\nerror shadow missedPrevious - 19930101000101Z\n"
+    );
+    let text = printed(alloc, quiet(alloc), LineOutcome::NotConsistent)?;
+    assert_eq!(rt; text.as_str(), "#2\nerror shadow inconsistent\n");
+    let text = printed(alloc, quiet(alloc), LineOutcome::Set)?;
+    assert_eq!(rt; text.as_str(), "#2\nset\n");
     Ok(())
 }
