@@ -220,7 +220,9 @@ impl Sink for MemorySink {
         ensures count { IfOk result (λ count. count ≡ min (length piece.now) (min self.old.most (room_in self.old))) }
         ensures unmarked { OnOk result (next_is_marked self.old ≡ false) }
         ensures counted { self.new.schedule ≡ record self.old.schedule { calls = next_number self.old.schedule.calls } }
-        ensures cause { OnErr result (IsTrue (next_is_marked self.old) ⊎ (room_in self.old ≡ 0)) }
+        ensures cause { OnErr result (IsTrue (next_is_marked self.old) ⊎ (room_in self.old ≡ 0) × (0 < length piece.now)) }
+        ensures same_room { room_in self.new + length (octets_in self.new) ≡ room_in self.old + length (octets_in self.old) }
+        ensures same_most { self.new.most ≡ self.old.most }
     {
         let count = piece
             .len()
