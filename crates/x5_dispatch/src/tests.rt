@@ -6,7 +6,7 @@ use std::test::Fail;
 use x5_ops::{
     Access, AgentId, AgentName, AgentSpec, Answer, Attribute, Body, Change, ChangeList,
     ContextSpec, Controls, DirError, Entry, Fate, Line, Listed, Name, Named, Progress, Rdn, Reply,
-    Request, Selection, Source, Specific, TypeList, adds_equal, change, with_rdn,
+    Request, Selection, Source, Specific, TypeList, change, with_rdn,
 };
 use x5_syntax::{Text, TypeId, TypeRef, Value};
 
@@ -39,9 +39,6 @@ fn named(alloc: Global, text: &str) -> Result<Named, Fail> {
     let mut changes: ChangeList = Listed::new(alloc);
     for one in texts.split(';') {
         changes.push(Change::AddAttribute(attribute(alloc, one)?))?;
-    }
-    if adds_equal(alloc, &changes)? {
-        return Ok(Named { name, entry });
     }
     match change(alloc, &rdn, &entry, &changes) {
         Ok(entry) => Ok(Named { name, entry }),

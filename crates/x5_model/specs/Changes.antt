@@ -7,7 +7,7 @@ use Rattle.std.specs.declared.result.Result.{Result}
 use Rattle.std.specs.declared.result.Result.TheVariants.{Ok, Err}
 use Rattle.x5_model.specs.Values.{TypeRef, Known, Unknown, StoredValue, Offered, Rdn}
 use Rattle.x5_model.specs.Entries.{Entry}
-use Rattle.x5_model.specs.Attributes.{is_present, has_value, entry_with, put_value, drop_value, has_rdn, with_rdn, without_rdn, doubled, stored_value, stored_values}
+use Rattle.x5_model.specs.Attributes.{is_present, has_value, entry_with, put_value, drop_value, has_rdn, with_rdn, without_rdn, doubled, stored_value}
 use Rattle.x5_model.specs.Requests.{Change, AddAttribute, RemoveAttribute, AddValues, RemoveValues}
 use Rattle.x5_model.specs.Answers.{DirError, AttributeProblem, UpdateProblem}
 use Rattle.x5_model.specs.Problems.{no_such_attribute_or_value, constraint_violation, attribute_or_value_already_exists, not_allowed_on_rdn}
@@ -42,14 +42,14 @@ abbrev pub on_known : (ℕ → Entry → Changed) → TypeRef → Entry → Chan
 on_known change (Known kind) e = change kind e
 on_known change (Unknown arcs) e = Ok e
 
--- an attribute that is present isn't added again, one that is absent isn't removed; an equal value isn't added, and an
--- absent one isn't removed; an attribute that has no value left goes
+-- an attribute that is present isn't added again, one that is absent isn't removed; an equal value isn't added, also where
+-- the change itself gives it twice, and an absent one isn't removed; an attribute that has no value left goes
 abbrev pub changed : Change → Entry → Changed
 changed (AddAttribute a) e = on_known add a.kind e
   where
     add : ℕ → Entry → Changed
     add kind f =
-        if is_present f kind then Err (AttributeProblem attribute_or_value_already_exists (Known kind)) else Ok (entry_with kind (stored_values a.values) f)
+        if is_present f kind then Err (AttributeProblem attribute_or_value_already_exists (Known kind)) else each_value (put_new kind) a.values f
 changed (RemoveAttribute type) e = on_known remove type e
   where
     remove : ℕ → Entry → Changed

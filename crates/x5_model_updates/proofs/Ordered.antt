@@ -150,48 +150,39 @@ known_keeps : (change : ℕ → Entry → Changed) → ((kind : ℕ) → Keeps (
 known_keeps change each (Known kind) e f h q = each kind e f h q
 known_keeps change each (Unknown arcs) e f h q = subst (λ (x : Entry). is_ordered x ≡ true) (same_entry e f q) h
 
-abbrev AddsApart : Change → Type 0
-AddsApart (AddAttribute a) = IsApart a
-AddsApart (RemoveAttribute kind) = ⊤
-AddsApart (AddValues a) = ⊤
-AddsApart (RemoveValues a) = ⊤
-
 abbrev add_kind : List Offered → ℕ → Entry → Changed
-add_kind values kind e = unless_bad (is_present e kind) (AttributeProblem attribute_or_value_already_exists (Known kind)) (entry_with kind (stored_values values) e)
+add_kind values kind e = if is_present e kind then Err (AttributeProblem attribute_or_value_already_exists (Known kind)) else each_value (put_new kind) values e
+
+unless_bad_then : (b : Bool) (x : DirError) (c : Changed) (f : Entry) → (if b then Err x else c) ≡ Ok f → c ≡ Ok f
+unless_bad_then true x c f h = cc
+unless_bad_then false x c f h = h
 
 abbrev remove_kind : ℕ → Entry → Changed
 remove_kind kind e = if_there (is_present e kind) (AttributeProblem no_such_attribute_or_value (Known kind)) (entry_with kind [] e)
 
-change_keeps : (c : Change) → AddsApart c → Keeps (changed c)
-change_keeps (AddAttribute a) d e f h q =
+change_keeps : (c : Change) → Keeps (changed c)
+change_keeps (AddAttribute a) e f h q =
     known_keeps (add_kind a.values)
-    (λ kind x y i r. subst (λ (z : Entry). is_ordered z ≡ true) (unless_ok (is_present x kind) (AttributeProblem attribute_or_value_already_exists (Known kind)) (entry_with kind (stored_values a.values) x) y r).1
-    (ordered_with kind (stored_values a.values) x i (stored_ascending a.values d))) a.kind e f h q
-change_keeps (RemoveAttribute type) d e f h q =
+    (λ kind x y i r. values_keep (put_new kind) (put_keeps kind) a.values x y i
+    (unless_bad_then (is_present x kind) (AttributeProblem attribute_or_value_already_exists (Known kind)) (each_value (put_new kind) a.values x) y r)) a.kind e f h q
+change_keeps (RemoveAttribute type) e f h q =
     known_keeps remove_kind
     (λ kind x y i r. subst (λ (z : Entry). is_ordered z ≡ true) (if_there_ok (is_present x kind) (AttributeProblem no_such_attribute_or_value (Known kind)) (entry_with kind [] x) y r)
     (ordered_with kind [] x i refl)) type e f h q
-change_keeps (AddValues a) d e f h q = known_keeps (λ kind x. each_value (put_new kind) a.values x) (λ kind. values_keep (put_new kind) (put_keeps kind) a.values) a.kind e f h q
-change_keeps (RemoveValues a) d e f h q = known_keeps (λ kind x. each_value (drop_old kind) a.values x) (λ kind. values_keep (drop_old kind) (drop_keeps kind) a.values) a.kind e f h q
+change_keeps (AddValues a) e f h q = known_keeps (λ kind x. each_value (put_new kind) a.values x) (λ kind. values_keep (put_new kind) (put_keeps kind) a.values) a.kind e f h q
+change_keeps (RemoveValues a) e f h q = known_keeps (λ kind x. each_value (drop_old kind) a.values x) (λ kind. values_keep (drop_old kind) (drop_keeps kind) a.values) a.kind e f h q
 
-changes_keep : (cs : List Change) → ((c : Change) → In c cs → AddsApart c) → Keeps (changed_by cs)
-changes_keep [] d e f h q = subst (λ (x : Entry). is_ordered x ≡ true) (same_entry e f q) h
-changes_keep (c ∷ more) d e f h q =
+changes_keep : (cs : List Change) → Keeps (changed_by cs)
+changes_keep [] e f h q = subst (λ (x : Entry). is_ordered x ≡ true) (same_entry e f q) h
+changes_keep (c ∷ more) e f h q =
     let w = then_keeps (changed c e) (changed_by more) f q in
-    changes_keep more (λ x i. d x (there i)) w.0 f (change_keeps c (d c here) e w.0 h w.1) w.2
+    changes_keep more w.0 f (change_keeps c e w.0 h w.1) w.2
 
-change_apart : (c : Change) → change_repeats c ≡ [] → AddsApart c
-change_apart (AddAttribute a) e = apart_by a (when_empty (has_equal_values a) (repeated a) e)
-change_apart (RemoveAttribute kind) e = tt
-change_apart (AddValues a) e = tt
-change_apart (RemoveValues a) e = tt
-
-pub modified_ordered : (name : Name) (changes : List Change) (e f : Entry) → fault_of (ModifyEntry name changes) ≡ None → is_ordered e ≡ true → modified (last_rdn name) changes e ≡ Ok f → is_ordered f ≡ true
-modified_ordered name changes e f none h q =
-    let empty : flat_map change_repeats changes ≡ [] = left_empty (flat_map change_repeats changes) _ (no_repeats (ModifyEntry name changes) none) in
+pub modified_ordered : (name : Name) (changes : List Change) (e f : Entry) → is_ordered e ≡ true → modified (last_rdn name) changes e ≡ Ok f → is_ordered f ≡ true
+modified_ordered name changes e f h q =
     let w = then_keeps (and_then (changed_by changes e) (keeps_rdn (last_rdn name))) single_valued f q in
     let v = then_keeps (changed_by changes e) (keeps_rdn (last_rdn name)) w.0 w.1 in
-    let a : is_ordered v.0 ≡ true = changes_keep changes (λ c i. change_apart c (flat_empty change_repeats c changes empty i)) e v.0 h v.1 in
+    let a : is_ordered v.0 ≡ true = changes_keep changes e v.0 h v.1 in
     let b : v.0 ≡ w.0 = if_there_ok (has_rdn v.0 (last_rdn name)) (UpdateProblem not_allowed_on_rdn) v.0 w.0 v.2 in
     subst (λ (x : Entry). is_ordered x ≡ true) (b ∙ single_is w.0 f w.2) a
 
@@ -209,7 +200,7 @@ after_ordered es (AddEntry name attributes) none h e (inl i) = h e i
 after_ordered es (AddEntry name attributes) none h e (inr w) = subst (λ (x : Named). is_ordered x.entry ≡ true) (sym w.3) (added_ordered name attributes none)
 after_ordered es (RemoveEntry name) none h e w = h e w.0
 after_ordered es (ModifyEntry name changes) none h e (inl w) = h e w.0
-after_ordered es (ModifyEntry name changes) none h e (inr w) = subst (λ (x : Named). is_ordered x.entry ≡ true) (sym w.5) (modified_ordered name changes w.0.entry w.1 none (h w.0 w.2) w.4)
+after_ordered es (ModifyEntry name changes) none h e (inr w) = subst (λ (x : Named). is_ordered x.entry ≡ true) (sym w.5) (modified_ordered name changes w.0.entry w.1 (h w.0 w.2) w.4)
 after_ordered es (ModifyDn name rdn drops) none h e (inl w) = h e w.0
 after_ordered es (ModifyDn name rdn drops) none h e (inr (inl w)) = subst (λ (x : Named). is_ordered x.entry ≡ true) (sym w.3) (renamed_ordered (last_rdn name) rdn drops w.0.entry (h w.0 w.1))
 after_ordered es (ModifyDn name rdn drops) none h e (inr (inr w)) = subst (λ (x : Named). is_ordered x.entry ≡ true) (sym w.4) (h w.0 w.1)

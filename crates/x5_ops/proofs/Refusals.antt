@@ -33,29 +33,8 @@ apart_behind earlier (a ∷ given) e =
 pub apart_without_repeats : (given : List Attribute) → first_of (attribute_repeats [] given) ≡ None → list_all (λ a. not (has_equal_values a)) given ≡ true
 apart_without_repeats given e = apart_behind [] given e
 
-first_empty : {X : Type 0} (xs ys : List X) → first_of (xs ++ ys) ≡ None → (is_empty xs ≡ true) × (first_of ys ≡ None)
-first_empty [] ys e = (refl, e)
-first_empty (x ∷ xs) ys e = cc
-
--- changes that aren't refused by their own values add no two equal ones
-pub changes_apart : (cs : List Change) → first_of (flat_map change_repeats cs) ≡ None → list_all (λ c. is_empty (change_repeats c)) cs ≡ true
-changes_apart [] e = refl
-changes_apart (c ∷ cs) e =
-    let w = first_empty (change_repeats c) (flat_map change_repeats cs) e in
-    and_true (is_empty (change_repeats c)) (list_all (λ c. is_empty (change_repeats c)) cs) w.0 (changes_apart cs w.1)
-
 -- the last RDN
 pub last_by_place : (n : Name) (r : Rdn) → slice_get n (length n - 1) ≡ Some r → last_rdn n ≡ r
 last_by_place [] r e = cc
 last_by_place (x ∷ []) r e = cc
 last_by_place (x ∷ y ∷ more) r e = last_by_place (y ∷ more) r (grind (arith, e))
-
-empty_first : {X : Type 0} (xs ys : List X) (b : Bool) → not b ≡ is_some (first_of ys) → not (is_empty xs && b) ≡ is_some (first_of (xs ++ ys))
-empty_first [] ys b e = e
-empty_first (x ∷ xs) ys b e = refl
-
--- whether a change adds two equal values, by the first refusal
-pub adds_by_first : (cs : List Change) → not (list_all (λ c. is_empty (change_repeats c)) cs) ≡ is_some (first_of (flat_map change_repeats cs))
-adds_by_first [] = refl
-adds_by_first (c ∷ cs) =
-    empty_first (change_repeats c) (flat_map change_repeats cs) (list_all (λ c. is_empty (change_repeats c)) cs) (adds_by_first cs)

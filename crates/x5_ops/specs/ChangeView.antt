@@ -1,10 +1,13 @@
--- What a change of an entry gives, and which changes keep values apart.
-use Rattle.std.specs.Prelude.{◌≡◌, ℕ, Bool, not, List, Result, Ok, Err}
+-- What a change of an entry gives, and what an addEntry stores.
+use Rattle.std.specs.Prelude.{◌≡◌, ℕ, Bool, not, List, [], Option, Some, None, Result, Ok, Err}
 use Rattle.std.specs.List.{list_all}
-use Rattle.x5_model.specs.Words.{is_empty}
+use Rattle.x5_model.specs.Words.{first_of}
+use Rattle.x5_model.specs.Values.{Rdn}
 use Rattle.x5_model.specs.Entries.{Entry}
-use Rattle.x5_model.specs.Requests.{Attribute, Change}
-use Rattle.x5_model.specs.Statics.{has_equal_values, change_repeats}
+use Rattle.x5_model.specs.Attributes.{added_entry}
+use Rattle.x5_model.specs.Answers.{DirError}
+use Rattle.x5_model.specs.Requests.{Attribute}
+use Rattle.x5_model.specs.Statics.{has_equal_values, attribute_repeats}
 use Rattle.x5_model.specs.Changes.{Changed}
 use Rattle.x5_ops.specs.RefusalView.{refusal_view}
 use Rattle.x5_ops.specs.AnswerViews.{error_view}
@@ -17,9 +20,13 @@ use Rattle.x5_ops.specs.declared.changes.ChangeFault.TheVariants as faults
 abbrev pub are_apart : List Attribute → Bool
 are_apart attributes = list_all (λ a. not (has_equal_values a)) attributes
 
--- a change adds no two equal values
-abbrev pub adds_apart : Change → Bool
-adds_apart c = is_empty (change_repeats c)
+-- what an addEntry stores, or the refusal of the first attribute that repeats a value or a type
+abbrev pub added : Rdn → List Attribute → Changed
+added rdn attributes = by (first_of (attribute_repeats [] attributes))
+  where
+    by : Option DirError → Changed
+    by None = Ok (added_entry rdn attributes)
+    by (Some x) = Err x
 
 -- the entry or the refusal, unless memory ran out
 abbrev pub IsStopped : Stop → Changed → Type 0

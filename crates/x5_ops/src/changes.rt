@@ -1,7 +1,6 @@
 //! What an addEntry stores, and what a modifyEntry does to an entry (X.511, sections 11.1 and 11.3).
 
 ghost use Rattle.std.specs.Prelude.{◌≡◌, [], ◌∷◌, not, map, IfOk, IsTrue};
-ghost use Rattle.std.specs.List.{list_all};
 ghost use Rattle.x5_model.specs.Attributes as attributes;
 ghost use Rattle.x5_model.specs.Assertions as assertions;
 ghost use Rattle.x5_model.specs.Changes as model;
@@ -11,7 +10,7 @@ ghost use Rattle.x5_model.specs.Values as model_values;
 ghost use Rattle.x5_syntax.specs.TypeView.{type_view};
 ghost use Rattle.x5_syntax.specs.ValueView.{value_view};
 ghost use Rattle.x5_ops.specs.RefusalView.{given_values};
-ghost use Rattle.x5_ops.specs.ChangeView.{IsChanged, IsModified, adds_apart, are_apart};
+ghost use Rattle.x5_ops.specs.ChangeView.{IsChanged, IsModified, added, are_apart};
 ghost use Rattle.x5_ops.specs.RequestViews.{attribute_view, change_view};
 ghost use Rattle.x5_ops.specs.declared.changes.Stop.TheVariants.{NoMemory as NoMemoryStop};
 ghost use Rattle.x5_ops.specs.declared.changes.ChangeFault.TheVariants.{NoMemory as NoMemoryFault};
@@ -22,7 +21,7 @@ use crate::entries::{
 };
 use crate::problems;
 use crate::requests::{Attribute, AttributeList, Change, ChangeList};
-use crate::statics::Refusal;
+use crate::statics::{Refusal, attribute_repeats};
 use std::alloc::{AllocError, AllocFailed, Global};
 use thiserror::Error;
 use x5_match::{Entry, StoredValueList, normal_for};
@@ -117,14 +116,32 @@ fn entry_of(alloc: Global, offered: &[Attribute]) -> Result<Entry, NoMemory>
     Ok(entry)
 }
 
-/// What an addEntry stores (X.511, section 11.1): the attributes, and the RDN's values that they lack. No attribute has two
-/// equal values.
-pub fn added_entry(alloc: Global, rdn: &Rdn, offered: &AttributeList) -> Result<Entry, NoMemory>
+/// The attributes, and the RDN's values that they lack. No attribute has two equal values.
+pub(crate) fn stored_entry(
+    alloc: Global,
+    rdn: &Rdn,
+    offered: &AttributeList,
+) -> Result<Entry, NoMemory>
     requires { IsTrue (are_apart (map attribute_view offered.now)) }
     ensures { IfOk result (λ e. e ≡ attributes.added_entry rdn.now (map attribute_view offered.now)) }
 {
     let entry = entry_of(alloc, offered.as_slice())?;
     with_rdn(alloc, entry, rdn)
+}
+
+/// What an addEntry stores (X.511, section 11.1): the attributes, and the RDN's values that they lack. The first attribute that
+/// has two equal values, or a type that an earlier one has, is refused.
+pub fn added_entry(
+    alloc: Global,
+    rdn: &Rdn,
+    offered: &AttributeList,
+) -> Result<Entry, ChangeFault>
+    ensures { IsModified result (added rdn.now (map attribute_view offered.now)) }
+{
+    match attribute_repeats(alloc, offered.as_slice())? {
+        Some(refusal) => Err(ChangeFault::Refused(refusal.into_error(alloc))),
+        None => Ok(stored_entry(alloc, rdn, offered)?),
+    }
 }
 
 /// Adds one value; an equal one is refused.
@@ -215,9 +232,8 @@ fn remove_values(alloc: Global, entry: Entry, kind: TypeId, values: &[Value]) ->
     Ok(entry)
 }
 
-/// Adds an attribute; one that is present is refused.
+/// Adds an attribute; one that is present is refused, and so is one that gives two equal values.
 fn add_attribute(alloc: Global, entry: Entry, attribute: &Attribute) -> Result<Entry, Stop>
-    requires { IsTrue (not (has_equal_values (attribute_view attribute.now))) }
     ensures { IsChanged result (model.changed (requests.AddAttribute (attribute_view attribute.now)) entry) }
 {
     let TypeRef::Known(kind) = &attribute.kind else {
@@ -228,7 +244,7 @@ fn add_attribute(alloc: Global, entry: Entry, attribute: &Attribute) -> Result<E
         let kind = TypeRef::Known(*kind);
         return Err(Stop::Refused(Refusal::Attribute { problem, kind }));
     }
-    Ok(with_offered(alloc, entry, *kind, attribute.values.as_slice())?)
+    add_values(alloc, entry, *kind, attribute.values.as_slice())
 }
 
 /// Removes an attribute; one that is absent is refused.
@@ -248,7 +264,6 @@ fn remove_attribute(alloc: Global, entry: Entry, kind: &TypeRef) -> Result<Entry
 
 /// Makes one change.
 fn changed(alloc: Global, entry: Entry, change: &Change) -> Result<Entry, Stop>
-    requires { IsTrue (adds_apart (change_view change.now)) }
     ensures { IsChanged result (model.changed (change_view change.now) entry) }
 {
     match change {
@@ -267,7 +282,6 @@ fn changed(alloc: Global, entry: Entry, change: &Change) -> Result<Entry, Stop>
 
 /// Makes the changes in their order; the first that can't be made is refused.
 fn changed_by(alloc: Global, entry: Entry, changes: &[Change]) -> Result<Entry, Stop>
-    requires { IsTrue (list_all adds_apart (map change_view changes.now)) }
     ensures { IsChanged result (model.changed_by (map change_view changes.now) entry) }
 {
     let mut entry = entry;
@@ -305,7 +319,6 @@ fn single_valued(entry: Entry) -> Result<Entry, Stop>
 
 /// Makes the changes, and tests what they leave.
 fn modified(alloc: Global, entry: Entry, rdn: &Rdn, changes: &[Change]) -> Result<Entry, Stop>
-    requires { IsTrue (list_all adds_apart (map change_view changes.now)) }
     ensures { IsChanged result (model.modified rdn.now (map change_view changes.now) entry) }
 {
     let entry = changed_by(alloc, entry, changes)?;
@@ -315,14 +328,13 @@ fn modified(alloc: Global, entry: Entry, rdn: &Rdn, changes: &[Change]) -> Resul
 
 /// What a modifyEntry makes of an entry (X.511, section 11.3), `rdn` being the entry's: the changes in their order, the values
 /// of each in theirs; then the values of the RDN must be there, and then no single-valued type may have two values. The first
-/// breach is told. Needs changes that don't add two equal values, which `fault_of` refuses.
+/// breach is told.
 pub fn change(
     alloc: Global,
     rdn: &Rdn,
     entry: &Entry,
     changes: &ChangeList,
 ) -> Result<Entry, ChangeFault>
-    requires { IsTrue (list_all adds_apart (map change_view changes.now)) }
     ensures { IsModified result (model.modified rdn.now (map change_view changes.now) entry.now) }
 {
     let entry = copied_entry(entry)?;

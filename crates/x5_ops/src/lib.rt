@@ -39,6 +39,6 @@ pub use requests::{
     Attribute, AttributeList, Body, Change, ChangeList, Controls, Request, Selection, Subset,
     TypeList, ValueList,
 };
-pub use statics::{Refusal, adds_equal, fault_of};
+pub use statics::{Refusal, fault_of};
 pub use x5_match::{Entry, Filter, holds};
 pub use x5_names::{Name, Rdn};

@@ -2,7 +2,7 @@
 
 ghost use Rattle.std.specs.Prelude.{◌≡◌, ℕ, List, [], ◌∷◌, ◌||◌, map, not, IfOk, IsTrue};
 ghost use Rattle.std.specs.Option.{option_map, is_none};
-ghost use Rattle.std.specs.List.{list_any, list_all, flat_map};
+ghost use Rattle.std.specs.List.{list_any, flat_map};
 ghost use Rattle.x5_model.specs.Answers as answers;
 ghost use Rattle.x5_model.specs.Assertions as assertions;
 ghost use Rattle.x5_model.specs.Requests as requests;
@@ -14,11 +14,11 @@ ghost use Rattle.x5_syntax.specs.TypeView.{type_view};
 ghost use Rattle.x5_syntax.specs.ValueView.{value_view};
 ghost use Rattle.x5_ops.specs.AnswerViews.{error_view};
 ghost use Rattle.x5_ops.specs.RefusalView.{refusal_view, same_normal, given_values};
-ghost use Rattle.x5_ops.specs.ChangeView.{are_apart, adds_apart};
+ghost use Rattle.x5_ops.specs.ChangeView.{are_apart};
 ghost use Rattle.x5_ops.specs.RequestViews.{attribute_view, change_view, body_view};
 
 use crate::answers::DirError;
-use crate::changes::added_entry as added_entry_of;
+use crate::changes::stored_entry;
 use crate::entries::doubled;
 use crate::problems;
 use crate::requests::{Attribute, AttributeList, Body, Change, ChangeList, Request};
@@ -213,7 +213,10 @@ fn is_repeated(
 }
 
 /// Why attributes that an addEntry gives are refused beside one another.
-fn attribute_repeats(alloc: Global, attributes: &[Attribute]) -> Result<Option<Refusal>, NoMemory>
+pub(crate) fn attribute_repeats(
+    alloc: Global,
+    attributes: &[Attribute],
+) -> Result<Option<Refusal>, NoMemory>
     ensures { IfOk result (λ r. option_map refusal_view r ≡ first_of (model.attribute_repeats [] (map attribute_view attributes.now))) }
 {
     for (i, attribute) in attributes.iter().enumerate() {
@@ -287,17 +290,6 @@ fn changes_repeats(alloc: Global, changes: &[Change]) -> Result<Option<Refusal>,
         }
     }
     Ok(None)
-}
-
-/// Whether one of the changes adds two equal values.
-#[tactic(auto, using(crate::proofs::Refusals::adds_by_first))]
-pub fn adds_equal(alloc: Global, changes: &ChangeList) -> Result<bool, NoMemory>
-    ensures { IfOk result (λ b. b ≡ not (list_all adds_apart (map change_view changes.now))) }
-{
-    match changes_repeats(alloc, changes.as_slice())? {
-        Some(_) => Ok(true),
-        None => Ok(false),
-    }
 }
 
 /// The type that a change names. No memory.
@@ -402,8 +394,8 @@ fn entry_at(alloc: Global, object: &Name, attributes: &AttributeList) -> Result<
     ensures { IfOk result (λ e. e ≡ added_entry (last_rdn object.now) (map attribute_view attributes.now)) }
 {
     match object.last() {
-        Some(rdn) => added_entry_of(alloc, rdn, attributes),
-        None => added_entry_of(alloc, &Rdn::new(Vec::new(alloc)), attributes),
+        Some(rdn) => stored_entry(alloc, rdn, attributes),
+        None => stored_entry(alloc, &Rdn::new(Vec::new(alloc)), attributes),
     }
 }
 

@@ -1,5 +1,5 @@
 -- What the files and the sink in memory hold, and which of their calls are to fail.
-use Rattle.std.specs.Prelude.{◌≡◌, ℕ, ◌+◌, ◌-◌, ◌==◌, nat_lt, min, Bool, if◌then◌else◌, List, [], map, length, Option, Some, None, Result, Ok, Err, string_bytes, Vec, vec_len, vec_capacity, ⊤}
+use Rattle.std.specs.Prelude.{◌≡◌, ℕ, ◌+◌, ◌==◌, nat_lt, min, Bool, if◌then◌else◌, List, [], map, length, Option, Some, None, Result, Ok, Err, string_bytes, Vec, ⊤}
 use Rattle.std.specs.List.{list_any}
 use Rattle.std.specs.Option.{option_map}
 use Rattle.x5_port.specs.Outside.{File, content_of, last_count}
@@ -64,10 +64,6 @@ Answers (Err NoMemory) answer = ⊤
 abbrev pub octets_in : MemorySink → List ℕ
 octets_in sink = sink.taken.items
 
--- how many more octets it has room for
-abbrev pub room_in : MemorySink → ℕ
-room_in sink = vec_capacity sink.taken - vec_len sink.taken
-
 -- whether the next call is to fail
 abbrev pub next_is_marked : MemorySink → Bool
 next_is_marked sink = is_marked sink.schedule.failing.items (next_number sink.schedule.calls)
@@ -75,7 +71,7 @@ next_is_marked sink = is_marked sink.schedule.failing.items (next_number sink.sc
 -- nothing taken, no call and no fault yet
 pub record IsNewSink (sink : MemorySink) (room most : ℕ) (failing : List ℕ) : Type 0 where
   pub nothing_taken : octets_in sink ≡ []
-  pub room_is : room_in sink ≡ room
+  pub room_is : sink.room ≡ room
   pub most_is : sink.most ≡ most
   pub failing_is : sink.schedule.failing.items ≡ failing
   pub no_calls : sink.schedule.calls ≡ 0

@@ -1,5 +1,5 @@
 // Files and a sink in memory, whose calls fail where their maker says so.
-ghost use Rattle.std.specs.Prelude.{◌≡◌, ℕ, ◌+◌, ◌-◌, ◌<◌, ◌≤◌, [], ◌∷◌, length, take, min, Some, None, IfOk, OnOk, OnErr, IsErrOf, IsTrue, ◌⊎◌, string_bytes, false};
+ghost use Rattle.std.specs.Prelude.{◌≡◌, ℕ, ◌+◌, ◌-◌, ◌<◌, ◌≤◌, [], ◌∷◌, length, take, min, Some, None, IfOk, OnOk, OnErr, IsErrOf, IsTrue, ◌⊎◌, string_bytes, false, vec_len, vec_capacity};
 ghost use Rattle.std.specs.List.{find};
 ghost use Rattle.std.specs.Option.{option_map, option_copied};
 ghost use Rattle.std.specs.Str.{bytes_eq};
@@ -161,10 +161,12 @@ impl Files for MemoryFiles {
 #[derive(Drop)]
 pub struct MemorySink {
     taken: Vec<u8>,
+    room: usize,
     most: usize,
     schedule: Schedule,
     faults: u64,
     ghost takes_some: { 0 < most },
+    ghost has_room: { vec_len taken + room ≤ vec_capacity taken },
 }
 
 impl MemorySink {
@@ -183,6 +185,7 @@ impl MemorySink {
     {
         Ok(MemorySink {
             taken: Vec::with_capacity(alloc, room)?,
+            room,
             most,
             schedule: Schedule::new(alloc, failing)?,
             faults: 0,
@@ -198,7 +201,7 @@ impl MemorySink {
 }
 
 impl Sink for MemorySink {
-    ghost use Rattle.x5_port.specs.Memory.{octets_in, next_is_marked, next_number, room_in};
+    ghost use Rattle.x5_port.specs.Memory.{octets_in, next_is_marked, next_number};
 
     ghost octets = { λ sink. Some (octets_in sink) };
 
@@ -217,19 +220,20 @@ impl Sink for MemorySink {
         ensures rising { self.old.faults ≤ self.new.faults }
 
         // It takes what fits, unless this call is to fail.
-        ensures count { IfOk result (λ count. count ≡ min (length piece.now) (min self.old.most (room_in self.old))) }
+        ensures count { IfOk result (λ count. count ≡ min (length piece.now) (min self.old.most (self.old.room))) }
         ensures unmarked { OnOk result (next_is_marked self.old ≡ false) }
         ensures counted { self.new.schedule ≡ record self.old.schedule { calls = next_number self.old.schedule.calls } }
-        ensures cause { OnErr result (IsTrue (next_is_marked self.old) ⊎ (room_in self.old ≡ 0)) }
+        ensures cause { OnErr result (IsTrue (next_is_marked self.old) ⊎ (self.old.room ≡ 0) × (0 < length piece.now)) }
+        ensures room { OnOk result (self.new.room + length (octets_in self.new) ≡ self.old.room + length (octets_in self.old)) }
+        ensures same_room { OnErr result (self.new.room ≡ self.old.room) }
+        ensures same_most { self.new.most ≡ self.old.most }
     {
-        let count = piece
-            .len()
-            .min(self.most)
-            .min(self.taken.capacity() - self.taken.len());
+        let count = piece.len().min(self.most).min(self.room);
         if self.schedule.next_fails() || count == 0 && !piece.is_empty() {
             self.faults = raised(self.faults);
             return Err(Failed);
         }
+        self.room -= count;
         match self.taken.extend_from_slice(&piece[..count]) {
             Ok(()) => Ok(count),
             Err(_) => unreachable!(),

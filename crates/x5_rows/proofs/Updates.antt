@@ -44,6 +44,13 @@ person = jan_entry.entry
 pub not_twice : modified (rdn 3 (codes "Jan") (codes "jan")) (AddAttribute (give 4 (text (codes "x") (codes "x") ∷ [])) ∷ []) person ≡ Err (AttributeProblem attribute_or_value_already_exists (Known 4))
 not_twice = refl
 
+-- a change doesn't give a value twice
+pub twice_in_one : modified (rdn 3 (codes "Jan") (codes "jan")) (AddAttribute (give 13 (text (codes "x") (codes "x") ∷ text (codes "X") (codes "x") ∷ [])) ∷ []) person ≡ Err (AttributeProblem attribute_or_value_already_exists (Known 13))
+twice_in_one = refl
+
+pub twice_in_values : modified (rdn 3 (codes "Jan") (codes "jan")) (AddValues (give 13 (text (codes "x") (codes "x") ∷ text (codes "X") (codes "x") ∷ [])) ∷ []) person ≡ Err (AttributeProblem attribute_or_value_already_exists (Known 13))
+twice_in_values = refl
+
 pub last_value : modified (rdn 3 (codes "Jan") (codes "jan")) (RemoveValues (give 4 (text (codes "SMIT") (codes "smit") ∷ [])) ∷ []) person ≡ Ok (record { attributes = class 7 ∷ one 3 (text (codes "Jan") (codes "jan")) ∷ [] })
 last_value = refl
 

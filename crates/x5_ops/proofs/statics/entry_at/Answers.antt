@@ -10,12 +10,12 @@ use Rattle.x5_ops.proofs.statics.entry_at.Goals as goal
 
 pub returns-in-Some : goal.returns-in-Some
 returns-in-Some c =
-    subst (λ (r : Rdn). IfOk c.added_entry.result (λ e. e ≡ added_entry r (map attribute_view c.args.attributes.now)))
+    subst (λ (r : Rdn). IfOk c.stored_entry.result (λ e. e ≡ added_entry r (map attribute_view c.args.attributes.now)))
     (sym (last_by_place c.args.object.now c.in-Some.rdn.now (sym c.last.ensures ∙ ap option_copied c.in-Some.is)))
-    c.added_entry.ensures
+    c.stored_entry.ensures
 
 pub returns-in-None : goal.returns-in-None
 returns-in-None c =
-    subst (λ (r : Rdn). IfOk c.added_entry-in-None-2.result (λ e. e ≡ added_entry r (map attribute_view c.args.attributes.now)))
+    subst (λ (r : Rdn). IfOk c.stored_entry-in-None-2.result (λ e. e ≡ added_entry r (map attribute_view c.args.attributes.now)))
     (c.new-in-None.ensures ∙ c.new.ensures.items ∙ sym (none_by_place c.args.object.now (sym c.last.ensures ∙ ap option_copied c.in-None.is)))
-    c.added_entry-in-None-2.ensures
+    c.stored_entry-in-None-2.ensures
