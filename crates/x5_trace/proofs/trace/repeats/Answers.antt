@@ -1,0 +1,10 @@
+use Rattle.std.proofs.Common.{◌∙◌}
+use Rattle.x5_trace.specs.Items.{same_named}
+use Rattle.x5_trace.proofs.Items.{any_has, repeats_placed}
+use Rattle.x5_trace.proofs.trace.repeats.Goals as goal
+
+pub returns-clause-named : goal.returns-clause-named
+returns-clause-named c = c.is_among.ensures.any ∙ any_has same_named c.args.trace.now c.args.item.now
+
+pub returns-clause-placed : goal.returns-clause-placed
+returns-clause-placed c = λ names named. c.is_among.ensures.any ∙ repeats_placed names c.args.trace.now c.args.item.now named

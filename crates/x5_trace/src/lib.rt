@@ -1,0 +1,9 @@
+//! Trace information: which agents a message went through, and whether it comes to one of them again (X.518, section 10.6, and
+//! loop detection).
+#![tactic(auto)]
+
+#[cfg(test)]
+mod tests;
+mod trace;
+
+pub use trace::{MOST_ITEMS, push, repeats};
