@@ -1,3 +1,4 @@
+pub mod Carrying
 pub mod Licensing
 pub mod Opening
 pub mod Journals
