@@ -4,3 +4,4 @@ pub mod Opening
 pub mod Journals
 pub mod Queries
 pub mod Growing
+pub mod Refusing
