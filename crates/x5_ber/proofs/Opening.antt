@@ -1,20 +1,17 @@
 -- Elements that are open around a place: how one is whole, how one more opens, and how a fault in
 -- the innermost is the first fault of the value.
-use Rattle.std.proofs.Common.{◌≡◌, ◌≢◌, ℕ, zero, suc, ◌+◌, ◌-◌, ◌<◌, ◌≤◌, Bool, true, false, ◌&&◌, List, [], ◌∷◌, ◌++◌, length, take, drop, get_or, set, refl, ap, sym, subst, ◌∙◌, ◌⊎◌, inl, inr, arith, append_assoc, append-nil, add-zero, length-append, length-take, length-drop, cond, lit<}
-use Rattle.std.specs.Prelude.{nat_lt, ◌==◌, if◌then◌else◌}
+use Rattle.std.proofs.Common.{◌≡◌, ℕ, zero, suc, ◌+◌, ◌<◌, ◌≤◌, Bool, true, false, List, [], ◌∷◌, ◌++◌, length, take, drop, get_or, set, refl, ap, sym, subst, ◌∙◌, arith, append_assoc, append-nil, add-zero, length-append, length-take, length-drop}
+use Rattle.std.specs.Prelude.{◌==◌, if◌then◌else◌}
 use Rattle.std.proofs.Math.Dec.{leb}
 use Rattle.std.specs.declared.option.Option.{Option}
 use Rattle.std.specs.declared.option.Option.TheVariants.{None, Some}
-use Rattle.std.specs.declared.result.Result.{Result}
-use Rattle.std.specs.declared.result.Result.TheVariants.{Ok, Err}
-use Rattle.std.proofs.lemmas.List.{drop-drop, drop-take, take_all, take-append-drop, get_or-set_other, get_or-set_same}
-use Rattle.std.proofs.lemmas.Bool.{ltb-true, ltb-false, lt-ltb, le-ltb, leb-true, eqb-true, eqb-false, ne_eqb}
-use Rattle.std.proofs.lemmas.Bool.Decides.{nat_tests}
+use Rattle.std.proofs.lemmas.List.{drop-drop, take-append-drop, get_or-set_other, get_or-set_same}
+use Rattle.std.proofs.lemmas.Bool.{leb-true, eqb-true, eqb-false, ne_eqb}
 use Rattle.x5_model_octets.specs.Headers.{Identifier, IsHeader}
-use Rattle.x5_model_octets.specs.Elements.{Element, Elements, Primitive, Constructed, Nil, More, Spells, SpellsAll, SpellsPrimitive, Encloses, definite, indefinite, identifier, deepest}
-use Rattle.x5_model_octets.specs.Faults.{Fault, Truncated, Around, Head, seen, begins_with_end, may_extend, head_at, within, limit_within, is_indefinite, IsUnfinished, StandsAt, IsCutOff, FirstFault, in_header, in_octets, in_member, outermost}
+use Rattle.x5_model_octets.specs.Elements.{Element, Elements, Primitive, Constructed, Nil, More, Spells, SpellsAll, definite, indefinite, identifier}
+use Rattle.x5_model_octets.specs.Faults.{Fault, Around, Head, seen, begins_with_end, may_extend, within, limit_within, is_indefinite, IsUnfinished, FirstFault, in_member, outermost}
 use Rattle.x5_ber.specs.declared.reader.Enclosing.{Enclosing}
-use Rattle.x5_ber.specs.Reading.{Stands, EndsWithin, ValueAt, Headed, Inside, AreOpen, IsRead, around_at, bare, is_over}
+use Rattle.x5_ber.specs.Reading.{Stands, EndsWithin, Headed, Inside, AreOpen, IsRead, around_at, bare, is_over}
 use Rattle.x5_model_octets.proofs.FaultLaws.{both_true}
 use Rattle.x5_ber.proofs.Standing.{stands_seen, seen_stands, stands_more, headed_head, header_two, end_of_two}
 

@@ -1,19 +1,17 @@
 -- Octets in pieces: what the feeder keeps over a piece.
-use Rattle.std.proofs.Common.{◌≡◌, ◌≢◌, ℕ, suc, ◌+◌, ◌-◌, ◌<◌, ◌≤◌, min, Bool, true, false, List, [], ◌∷◌, ◌++◌, length, take, drop, refl, ap, sym, subst, ◌∙◌, ◌⊎◌, inl, inr, arith, append_assoc, append-nil, length-append, length-take, cond}
-use Rattle.std.specs.Prelude.{nat_lt, if◌then◌else◌}
+use Rattle.std.proofs.Common.{◌≡◌, ℕ, ◌+◌, ◌-◌, ◌≤◌, min, Bool, true, false, List, [], ◌++◌, length, take, drop, refl, ap, sym, subst, ◌∙◌, inl, inr, arith, append-nil, length-append, length-take}
+use Rattle.std.specs.Prelude.{nat_lt}
 use Rattle.std.specs.declared.option.Option.{Option}
 use Rattle.std.specs.declared.option.Option.TheVariants.{None, Some}
 use Rattle.std.specs.declared.result.Result.{Result}
 use Rattle.std.specs.declared.result.Result.TheVariants.{Ok, Err}
 use Rattle.std.proofs.lemmas.List.{drop_all, take-append-drop, take-append-le, take_all, take-take}
-use Rattle.std.proofs.lemmas.Bool.{ltb-true, ltb-false, lt-ltb, le-ltb}
+use Rattle.std.proofs.lemmas.Bool.{ltb-true, ltb-false}
 use Rattle.std.proofs.Math.Seq.{take-append_seam, take-append-add}
 use Rattle.x5_model_octets.specs.Headers.{Identifier, identifier_at, length_at, Stop, Short, Malformed}
 use Rattle.x5_model_octets.specs.Elements.{Spells, deepest}
-use Rattle.x5_model_octets.specs.Faults as faults
-use Rattle.x5_model_octets.specs.Faults.{Fault, Truncated, BadLength, BadTag, TooDeep, Around, Head, FirstFault, in_header, in_octets, in_member, outermost, head_at, seen, end_fault, runs_out, begins_with_end, may_extend, after_identifier, after_length}
+use Rattle.x5_model_octets.specs.Faults.{Fault, Truncated, Around, FirstFault, in_header, in_octets, in_member, outermost, head_at, seen, end_fault, runs_out, begins_with_end, may_extend, after_identifier, after_length}
 use Rattle.x5_model_octets.proofs.HeaderLaws.{chosen}
-use Rattle.x5_model_octets.proofs.ElementLaws.{Begins}
 use Rattle.x5_model_octets.proofs.FaultLaws.{spelled_no_fault}
 use Rattle.x5_ber.specs.declared.element.BerFault.{BerFault}
 use Rattle.x5_ber.specs.declared.element.BerFault.TheVariants as code
@@ -21,11 +19,12 @@ use Rattle.x5_ber.specs.declared.feeder.Sight.{Sight}
 use Rattle.x5_ber.specs.declared.feeder.Sight.TheVariants.{Whole, Beginning, Breach}
 use Rattle.x5_ber.specs.declared.reader.Reader.{Reader}
 use Rattle.x5_ber.specs.Views.{fault_view}
-use Rattle.x5_ber.specs.Reading.{Stands, ValueAt, AreOpen}
-use Rattle.x5_ber.specs.declared.feeder.Feeder.{Feeder}
+use Rattle.x5_ber.specs.Reading.{ValueAt, AreOpen}
+use Rattle.x5_ber.specs.declared.feeder.Progress.{Progress}
 use Rattle.x5_ber.specs.declared.feeder.Progress.TheVariants as code_progress
-use Rattle.x5_ber.specs.Feeding.{IsBeginning, IsBreach, IsReading, IsValue, StaysFaulty, Takes, to_end, longest, taken}
-use Rattle.x5_ber.specs.Sights.{Sees, Shows, IsTruncated}
+use Rattle.x5_ber.specs.States.{State, reading, whole, wants_more}
+use Rattle.x5_ber.specs.Feeding.{IsBeginning, IsBreach, IsReading, IsWhole, IsValue, Keeps, Takes, to_end, longest, state_at}
+use Rattle.x5_ber.specs.Sights.{Sees, Shows}
 
 -- The place of Truncated is the input's length.
 end_truncated : (limit : Option ℕ) (input : List ℕ) (n : ℕ) → end_fault limit input ≡ Truncated n → n ≡ length input
@@ -74,13 +73,19 @@ sees_fault input (code.TooDeep n) Beginning reader shows first open_at = absurd 
 sees_fault input fault (Breach shown) reader shows first open_at =
     subst (λ (g : BerFault). IsBreach input g) (sym shows.0) (first, shows.1)
 
-pub fresh_reading : (f : Feeder) → taken f ≡ [] → f.reader.depth ≡ 0 → ((input : List ℕ) → 0 ≤ length input → AreOpen input f.reader.enclosing 0 f.reader.depth f.reader.at) → IsReading f
-fresh_reading f nothing none begins = record {
-  open_at = begins (taken f) (omega arith);
+pub fresh_reading : (octets : List ℕ) (reader : Reader) → octets ≡ [] → reader.depth ≡ 0 → ((input : List ℕ) → 0 ≤ length input → AreOpen input reader.enclosing 0 reader.depth reader.at) → IsReading octets reader
+fresh_reading octets reader nothing none begins = record {
+  open_at = begins octets (omega arith);
   shallow = omega (arith, none);
   beginning = subst (λ (xs : List ℕ). IsBeginning xs) (sym nothing) (in_header refl);
   short = omega (arith, ap length nothing);
 }
+
+-- A feeder that wants more octets.
+pub wanting : (octets : List ℕ) (reader : Reader) (p : Progress) (s : State) → state_at octets p ≡ s → wants_more s ≡ true → Keeps octets reader p → (s ≡ reading octets) × IsReading octets reader
+wanting octets reader code_progress.Reading s is wants kept = (sym is, kept)
+wanting octets reader code_progress.Whole s is wants kept = cc
+wanting octets reader (code_progress.Failed fault) s is wants kept = cc
 
 -- A value that is whole now ends behind the octets that were only its beginning.
 pub value_beyond : (octets part : List ℕ) (at : ℕ) → IsBeginning octets → ValueAt (octets ++ part) 0 at → length octets ≤ at
@@ -125,21 +130,23 @@ cut_piece octets piece n short is =
     by_order true e = ap (λ (k : ℕ). take k piece) (omega (arith, is, ltb-true _ _ e))
     by_order false e = take_all (longest - length octets) piece (ltb-false _ _ e) ∙ sym (take_all n piece (omega (arith, is, ltb-false _ _ e)))
 
--- The feeder takes the value's octets and no more.
-pub whole_kept : (old piece now : List ℕ) (at before n : ℕ) → length old ≡ before → n ≡ min (length piece) (longest - before) → IsBeginning old
-    → ValueAt (old ++ take n piece) 0 at → now ≡ old ++ take (at - before) (take n piece) → IsValue now
-whole_kept old piece now at before n size is beginning v same =
-    value_taken old (take n piece) at (at - before) v (omega (arith, value_beyond old (take n piece) at beginning v, size)) now same
+-- The feeder takes the value's octets and no more, and they aren't too many.
+module _ (old piece : List ℕ) (at before n : ℕ) (size : length old ≡ before) (short : length old ≤ longest) (is : n ≡ min (length piece) (longest - before)) (beginning : IsBeginning old) (v : ValueAt (old ++ take n piece) 0 at) where
+  counted : at - before ≤ n
+  counted =
+      let within : at ≤ length (old ++ take n piece) = value_within (old ++ take n piece) at v in
+      omega (arith, value_beyond old (take n piece) at beginning v, within, length-append old (take n piece), length-take n piece, size)
 
-pub whole_reads : (old new : Feeder) (piece : List ℕ) (at before n : ℕ) → length (taken old) ≡ before → n ≡ min (length piece) (longest - before) → IsBeginning (taken old)
-    → ValueAt (taken old ++ take n piece) 0 at → new.progress ≡ code_progress.Whole → taken new ≡ taken old ++ take (at - before) (take n piece) → Takes (taken old) piece new (at - before)
-whole_reads old new piece at before n size is beginning v progress now =
-    let above : length (taken old) ≤ at = value_beyond (taken old) (take n piece) at beginning v in
-    let within : at ≤ length (taken old ++ take n piece) = value_within (taken old ++ take n piece) at v in
-    let count : at - before ≤ n = omega (arith, within, length-append (taken old) (take n piece), length-take n piece, size) in
-    let fits : at - before ≤ length piece = omega (arith, count, is) in
-    to_end progress fits (now ∙ ap (λ (l : List ℕ). taken old ++ l) (take-take (at - before) n piece count)) (whole_kept (taken old) piece (taken new) at before n size is beginning v now)
+  pub whole_kept : (now : List ℕ) → now ≡ old ++ take (at - before) (take n piece) → IsWhole now
+  whole_kept now same = record {
+    value = value_taken old (take n piece) at (at - before) v (omega (arith, value_beyond old (take n piece) at beginning v, size)) now same;
+    short = omega (arith, ap length same, length-append old (take (at - before) (take n piece)), length-take (at - before) (take n piece), counted, is, size, short);
+  }
 
-pub beginning_cut : (old : Feeder) (piece : List ℕ) (n : ℕ) → length (taken old) ≤ longest → n ≡ min (length piece) (longest - length (taken old)) → IsBeginning (taken old ++ take n piece)
-    → IsBeginning (take longest (taken old ++ piece))
-beginning_cut old piece n short is b = subst (λ (l : List ℕ). IsBeginning l) (sym (cut_piece (taken old) piece n short is)) b
+  pub whole_reads : (now : List ℕ) → now ≡ old ++ take (at - before) (take n piece) → Takes old piece (whole now) (at - before)
+  whole_reads now same =
+      let taken : now ≡ old ++ take (at - before) piece = same ∙ ap (λ (l : List ℕ). old ++ l) (take-take (at - before) n piece counted) in
+      to_end (ap (λ (l : List ℕ). whole l) taken) (omega (arith, counted, is)) (subst (λ (l : List ℕ). IsWhole l) taken (whole_kept now same))
+
+pub beginning_cut : (old piece : List ℕ) (n : ℕ) → length old ≤ longest → n ≡ min (length piece) (longest - length old) → IsBeginning (old ++ take n piece) → IsBeginning (take longest (old ++ piece))
+beginning_cut old piece n short is b = subst (λ (l : List ℕ). IsBeginning l) (sym (cut_piece old piece n short is)) b

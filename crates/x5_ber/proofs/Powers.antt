@@ -1,5 +1,5 @@
 -- How large a number of a few octets is.
-use Rattle.std.proofs.Common.{◌≡◌, ℕ, suc, ◌+◌, ◌-◌, ◌*◌, ◌^◌, ◌<◌, ◌≤◌, arith, add-one, refl, lit<}
+use Rattle.std.proofs.Common.{◌≡◌, ℕ, ◌+◌, ◌*◌, ◌^◌, ◌<◌, ◌≤◌, arith, add-one, lit<}
 use Rattle.std.proofs.Math.Nat.{pow-le-pow_right, pow-suc}
 
 pub octets_room : (n k : ℕ) → n < 256 ^ k → k ≤ 7 → n < 256 ^ 7

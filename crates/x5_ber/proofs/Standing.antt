@@ -1,18 +1,18 @@
 -- Octets that stand at a place of the input, and headers among them.
-use Rattle.std.proofs.Common.{◌≡◌, ◌≢◌, ℕ, suc, ◌+◌, ◌-◌, ◌<◌, ◌≤◌, Bool, true, false, ◌&&◌, List, [], ◌∷◌, ◌++◌, length, take, drop, get_or, refl, ap, sym, subst, ◌∙◌, ◌⊎◌, inl, inr, arith, append_assoc, length-append, length-take, length-drop, cond, lit<}
-use Rattle.std.specs.Prelude.{nat_lt, ◌==◌}
+use Rattle.std.proofs.Common.{◌≡◌, ℕ, ◌+◌, ◌-◌, ◌<◌, ◌≤◌, Bool, true, false, List, [], ◌∷◌, ◌++◌, length, take, drop, get_or, refl, ap, sym, subst, ◌∙◌, inl, inr, arith, append_assoc, length-append, length-take, length-drop, lit<}
+use Rattle.std.specs.Prelude.{nat_lt}
 use Rattle.std.specs.declared.option.Option.{Option}
 use Rattle.std.specs.declared.option.Option.TheVariants.{None, Some}
 use Rattle.std.specs.declared.result.Result.{Result}
 use Rattle.std.specs.declared.result.Result.TheVariants.{Ok, Err}
-use Rattle.std.proofs.lemmas.List.{drop-drop, drop-take, take-take, take_all, drop-append-le, get_or-drop, take-append-drop, get_or-take, get_or_past}
-use Rattle.std.proofs.Math.Seq.{take-append_seam, drop-append_seam, take-append-add}
-use Rattle.std.proofs.lemmas.Bool.{ltb-true, ltb-false, lt-ltb, le-ltb}
+use Rattle.std.proofs.lemmas.List.{drop-drop, drop-take, drop-append-le, get_or-drop, take-append-drop, get_or-take, get_or_past}
+use Rattle.std.proofs.Math.Seq.{drop-append_seam, take-append-add}
+use Rattle.std.proofs.lemmas.Bool.{ltb-true, ltb-false}
 use Rattle.x5_model_octets.specs.Headers.{Identifier, identifier_at, length_at, IsIdentifier, IsLength, IsHeader, low, high, short, long, indefinite, Stop, Short, Malformed}
-use Rattle.x5_model_octets.specs.Faults.{Fault, Around, Head, seen, end_fault, runs_out, begins_with_end, may_extend, head_at, after_identifier, after_length}
+use Rattle.x5_model_octets.specs.Faults.{Around, Head, seen, runs_out, begins_with_end, may_extend, head_at, after_identifier, after_length}
 use Rattle.x5_model_octets.specs.Elements.{deepest}
-use Rattle.x5_model_octets.proofs.HeaderLaws.{chosen, ok_parts, identifier_front, length_front}
-use Rattle.x5_model_octets.proofs.FaultLaws.{header_head, header_some}
+use Rattle.x5_model_octets.proofs.HeaderLaws.{chosen, identifier_front, length_front}
+use Rattle.x5_model_octets.proofs.FaultLaws.{header_head}
 use Rattle.x5_ber.specs.Reading.{Stands, EndsWithin, Headed}
 
 -- What stands in the input stands before an end that it doesn't pass.

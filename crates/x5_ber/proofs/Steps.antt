@@ -1,18 +1,17 @@
 -- One step of the reader, over plain values.
-use Rattle.std.proofs.Common.{◌≡◌, ◌≢◌, ℕ, zero, suc, ◌+◌, ◌-◌, ◌*◌, ◌<◌, ◌≤◌, ◌^◌, Bool, true, false, ◌&&◌, List, [], ◌∷◌, ◌++◌, length, take, drop, get_or, set, refl, ap, sym, subst, ◌∙◌, ◌⊎◌, inl, inr, arith, add-one, length-append, length-drop, cond, lit<}
-use Rattle.std.specs.Prelude.{nat_lt, ◌==◌, if◌then◌else◌, unwrap_or}
+use Rattle.std.proofs.Common.{◌≡◌, ℕ, zero, suc, ◌+◌, ◌-◌, ◌<◌, ◌≤◌, Bool, true, false, ◌&&◌, List, ◌++◌, length, get_or, set, refl, ap, sym, subst, ◌∙◌, arith}
+use Rattle.std.specs.Prelude.{nat_lt, if◌then◌else◌, unwrap_or}
 use Rattle.std.specs.declared.option.Option.{Option}
 use Rattle.std.specs.declared.option.Option.TheVariants.{None, Some}
 use Rattle.std.specs.declared.result.Result.TheVariants.{Ok, Err}
 use Rattle.std.proofs.lemmas.Bool.{ltb-true, ltb-false, lt-ltb}
 use Rattle.std.proofs.lemmas.List.{get_or-append_right, get_or_append_left}
 use Rattle.x5_model_octets.specs.Elements.{deepest}
-use Rattle.x5_model_octets.specs.Faults.{Fault, Truncated, Around, Head, seen, begins_with_end, may_extend, head_at, within, FirstFault, in_header, in_octets, IsCutOff, outermost}
-use Rattle.x5_model_octets.proofs.FaultLaws.{seen_short}
+use Rattle.x5_model_octets.specs.Faults.{Fault, Truncated, Around, Head, may_extend, head_at, FirstFault, in_header, in_octets, IsCutOff, outermost}
 use Rattle.x5_ber.specs.declared.reader.Enclosing.{Enclosing}
-use Rattle.x5_ber.specs.Reading.{EndsWithin, Headed, Inside, AreOpen, IsRead, around_at, enclosing_of, is_over}
+use Rattle.x5_ber.specs.Reading.{Headed, AreOpen, IsRead, around_at, enclosing_of, is_over}
 use Rattle.x5_ber.proofs.Standing.{IsOctets, head_headed, headed_head, header_two}
-use Rattle.x5_ber.proofs.Opening.{MemberAt, primitive_member, member_joins, closed_member, fault_first, opens}
+use Rattle.x5_ber.proofs.Opening.{primitive_member, member_joins, closed_member, fault_first, opens}
 
 pub octets_append : (a b : List ℕ) → IsOctets a → IsOctets b → IsOctets (a ++ b)
 octets_append a b p q k = by_place (nat_lt k (length a)) refl

@@ -1,5 +1,5 @@
 -- A value that was read, and its header.
-use Rattle.std.proofs.Common.{◌≡◌, ◌≢◌, ℕ, suc, ◌+◌, ◌-◌, ◌<◌, ◌≤◌, Bool, true, false, List, [], ◌∷◌, ◌++◌, length, take, drop, refl, ap, sym, subst, ◌∙◌, ◌⊎◌, inl, inr, arith, append_assoc, append-nil, length-append}
+use Rattle.std.proofs.Common.{◌≡◌, ℕ, ◌+◌, ◌-◌, true, false, List, [], ◌∷◌, ◌++◌, length, drop, refl, ap, sym, subst, ◌∙◌, arith, append_assoc, append-nil, length-append}
 use Rattle.std.specs.Result.{IfOk, IfErr, IsOkAnd, IsErrAnd}
 use Rattle.std.specs.declared.option.Option.{Option}
 use Rattle.std.specs.declared.option.Option.TheVariants.{None, Some}
@@ -7,7 +7,7 @@ use Rattle.std.specs.declared.result.Result.{Result}
 use Rattle.std.specs.declared.result.Result.TheVariants.{Ok, Err}
 use Rattle.std.proofs.lemmas.List.{append_cancel_right}
 use Rattle.x5_model_octets.specs.Headers.{Identifier, IsHeader}
-use Rattle.x5_model_octets.specs.Elements.{Element, Elements, Primitive, Constructed, Spells, SpellsAll, SpellsPrimitive, Encloses, definite, indefinite, identifier}
+use Rattle.x5_model_octets.specs.Elements.{Element, Primitive, Constructed, Spells, SpellsPrimitive, Encloses, definite, indefinite, identifier}
 use Rattle.x5_model_octets.specs.Faults.{Fault, Around, Head, head_at, FirstFault, outermost}
 use Rattle.x5_model_octets.proofs.ElementLaws.{Begins, header_reads, reads_unique, spelled_once}
 use Rattle.x5_model_octets.proofs.FaultLaws.{spelled_no_fault, one_first_fault}

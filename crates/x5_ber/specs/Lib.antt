@@ -4,3 +4,4 @@ pub mod Found
 pub mod Written
 pub mod Feeding
 pub mod Sights
+pub mod States

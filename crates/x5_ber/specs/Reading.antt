@@ -1,9 +1,9 @@
 -- An element that is read in part: the elements that are open around a place, each with its header
 -- and with the members that are whole.
-use Rattle.std.specs.Prelude.{◌≡◌, ℕ, suc, zero, ◌+◌, ◌<◌, ◌≤◌, Bool, true, false, List, [], ◌∷◌, ◌++◌, length, drop, slice_index_or, ◌==◌}
+use Rattle.std.specs.Prelude.{◌≡◌, ℕ, suc, zero, ◌+◌, ◌≤◌, Bool, true, false, List, ◌++◌, length, drop, slice_index_or, ◌==◌}
 use Rattle.std.specs.declared.option.Option.{Option}
 use Rattle.std.specs.declared.option.Option.TheVariants.{None, Some}
-use Rattle.x5_model_octets.specs.Headers.{Identifier, IsHeader}
+use Rattle.x5_model_octets.specs.Headers.{IsHeader}
 use Rattle.x5_model_octets.specs.Elements.{Element, Elements, Spells, SpellsAll, deepest}
 use Rattle.x5_model_octets.specs.Faults.{Around, Head, within, limit_within, is_indefinite, may_extend, begins_with_end, outermost, seen}
 use Rattle.x5_ber.specs.declared.reader.Enclosing.{Enclosing}

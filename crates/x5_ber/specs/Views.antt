@@ -1,5 +1,4 @@
 -- The types of the code as the definitions see them.
-use Rattle.std.specs.Prelude.{ℕ}
 use Rattle.x5_model_octets.specs.Headers as headers
 use Rattle.x5_model_octets.specs.Faults as faults
 use Rattle.x5_ber.specs.declared.header.Stop.{Stop}

@@ -1,13 +1,13 @@
 //! One value from octets that come in pieces.
-ghost use Rattle.std.specs.Prelude.{◌≡◌, ℕ, ◌+◌, ◌≤◌, List, [], ◌++◌, length, take, IfSome, option_copied};
+ghost use Rattle.std.specs.Prelude.{◌≡◌, ℕ, ◌+◌, ◌≤◌, List, [], ◌++◌, length, take, IfSome, IsTrue, Err, option_copied};
 ghost use Rattle.x5_ber.specs.Reading.{AreOpen};
 ghost use Rattle.x5_ber.specs.Sights.{Sees, Shows};
-ghost use Rattle.x5_ber.specs.declared.feeder.Progress.TheVariants.{Reading, Failed};
 ghost use Rattle.x5_ber.specs.declared.feeder.FeedFault.TheVariants.{NoMemory as NoMemoryFault};
 
 use crate::element::BerFault;
 use crate::reader::Reader;
 use std::alloc::{AllocError, Global};
+use std::marker::Model;
 use thiserror::Error;
 
 /// The most octets of one value that a feeder takes: 16 MiB.
@@ -54,13 +54,25 @@ pub struct Feeder {
     progress: Progress,
 }
 
+impl Model for Feeder {
+    ghost use Rattle.x5_ber.specs.States.{State};
+
+    ghost Value = { State };
+
+    ghost use Rattle.x5_ber.specs.Feeding.{IsFeeding, state_of};
+
+    ghost view = { state_of };
+
+    ghost invariant = { IsFeeding };
+}
+
 impl Feeder {
-    ghost use Rattle.x5_ber.specs.Feeding.{IsFeeding, IsFresh, IsReading, IsValue, Feeds, Reads, value_of};
+    ghost use Rattle.x5_ber.specs.States.{reading, failed, value_of, wants_more};
+    ghost use Rattle.x5_ber.specs.Feeding.{IsWhole, Feeds};
 
     /// A feeder that has taken nothing.
     pub fn new(alloc: Global) -> Feeder
-        ensures fresh { IsFresh result }
-        ensures feeding { IsFeeding result }
+        ensures { result ≡ reading [] }
     {
         Feeder {
             octets: Vec::new(alloc),
@@ -76,9 +88,7 @@ impl Feeder {
     /// The first fault of the octets so far, or that the value has more than 16 MiB: then the same
     /// until `clear`. Or that memory runs out: then the feeder is as it was.
     pub fn feed(&mut self, piece: &[u8]) -> Result<usize, FeedFault>
-        requires { IsFeeding self.old }
-        ensures feeding { IsFeeding self.new }
-        ensures feeds { Feeds self.old piece.now self.new result }
+        ensures { Feeds self.old piece.now self.new result }
     {
         match self.progress {
             Progress::Reading => self.read(piece),
@@ -87,11 +97,10 @@ impl Feeder {
         }
     }
 
-    /// The value, once it is whole.
+    /// The value, once it is whole: 16 MiB at most.
     pub fn whole(&self) -> Option<&[u8]>
-        requires { IsFeeding self.now }
         ensures value { option_copied result ≡ value_of self.now }
-        ensures spelled { IfSome result (λ value. IsValue value.now) }
+        ensures spelled { IfSome result (λ value. IsWhole value.now) }
     {
         match self.progress {
             Progress::Whole => Some(&self.octets),
@@ -101,8 +110,7 @@ impl Feeder {
 
     /// Forgets what was taken, and any fault.
     pub fn clear(&mut self)
-        ensures fresh { IsFresh self.new }
-        ensures feeding { IsFeeding self.new }
+        ensures { self.new ≡ reading [] }
     {
         self.octets.clear();
         self.reader = Reader::new(0);
@@ -110,10 +118,8 @@ impl Feeder {
     }
 
     fn read(&mut self, piece: &[u8]) -> Result<usize, FeedFault>
-        requires reading { IsReading self.old }
-        requires progress { self.old.progress ≡ Reading }
-        ensures feeding { IsFeeding self.new }
-        ensures reads { Reads self.old piece.now self.new result }
+        requires { IsTrue (wants_more self.old) }
+        ensures { Feeds self.old piece.now self.new result }
     {
         let before = self.octets.len();
         let part = &piece[..piece.len().min(LONGEST - before)];
@@ -130,17 +136,17 @@ impl Feeder {
                 self.reader = reader;
                 Ok(piece.len())
             }
-            Sight::Beginning => Err(self.fail(FeedFault::TooLong)),
-            Sight::Breach(fault) => Err(self.fail(FeedFault::Ber(fault))),
+            Sight::Beginning => self.fail(FeedFault::TooLong),
+            Sight::Breach(fault) => self.fail(FeedFault::Ber(fault)),
         }
     }
 
-    fn fail(&mut self, fault: FeedFault) -> FeedFault
-        ensures progress { self.new ≡ record self.old { progress = Failed fault } }
-        ensures same { result ≡ fault }
+    fn fail(&mut self, fault: FeedFault) -> Result<usize, FeedFault>
+        ensures state { self.new ≡ failed fault }
+        ensures same { result ≡ Err fault }
     {
         self.progress = Progress::Failed(fault);
-        fault
+        Err(fault)
     }
 }
 

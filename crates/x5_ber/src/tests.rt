@@ -1,6 +1,4 @@
 //! Octets from X.690 and by hand; `openssl asn1parse` agrees on what it reads.
-ghost use Rattle.x5_ber.specs.Feeding.{IsFeeding};
-
 use crate::{BerFault, FeedFault, Feeder, LONGEST, Tlv, put_tlv, read_tlv};
 use std::process::Abort;
 use std::test::Fail;
@@ -20,10 +18,7 @@ fn refused(rt: &impl Abort, octets: &[u8], fault: BerFault) {
     assert_eq!(rt; read_tlv(octets, 0), Err(fault));
 }
 
-fn feed_each(feeder: &mut Feeder, octets: &[u8])
-    requires { IsFeeding feeder.old }
-    ensures { IsFeeding feeder.new }
-{
+fn feed_each(feeder: &mut Feeder, octets: &[u8]) {
     for octet in octets {
         let _ = feeder.feed(&[*octet]);
     }

@@ -131,11 +131,7 @@ pub(crate) fn stored_entry(
 
 /// What an addEntry stores (X.511, section 11.1): the attributes, and the RDN's values that they lack. The first attribute that
 /// has two equal values, or a type that an earlier one has, is refused.
-pub fn added_entry(
-    alloc: Global,
-    rdn: &Rdn,
-    offered: &AttributeList,
-) -> Result<Entry, ChangeFault>
+pub fn added_entry(alloc: Global, rdn: &Rdn, offered: &AttributeList) -> Result<Entry, ChangeFault>
     ensures { IsModified result (added rdn.now (map attribute_view offered.now)) }
 {
     match attribute_repeats(alloc, offered.as_slice())? {

@@ -1,5 +1,4 @@
-use Rattle.std.proofs.Common.{◌≡◌, ℕ, suc, ◌+◌, ◌-◌, ◌<◌, ◌≤◌, ◌++◌, List, take, drop, arith, ap, sym, ◌∙◌, length-append}
-use Rattle.std.specs.declared.option.Option.{Option}
+use Rattle.std.proofs.Common.{ℕ, ◌+◌, ◌-◌, ◌≤◌, ◌++◌, take, drop, arith, ap, sym, ◌∙◌, length-append}
 use Rattle.std.specs.declared.option.Option.TheVariants.{Some}
 use Rattle.std.specs.declared.result.Result.TheVariants.{Ok}
 use Rattle.x5_ber.proofs.Lengths.{long_length}

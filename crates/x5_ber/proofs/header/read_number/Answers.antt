@@ -1,4 +1,4 @@
-use Rattle.std.proofs.Common.{◌≡◌, ℕ, ◌+◌, ◌-◌, ◌*◌, ◌^◌, ◌<◌, ◌≤◌, List, ◌∷◌, take, drop, ◌++◌, arith, sym, ap, ◌∙◌}
+use Rattle.std.proofs.Common.{◌≡◌, ◌+◌, ◌-◌, arith, sym, ap, ◌∙◌}
 use Rattle.x5_model_octets.specs.Headers.{big_endian}
 use Rattle.x5_ber.proofs.Powers.{octets_room, octets_step}
 use Rattle.x5_ber.proofs.header.read_number.Goals as goal

@@ -1,4 +1,3 @@
-use Rattle.std.proofs.Common.{◌∷◌, []}
 use Rattle.x5_ber.specs.Written.{IsPrefixOf}
 use Rattle.x5_ber.proofs.Prefixes.{kept_append, kept_on}
 use Rattle.x5_ber.proofs.writer.put_identifier.Goals as goal

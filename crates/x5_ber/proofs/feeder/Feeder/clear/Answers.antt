@@ -1,5 +1,5 @@
 use Rattle.x5_ber.proofs.Pieces.{fresh_reading}
 use Rattle.x5_ber.proofs.feeder.Feeder.clear.Goals as goal
 
-pub returns-clause-feeding : goal.returns-clause-feeding
-returns-clause-feeding c = fresh_reading _ c.clear.ensures.items c.new-self.ensures.none c.new-self.ensures.begins
+pub invariant_of-self : goal.invariant_of-self
+invariant_of-self c = fresh_reading c.clear.new.self.items _ c.clear.ensures.items c.new-self-inside.ensures.none c.new-self-inside.ensures.begins

@@ -1,5 +1,5 @@
 use Rattle.x5_ber.proofs.Pieces.{fresh_reading}
 use Rattle.x5_ber.proofs.feeder.Feeder.new.Goals as goal
 
-pub returns-clause-feeding : goal.returns-clause-feeding
-returns-clause-feeding c = fresh_reading _ c.new.ensures.items c.new-2.ensures.none c.new-2.ensures.begins
+pub invariant_of-result : goal.invariant_of-result
+invariant_of-result c = fresh_reading c.new.result.items _ c.new.ensures.items c.new-2.ensures.none c.new-2.ensures.begins

@@ -1,8 +1,8 @@
-use Rattle.std.proofs.Common.{◌≡◌, ℕ, suc, ◌+◌, ◌-◌, ◌*◌, ◌<◌, ◌≤◌, ◌++◌, List, length, arith, sym, ap, subst, ◌∙◌, length-append}
+use Rattle.std.proofs.Common.{ℕ, ◌++◌, arith, subst, length-append}
 use Rattle.std.proofs.lemmas.Result.{err_from_is_err_and}
-use Rattle.x5_model_octets.specs.Faults.{Truncated, FirstFault, outermost, Around}
+use Rattle.x5_model_octets.specs.Faults.{Truncated, FirstFault, outermost}
 use Rattle.x5_ber.specs.Views.{head_view, around_view}
-use Rattle.x5_ber.specs.Reading.{AreOpen, Headed, around_at}
+use Rattle.x5_ber.specs.Reading.{around_at}
 use Rattle.x5_ber.proofs.Steps.{octets_append, headed_here, headed_bounds, close_step, header_fault, open_step, primitive_step, content_fault}
 use Rattle.x5_ber.proofs.reader.Reader.step.Goals as goal
 
