@@ -1,0 +1,4 @@
+use Rattle.x5_gen.proofs.world.+prefix.Given as goal
+
+abbrev pub decreases-prefix : goal.decreases-prefix
+decreases-prefix l = l.agent
