@@ -21,7 +21,7 @@ use Rattle.x5_model_tree.specs.Ask.{Refuses, rest_of, sources_of, unexplored_of,
 use Rattle.x5_model_tree.specs.Apply.{apply}
 use Rattle.x5_model_run.specs.Network.{Fate, Lost, NoReply, Sent}
 use Rattle.x5_model_run.specs.Journal.{Line, Journal, depth, same_progress, same_name, is_done, is_reached, settled, some_line}
-use Rattle.x5_model_run.specs.Holdings.{Held, Copy, may_copy, known_pins, held_at, copy_at}
+use Rattle.x5_model_run.specs.Holdings.{Held, Holdings, may_copy, known_pins, held_at, copy_at}
 use Rattle.x5_model_run.specs.Needs.{others, nssr_at, new_name, ends_here}
 use Rattle.x5_model_run.specs.History.{Point, knowledge_at, tree_at, as_of}
 use Rattle.x5_model_run.specs.Chain.{Scene, scene_at, AllLicensed}
@@ -72,26 +72,23 @@ abbrev pub is_copy_source : Point → Source → ℕ → Bool
 is_copy_source p x m =
     list_any (λ g. is_consumer x.agent (key_of x.context) g && some_and (λ at. at == m) (as_of p g.number)) (knowledge_at p).agreements
 
+abbrev pub is_holder : Point → Asked → Source → Option ℕ → Bool
+is_holder p q x None = some_and (λ a. a == x.agent) (master_of (knowledge_at p) (key_of x.context))
+is_holder p q x (Some m) = may_copy q.message.request && is_copy_source p x m
+
 abbrev pub is_source : Point → Asked → List Line → Source → Bool
-is_source p q lines x = hears q lines x.agent && by x.moment
-  where
-    by : Option ℕ → Bool
-    by None = some_and (λ a. a == x.agent) (master_of (knowledge_at p) (key_of x.context))
-    by (Some m) = may_copy q.message.request && is_copy_source p x m
+is_source p q lines x = hears q lines x.agent && is_holder p q x x.moment
+
+abbrev pub own_name : Holdings → Key → Option Name
+own_name h pin = in_option None (λ c. Some c.prefix) (held_at h.own pin)
+
+abbrev pub copy_name : Holdings → Key → Option Name
+copy_name h pin = in_option None (λ c. Some c.held.prefix) (copy_at h pin)
 
 abbrev pub kept_name : Scene → Source → Option Name
-kept_name s x = in_option (own (held_at (s.holdings x.agent).own (key_of x.context))) copied x.moment
-  where
-    own : Option Held → Option Name
-    own None = None
-    own (Some c) = Some c.prefix
-
-    of_copy : Option Copy → Option Name
-    of_copy None = None
-    of_copy (Some c) = Some c.held.prefix
-
-    copied : ℕ → Option Name
-    copied m = of_copy (copy_at (s.holdings x.agent) (key_of x.context))
+kept_name s x =
+    if is_some x.moment then copy_name (s.holdings x.agent) (key_of x.context)
+    else own_name (s.holdings x.agent) (key_of x.context)
 
 abbrev pub source_keys : Answer → List Key
 source_keys a = map (λ x. key_of x.context) (sources_of a)
@@ -141,11 +138,12 @@ hears_master p q lines (Some e) = some_and (hears_of q lines q.message.target) (
 abbrev pub nssr_of : Key → ℕ → Held → List ℕ
 nssr_of entry o c = in_option [] (λ n. others o n.agents) (nssr_at c.nssrs entry)
 
+abbrev pub nssr_at_master : Point → Scene → Key → ℕ → List ℕ
+nssr_at_master p s entry o =
+    in_option [] (nssr_of entry o) (in_option None (held_at (s.holdings o).own) (longest (tree_at p).pins entry))
+
 abbrev pub nssr_agents : Point → Scene → Named → List ℕ
-nssr_agents p s e = in_option [] at (master_at p (key_of e.name))
-  where
-    at : ℕ → List ℕ
-    at o = in_option [] (nssr_of (key_of e.name) o) (in_option None (held_at (s.holdings o).own) (longest (tree_at p).pins (key_of e.name)))
+nssr_agents p s e = in_option [] (nssr_at_master p s (key_of e.name)) (master_at p (key_of e.name))
 
 abbrev pub hears_below : Asked → List Line → ℕ → ℕ → Bool
 hears_below q lines k a =
