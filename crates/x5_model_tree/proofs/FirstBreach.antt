@@ -102,11 +102,11 @@ module _ {A K X : Type 0} (same : K → K → Bool) (d : (x y : K) → Decides (
               told = t.1;
             })
         | inr w ↦ (let no : In (key x) keys ⊎ ¬ (Fit x) → ⊥ = λ u. (let t : (has same keys (key x) || not (fit x)) ≡ true = (unfit_decides keys x).1 u in
-              let f : (has same keys (key x) || not (fit x)) ≡ false = of_none (has same keys (key x) || not (fit x)) x w.0 in cc) in
+            let f : (has same keys (key x) || not (fit x)) ≡ false = of_none (has same keys (key x) || not (fit x)) x w.0 in cc) in
             let r = walk (seen ++ x ∷ []) (key x ∷ keys) xs (λ k. (into k, out k)) (subst (λ (l : List K). Once l) (sym (map_behind key seen x)) (once_behind (map key seen) (key x) once (λ i. no (inl ((alike (key x)).1 i))))) (λ y i. elim (in_either y seen (x ∷ []) i) [
-                | inl j ↦ fit_so y j
-                | inr j ↦ elim (in_first y x [] j) [ inl q ↦ subst Fit (sym q) (fit_of (fit x) x refl (λ f. no (inr f))) | inr l ↦ elim l [ ] ]
-              ]) w.1 in
+              | inl j ↦ fit_so y j
+              | inr j ↦ elim (in_first y x [] j) [ inl q ↦ subst Fit (sym q) (fit_of (fit x) x refl (λ f. no (inr f))) | inr l ↦ elim l [ ] ]
+            ]) w.1 in
             subst First (joined_again seen (x ∷ []) xs) r)
       ]
     where
@@ -141,36 +141,36 @@ module _ (w : World) (b : Inconsistency) where
   first_3 : first_of (breaches_3 w) ≡ Some b → First3 w b
   first_3 e =
       first_flat _ _ (λ m. flat_map (λ e. flat_map (longer_pin m e) (mastered w)) m.context.entries) b (λ m. (entries_exact w m).0) (λ m h.
-          first_flat _ _ (λ e. flat_map (longer_pin m e) (mastered w)) b (λ e. (entry_exact w m e).0) (λ e k.
-              first_flat (NotLonger m e) _ (longer_pin m e) b (λ p. (not_longer m p e).0) (λ p l. first_when _ _ b (not_longer m p e) l) (mastered w) k) m.context.entries h) (mastered w) e
+      first_flat _ _ (λ e. flat_map (longer_pin m e) (mastered w)) b (λ e. (entry_exact w m e).0) (λ e k.
+      first_flat (NotLonger m e) _ (longer_pin m e) b (λ p. (not_longer m p e).0) (λ p l. first_when _ _ b (not_longer m p e) l) (mastered w) k) m.context.entries h) (mastered w) e
 
   first_4 : first_of (breaches_4 w) ≡ Some b → First4 w b
   first_4 e =
       first_flat _ _ (λ a. flat_map (false_reference w a.0 a.1) (references a.1)) b (λ a. (references_exact w a).0) (λ a h.
-          first_flat (ReferenceRight w a.1) _ (false_reference w a.0 a.1) b (λ r. (reference_exact w a r).0) (λ r k. first_when _ _ b (reference_exact w a r) k) (references a.1) h) (numbered w) e
+      first_flat (ReferenceRight w a.1) _ (false_reference w a.0 a.1) b (λ r. (reference_exact w a r).0) (λ r k. first_when _ _ b (reference_exact w a r) k) (references a.1) h) (numbered w) e
 
   first_5 : first_of (breaches_5 w) ≡ Some b → First5 w b
   first_5 e =
       first_flat _ _ (λ a. flat_map (λ r. false_shadows w (specific_of r)) (references a.1)) b (λ a. (all_shadows_exact w a).0) (λ a h.
-          first_flat _ _ (λ r. false_shadows w (specific_of r)) b (λ r. (shadows_exact w (specific_of r)).0) (λ r k.
-              first_unfit ◌==◌ nat_same_decides (λ s. s) (λ s. consumes w s (key_of (specific_of r).pin)) (λ s. Consumes w s (key_of (specific_of r).pin)) (λ s. consumes_decides w s (key_of (specific_of r).pin)) (λ s. breach 5 (NamePrinted (specific_of r).pin) (AgentPrinted s)) b (specific_of r).access.shadows k) (references a.1) h) (numbered w) e
+      first_flat _ _ (λ r. false_shadows w (specific_of r)) b (λ r. (shadows_exact w (specific_of r)).0) (λ r k.
+      first_unfit ◌==◌ nat_same_decides (λ s. s) (λ s. consumes w s (key_of (specific_of r).pin)) (λ s. Consumes w s (key_of (specific_of r).pin)) (λ s. consumes_decides w s (key_of (specific_of r).pin)) (λ s. breach 5 (NamePrinted (specific_of r).pin) (AgentPrinted s)) b (specific_of r).access.shadows k) (references a.1) h) (numbered w) e
 
   first_6 : first_of (breaches_6 w) ≡ Some b → First6 w b
   first_6 e =
       first_flat _ _ (λ p. flat_map (λ a. flat_map (λ c. unknown_below w a.0 a.1 c p) a.1.contexts) (numbered w)) b (λ p. (known_by_all_exact w p).0) (λ p h.
-          first_flat _ _ (λ a. flat_map (λ c. unknown_below w a.0 a.1 c p) a.1.contexts) b (λ a. (known_by_exact w p a).0) (λ a k.
-              first_flat (λ c. KnowsBelow w a c p) _ (λ c. unknown_below w a.0 a.1 c p) b (λ c. (known_exact w p a c).0) (λ c l. first_when _ _ b (known_exact w p a c) l) a.1.contexts k) (numbered w) h) (mastered w) e
+      first_flat _ _ (λ a. flat_map (λ c. unknown_below w a.0 a.1 c p) a.1.contexts) b (λ a. (known_by_exact w p a).0) (λ a k.
+      first_flat (λ c. KnowsBelow w a c p) _ (λ c. unknown_below w a.0 a.1 c p) b (λ c. (known_exact w p a c).0) (λ c l. first_when _ _ b (known_exact w p a c) l) a.1.contexts k) (numbered w) h) (mastered w) e
 
   first_7 : first_of (breaches_7 w) ≡ Some b → First7 w b
   first_7 e =
       first_flat _ _ (λ m. flat_map (false_members w m) m.context.nssrs) b (λ m. (all_members_exact w m).0) (λ m h.
-          first_flat (MembersOf w m) _ (false_members w m) b (λ n. (members_exact w m n).0) (λ n k.
-              first_unfit ◌==◌ nat_same_decides (λ s. s) (λ s. not (s == m.master) && masters_below w s (key_of n.at)) (MemberMasters w m n) (member_decides w m n) (λ s. breach 7 (NamePrinted (name_of_nssr m.context n)) (AgentPrinted s)) b n.agents k) m.context.nssrs h) (mastered w) e
+      first_flat (MembersOf w m) _ (false_members w m) b (λ n. (members_exact w m n).0) (λ n k.
+      first_unfit ◌==◌ nat_same_decides (λ s. s) (λ s. not (s == m.master) && masters_below w s (key_of n.at)) (MemberMasters w m n) (member_decides w m n) (λ s. breach 7 (NamePrinted (name_of_nssr m.context n)) (AgentPrinted s)) b n.agents k) m.context.nssrs h) (mastered w) e
 
   first_8 : first_of (breaches_8 w) ≡ Some b → First8 w b
   first_8 e =
       first_flat _ _ (λ a. flat_map (unknown_top w a.0 a.1) (mastered w)) b (λ a. (tops_exact w a).0) (λ a h.
-          first_flat (KnowsTop w a) _ (unknown_top w a.0 a.1) b (λ p. (top_exact w a p).0) (λ p k. first_when _ _ b (top_exact w a p) k) (mastered w) h) (numbered w) e
+      first_flat (KnowsTop w a) _ (unknown_top w a.0 a.1) b (λ p. (top_exact w a p).0) (λ p k. first_when _ _ b (top_exact w a p) k) (mastered w) h) (numbered w) e
 
   first_9 : first_of (breaches_9 w) ≡ Some b → First9 w b
   first_9 e =
