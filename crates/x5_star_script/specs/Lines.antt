@@ -12,7 +12,7 @@ use Rattle.x5_model_text.specs.NameText.{name_of_text, value_of_text}
 use Rattle.x5_model_run.specs.Run.{Command, Asks}
 
 -- Why a line isn't taken: it is too long; no agent has the name, or the word is no name, at this column; another word at this
--- column isn't as it should be; the line is of another form. Columns are counted from 1.
+-- column isn't as it should be, or is missing; the line is of another form. Columns are counted from 1.
 pub data LineFault : Type 0 where
   Long : LineFault
   BadName : ℕ → LineFault
@@ -71,6 +71,10 @@ compared object t =
 abbrev pub plain : Body → Request
 plain body = record { controls = record { nocopy = false; nochain = false; size = None }; body = body }
 
+-- the fault of a word at the column that names no agent, or is no name: an empty one is missing
+abbrev pub due : ℕ → Text → LineFault
+due column word = if is_empty word then BadWord column else BadName column
+
 -- A word's column is one more than the octets before it: `at ` has three, ` read ` six and ` compare ` nine.
 
 -- a read of all attributes, or of the types listed in the word at the column
@@ -80,17 +84,29 @@ selecting column name (Some types) = or_fault (BadWord column) (option_map (λ k
 
 abbrev pub read_of : List Text → Text → Text → Option Text → Result Command LineFault
 read_of names agent object selected = do
-  to ← or_fault (BadName 4) (place_of names agent)
-  name ← or_fault (BadName (length agent + 10)) (name_in object)
+  to ← or_fault (due 4 agent) (place_of names agent)
+  name ← or_fault (due (length agent + 10) object) (name_in object)
   body ← selecting (length agent + length object + 11) name selected
   Ok (Asks to (plain body))
 
 abbrev pub compare_of : List Text → Text → Text → Text → Result Command LineFault
 compare_of names agent object asserted = do
-  to ← or_fault (BadName 4) (place_of names agent)
-  name ← or_fault (BadName (length agent + 13)) (name_in object)
+  to ← or_fault (due 4 agent) (place_of names agent)
+  name ← or_fault (due (length agent + 13) object) (name_in object)
   body ← or_fault (BadWord (length agent + length object + 14)) (compared name asserted)
   Ok (Asks to (plain body))
+
+-- a line that ends where a word is due, which is missing at the column behind the line
+abbrev pub lacking : List Text → Text → ℕ → Result Command LineFault
+lacking names agent column = do
+  to ← or_fault (due 4 agent) (place_of names agent)
+  Err (BadWord column)
+
+abbrev pub lacking_value : List Text → Text → Text → Result Command LineFault
+lacking_value names agent object = do
+  to ← or_fault (due 4 agent) (place_of names agent)
+  name ← or_fault (due (length agent + 13) object) (name_in object)
+  Err (BadWord (length agent + length object + 13))
 
 -- the words that say what is asked, in lines of a read and of a comparison
 abbrev pub asks_read : Text → Text → Bool
@@ -102,10 +118,16 @@ asks_compare at operation = same_octets at (codes "at") && same_octets operation
 abbrev pub lists_types : Text → Text → Text → Bool
 lists_types at operation last = asks_read at operation && starts_with nat_eq last attrs
 
--- `at AGENT read NAME`, the same with `attrs=T,T`, and `at AGENT compare NAME T=value`
+-- `at AGENT read NAME`, the same with `attrs=T,T`, and `at AGENT compare NAME T=value`; or the first words of one
 abbrev pub request_of : List Text → List Text → Result Command LineFault
+request_of names (at ∷ agent ∷ operation ∷ []) =
+    if asks_read at operation then lacking names agent (length agent + 9)
+    else if asks_compare at operation then lacking names agent (length agent + 12)
+    else Err NotYet
 request_of names (at ∷ agent ∷ operation ∷ object ∷ []) =
-    if asks_read at operation then read_of names agent object None else Err NotYet
+    if asks_read at operation then read_of names agent object None
+    else if asks_compare at operation then lacking_value names agent object
+    else Err NotYet
 request_of names (at ∷ agent ∷ operation ∷ object ∷ last ∷ []) =
     if lists_types at operation last then read_of names agent object (Some (drop 6 last))
     else if asks_compare at operation then compare_of names agent object last

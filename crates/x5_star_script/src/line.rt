@@ -131,6 +131,34 @@ fn compare(
     })
 }
 
+/// A line that ends where a word is due, which is missing at the column.
+fn lacking(agents: &[AgentSpec], agent: &str, column: usize) -> Result<Command, Refused>
+    requires few { length agents.now ≤ 64 }
+    ensures reads { Takes command_view result (lines.lacking (map (λ a. a.name) agents.now) agent.now column) }
+    ensures taken { IfOk result (IsTaken (length agents.now)) }
+{
+    let _to = agent_of(agents, agent)?;
+    Err(Refused::Line(LineFault::BadWord(column)))
+}
+
+/// The line `at AGENT compare NAME` without a value.
+fn lacking_value(
+    alloc: Global,
+    agents: &[AgentSpec],
+    agent: &str,
+    object: &str,
+) -> Result<Command, Refused>
+    requires few { length agents.now ≤ 64 }
+    requires short { length agent.now + length object.now ≤ 4096 }
+    ensures reads { Takes command_view result (lines.lacking_value (map (λ a. a.name) agents.now) agent.now object.now) }
+    ensures taken { IfOk result (IsTaken (length agents.now)) }
+{
+    let _to = agent_of(agents, agent)?;
+    let _name = name_at(alloc, agent.len() + 13, object)?;
+    let column = agent.len() + object.len() + 13;
+    Err(Refused::Line(LineFault::BadWord(column)))
+}
+
 /// The request that the words of a line ask for.
 fn request_of(alloc: Global, agents: &[AgentSpec], words: &[&str]) -> Result<Command, Refused>
     requires few { length agents.now ≤ 64 }
@@ -139,9 +167,20 @@ fn request_of(alloc: Global, agents: &[AgentSpec], words: &[&str]) -> Result<Com
     ensures taken { IfOk result (IsTaken (length agents.now)) }
 {
     match words {
+        [at, agent, operation] => {
+            if asks_read(at, operation) {
+                lacking(agents, agent, agent.len() + 9)
+            } else if asks_compare(at, operation) {
+                lacking(agents, agent, agent.len() + 12)
+            } else {
+                Err(NOT_YET)
+            }
+        }
         [at, agent, operation, object] => {
             if asks_read(at, operation) {
                 read(alloc, agents, agent, object, None)
+            } else if asks_compare(at, operation) {
+                lacking_value(alloc, agents, agent, object)
             } else {
                 Err(NOT_YET)
             }

@@ -7,7 +7,7 @@ ghost use Rattle.x5_model_star.specs.Reads.{is_read};
 ghost use Rattle.x5_model_text.specs.TypeText.{type_of_text};
 ghost use Rattle.x5_ops.specs.RequestViews.{body_view};
 ghost use Rattle.x5_star_script.specs.Lines as lines;
-ghost use Rattle.x5_star_script.specs.Views.{Takes};
+ghost use Rattle.x5_star_script.specs.Views.{Takes, fault_view};
 ghost use Rattle.x5_syntax.specs.TypeView.{type_view};
 
 use crate::line::{LineFault, Refused};
@@ -38,26 +38,37 @@ fn place_of(agents: &[AgentSpec], word: &str) -> Option<usize>
         .position(|agent| agent.name.as_str().as_bytes() == word.as_bytes())
 }
 
+/// The fault of a word at the column that names no agent, or is no name: an empty one is missing.
+fn due(column: usize, word: &str) -> LineFault
+    ensures { fault_view result ≡ lines.due column word.now }
+{
+    if word.is_empty() {
+        LineFault::BadWord(column)
+    } else {
+        LineFault::BadName(column)
+    }
+}
+
 /// The agent that a line's second word names.
 pub(crate) fn agent_of(agents: &[AgentSpec], word: &str) -> Result<AgentId, Refused>
     requires { length agents.now ≤ 64 }
-    ensures reads { Takes (λ to. to) result (lines.or_fault (lines.BadName 4) (lines.place_of (map (λ a. a.name) agents.now) word.now)) }
+    ensures reads { Takes (λ to. to) result (lines.or_fault (lines.due 4 word.now) (lines.place_of (map (λ a. a.name) agents.now) word.now)) }
     ensures inside { IfOk result (λ to. to < length agents.now) }
 {
     match place_of(agents, word) {
         Some(place) => Ok(AgentId(place as u8)),
-        None => Err(Refused::Line(LineFault::BadName(4))),
+        None => Err(Refused::Line(due(4, word))),
     }
 }
 
 /// The name that the word at the column spells.
 pub(crate) fn name_at(alloc: Global, column: usize, word: &str) -> Result<Name, Refused>
-    ensures { Takes (λ name. name) result (lines.or_fault (lines.BadName column) (lines.name_in word.now)) }
+    ensures { Takes (λ name. name) result (lines.or_fault (lines.due column word.now) (lines.name_in word.now)) }
 {
     match Name::parse(alloc, word) {
         Ok(name) => Ok(name),
         Err(NameFault::NoMemory) => Err(Refused::NoMemory),
-        Err(_) => Err(Refused::Line(LineFault::BadName(column))),
+        Err(_) => Err(Refused::Line(due(column, word))),
     }
 }
 

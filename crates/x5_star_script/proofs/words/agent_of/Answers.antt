@@ -1,11 +1,11 @@
 -- The place among the agents is that among their names.
-use Rattle.std.proofs.Common.{sym, ◌∙◌, ap}
+use Rattle.std.proofs.Common.{sym, ◌∙◌, ap, Err}
 use Rattle.x5_star_script.specs.Lines as lines
 use Rattle.x5_star_script.proofs.WordLaws.{agent_place}
 use Rattle.x5_star_script.proofs.words.agent_of.Goals as goal
 
 pub returns-in-Some-clause-reads : goal.returns-in-Some-clause-reads
-returns-in-Some-clause-reads c = ap (lines.or_fault (lines.BadName 4)) (agent_place c.args.agents.now c.args.word.now ∙ sym c.place_of.ensures ∙ c.in-Some.is)
+returns-in-Some-clause-reads c = ap (lines.or_fault (lines.due 4 c.args.word.now)) (agent_place c.args.agents.now c.args.word.now ∙ sym c.place_of.ensures ∙ c.in-Some.is)
 
 pub returns-in-None-clause-reads : goal.returns-in-None-clause-reads
-returns-in-None-clause-reads c = ap (lines.or_fault (lines.BadName 4)) (agent_place c.args.agents.now c.args.word.now ∙ sym c.place_of.ensures ∙ c.in-None.is)
+returns-in-None-clause-reads c = ap (lines.or_fault (lines.due 4 c.args.word.now)) (agent_place c.args.agents.now c.args.word.now ∙ sym c.place_of.ensures ∙ c.in-None.is) ∙ ap (λ (f : lines.LineFault). Err f) (sym c.due.ensures)
