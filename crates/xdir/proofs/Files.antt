@@ -15,7 +15,7 @@ use Rattle.xdir.specs.declared.top.Status.{Status}
 use Rattle.xdir.specs.declared.top.Status.TheVariants.{Done, Refused, Usage, ReadFault, WriteFault, NoMemory, Inconsistent, TooLong}
 use Rattle.xdir.specs.Text.{refused_line_text}
 use Rattle.xdir.specs.Words.{FileNames}
-use Rattle.xdir.specs.Run.{names_in, IsOutput, IsFirstOutput, Runs, RunsSoFar, RefusesContent, Refuses, Ends, WritesLine, WritesRun, IsScriptOutput, IsFirstScriptOutput, IsLineRefusal, WritesScript, OfScript, WritesScriptFile, Writes, IsReadable, ReadsFile, Reads, most_octets}
+use Rattle.xdir.specs.Run.{names_in, IsOutput, IsFirstOutput, Runs, RunsSoFar, RefusesContent, Refuses, Ends, WritesLine, WritesRun, IsScriptOutput, IsFirstScriptOutput, IsLineRefusal, WritesScript, OfScript, WritesScriptFile, Writes, IsReadable, TakesWorld, ReadsFile, Reads, most_octets}
 use Rattle.x5_model_tree.specs.Described.{IsDescribed}
 use Rattle.x5_model_star.specs.Star.{IsStar}
 use Rattle.x5_ops.specs.KnowledgeViews.{agent_view, specific_view}
@@ -124,13 +124,13 @@ module _ (told : Option (List File)) (names : FileNames) (world : List ℕ) (wor
 
 -- ---- what is read of both files
 
-pub reads_both : (status : Status) (names : FileNames) (told : Option (List File)) (first before after : ℕ) (failed old new : Option (List ℕ)) → IsReadable told names.world → first ≤ before → ReadsFile status names.script told before after failed → Reads status names told first after failed old new
-reads_both Done names told first before after failed old new world le r = (world, r)
-reads_both Refused names told first before after failed old new world le r = (world, inr r)
-reads_both WriteFault names told first before after failed old new world le r = (world, inr r)
+pub reads_both : (status : Status) (names : FileNames) (told : Option (List File)) (first before after : ℕ) (failed old new : Option (List ℕ)) → TakesWorld told names.world → first ≤ before → ReadsFile status names.script told before after failed → Reads status names told first after failed old new
+reads_both Done names told first before after failed old new world le r = (world.readable, r)
+reads_both Refused names told first before after failed old new world le r = (world.readable, inr r)
+reads_both WriteFault names told first before after failed old new world le r = (world.readable, inr r)
 reads_both NoMemory names told first before after failed old new world le r = tt
-reads_both ReadFault names told first before after failed old new world le r = (rose_later first before after le r.0, inr r.1)
-reads_both TooLong names told first before after failed old new world le r = inr r
+reads_both ReadFault names told first before after failed old new world le r = (rose_later first before after le r.0, inr (r.1, world))
+reads_both TooLong names told first before after failed old new world le r = inr (r, world)
 reads_both Usage names told first before after failed old new world le r = absurd r
 reads_both Inconsistent names told first before after failed old new world le r = r
 

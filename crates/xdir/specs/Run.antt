@@ -199,15 +199,25 @@ StopsAtWorld Refused old new = Wrote IsWorldLine old new
 StopsAtWorld WriteFault old new = Broke IsWorldLine old new
 StopsAtWorld other old new = ⊥
 
+-- the world file is there, isn't too long, and describes a star
+pub record TakesWorld (told : Option (List File)) (name : List ℕ) : Type 0 where
+  pub readable : IsReadable told name
+  pub world : List ℕ
+  pub world_is : IsContent told name world
+  pub star : World
+  pub described : DescribesStar world star
+
 -- What is known of the two files, by how a run ends. The script is read unless the world is refused, whose line is then what
--- was written.
+-- was written; so a fault of the script is told only where the world is taken.
 abbrev pub Reads : Status → FileNames → Option (List File) → ℕ → ℕ → Option (List ℕ) → Option (List ℕ) → Option (List ℕ) → Type 0
 Reads Done names told before after failed old new = IsReadable told names.world × IsReadable told names.script
 Reads Refused names told before after failed old new = IsReadable told names.world × (StopsAtWorld Refused old new ⊎ IsReadable told names.script)
 Reads WriteFault names told before after failed old new = IsReadable told names.world × (StopsAtWorld WriteFault old new ⊎ IsReadable told names.script)
 Reads NoMemory names told before after failed old new = ⊤
-Reads ReadFault names told before after failed old new = Rose before after × ((failed ≡ Some names.world) ⊎ (failed ≡ Some names.script))
-Reads TooLong names told before after failed old new = IsLonger told names.world most_octets ⊎ IsLonger told names.script most_octets
+Reads ReadFault names told before after failed old new =
+    Rose before after × ((failed ≡ Some names.world) ⊎ (failed ≡ Some names.script) × TakesWorld told names.world)
+Reads TooLong names told before after failed old new =
+    IsLonger told names.world most_octets ⊎ IsLonger told names.script most_octets × TakesWorld told names.world
 Reads Usage names told before after failed old new = ⊥
 Reads Inconsistent names told before after failed old new = ⊥
 

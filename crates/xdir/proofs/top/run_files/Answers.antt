@@ -24,7 +24,13 @@ run_script-requires-clause-few g c = are_few c.deref.result.now c.in-Ok-read_sta
 pub returns-in-Ok-read_star-clause-reads : goal.returns-in-Ok-read_star-clause-reads
 returns-in-Ok-read_star-clause-reads g c =
     reads_both c.run_script.result (record { world = c.args.world.now; script = c.args.script.now }) (g.F.Files.contents c.args.files.now) (g.F.Files.fault_count c.args.files.now) (g.F.Files.fault_count c.read_whole.new.self) (g.F.Files.fault_count c.run_script.new.files) (g.F.Files.last_failed c.run_script.new.files) (g.K.Sink.octets c.args.out.now) (g.K.Sink.octets c.run_script.new.out)
-    (readable (g.F.Files.contents c.args.files.now) c.args.world.now c.in-Ok.octets.items c.in-Ok.ensures.content c.in-Ok.ensures.fits) c.read_whole.ensures.rising
+    (record {
+      readable = readable (g.F.Files.contents c.args.files.now) c.args.world.now c.in-Ok.octets.items c.in-Ok.ensures.content c.in-Ok.ensures.fits;
+      world = c.deref.result.now;
+      world_is = subst (λ (octets : List ℕ). IsContent (g.F.Files.contents c.args.files.now) c.args.world.now octets) (sym c.deref.ensures.value) c.in-Ok.ensures.content;
+      star = star_world c.in-Ok-read_star.agents;
+      described = c.in-Ok-read_star.ensures;
+    }) c.read_whole.ensures.rising
     (subst (λ (told : Option (List File)). ReadsFile c.run_script.result c.args.script.now told (g.F.Files.fault_count c.read_whole.new.self) (g.F.Files.fault_count c.run_script.new.files) (g.F.Files.last_failed c.run_script.new.files)) c.read_whole.ensures.same_contents c.run_script.ensures.reads)
 
 pub returns-in-Ok-read_star-clause-writes : goal.returns-in-Ok-read_star-clause-writes
