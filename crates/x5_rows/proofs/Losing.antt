@@ -5,8 +5,8 @@ use Rattle.std.proofs.Common.{refl, arith}
 use lib.Chars.{codes}
 use Rattle.x5_model.specs.Values.{Known, TextValue}
 use Rattle.x5_model.specs.Requests.{Request, Read, ModifyEntry, AddValues, Only}
-use Rattle.x5_model.specs.References.{Start, Next, Own, NonSpecific}
-use Rattle.x5_model.specs.Answers.{Answered, Failed, EntryFound, ServiceProblem}
+use Rattle.x5_model.specs.References.{Start, Next, Own, Supplier, NonSpecific}
+use Rattle.x5_model.specs.Answers.{Answered, Changed, Failed, EntryFound, ServiceProblem}
 use Rattle.x5_model.specs.Problems.{unavailable}
 use Rattle.x5_model_run.specs.Network.{NoReply, Sent}
 use Rattle.x5_model_run.specs.Journal.{Line, Journal}
@@ -14,13 +14,14 @@ use Rattle.x5_model_run.specs.Needs.{reference}
 use Rattle.x5_model_run.specs.History.{Point, Loses}
 use Rattle.x5_model_run.specs.Chain.{scene_at}
 use Rattle.x5_model_run.specs.Blocked.{user, asked}
-use Rattle.x5_model_run.specs.Right.{AnswersRight, result, unheard}
+use Rattle.x5_model_run.specs.Right.{AnswersRight, result, changed, unheard}
 use Rattle.x5_model_run.specs.Thorough.{Thorough}
 use Rattle.x5_model_run.proofs.Licensing.{licensed_by, licensed_first}
 use Rattle.x5_rows.proofs.Literals.{plainly, give, text}
 use Rattle.x5_rows.proofs.BaseWorld.{base_world, acme, lab}
 use Rattle.x5_rows.proofs.Messages.{takes, asks, passes, journal, accepted_journal, did, point, now, info, shows, in_vain}
 use Rattle.x5_rows.proofs.Shadowing.{put_gears}
+use Rattle.x5_rows.proofs.Further.{shadowed}
 
 -- the reply to the first message is lost: the user hears nothing, and the value is there
 abbrev pub losing_first : Point
@@ -79,3 +80,25 @@ lab_unheard = record {
 
 pub lab_thorough : Thorough (scene_at losing_second 1 put_lab) put_journal
 lab_thorough = refl
+
+-- Delta has a copy of Lab: it brings the update to Gamma again, which has accepted it and says so at once
+abbrev pub losing_shadowed : Point
+losing_shadowed = point shadowed (did (Loses true 2) 0 ∷ [])
+
+abbrev pub put_at_delta : Line
+put_at_delta = passes 3 put_at_beta 3 lab (Next 3) NonSpecific put_lab Sent
+
+abbrev pub twice_journal : Journal
+twice_journal =
+    accepted_journal (put_at_beta ∷ passes 2 put_at_beta 2 lab (Next 3) NonSpecific put_lab NoReply ∷ put_at_delta ∷ passes 4 put_at_delta 2 lab (Next 3) Supplier put_lab Sent ∷ []) 2
+
+pub lab_changed : AnswersRight losing_shadowed 1 put_lab twice_journal (Answered Changed)
+lab_changed = record {
+  licensed = (licensed_by put_at_delta 0 0 refl refl refl refl refl, (licensed_by put_at_beta 0 1 refl refl refl refl refl, (licensed_by put_at_beta 0 0 refl refl refl refl refl, (licensed_first refl refl refl refl refl, tt))));
+  accepts = record { one = refl; right = refl; probed = refl };
+  finished = record { done = refl; at_once = refl };
+  answer = changed refl refl refl;
+}
+
+pub twice_thorough : Thorough (scene_at losing_shadowed 1 put_lab) twice_journal
+twice_thorough = refl
