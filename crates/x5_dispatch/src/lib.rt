@@ -4,8 +4,6 @@
 
 mod answering;
 mod star;
-#[cfg(test)]
-mod tests;
 
 pub use answering::is_read;
 pub use star::{are_pins_short, star_read};

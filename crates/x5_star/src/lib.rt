@@ -10,8 +10,6 @@ mod held;
 mod json;
 mod members;
 mod star;
-#[cfg(test)]
-mod tests;
 mod world;
 
 pub use fault::WorldFault;
