@@ -1,5 +1,5 @@
 -- What name resolution passes on stays the same question.
-use Rattle.std.proofs.Common.{◌≡◌, ℕ, ◌+◌, Bool, true, false, not, ◌&&◌, ◌||◌, inl, inr, List, [], ◌∷◌, ◌++◌, length, map, refl, sym, ap, ◌∙◌, Option, Some, None, if◌then◌else◌}
+use Rattle.std.proofs.Common.{◌≡◌, ℕ, ◌+◌, Bool, true, false, not, ◌&&◌, ◌||◌, inl, inr, List, [], ◌∷◌, ◌++◌, length, refl, sym, ap, ◌∙◌, Option, Some, None, if◌then◌else◌}
 use Rattle.std.specs.Option.{is_some, is_none}
 use Rattle.x5_model.specs.Words.{in_option, when, is_empty}
 use Rattle.x5_model.specs.Members.{In}
@@ -9,7 +9,7 @@ use Rattle.x5_model.specs.Entries.{Named}
 use Rattle.x5_model.specs.Requests.{Subset, Base, OneLevel, Body, Read, Compare, ListBelow, Search, AddEntry, RemoveEntry, ModifyEntry, ModifyDn, Request}
 use Rattle.x5_model.specs.References.{Start, Done, RefType, Superior, Subordinate, Cross, NonSpecific, Supplier, Reference, Chained}
 use Rattle.x5_model.proofs.KeyLaws.{key_decides}
-use Rattle.x5_model.proofs.Lists.{both_true, in_first, in_either, of_map}
+use Rattle.x5_model.proofs.Lists.{both_true, in_first, in_either}
 use Rattle.x5_model_tree.specs.World.{Specific, Nssr, World}
 use Rattle.x5_model_tree.specs.Tree.{Tree, lowest}
 use Rattle.x5_model_tree.specs.Ask.{in_subset, is_update}

@@ -1,9 +1,8 @@
 -- What is carried has the reference's target and exclusions, as keys too.
-use Rattle.std.specs.Prelude.{◌≡◌, ℕ, Bool, true, ◌&&◌, List, [], ◌∷◌}
+use Rattle.std.specs.Prelude.{◌≡◌, ℕ, true, List, [], ◌∷◌}
 use Rattle.std.specs.Cmp.Lexicographic.{pointwise}
 use Rattle.std.specs.declared.option.Option.{Option}
-use Rattle.std.proofs.Common.{refl, ap, sym, subst, ◌∙◌}
-use Rattle.x5_model.specs.Keys.{same_rdn}
+use Rattle.std.proofs.Common.{refl, sym, subst}
 use Rattle.x5_model.specs.Values.{Rdn, key_of, key_of_rdn}
 use Rattle.x5_model.specs.References.{Reference, Chained}
 use Rattle.x5_model.proofs.KeyLaws.{key_decides, rdn_decides}

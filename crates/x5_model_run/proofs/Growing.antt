@@ -1,6 +1,6 @@
 -- What blocks a reference blocks it still when more messages were sent.
 use Rattle.std.specs.Prelude.{◌≡◌, ℕ, suc, Bool, true, false, not, ◌&&◌, ◌||◌, ◌==◌, IsTrue, List, [], ◌∷◌}
-use Rattle.std.specs.List.{list_any, list_all, Contains, filter}
+use Rattle.std.specs.List.{list_all, Contains, filter}
 use Rattle.std.proofs.Common.{refl, arith}
 use Rattle.x5_model.specs.Words.{has}
 use Rattle.x5_model.specs.References.{Reference}
@@ -9,8 +9,8 @@ use Rattle.x5_model_run.specs.Network.{Fate, is_unheard, is_sent}
 use Rattle.x5_model_run.specs.Journal.{Line, is_wide, some_line, opened_by}
 use Rattle.x5_model_run.specs.Holdings.{masters_pin}
 use Rattle.x5_model_run.specs.Needs.{falls_short}
-use Rattle.x5_model_run.specs.Chain.{Scene, is_probe, asks_by, is_asked, is_cleared, is_broken_off, is_broken_line, is_broken, is_in_vain, is_passed}
-use Rattle.x5_model_run.specs.Blocked.{Asked, hears_by, IsUntried, IsUserLost, IsTried, IsLost, Blocked, user, asked, untried, lost, others_cleared, proceeds}
+use Rattle.x5_model_run.specs.Chain.{Scene, is_probe, asks_by, is_asked, is_cleared, is_broken_off, is_broken_line, is_broken, is_in_vain}
+use Rattle.x5_model_run.specs.Blocked.{Asked, IsUntried, IsUserLost, IsTried, IsLost, Blocked, user, asked, untried, lost, others_cleared, proceeds}
 
 or_right : (a b : Bool) → b ≡ true → (a || b) ≡ true
 or_right true b e = refl

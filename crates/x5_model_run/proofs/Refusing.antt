@@ -1,10 +1,9 @@
 -- What the definitions refuse, for journals that are written out: an agent that answered isn't passed, and nothing rests on
 -- a line below a lost reply.
-use Rattle.std.specs.Prelude.{◌≡◌, ℕ, zero, suc, ◌+◌, Bool, true, false, ◌&&◌, ◌||◌, ◌==◌, IsTrue, List, [], ◌∷◌}
+use Rattle.std.specs.Prelude.{◌≡◌, ℕ, zero, suc, ◌+◌, Bool, true, false, ◌&&◌, ◌||◌, IsTrue, List, [], ◌∷◌}
 use Rattle.std.specs.List.{list_any, list_all, Contains}
-use Rattle.std.specs.declared.option.Option.{Option}
-use Rattle.std.specs.declared.option.Option.TheVariants.{None, Some}
-use Rattle.std.proofs.Common.{refl, arith, ap, sym, subst, ◌∙◌}
+use Rattle.std.specs.declared.option.Option.TheVariants.{Some}
+use Rattle.std.proofs.Common.{refl, arith, sym, subst}
 use Rattle.x5_model.specs.Words.{first_of}
 use Rattle.x5_model.specs.References.{Reference}
 use Rattle.x5_model_run.specs.Network.{is_unheard}

@@ -1,5 +1,5 @@
 -- Which message an update is accepted for (X.518, section 19.1: modification operations; X.511, section 11).
-use Rattle.std.specs.Prelude.{ℕ, ◌-◌, Bool, true, not, ◌&&◌, ◌==◌, nat_lt, List, [], ◌∷◌, length, reverse}
+use Rattle.std.specs.Prelude.{ℕ, ◌-◌, Bool, true, not, ◌&&◌, ◌==◌, nat_lt, List, reverse}
 use Rattle.std.specs.List.{list_any, list_all, find}
 use Rattle.std.specs.declared.option.Option.{Option}
 use Rattle.x5_model.specs.Words.{some_and}

@@ -1,5 +1,5 @@
 -- A read or compare over a star of agents is answered right.
-use Rattle.std.proofs.Common.{◌≡◌, ℕ, zero, suc, ◌-◌, ◌<◌, ◌≤◌, Bool, true, false, cond, not, ◌&&◌, ◌||◌, ◌==◌, nat_le, ◌⊎◌, inl, inr, List, [], ◌∷◌, ◌++◌, map, take, drop, length, refl, sym, ap, subst, ◌∙◌, arith, Option, Some, None}
+use Rattle.std.proofs.Common.{◌≡◌, ℕ, zero, suc, ◌-◌, ◌<◌, ◌≤◌, Bool, true, false, cond, not, ◌&&◌, ◌==◌, nat_le, ◌⊎◌, inl, inr, List, [], ◌∷◌, ◌++◌, map, take, drop, length, refl, sym, ap, subst, ◌∙◌, arith, Option, Some, None}
 use Rattle.std.specs.Option.{is_some, is_none}
 use Rattle.std.specs.List.{list_all, find, slice_get}
 use Rattle.x5_model.specs.Words.{distinct, is_empty, in_option}
@@ -13,7 +13,7 @@ use Rattle.x5_model.specs.Answers.{DirError, Reply}
 use Rattle.x5_model.specs.Statics.{fault_of}
 use Rattle.x5_model.proofs.KeyLaws.{key_decides}
 use Rattle.x5_model.proofs.Prefixes.{take_take, prefix_decides, prefix_length, prefix_by_length, prefix_of_parent, same_by_length}
-use Rattle.x5_model.proofs.Lists.{both_true, and_true, or_left, or_right, of_all, of_find, not_found, once_map}
+use Rattle.x5_model.proofs.Lists.{both_true, and_true, or_left, of_all, of_find, not_found, once_map}
 use Rattle.x5_model.proofs.Decide.{nat_same_decides, once_decides}
 use Rattle.x5_model.proofs.Ascending.{of_sorted, in_sorted}
 use Rattle.x5_model_tree.specs.World.{Specific, Context, Agent, World}
@@ -23,7 +23,7 @@ use Rattle.x5_model_tree.specs.Conditions.{Refers}
 use Rattle.x5_model_tree.specs.Described.{is_agent, is_context, are_references, is_reference, IsDescribed}
 use Rattle.x5_model_tree.specs.Good.{Good}
 use Rattle.x5_model_tree.specs.Reached.{Reached, KnowsNone, NoLower}
-use Rattle.x5_model_tree.specs.Ask.{is_update, ask, Told}
+use Rattle.x5_model_tree.specs.Ask.{ask, Told}
 use Rattle.std.proofs.lemmas.Bool.Decides.{nat_tests}
 use Rattle.x5_model_tree.proofs.Exact.{there_decides}
 use Rattle.x5_model_tree.proofs.Longest.{IsLowest, lowest_right}

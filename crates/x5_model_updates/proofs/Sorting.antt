@@ -15,12 +15,12 @@ use Rattle.x5_model.proofs.KeyLaws.{key_decides}
 use Rattle.x5_model.proofs.Lists.{true_or_false, in_first, in_left, in_map, of_map, of_has, once_map}
 use Rattle.x5_model.proofs.Ascending.{in_sorted, of_sorted}
 use Rattle.x5_model_tree.specs.World.{Nssr, Context, Agent}
-use Rattle.x5_model_tree.specs.Tree.{Tree, key_at, keys_of, named_below, sorted_entries, entry_at, has_below, belongs}
+use Rattle.x5_model_tree.specs.Tree.{Tree, key_at, keys_of, named_below, sorted_entries, entry_at, has_below}
 use Rattle.x5_model_tree.specs.Masters.{pin_of, held_contexts}
 use Rattle.x5_model_tree.specs.Ask.{is_update}
-use Rattle.x5_model_tree.specs.Apply.{At, Ground, counts_in, own_ground, Outcome, absent, above_pin, is_taken, update, apply_over}
+use Rattle.x5_model_tree.specs.Apply.{Ground, counts_in, own_ground, Outcome, absent, above_pin, is_taken, update, apply_over}
 use Rattle.x5_model_tree.proofs.Exact.{conditions_hold}
-use Rattle.x5_model_run.specs.Holdings.{Held, known_pins}
+use Rattle.x5_model_run.specs.Holdings.{known_pins}
 use Rattle.x5_model_run.specs.History.{knowledge_at, tree_at, own_context, agent_holdings, no_holdings, holdings_at}
 use Rattle.x5_model_theory.proofs.Places.{at_agent}
 use Rattle.x5_model_theory.proofs.Views.{at_place}

@@ -7,8 +7,7 @@ use Rattle.std.specs.declared.option.Option.TheVariants.{None, Some}
 use Rattle.std.proofs.Common.{refl, arith, ap, sym, subst, inl, inr}
 use lib.Chars.{codes}
 use Rattle.x5_model.specs.Values.{Text, Rdn, Name, Known, TextValue}
-use Rattle.x5_model.specs.Requests.{Request, Read, Search, WholeSubtree, Only}
-use Rattle.x5_model.specs.Filters.{And}
+use Rattle.x5_model.specs.Requests.{Request, Read, WholeSubtree, Only}
 use Rattle.x5_model.specs.References.{Start, Next, Own, Superior, Subordinate, Supplier, NonSpecific, Reference}
 use Rattle.x5_model.specs.Answers.{Source, Answer, EntryFound, Found, Answered, Changed, Failed, NoSuchObject, ServiceProblem}
 use Rattle.x5_model.specs.Problems.{unavailable}
@@ -19,14 +18,14 @@ use Rattle.x5_model_run.specs.Journal.{Line, Journal}
 use Rattle.x5_model_run.specs.Needs.{reference, fails}
 use Rattle.x5_model_run.specs.History.{Point, Outs, Loses}
 use Rattle.x5_model_run.specs.Chain.{Scene, asks_by, is_passed, Turn, Caused, later, Licensed, scene_at}
-use Rattle.x5_model_run.specs.Blocked.{IsTried, IsLost, user, asked, by_user, hears_by}
+use Rattle.x5_model_run.specs.Blocked.{IsLost, user, asked, by_user, hears_by}
 use Rattle.x5_model_run.specs.Right.{Right, AnswersRight, result, changed, error, unheard}
 use Rattle.x5_model_run.specs.Thorough.{Thorough}
 use Rattle.x5_model_run.proofs.Licensing.{both, licensed_by, licensed_first}
 use Rattle.x5_model_run.proofs.Refusing.{all_unheard, no_turn}
 use Rattle.x5_rows.proofs.Literals.{rdn, plainly}
 use Rattle.x5_rows.proofs.BaseWorld.{base_world, nl, acme, shop_rdn, lab}
-use Rattle.x5_rows.proofs.Messages.{asks, passes, journal, accepted_journal, did, point, now, info, bare, shows, whole_outcome, in_vain}
+use Rattle.x5_rows.proofs.Messages.{asks, passes, journal, accepted_journal, did, point, now, info, shows, whole_outcome, in_vain}
 use Rattle.x5_rows.proofs.Resolution.{at_first, absent, read_absent, name_lab, beta_down, read_acme}
 use Rattle.x5_rows.proofs.Searching.{everything}
 use Rattle.x5_rows.proofs.Shadowing.{put_gears}

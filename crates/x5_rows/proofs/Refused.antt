@@ -1,7 +1,7 @@
 -- What the definitions refuse: wrong lines, references that nothing blocks, and wrong answers.
 use Rattle.std.specs.Prelude.{◌≡◌, ℕ, true, false, [], ◌∷◌, length}
 use Rattle.std.specs.declared.option.Option.TheVariants.{None, Some}
-use Rattle.std.proofs.Common.{refl, arith, ap, sym}
+use Rattle.std.proofs.Common.{refl, arith, ap}
 use Rattle.x5_model.specs.References.{Start, Next, Done, Superior, NonSpecific}
 use Rattle.x5_model.specs.Answers.{Answer, Found, Answered, Failed, NoSuchObject, ServiceProblem}
 use Rattle.x5_model.specs.Problems.{unavailable}
