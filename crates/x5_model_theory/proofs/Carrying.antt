@@ -14,7 +14,8 @@ use Rattle.x5_model_run.specs.Journal.{Line, depth, item_of, is_done, is_wide, s
 use Rattle.x5_model_run.specs.Needs.{target_of, new_name, passing_needs, due_probes, needs}
 use Rattle.x5_model_run.specs.Chain.{Scene, scene_at, opening, probe_request, is_probe, part_body, part_request, asks_part, is_user, IsCarried, Caused, begins, later, AllLicensed}
 use Rattle.x5_model_run.specs.Placed.{Placed}
-use Rattle.x5_model_theory.specs.Leading.{IsSound, item_for, level_of, Leads, IsGoing, with_own, JournalsArePlaced, OpeningIsPlaced, IsWithin, NamesStayWithin, NoJournalIsLong}
+use Rattle.x5_model_tree.proofs.Stored.{pins_short as pins_are_short}
+use Rattle.x5_model_theory.specs.Leading.{IsSound, PinsWithin, item_for, level_of, Leads, IsGoing, with_own, JournalsArePlaced, OpeningIsPlaced, IsWithin, NamesStayWithin, NoJournalIsLong}
 use Rattle.x5_model_theory.proofs.Stages.{key_length, same_progress_is}
 use Rattle.x5_model_theory.proofs.Following.{leads_on, followed_is_placed}
 use Rattle.x5_model_theory.proofs.Probing.{probes_are_placed, probe_within}
@@ -153,7 +154,8 @@ names_stay_within n p sender opener r m a sound fit pins_short i ia carried befo
     }
 
 pub no_journal_is_long : NoJournalIsLong
-no_journal_is_long p first r lines l sound pins_short target fresh all i =
+no_journal_is_long p first r lines l sound target fresh all i =
+    let pins_short : PinsWithin 16 (knowledge_at p) = pins_are_short (knowledge_at p) sound.described in
     let open_is = opening_is_placed p first r in
     let begun : IsWithin 16 first (opening r) = record {
       target = target;

@@ -2,7 +2,7 @@
 -- sender follows, a cross reference, contexts that one agent evaluates together, and a probe that a shadow can't answer.
 use Rattle.std.specs.Prelude.{◌≡◌, [], ◌∷◌}
 use Rattle.std.specs.declared.option.Option.TheVariants.{None, Some}
-use Rattle.std.proofs.Common.{refl, arith}
+use Rattle.std.proofs.Common.{true, refl, arith}
 use lib.Chars.{codes}
 use Rattle.x5_model.specs.Values.{Known, TextValue}
 use Rattle.x5_model.specs.Requests.{Request, Read, ListBelow, WholeSubtree, Only}
@@ -74,7 +74,7 @@ parts_thorough = refl
 -- Gamma knows Shop by a cross reference
 abbrev pub crossed : World
 crossed =
-    world_of (alpha ∷ beta ∷ (record gamma { cross = (record { pin = shop; access = record { master = 3; shadows = [] } }) ∷ [] }) ∷ delta ∷ epsilon ∷ []) (first_agreement ∷ [])
+    world_of (alpha ∷ beta ∷ (record gamma { cross = (record { pin = shop; access = record { master = 3; shadows = [] } }) ∷ []; crosses = true ∷ [] }) ∷ delta ∷ epsilon ∷ []) (first_agreement ∷ [])
 
 pub crossed_consistent : first_breach crossed ≡ None
 crossed_consistent = refl
@@ -98,7 +98,7 @@ ada_read = record {
 -- Alpha masters Acme too, and evaluates both on the spot
 abbrev pub together : World
 together =
-    world_of ((record alpha { contexts = nl_context ∷ acme_context ∷ []; subordinate = [] }) ∷ (record beta { contexts = [] }) ∷ gamma ∷ delta ∷ epsilon ∷ []) ((record first_agreement { supplier = 0 }) ∷ [])
+    world_of ((record alpha { contexts = nl_context ∷ acme_context ∷ []; subordinate = []; crosses = [] }) ∷ (record beta { contexts = [] }) ∷ gamma ∷ delta ∷ epsilon ∷ []) ((record first_agreement { supplier = 0 }) ∷ [])
 
 pub together_consistent : first_breach together ≡ None
 together_consistent = refl

@@ -123,7 +123,7 @@ unchained_thorough = refl
 -- Beta knows Shop by a subordinate reference too: the NSSR's agents are asked without it
 abbrev pub shop_known : World
 shop_known =
-    world_of (alpha ∷ (record beta { subordinate = (record { pin = shop; access = record { master = 3; shadows = [] } }) ∷ [] }) ∷ gamma ∷ delta ∷ epsilon ∷ []) (first_agreement ∷ [])
+    world_of (alpha ∷ (record beta { subordinate = (record { pin = shop; access = record { master = 3; shadows = [] } }) ∷ []; crosses = false ∷ [] }) ∷ gamma ∷ delta ∷ epsilon ∷ []) (first_agreement ∷ [])
 
 abbrev pub shop_known_down : Point
 shop_known_down = point shop_known (did (Outs (Down 2)) 0 ∷ [])
