@@ -67,7 +67,9 @@ fn agent(
         list.push(named)?;
     }
     let mut specific = Listed::new(alloc);
+    let mut crosses = Listed::new(alloc);
     for pin in pins {
+        crosses.push(false)?;
         let access = Access {
             master: AgentId(pin.1),
             shadows: Listed::new(alloc),
@@ -89,6 +91,7 @@ fn agent(
         contexts: Listed::from_vec(vec![in alloc; context]?),
         specific,
         cross: Listed::new(alloc),
+        crosses,
     })
 }
 
