@@ -67,9 +67,7 @@ fn agent(
         list.push(named)?;
     }
     let mut specific = Listed::new(alloc);
-    let mut crosses = Listed::new(alloc);
     for pin in pins {
-        crosses.push(false)?;
         let access = Access {
             master: AgentId(pin.1),
             shadows: Listed::new(alloc),
@@ -91,7 +89,6 @@ fn agent(
         contexts: Listed::from_vec(vec![in alloc; context]?),
         specific,
         cross: Listed::new(alloc),
-        crosses,
     })
 }
 

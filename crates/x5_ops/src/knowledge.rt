@@ -126,8 +126,7 @@ pub struct ContextSpec {
 /// Naming contexts in their order.
 pub type ContextSpecList = Listed<ContextSpec>;
 
-/// What is described of an agent; one without a superior is first-level. Its references stand in the world file in one list:
-/// `crosses` says of each of them, in the order of that list, whether it's a cross reference.
+/// What is described of an agent; one without a superior is first-level.
 #[derive(Debug, Drop)]
 pub struct AgentSpec {
     pub name: AgentName,
@@ -135,11 +134,7 @@ pub struct AgentSpec {
     pub contexts: ContextSpecList,
     pub specific: SpecificList,
     pub cross: CrossList,
-    pub crosses: KindList,
 }
-
-/// Of each reference of a list whether it's a cross reference.
-pub type KindList = Listed<bool>;
 
 /// The world's agents in the order of its file: an `AgentId` is a place here.
 pub type AgentSpecs = Listed<AgentSpec>;

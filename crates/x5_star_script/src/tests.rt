@@ -13,7 +13,6 @@ fn agent(alloc: Global, name: &str) -> Result<AgentSpec, Fail> {
         contexts: Listed::new(alloc),
         specific: Listed::new(alloc),
         cross: Listed::new(alloc),
-        crosses: Listed::new(alloc),
     })
 }
 
