@@ -1,9 +1,11 @@
-//! Moments by the calendar: across the ends of days, months and years, and at leap days.
-use crate::Start;
+//! Moments by the calendar: across the ends of days, months and years, and at leap days. Names of agents, which are found as they are
+//! spelled.
+use crate::{AgentNames, Start};
 use jiff::civil::Date;
 use std::alloc::Global;
 use std::test::Fail;
-use x5_ops::Moment;
+use x5_ops::{AgentName, Moment};
+use x5_syntax::Text;
 
 /// The text of the moment after the start at the second of the date; nothing where that's no start.
 fn printed(alloc: Global, date: (i16, i8, i8), second: u32, moment: u32) -> Result<String, Fail> {
@@ -34,6 +36,30 @@ fn moments_follow_the_calendar(rt: HostRuntime) -> Result<(), Fail> {
         ((1993, 1, 1), 86_400, 0, ""),
     ] {
         assert_eq!(rt; printed(alloc, date, second, moment)?.as_str(), want);
+    }
+    Ok(())
+}
+
+/// The names of four agents, one of which is offered twice, and the place of the text among them.
+fn place_of(alloc: Global, text: &str) -> Result<Option<u8>, Fail> {
+    let mut names = AgentNames::new(alloc);
+    for name in ["Beta", "Alpha", "Beta", "B2"] {
+        names.add(AgentName::new(Text::new(alloc, name)?))?;
+    }
+    Ok(names.find(text).map(|id| id.0))
+}
+
+#[test]
+fn names_are_found_by_their_text(rt: HostRuntime) -> Result<(), Fail> {
+    let alloc = rt.alloc();
+    for (text, want) in [
+        ("Beta", Some(0)),
+        ("Alpha", Some(1)),
+        ("B2", Some(2)),
+        ("beta", None),
+        ("", None),
+    ] {
+        assert_eq!(rt; place_of(alloc, text)?, want);
     }
     Ok(())
 }

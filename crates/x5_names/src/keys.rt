@@ -3,13 +3,16 @@
 ghost use Rattle.std.specs.Prelude.{◌≡◌, ◌≤◌, length, take, IfOk};
 ghost use Rattle.std.specs.Cmp.Lexicographic.{lists_per, lists_equiv};
 ghost use Rattle.std.specs.Ordering.{as_partial_cmp};
-ghost use Rattle.std.proofs.Common.{refl};
+ghost use Rattle.std.proofs.Common.{refl, ap};
+
 ghost use Rattle.x5_model.specs.Keys as model;
-ghost use Rattle.x5_model.proofs.KeyLaws.{pair_cmp_total, pair_ties, rdn_cmp_total, rdn_ties, key_cmp_total, key_ties};
+ghost use Rattle.x5_names.specs.KeyHash as model_hash;
+ghost use Rattle.x5_model.proofs.KeyLaws.{pair_cmp_total, pair_ties, pair_decides, rdn_cmp_total, rdn_ties, rdn_decides, key_cmp_total, key_ties, key_decides};
 ghost use Rattle.x5_names.specs.KeyOrder.{same_pair_laws, same_pair_equivalence, pair_partial_order, rdn_partial_order, key_partial_order};
 
 use std::alloc::{AllocError, Global};
 use std::cmp::Ordering;
+use std::hash::{Hash, Hasher};
 use std::marker::Model;
 use x5_syntax::{NoMemory, Normal};
 
@@ -222,6 +225,37 @@ impl Ord for Key {
 
     fn cmp(&self, other: &Key) -> Ordering {
         self.rdns.cmp(&other.rdns)
+    }
+}
+
+impl Hash for KeyPair {
+    ghost hash_input = { model_hash.pair_writes };
+
+    ghost respects_eq = { λ a b same. ap model_hash.pair_writes ((pair_decides a b).0 same) };
+
+    fn hash<H: Hasher>(&self, state: &mut H) {
+        state.write_u8(self.kind);
+        self.normal.as_slice().hash(state);
+    }
+}
+
+impl Hash for KeyRdn {
+    ghost hash_input = { model_hash.rdn_writes };
+
+    ghost respects_eq = { λ a b same. ap model_hash.rdn_writes ((rdn_decides a b).0 same) };
+
+    fn hash<H: Hasher>(&self, state: &mut H) {
+        self.pairs.hash(state);
+    }
+}
+
+impl Hash for Key {
+    ghost hash_input = { model_hash.key_writes };
+
+    ghost respects_eq = { λ a b same. ap model_hash.key_writes ((key_decides a b).0 same) };
+
+    fn hash<H: Hasher>(&self, state: &mut H) {
+        self.rdns.hash(state);
     }
 }
 
