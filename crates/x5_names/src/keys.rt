@@ -4,7 +4,6 @@ ghost use Rattle.std.specs.Prelude.{◌≡◌, ◌≤◌, length, take, IfOk};
 ghost use Rattle.std.specs.Cmp.Lexicographic.{lists_per, lists_equiv};
 ghost use Rattle.std.specs.Ordering.{as_partial_cmp};
 ghost use Rattle.std.proofs.Common.{refl, ap};
-
 ghost use Rattle.x5_model.specs.Keys as model;
 ghost use Rattle.x5_names.specs.KeyHash as model_hash;
 ghost use Rattle.x5_model.proofs.KeyLaws.{pair_cmp_total, pair_ties, pair_decides, rdn_cmp_total, rdn_ties, rdn_decides, key_cmp_total, key_ties, key_decides};
