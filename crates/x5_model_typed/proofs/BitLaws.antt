@@ -1,19 +1,17 @@
 -- What is judged a bit string is one: its bits are those of its segments, of which only the last may
 -- have unused ones.
-use Rattle.std.proofs.Common.{◌≡◌, ℕ, ◌+◌, Bool, true, false, ◌&&◌, List, [], ◌∷◌, ◌++◌, length, refl, ap, sym, ◌∙◌, subst, append_assoc, append-nil, arith, length-append}
-use Rattle.std.specs.Prelude.{◌==◌, ◌%◌, ◌-◌, not, if◌then◌else◌, slice_index_or}
+use Rattle.std.proofs.Common.{◌≡◌, ℕ, Bool, true, false, List, [], ◌∷◌, ◌++◌, length, refl, ap, sym, ◌∙◌, subst, append_assoc, append-nil, arith, length-append}
+use Rattle.std.specs.Prelude.{◌==◌, ◌%◌, ◌-◌, slice_index_or}
 use Rattle.std.proofs.Math.Seq.{get_or-append_seam}
 use Rattle.std.proofs.lemmas.Bool.Decides.{Decides-eqb}
 use Rattle.std.specs.declared.option.Option.{Option}
 use Rattle.std.specs.declared.option.Option.TheVariants.{None, Some}
-use Rattle.std.specs.declared.result.Result.{Result}
-use Rattle.std.specs.declared.result.Result.TheVariants.{Ok, Err}
-use Rattle.x5_model_octets.specs.Faults.{BadContent}
+use Rattle.std.specs.declared.result.Result.TheVariants.{Ok}
 use Rattle.x5_model_typed.specs.Trees.{Tree, Trees, Leaf, Branch, Bare, Row, place_of, class_of, tag_of}
 use Rattle.x5_model_typed.specs.Nodes.{Node, Bits, Vacant}
 use Rattle.x5_model_typed.specs.Forms as forms
 use Rattle.x5_model_typed.specs.Forms.{Layout, Alternative, Content, Component, JoinedBits, by_tag, universal}
-use Rattle.x5_model_typed.specs.Judged.{Breach, Ber, State, Awaited, Next, judged, judged_all, judged_member, and_then, awaits, stepped, settled, ended, begun, bit_segment, bits_leaf, bits_of_content, leaf_node, joined_bits, is_ragged, last_node}
+use Rattle.x5_model_typed.specs.Judged.{State, Awaited, Next, judged, judged_all, judged_member, and_then, awaits, stepped, settled, ended, begun, bit_segment, bits_leaf, bits_of_content, leaf_node, joined_bits, is_ragged, last_node}
 use Rattle.x5_model_typed.specs.Typed.{BitsOf, BitSegmentsOf}
 use Rattle.x5_model_typed.proofs.Laws.{came}
 

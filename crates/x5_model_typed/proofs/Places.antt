@@ -1,10 +1,8 @@
 -- Octets lie at a place as one tree at most, and none of which others are the beginning.
-use Rattle.std.proofs.Common.{◌≡◌, ℕ, ◌+◌, Bool, true, false, List, [], ◌∷◌, ◌++◌, length, refl, ap, sym, ◌∙◌, subst, append_assoc, append-nil}
+use Rattle.std.proofs.Common.{◌≡◌, ℕ, ◌+◌, true, List, [], ◌∷◌, ◌++◌, length, refl, ap, sym, ◌∙◌, subst, append-nil}
 use Rattle.std.proofs.lemmas.List.{append_cancel_right}
-use Rattle.std.specs.declared.option.Option.{Option}
 use Rattle.std.specs.declared.option.Option.TheVariants.{None, Some}
-use Rattle.x5_model_octets.specs.Headers.{IsHeader}
-use Rattle.x5_model_octets.specs.Elements.{Element, Elements, Spells, SpellsAll, Encloses, definite, indefinite, identifier}
+use Rattle.x5_model_octets.specs.Elements.{Spells, SpellsAll, Encloses, definite, indefinite, identifier}
 use Rattle.x5_model_octets.proofs.ElementLaws.{spelled_once, header_reads, reads_unique}
 use Rattle.x5_model_typed.specs.Trees as trees
 use Rattle.x5_model_typed.specs.Trees.{Tree, Trees, Leaf, Branch, Bare, Row, Lies, LieAll, Frames, plain, plain_all}

@@ -1,21 +1,20 @@
 -- Messages by hand: what they spell, what is written for them, and their first breach.
 use Rattle.std.proofs.Common.{◌≡◌, ℕ, [], ◌∷◌, List, refl}
-use Rattle.std.specs.Prelude.{pos, negsuc, true, false, Bool, codes, zero, suc}
-use Rattle.std.specs.declared.option.Option.{Option}
+use Rattle.std.specs.Prelude.{pos, negsuc, true, false, codes, zero, suc}
 use Rattle.std.specs.declared.option.Option.TheVariants.{None, Some}
 use Rattle.std.specs.declared.result.Result.{Result}
 use Rattle.std.specs.declared.result.Result.TheVariants.{Ok, Err}
 use Rattle.x5_model_octets.specs.Faults.{BadTag, BadContent}
 use Rattle.x5_model_octets.specs.Elements as elements
 use Rattle.x5_model_octets.specs.Elements.{Element, Elements, Primitive, Constructed, canonical}
-use Rattle.x5_model_typed.specs.Trees.{Tree, laid}
-use Rattle.x5_model_typed.specs.Nodes.{Node, Vacant, Flag, Number, Oid, Text, Chosen, Many, whole, row}
+use Rattle.x5_model_typed.specs.Trees.{laid}
+use Rattle.x5_model_typed.specs.Nodes.{Node, Flag, Oid, Text, Chosen, Many, whole, row}
 use Rattle.x5_model_typed.specs.Named as named
 use Rattle.x5_model_typed.specs.Named.{Named, DapRequest}
 use Rattle.x5_model_typed.specs.Judged.{Breach, Ber, Unrecognised, judged}
 use Rattle.x5_model_typed.specs.Layouts.{Surroundings, layout, no_controls, all_attributes}
 use Rattle.x5_model_typed.specs.Leaves.{cells}
-use Rattle.x5_model_typed.specs.Written.{written, canonical_octets}
+use Rattle.x5_model_typed.specs.Written.{canonical_octets}
 
 abbrev nowhere : Surroundings
 nowhere = record { moment = λ t. None; time = λ m. []; is_agent = λ a. false }

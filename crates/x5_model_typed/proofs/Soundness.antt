@@ -1,16 +1,15 @@
 -- What an element is judged to be, it is.
-use Rattle.std.proofs.Common.{◌≡◌, ℕ, ◌+◌, Bool, true, false, List, [], ◌∷◌, ◌++◌, map, refl, ap, sym, ◌∙◌, subst}
+use Rattle.std.proofs.Common.{◌≡◌, ℕ, Bool, true, false, List, [], ◌∷◌, ◌++◌, map, refl, ap, sym, ◌∙◌, subst}
 use Rattle.std.specs.List.{list_all}
 use Rattle.std.specs.declared.option.Option.{Option}
 use Rattle.std.specs.declared.option.Option.TheVariants.{None, Some}
-use Rattle.std.specs.declared.result.Result.{Result}
-use Rattle.std.specs.declared.result.Result.TheVariants.{Ok, Err}
-use Rattle.x5_model_typed.specs.Trees.{Tree, Trees, Leaf, Branch, Bare, Row, place_of, class_of, tag_of}
+use Rattle.std.specs.declared.result.Result.TheVariants.{Ok}
+use Rattle.x5_model_typed.specs.Trees.{Tree, Trees, Leaf, Branch, Bare, Row, place_of}
 use Rattle.x5_model_typed.specs.Nodes as nodes
 use Rattle.x5_model_typed.specs.Nodes.{Node, Nodes, Many, list, row}
 use Rattle.x5_model_typed.specs.Named.{Named}
 use Rattle.x5_model_typed.specs.Forms.{Layout, Alternative, Component, Content, Primitive, Joined, JoinedBits, Explicit, Sequence, Set, Members, Never, by_tag}
-use Rattle.x5_model_typed.specs.Judged.{Breach, State, Next, judged, judged_all, judged_member, and_then, stepped, settled, ended, begun, marked, leaf_node, default_of, may_be_missing, all_filled, filled}
+use Rattle.x5_model_typed.specs.Judged.{State, Next, judged, judged_all, judged_member, and_then, stepped, settled, ended, begun, marked, leaf_node, default_of, may_be_missing, all_filled, filled}
 use Rattle.x5_model_typed.specs.Typed as typed
 use Rattle.x5_model_typed.specs.Typed.{IsOf, Holds}
 use Rattle.x5_model_typed.proofs.Laws.{came, AreSound, each_is, in_sequence, stood, in_order_is}

@@ -1,16 +1,15 @@
 -- What is judged a string is one: its octets or bits are those of its segments.
-use Rattle.std.proofs.Common.{◌≡◌, ℕ, ◌+◌, Bool, true, false, ◌&&◌, List, [], ◌∷◌, ◌++◌, length, refl, ap, sym, ◌∙◌, subst, append_assoc, append-nil, arith}
-use Rattle.std.specs.Prelude.{◌==◌, ◌%◌, not, if◌then◌else◌}
+use Rattle.std.proofs.Common.{◌≡◌, ℕ, Bool, true, false, List, [], ◌∷◌, ◌++◌, refl, ap, sym, ◌∙◌, subst, append_assoc, append-nil}
+use Rattle.std.specs.Prelude.{◌==◌}
 use Rattle.std.proofs.lemmas.Bool.Decides.{Decides-eqb}
 use Rattle.std.specs.declared.option.Option.{Option}
 use Rattle.std.specs.declared.option.Option.TheVariants.{None, Some}
-use Rattle.std.specs.declared.result.Result.{Result}
-use Rattle.std.specs.declared.result.Result.TheVariants.{Ok, Err}
+use Rattle.std.specs.declared.result.Result.TheVariants.{Ok}
 use Rattle.x5_model_typed.specs.Trees.{Tree, Trees, Leaf, Branch, Bare, Row, place_of, class_of, tag_of}
-use Rattle.x5_model_typed.specs.Nodes.{Node, Octets, Bits}
+use Rattle.x5_model_typed.specs.Nodes.{Node, Octets}
 use Rattle.x5_model_typed.specs.Forms as forms
 use Rattle.x5_model_typed.specs.Forms.{Layout, Alternative, Content, Component, Joined, JoinedBits, by_tag, universal}
-use Rattle.x5_model_typed.specs.Judged.{Breach, State, Next, judged, judged_all, judged_member, and_then, awaits, stepped, settled, ended, begun, segment, octets_leaf, joined}
+use Rattle.x5_model_typed.specs.Judged.{State, Next, judged, judged_all, judged_member, and_then, stepped, settled, ended, begun, segment, octets_leaf, joined}
 use Rattle.x5_model_typed.specs.Typed.{OctetsOf, SegmentsOf}
 use Rattle.x5_model_typed.proofs.Laws.{came}
 

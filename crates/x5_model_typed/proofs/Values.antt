@@ -1,12 +1,11 @@
 -- An element is one value of a type at most.
-use Rattle.std.proofs.Common.{◌≡◌, ℕ, ◌+◌, ◌%◌, ℤ, Bool, true, false, List, [], ◌∷◌, ◌++◌, length, refl, ap, sym, ◌∙◌, subst}
+use Rattle.std.proofs.Common.{◌≡◌, ℕ, Bool, true, false, List, [], ◌∷◌, ◌++◌, refl, ap, sym, ◌∙◌, subst}
 use Rattle.std.specs.declared.option.Option.{Option}
-use Rattle.std.specs.declared.option.Option.TheVariants.{None, Some}
+use Rattle.std.specs.declared.option.Option.TheVariants.{Some}
 use Rattle.x5_model_typed.specs.Trees.{Tree, Trees, Leaf, Branch, Bare, Row, class_of, tag_of}
 use Rattle.x5_model_typed.specs.Nodes as nodes
 use Rattle.x5_model_typed.specs.Nodes.{Node, Nodes, Number, Many}
 use Rattle.x5_model_typed.specs.Named.{Named}
-use Rattle.x5_model_typed.specs.Forms as forms
 use Rattle.x5_model_typed.specs.Forms.{Layout, Presence, Required, Default, Code, Component, Content, Alternative, plain, alternatives, is_component, by_tag}
 use Rattle.x5_model_typed.specs.Judged.{leaf_node, bits_of_content, marked}
 use Rattle.x5_model_typed.specs.Typed as typed

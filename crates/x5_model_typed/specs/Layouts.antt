@@ -1,13 +1,13 @@
 -- The types of messages (X.511, X.518, X.519, X.525, with numbers of this project's own where the
 -- standards' aren't used). docs/FORMATS.md shows them in the notation of X.680.
-use Rattle.std.specs.Prelude.{◌≡◌, ℕ, suc, ◌-◌, ◌==◌, ℤ, pos, negsuc, Bool, true, false, if◌then◌else◌, List, [], ◌∷◌, List}
+use Rattle.std.specs.Prelude.{ℕ, ◌-◌, ◌==◌, ℤ, pos, negsuc, Bool, true, false, if◌then◌else◌, List, [], ◌∷◌, List}
 use Rattle.std.specs.declared.option.Option.{Option}
 use Rattle.std.specs.declared.option.Option.TheVariants.{None, Some}
 use Rattle.x5_model.specs.Normal.{is_printable}
-use Rattle.x5_model_typed.specs.Nodes.{Node, Nodes, Vacant, Flag, Number, Text, Chosen, Many, Nil, whole, row}
+use Rattle.x5_model_typed.specs.Nodes.{Node, Vacant, Flag, Number, Chosen, Many, Nil, whole, row}
 use Rattle.x5_model_typed.specs.Named.{Named, Operation, Read, Compare, ListBelow, Search, AddEntry, RemoveEntry, ModifyEntry, ModifyDn, DapRequest, DapAnswer, DspRequest, DspAnswer, DispMessage, Argument, Chained, DapResult, DspResult, DispResult, Outcome, AnyNumber, NumberBelow, Enumeration, Boolean, Null, AnyOid, Value, Part, AgentName, Time, Options, RefType, Name, Rdn, Rdns, Pair, Attribute, Attributes, Values, TypeList, Selection, Controls, Assertion, Changes, Change, Filter, Filters, Item, Substrings, Parts, PlacedPart, Chaining, Progress, Trace, TraceItem, Agents, Agent, Reference, References, Source, Sources, EntryInfo, EntryInfos, Sub, Subs, Qualifier, AttributeError, NameError, ServiceError, UpdateError, ShadowError, Agreement, ShadowArgument, UpdateArgument, Refresh, Total, Entries, Entry, Knowns, Known, NonSpecifics, NonSpecific, WorldAgents, WorldAgent, WorldAgentName, Steps, Step, Renamed}
-use Rattle.x5_model_typed.specs.Forms.{Leaf, Component, Content, Primitive, Joined, JoinedBits, Explicit, Sequence, Set, Members, Never, Alternative, Layout, universal, context, choice, ruled, plain, at, or, code}
-use Rattle.x5_model_typed.specs.Leaves.{where_so, boolean, null, number, any_number, from_to, one_of, oid, any_oid, short_oid, octet_string, text_where, text_of, is_length, is_numeric, is_seven_bit, universal_string, is_agent_name, options, options_node}
+use Rattle.x5_model_typed.specs.Forms.{Leaf, Component, Primitive, Joined, JoinedBits, Explicit, Sequence, Set, Members, Never, Alternative, Layout, universal, choice, ruled, plain, at, or, code}
+use Rattle.x5_model_typed.specs.Leaves.{boolean, null, number, any_number, from_to, one_of, oid, any_oid, short_oid, octet_string, text_where, text_of, is_numeric, is_seven_bit, universal_string, is_agent_name, options, options_node}
 use Rattle.x5_model_typed.specs.Rules.{name_rule, rdn_rule, pair_rule, some_members, controls_rule, text_rule, parts_rule, progress_rule, trace_rule, entry_rule, known_rule, masters_rule}
 
 -- What shadow messages are read and written with: the moments that times are, and the world's agents.

@@ -1,15 +1,15 @@
 -- Contents of primitive types (X.690, section 8), both ways.
-use Rattle.std.specs.Prelude.{◌≡◌, ℕ, ◌+◌, ◌-◌, ◌*◌, ◌/◌, ◌%◌, ◌^◌, ℤ, pos, negsuc, Bool, true, false, not, ◌&&◌, ◌||◌, ◌==◌, nat_lt, nat_le, if◌then◌else◌, List, [], ◌∷◌, ◌++◌, length, map, flat_map, chars, encode_utf8_all, codes}
+use Rattle.std.specs.Prelude.{ℕ, ◌+◌, ◌-◌, ◌*◌, ◌%◌, ◌^◌, ℤ, pos, negsuc, Bool, true, false, not, ◌&&◌, ◌||◌, ◌==◌, nat_lt, nat_le, if◌then◌else◌, List, [], ◌∷◌, length, map, flat_map, chars, encode_utf8_all, codes}
 use Rattle.std.specs.List.{list_all, list_any}
 use Rattle.std.specs.Int.{to_be_bytes, w32, w64}
 use Rattle.std.specs.Char.{is_ascii_alphabetic, is_ascii_alphanumeric, is_ascii_digit}
 use Rattle.std.specs.declared.option.Option.{Option}
 use Rattle.std.specs.declared.option.Option.TheVariants.{None, Some}
 use Rattle.x5_model.specs.Words.{in_option, same_octets}
-use Rattle.x5_model.specs.Normal.{is_printable, is_oid, most_octets, oid_content_len}
+use Rattle.x5_model.specs.Normal.{is_oid, most_octets, oid_content_len}
 use Rattle.x5_model_octets.specs.Headers.{big_endian}
 use Rattle.x5_model_octets.specs.Elements.{groups, without_zeros}
-use Rattle.x5_model_typed.specs.Nodes.{Node, Vacant, Flag, Number, Oid, Octets, Text, Many, whole, row, parts}
+use Rattle.x5_model_typed.specs.Nodes.{Node, Vacant, Flag, Number, Oid, Octets, Text, Many, row, parts}
 use Rattle.x5_model_typed.specs.Forms.{Leaf}
 
 abbrev pub where_so : {X : Type 0} → Bool → X → Option X

@@ -1,10 +1,10 @@
 -- What values of types have to be as wholes, and as what they are kept.
-use Rattle.std.specs.Prelude.{◌≡◌, ℕ, ◌+◌, ℤ, pos, Bool, true, false, not, ◌&&◌, ◌||◌, ◌==◌, nat_lt, nat_le, if◌then◌else◌, List, [], ◌∷◌, ◌++◌, length, map}
-use Rattle.std.specs.List.{list_all, list_any}
+use Rattle.std.specs.Prelude.{ℕ, pos, Bool, true, false, not, ◌&&◌, ◌||◌, ◌==◌, nat_lt, nat_le, List, [], ◌∷◌, length, map}
+use Rattle.std.specs.List.{list_all}
 use Rattle.std.specs.declared.option.Option.{Option}
 use Rattle.std.specs.declared.option.Option.TheVariants.{None, Some}
-use Rattle.x5_model.specs.Words.{in_option, is_empty, distinct, sorted, same_octets, octets_below, some_and}
-use Rattle.x5_model.specs.Keys.{Key, same_key}
+use Rattle.x5_model.specs.Words.{in_option, is_empty, distinct, sorted, same_octets, octets_below}
+use Rattle.x5_model.specs.Keys.{same_key}
 use Rattle.x5_model.specs.Values.{Text, NameValue, Value, TextValue, OctetsValue, OidValue, NameOf}
 use Rattle.x5_model.specs.Types.{may_name, kind_of}
 use Rattle.x5_model.specs.Normal as normal
