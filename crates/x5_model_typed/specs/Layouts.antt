@@ -1,0 +1,254 @@
+-- The types of messages (X.511, X.518, X.519, X.525, with numbers of this project's own where the
+-- standards' aren't used). docs/FORMATS.md shows them in the notation of X.680.
+use Rattle.std.specs.Prelude.{ℕ, ◌-◌, ◌==◌, ℤ, pos, negsuc, Bool, true, false, if◌then◌else◌, List, [], ◌∷◌, List}
+use Rattle.std.specs.declared.option.Option.{Option}
+use Rattle.std.specs.declared.option.Option.TheVariants.{None, Some}
+use Rattle.x5_model.specs.Normal.{is_printable}
+use Rattle.x5_model_typed.specs.Nodes.{Node, Vacant, Flag, Number, Chosen, Many, Nil, whole, row}
+use Rattle.x5_model_typed.specs.Named.{Named, Operation, Read, Compare, ListBelow, Search, AddEntry, RemoveEntry, ModifyEntry, ModifyDn, DapRequest, DapAnswer, DspRequest, DspAnswer, DispMessage, Argument, Chained, DapResult, DspResult, DispResult, Outcome, AnyNumber, NumberBelow, Enumeration, Boolean, Null, AnyOid, Value, Part, AgentName, Time, Options, RefType, Name, Rdn, Rdns, Pair, Attribute, Attributes, Values, TypeList, Selection, Controls, Assertion, Changes, Change, Filter, Filters, Item, Substrings, Parts, PlacedPart, Chaining, Progress, Trace, TraceItem, Agents, Agent, Reference, References, Source, Sources, EntryInfo, EntryInfos, Sub, Subs, Qualifier, AttributeError, NameError, ServiceError, UpdateError, ShadowError, Agreement, ShadowArgument, UpdateArgument, Refresh, Total, Entries, Entry, Knowns, Known, NonSpecifics, NonSpecific, WorldAgents, WorldAgent, WorldAgentName, Steps, Step, Renamed}
+use Rattle.x5_model_typed.specs.Forms.{Leaf, Component, Primitive, Joined, JoinedBits, Explicit, Sequence, Set, Members, Never, Alternative, Layout, universal, choice, ruled, plain, at, or, code}
+use Rattle.x5_model_typed.specs.Leaves.{boolean, null, number, any_number, from_to, one_of, oid, any_oid, short_oid, octet_string, text_where, text_of, is_numeric, is_seven_bit, universal_string, is_agent_name, options, options_node}
+use Rattle.x5_model_typed.specs.Rules.{name_rule, rdn_rule, pair_rule, some_members, controls_rule, text_rule, parts_rule, progress_rule, trace_rule, entry_rule, known_rule, masters_rule}
+
+-- What shadow messages are read and written with: the moments that times are, and the world's agents.
+pub record Surroundings : Type 0 where
+  pub moment : List ℕ → Option ℕ
+  pub time : ℕ → List ℕ
+  pub is_agent : List ℕ → Bool
+
+-- ---- words of the table
+
+abbrev pub is : Alternative → List Alternative
+is a = a ∷ []
+
+abbrev pub sequence : List Component → Alternative
+sequence components = universal 16 (Sequence components)
+
+abbrev pub set : List Component → Alternative
+set components = universal 17 (Set components)
+
+abbrev pub sequence_of : Named → Alternative
+sequence_of type = universal 16 (Members type)
+
+abbrev pub set_of : Named → Alternative
+set_of type = universal 17 (Members type)
+
+abbrev pub integer : (ℤ → Bool) → Alternative
+integer test = universal 2 (Primitive (number test))
+
+-- which may be missing; it is then vacant
+abbrev pub optional : Component → Component
+optional = or Vacant
+
+-- which is the list of nothing where it is missing
+abbrev pub or_nothing : Component → Component
+or_nothing = or (Many Nil)
+
+-- ---- codes
+
+abbrev pub named_by : List (ℕ × Named) → ℤ → Option Named
+named_by [] k = None
+named_by (r ∷ rows) (pos n) = if r.0 == n then Some r.1 else named_by rows (pos n)
+named_by rows (negsuc n) = None
+
+abbrev pub operation_codes : (Operation → Named) → List (ℕ × Named)
+operation_codes of =
+    (1, of Read) ∷ (2, of Compare) ∷ (4, of ListBelow) ∷ (5, of Search) ∷ (6, of AddEntry) ∷ (7, of RemoveEntry) ∷ (8, of ModifyEntry) ∷ (9, of ModifyDn) ∷ []
+
+abbrev pub dap_errors : List (ℕ × Named)
+dap_errors = (1, AttributeError) ∷ (2, NameError) ∷ (3, ServiceError) ∷ (4, Reference) ∷ (8, UpdateError) ∷ []
+
+abbrev pub dsp_errors : List (ℕ × Named)
+dsp_errors = (1, AttributeError) ∷ (2, NameError) ∷ (3, ServiceError) ∷ (8, UpdateError) ∷ (9, Reference) ∷ []
+
+abbrev pub shadow_operations : List (ℕ × Named)
+shadow_operations = (1, ShadowArgument) ∷ (2, UpdateArgument) ∷ (3, ShadowArgument) ∷ []
+
+abbrev pub shadow_results : List (ℕ × Named)
+shadow_results = (1, Null) ∷ (2, Null) ∷ (3, Null) ∷ []
+
+abbrev pub shadow_errors : List (ℕ × Named)
+shadow_errors = (1, ShadowError) ∷ []
+
+-- ---- messages: an id, a code, and what the code says
+
+abbrev pub id : Component
+id = plain (NumberBelow 0 4294967295)
+
+abbrev pub invoke : List (ℕ × Named) → Alternative
+invoke codes = choice 1 (Sequence (id ∷ code AnyNumber (named_by codes) ∷ []))
+
+abbrev pub result : Named → Alternative
+result inner = choice 2 (Sequence (id ∷ plain inner ∷ []))
+
+abbrev pub error : List (ℕ × Named) → Alternative
+error codes = choice 3 (Sequence (id ∷ code AnyNumber (named_by codes) ∷ []))
+
+abbrev pub result_inner : List (ℕ × Named) → Alternative
+result_inner codes = sequence (code AnyNumber (named_by codes) ∷ [])
+
+-- ---- defaults
+
+abbrev pub no_controls : Node
+no_controls = Many (row (options_node false false ∷ Vacant ∷ Vacant ∷ Vacant ∷ []))
+
+abbrev pub all_attributes : Node
+all_attributes = Many (row (Vacant ∷ []))
+
+abbrev pub everything : Node
+everything = Chosen 1 (Many Nil)
+
+abbrev pub no_qualifier : Node
+no_qualifier = Many (row (Vacant ∷ Many Nil ∷ []))
+
+abbrev pub controls : Component
+controls = or no_controls (at 30 Controls)
+
+abbrev pub argument : Operation → List Component
+argument Read = at 0 Name ∷ or all_attributes (at 1 Selection) ∷ controls ∷ []
+argument Compare = at 0 Name ∷ at 1 Assertion ∷ controls ∷ []
+argument ListBelow = at 0 Name ∷ controls ∷ []
+argument Search = at 0 Name ∷ or (whole 0) (at 1 (NumberBelow 0 2)) ∷ or everything (at 2 (Filter 16)) ∷ or all_attributes (at 4 Selection) ∷ controls ∷ []
+argument AddEntry = at 0 Name ∷ at 1 Attributes ∷ controls ∷ []
+argument RemoveEntry = at 0 Name ∷ controls ∷ []
+argument ModifyEntry = at 0 Name ∷ at 1 Changes ∷ controls ∷ []
+argument ModifyDn = at 0 Name ∷ at 1 Rdn ∷ or (Flag false) (at 2 Boolean) ∷ controls ∷ []
+
+abbrev pub outcome : Operation → Alternative
+outcome Read = set (at 0 EntryInfo ∷ at 1 Source ∷ [])
+outcome Compare = set (at 0 Boolean ∷ or (Flag true) (at 1 Boolean) ∷ at 2 Source ∷ [])
+outcome ListBelow = set (at 0 Subs ∷ at 1 Sources ∷ or no_qualifier (at 2 Qualifier) ∷ [])
+outcome Search = set (at 0 EntryInfos ∷ at 1 Sources ∷ or no_qualifier (at 2 Qualifier) ∷ [])
+outcome update = universal 5 (Primitive null)
+
+-- a filter that is the 17th on its way has no right content
+abbrev pub filter : ℕ → List Alternative
+filter levels = if levels == 0 then choice 0 Never ∷ choice 1 Never ∷ choice 2 Never ∷ choice 3 Never ∷ []
+    else choice 0 (Explicit Item) ∷ choice 1 (Explicit (Filters (levels - 1))) ∷ choice 2 (Explicit (Filters (levels - 1))) ∷ choice 3 (Explicit (Filter (levels - 1))) ∷ []
+
+abbrev pub printable : Alternative
+printable = universal 19 (Joined (text_where (text_of is_printable)))
+
+abbrev pub agent_name : (List ℕ → Bool) → Alternative
+agent_name test = universal 19 (Joined (text_where (λ t. if is_agent_name t then test t else false)))
+
+abbrev pub any_agent : List ℕ → Bool
+any_agent name = true
+
+-- the moment of a time
+abbrev pub time_leaf : Surroundings → Leaf (List ℕ)
+time_leaf w = record { reads = λ octets. moment_node (w.moment octets); writes = writes }
+  where
+    moment_node : Option ℕ → Option Node
+    moment_node None = None
+    moment_node (Some m) = Some (whole m)
+
+    writes : Node → Option (List ℕ)
+    writes (Number (pos m)) = Some (w.time m)
+    writes n = None
+
+-- ---- the table
+
+abbrev pub layout : Surroundings → Layout
+layout w DapRequest = is (invoke (operation_codes Argument))
+layout w DapAnswer = result DapResult ∷ error dap_errors ∷ []
+layout w DspRequest = is (invoke (operation_codes Chained))
+layout w DspAnswer = result DspResult ∷ error dsp_errors ∷ []
+layout w DispMessage = invoke shadow_operations ∷ result DispResult ∷ error shadow_errors ∷ []
+layout w (Argument operation) = is (set (argument operation))
+layout w (Chained operation) = is (sequence (plain Chaining ∷ plain (Argument operation) ∷ []))
+layout w DapResult = is (result_inner (operation_codes Outcome))
+layout w DspResult = is (result_inner (operation_codes Outcome))
+layout w DispResult = is (result_inner shadow_results)
+layout w (Outcome operation) = is (outcome operation)
+layout w AnyNumber = is (integer any_number)
+layout w (NumberBelow low high) = is (integer (from_to low high))
+layout w (Enumeration low high) = is (universal 10 (Primitive (number (from_to low high))))
+layout w Boolean = is (universal 1 (Primitive boolean))
+layout w Null = is (universal 5 (Primitive null))
+layout w AnyOid = is (universal 6 (Primitive (oid any_oid)))
+layout w Value =
+    universal 6 (Primitive (oid short_oid))
+    ∷ universal 4 (Joined octet_string)
+    ∷ ruled name_rule (sequence_of Rdn)
+    ∷ printable
+    ∷ universal 28 (Joined universal_string)
+    ∷ universal 18 (Joined (text_where (text_of is_numeric)))
+    ∷ universal 22 (Joined (text_where (text_of is_seven_bit)))
+    ∷ []
+layout w Part =
+    printable
+    ∷ universal 28 (Joined universal_string)
+    ∷ universal 18 (Joined (text_where (text_of is_numeric)))
+    ∷ universal 22 (Joined (text_where (text_of is_seven_bit)))
+    ∷ ruled text_rule (universal 6 (Primitive (oid short_oid)))
+    ∷ ruled text_rule (universal 4 (Joined octet_string))
+    ∷ ruled text_rule (sequence_of Rdn)
+    ∷ []
+layout w AgentName = is (agent_name any_agent)
+layout w Time = is (universal 24 (Joined (time_leaf w)))
+layout w Options = is (universal 3 (JoinedBits options))
+layout w RefType = is (integer (one_of (1 ∷ 2 ∷ 3 ∷ 4 ∷ 5 ∷ 8 ∷ [])))
+layout w Name = is (ruled name_rule (sequence_of Rdn))
+layout w Rdn = is (ruled rdn_rule (set_of Pair))
+layout w Rdns = is (sequence_of Rdn)
+layout w Pair = is (ruled pair_rule (sequence (plain AnyOid ∷ plain Value ∷ [])))
+layout w Attribute = is (sequence (plain AnyOid ∷ plain Values ∷ []))
+layout w Attributes = is (set_of Attribute)
+layout w Values = is (ruled some_members (set_of Value))
+layout w TypeList = is (set_of AnyOid)
+layout w Selection = is (set (optional (at 1 TypeList) ∷ []))
+layout w Controls = is (ruled controls_rule (set (or (options_node false false) (at 0 Options) ∷ optional (at 1 AnyNumber) ∷ optional (at 2 AnyNumber) ∷ optional (at 3 (NumberBelow 0 4294967295)) ∷ [])))
+layout w Assertion = is (sequence (plain AnyOid ∷ plain Value ∷ []))
+layout w Changes = is (sequence_of Change)
+layout w Change = choice 0 (Explicit Attribute) ∷ choice 1 (Explicit AnyOid) ∷ choice 2 (Explicit Attribute) ∷ choice 3 (Explicit Attribute) ∷ []
+layout w (Filter levels) = filter levels
+layout w (Filters levels) = is (set_of (Filter levels))
+layout w Item =
+    choice 0 (Explicit Assertion)
+    ∷ choice 1 (Explicit Substrings)
+    ∷ choice 2 (Explicit Assertion)
+    ∷ choice 3 (Explicit Assertion)
+    ∷ choice 4 (Explicit AnyOid)
+    ∷ choice 5 (Explicit Assertion)
+    ∷ []
+layout w Substrings = is (sequence (plain AnyOid ∷ plain Parts ∷ []))
+layout w Parts = is (ruled parts_rule (sequence_of PlacedPart))
+layout w PlacedPart = choice 0 (Explicit Part) ∷ choice 1 (Explicit Part) ∷ choice 2 (Explicit Part) ∷ []
+layout w Chaining = is (set (at 0 Name ∷ at 1 Progress ∷ at 2 Trace ∷ at 3 RefType ∷ or_nothing (at 4 Rdns) ∷ []))
+layout w Progress = is (ruled progress_rule (sequence (plain (Enumeration 1 3) ∷ optional (plain (NumberBelow 1 16)) ∷ [])))
+layout w Trace = is (ruled trace_rule (sequence_of TraceItem))
+layout w TraceItem = is (sequence (plain AgentName ∷ plain Name ∷ plain Progress ∷ or (Flag false) (plain Boolean) ∷ []))
+layout w Agents = is (sequence_of Agent)
+layout w Agent = is (sequence (plain AgentName ∷ or (Flag false) (plain Boolean) ∷ []))
+layout w Reference = is (set (at 0 Name ∷ at 1 Progress ∷ at 2 RefType ∷ at 3 Agents ∷ or_nothing (at 4 Rdns) ∷ or (Flag false) (at 5 Boolean) ∷ []))
+layout w References = is (sequence_of Reference)
+layout w Source = is (sequence (plain Name ∷ plain AgentName ∷ optional (plain (NumberBelow 0 4294967295)) ∷ []))
+layout w Sources = is (sequence_of Source)
+layout w EntryInfo = is (sequence (plain Name ∷ or (Flag true) (plain Boolean) ∷ plain Attributes ∷ []))
+layout w EntryInfos = is (sequence_of EntryInfo)
+layout w Sub = is (sequence (plain Rdn ∷ or (Flag true) (plain Boolean) ∷ []))
+layout w Subs = is (sequence_of Sub)
+layout w Qualifier = is (set (optional (at 0 (NumberBelow 1 1)) ∷ or_nothing (at 1 References) ∷ []))
+layout w AttributeError = is (sequence (plain (NumberBelow 1 6) ∷ plain AnyOid ∷ []))
+layout w NameError = is (sequence (plain (NumberBelow 1 1) ∷ plain Name ∷ []))
+layout w ServiceError = is (sequence (plain (NumberBelow 1 12) ∷ optional (at 0 Reference) ∷ optional (at 1 TraceItem) ∷ []))
+layout w UpdateError = is (sequence (plain (NumberBelow 1 7) ∷ []))
+layout w ShadowError = is (sequence (plain (NumberBelow 1 11) ∷ optional (at 0 Time) ∷ optional (at 1 Time) ∷ []))
+layout w Agreement = is (integer (from_to 0 4294967295))
+layout w ShadowArgument = is (sequence (plain Agreement ∷ optional (at 0 Time) ∷ plain (Enumeration 1 2) ∷ []))
+layout w UpdateArgument = is (sequence (plain Agreement ∷ plain Time ∷ plain Refresh ∷ []))
+layout w Refresh = universal 5 (Primitive null) ∷ choice 0 (Explicit Total) ∷ choice 1 (Explicit Steps) ∷ []
+layout w Total = is (sequence (plain Entries ∷ plain Knowns ∷ plain NonSpecifics ∷ []))
+layout w Entries = is (sequence_of Entry)
+layout w Entry = is (ruled entry_rule (sequence (plain Name ∷ or (Flag true) (plain Boolean) ∷ plain Attributes ∷ [])))
+layout w Knowns = is (sequence_of Known)
+layout w Known = is (ruled known_rule (sequence (plain Name ∷ plain WorldAgents ∷ [])))
+layout w NonSpecifics = is (sequence_of NonSpecific)
+layout w NonSpecific = is (ruled masters_rule (sequence (plain Name ∷ plain WorldAgents ∷ [])))
+layout w WorldAgents = is (sequence_of WorldAgent)
+layout w WorldAgent = is (sequence (plain WorldAgentName ∷ or (Flag false) (plain Boolean) ∷ []))
+layout w WorldAgentName = is (agent_name w.is_agent)
+layout w Steps = is (sequence_of Step)
+layout w Step = choice 0 (Explicit Entry) ∷ choice 1 (Explicit Name) ∷ choice 2 (Explicit Entry) ∷ choice 3 (Explicit Renamed) ∷ []
+layout w Renamed = is (sequence (plain Name ∷ plain Entry ∷ []))

@@ -1,0 +1,11 @@
+pub mod Trees
+pub mod Nodes
+pub mod Named
+pub mod Forms
+pub mod Judged
+pub mod Leaves
+pub mod Rules
+pub mod Layouts
+pub mod Typed
+pub mod Written
+pub mod Laws
