@@ -20,7 +20,8 @@ pub record Sub : Type 0 where
   pub rdn : Rdn
   pub copy : Bool
 
--- a naming context that an answer was computed from, its agent, and the moment of the copy; none at a master
+-- a naming context that an answer was computed from, its agent, and the moment of the copy; none at a master. Sources are
+-- this project's own.
 pub record Source : Type 0 where
   pub context : Name
   pub agent : ℕ
@@ -38,7 +39,8 @@ pub data Answer : Type 0 where
   Found : List EntryInfo → List Source → Outcome → Answer
   Changed : Answer
 
--- problems by their numbers: of attributes, of updates and of the service (X.511, section 12)
+-- problems by their numbers: of attributes, of updates and of the service (X.511, section 12). What a problem of the service
+-- tells beside its number is this project's own.
 pub data DirError : Type 0 where
   NoSuchObject : Name → DirError
   AttributeProblem : ℕ → TypeRef → DirError

@@ -1,5 +1,5 @@
--- The attributes of an entry (X.501, section 8): values are distinct by equality and stand in the order of their
--- normal forms, attributes in the order of their types.
+-- The attributes of an entry (X.501, section 8): values are distinct by equality. That they stand in the order of their
+-- normal forms, and attributes in the order of their types, is this project's own.
 use Rattle.std.specs.Prelude.{ℕ, Bool, not, ◌&&◌, ◌==◌, nat_lt, if◌then◌else◌, List, [], ◌∷◌, map, length}
 use Rattle.std.specs.List.{list_any, list_all, filter, filter_map, find}
 use Rattle.std.specs.declared.option.Option.{Option}

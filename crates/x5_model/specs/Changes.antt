@@ -1,4 +1,5 @@
--- What a modifyEntry and a modifyDN do to an entry (X.511, sections 11.3 and 11.4).
+-- What a modifyEntry and a modifyDN do to an entry (X.511, sections 11.3 and 11.4). The order in which refusals count, and
+-- that values may be added to an absent attribute, is this project's own.
 use Rattle.std.specs.Prelude.{ℕ, Bool, true, false, if◌then◌else◌, List, [], ◌∷◌}
 use Rattle.std.specs.declared.option.Option.{Option}
 use Rattle.std.specs.declared.option.Option.TheVariants.{None, Some}

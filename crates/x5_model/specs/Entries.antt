@@ -1,4 +1,4 @@
--- Entries (X.501, section 8): attributes with their values.
+-- Entries (X.501, section 8: directory entries): attributes with their values. Their order is this project's own.
 use Rattle.std.specs.Prelude.{ℕ, List}
 use Rattle.x5_model.specs.Values.{StoredValue, Name}
 

@@ -1,4 +1,4 @@
--- What a name is compared by (X.501, section 8: distinguished names): a list of keys of RDNs from the root,
+-- What a name is compared by (X.501, section 9: names): a list of keys of RDNs from the root,
 -- each a list of pairs of a type number and a normal value, in the order of type numbers.
 -- On keys `≡` is sameness, a prefix is a `take`, and so is a parent.
 use Rattle.std.specs.Prelude.{◌≡◌, ℕ, ◌+◌, ◌-◌, Bool, ◌&&◌, ◌==◌, nat_lt, List, [], length, take}
@@ -52,7 +52,7 @@ is_child above a = (length a == (length above + 1)) && is_prefix above a
 abbrev pub is_below : Key → Key → Bool
 is_below above a = nat_lt (length above) (length a) && is_prefix above a
 
--- the order: RDN by RDN and a prefix first; RDNs pair by pair, by type number and then by the octets
+-- the order, which is this project's own: RDN by RDN and a prefix first; RDNs pair by pair, by type number and then by the octets
 abbrev pub pair_cmp : KeyPair → KeyPair → Ordering
 pair_cmp a b = ordering_then (nat_cmp a.0 b.0) (slice_cmp nat_cmp a.1 b.1)
 

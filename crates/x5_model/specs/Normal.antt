@@ -1,5 +1,5 @@
--- Which values are of a kind, and their normal forms, by which they are compared (X.520: matching rules;
--- X.501, section 12). Texts are octets of UTF-8; an octet below U+0080 stands for the character of its number.
+-- Which values are of a kind, and their normal forms, by which they are compared (X.520: matching rules; X.501, section 8:
+-- matching rules). That equal values have one normal form, and what it looks like as octets, is this project's own. Texts are octets of UTF-8; an octet below U+0080 stands for the character of its number.
 use Rattle.std.specs.Prelude.{◌≡◌, ℕ, ◌+◌, ◌*◌, ◌^◌, Bool, true, false, ◌&&◌, ◌||◌, not, if◌then◌else◌, ◌==◌, nat_lt, nat_le, List, [], ◌∷◌, ◌++◌, length, map, sum, filter, flat_map, Option, Some, None, Result, Ok, Err, chars, encode_utf8_all, codes}
 use Rattle.std.specs.List.{list_all, list_any}
 use Rattle.std.specs.Int.{to_be_bytes, w32}
@@ -9,7 +9,7 @@ use Rattle.x5_model.specs.Keys.{KeyPair, KeyRdn, Key}
 use Rattle.x5_model.specs.Values.{Text, Value, TextValue, OctetsValue, OidValue, NameOf, NameValue, Pair, Rdn, Name, written_pair, written}
 use Rattle.x5_model.specs.Types.{Kind, TextKind, PrintableKind, CountryKind, NumericKind, TelephoneKind, OidKind, NameKind, OctetsKind, kind_of, may_name}
 
--- ---- limits: octets of a value, RDNs of a name, pairs of an RDN
+-- ---- limits, which are this project's own: octets of a value, RDNs of a name, pairs of an RDN
 
 abbrev pub most_octets : ℕ
 most_octets = 1024
@@ -104,7 +104,7 @@ text_normal k t = part_normal k true true t
 
 -- ---- object identifiers (X.660)
 
--- two arcs or more, each below 2^32; the first below 3, and below 40 the second where the first is below 2
+-- two arcs or more, each below 2^32 (this project's limit); the first below 3, and below 40 the second where the first is below 2
 abbrev pub is_oid : List ℕ → Bool
 is_oid [] = false
 is_oid (a ∷ []) = false
@@ -200,7 +200,7 @@ normal_form k (OctetsValue bs) = bs
 normal_form k (OidValue arcs) = oid_normal arcs
 normal_form k (NameOf n) = key_octets (written_key n)
 
--- a value isn't of the kind, or it is and passes this limit
+-- a value isn't of the kind, or it is and passes a limit, which is told
 pub data ValueFault : Type 0 where
   WrongSyntax : ValueFault
   TooLong : ℕ → ValueFault

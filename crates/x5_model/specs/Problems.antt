@@ -1,4 +1,4 @@
--- The numbers of problems (X.511, section 12).
+-- The numbers of problems: this project's own, after X.511, section 12.
 use Rattle.std.specs.Prelude.{ℕ}
 
 -- of attributes (X.511, section 12.4)

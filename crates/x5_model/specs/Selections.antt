@@ -24,7 +24,7 @@ shown_attribute a = record { kind = Known a.kind; values = map (λ v. v.value) a
 abbrev pub shown : Selection → Entry → List Shown
 shown selection e = map shown_attribute (filter (λ a. is_selected selection a.kind) e.attributes)
 
--- a read that lists types, none of which the entry has, is refused with the first of them
+-- a read that lists types, none of which the entry has, is refused with the first of them (X.511, section 9.1)
 abbrev pub selection_fault : Selection → Entry → Option TypeRef
 selection_fault All e = None
 selection_fault (Only []) e = None

@@ -1,5 +1,6 @@
 -- Static refusals: what is refused by the request alone, before any name is resolved (X.511, sections 9 to 12).
--- All refusals of a request are listed in the order in which they count, and the first is given.
+-- All refusals of a request are listed in the order in which they count, and the first is given. This order is this
+-- project's own, and so are the refusals of requests on the root and of names that are too short for an addEntry.
 use Rattle.std.specs.Prelude.{Bool, false, not, ◌||◌, ◌==◌, nat_lt, List, [], ◌∷◌, ◌++◌, map, length}
 use Rattle.std.specs.List.{list_any, flat_map}
 use Rattle.std.specs.declared.option.Option.{Option}

@@ -74,7 +74,7 @@ truth_by test (Unknown arcs) asserted e = Undefined
 truth_by test (Known kind) None e = Undefined
 truth_by test (Known kind) (Some x) e = truth_of (some_value (test x) e kind)
 
--- undefined too where the type's kind lacks the rule
+-- undefined too where the type's kind lacks the rule (which kinds have one is this project's own: Types)
 abbrev pub ordered : TypeRef → Bool
 ordered (Known kind) = has_order (kind_of kind)
 ordered (Unknown arcs) = false

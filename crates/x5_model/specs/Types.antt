@@ -1,12 +1,14 @@
--- The attribute types that agents know (X.520, X.501, X.509): object identifiers 2.5.4 and a number.
-use Rattle.std.specs.Prelude.{ℕ, Bool, true, false, ◌==◌, List, [], ◌∷◌}
+-- The attribute types that agents know: object identifiers 2.5.4 and a number, after X.520, X.501 and X.509. The choice of
+-- types, their keywords and kinds, which of them may name and which have one value, is this project's own (docs/FORMATS.md,
+-- attribute types).
+use Rattle.std.specs.Prelude.{ℕ, Bool, true, false, not, ◌&&◌, ◌==◌, List, [], ◌∷◌}
 use Rattle.std.specs.List.{find}
 use Rattle.std.specs.declared.option.Option.{Option}
 use Rattle.std.specs.declared.option.Option.TheVariants.{None, Some}
 use lib.Chars.{codes}
-use Rattle.x5_model.specs.Values.{Text}
+use Rattle.x5_model.specs.Values.{Text, TypeRef, Known, Unknown}
 
--- what values of a type are (docs/FORMATS.md, attribute types)
+-- what values of a type are
 pub data Kind : Type 0 where
   TextKind : Kind
   PrintableKind : Kind
@@ -64,6 +66,15 @@ in_row x f (Some r) = f r
 abbrev pub is_known : ℕ → Bool
 is_known number = in_row false (λ r. true) (row_of number)
 
+-- A type goes by its number where the table has it: then its number alone stands for it, and its object identifier doesn't.
+abbrev pub in_table : List ℕ → Bool
+in_table (a ∷ b ∷ c ∷ number ∷ []) = (a == 2) && ((b == 5) && ((c == 4) && is_known number))
+in_table arcs = false
+
+abbrev pub is_type : TypeRef → Bool
+is_type (Known number) = is_known number
+is_type (Unknown arcs) = not (in_table arcs)
+
 -- a number that isn't in the table is of no use; it counts as octets
 abbrev pub kind_of : ℕ → Kind
 kind_of number = in_row OctetsKind (λ r. r.kind) (row_of number)
@@ -74,7 +85,7 @@ may_name number = in_row false (λ r. r.names) (row_of number)
 abbrev pub is_single : ℕ → Bool
 is_single number = in_row false (λ r. r.single) (row_of number)
 
--- the kinds that have an ordering rule, and those that have substrings
+-- the kinds that have an ordering rule, and those that have substrings; these too are this project's own
 abbrev pub has_order : Kind → Bool
 has_order TextKind = true
 has_order PrintableKind = true

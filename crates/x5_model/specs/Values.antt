@@ -1,4 +1,4 @@
--- Attribute types, values and spelled names (X.501, sections 8 and 12; X.520).
+-- Attribute types, values and spelled names (X.501, sections 8 and 9; X.520).
 use Rattle.std.specs.Prelude.{ℕ, ◌-◌, List, [], ◌∷◌, length, map, take}
 use Rattle.std.specs.declared.option.Option.{Option}
 use Rattle.x5_model.specs.Keys.{KeyPair, KeyRdn, Key}

@@ -13,7 +13,7 @@ use Rattle.x5_model.specs.Requests.{Request}
 use Rattle.x5_model.proofs.Decide.{less_decides}
 use Rattle.x5_model.proofs.Lists.{both_true, in_either, in_map, of_map, of_flat, of_filter, of_all}
 use Rattle.x5_model_tree.specs.World.{Specific, Nssr, Agent, Agreement, World}
-use Rattle.x5_model_tree.specs.Described.{IsDescribed, is_agreement}
+use Rattle.x5_model_tree.specs.Described.{IsDescribed, is_agreement, is_number}
 use Rattle.x5_model_tree.specs.Tree.{is_there, part}
 use Rattle.x5_model_tree.specs.Masters.{Mastered, pin_of, numbered, agent_at, mastered, masters}
 use Rattle.x5_model_run.specs.Holdings.{Held, Copy, Holdings, may_copy, usable_agents, usable_copies, subordinates}
@@ -58,7 +58,7 @@ master_there w a q c =
 
 agreement_there : (w : World) (g : Agreement) → IsDescribed w → In g w.agreements → IsThere w g.supplier × IsThere w g.consumer
 agreement_there w g d i =
-    let e : is_agreement w g ≡ true = of_all (is_agreement w) g w.agreements d.agreements i in
+    let e = (both_true (is_number g.number) _ (of_all (is_agreement w) g w.agreements d.agreements i)).1 in
     let f = (both_true _ (nat_lt g.supplier (length w.agents) && nat_lt g.consumer (length w.agents)) e).1 in
     let b = both_true (nat_lt g.supplier (length w.agents)) (nat_lt g.consumer (length w.agents)) f in
     (below_there w.agents g.supplier ((less_decides g.supplier (length w.agents)).0 b.0), below_there w.agents g.consumer ((less_decides g.consumer (length w.agents)).0 b.1))

@@ -23,6 +23,7 @@ use Rattle.x5_model_run.specs.Covers.{touched}
 use Rattle.x5_model_run.specs.Needs.{by_pin, subset_of, new_name, resolution_needs, part_needs, copied_needs, passing_needs}
 use Rattle.x5_model_run.specs.Placed.{is_query_below}
 use Rattle.x5_model_run.specs.Stage.{stage_of}
+use Rattle.x5_model_tree.proofs.Stored.{pins_short}
 use Rattle.x5_model_theory.specs.Leading.{IsSound, item_for, level_of, Leads}
 use Rattle.x5_model_theory.proofs.Bounding.{same_level}
 use Rattle.x5_model_theory.proofs.Following.{followed_is_placed}
@@ -224,12 +225,12 @@ resolution_pays p s from k r set ready looked e =
     let needed : In r (resolution_needs (holdings_at p k.receiver) k.message ++ copied_needs (holdings_at p k.receiver) k.message) = subst (λ (xs : List Reference). In r xs) (sym one) here in
     elim (in_either r (resolution_needs (holdings_at p k.receiver) k.message) (copied_needs (holdings_at p k.receiver) k.message) needed) [
       | inl i ↦
-          let x = resolution_step p k.receiver k.message sound set.by_keys.short r i in
+          let x = resolution_step p k.receiver k.message sound (pins_short (knowledge_at p) sound.described) r i in
           let early : is_done k.message.progress ≡ false = resolved (holdings_at p k.receiver) k.message (λ y. is_done y ≡ false) x.0 refl (λ j d. refl) in
           paid_by p s from k r set ready looked needed (is_passing (holdings_at p k.receiver) k.message r looked.0 (inl i)) (ap (λ (b : Bool). b && is_wide k.message.kind) early) x.1
           (λ a ia. resolution_leads p k.receiver k.message r a sound i ia)
       | inr i ↦
-          let x = copied_step p k.receiver k.message sound set.by_keys.short r i in
+          let x = copied_step p k.receiver k.message sound (pins_short (knowledge_at p) sound.described) r i in
           paid_by p s from k r set ready looked needed (is_passing (holdings_at p k.receiver) k.message r looked.0 (inr i)) (narrow (is_done k.message.progress) (is_wide k.message.kind) x.0) x.1
           (λ a ia. copies_lead_on p k.receiver k.message r a sound i ia)
     ]

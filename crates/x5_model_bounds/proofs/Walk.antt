@@ -21,11 +21,12 @@ use Rattle.x5_model_run.specs.Chain.{Scene}
 use Rattle.x5_model_run.specs.Right.{master_at}
 use Rattle.x5_model_serve.specs.Finding.{Here, Onward, Stuck, Found, find, IsLooked}
 use Rattle.x5_model_serve.specs.Answering.{rest_of_parts, own_source, copy_source, is_unavailable, in_vain, to_follow}
-use Rattle.x5_model_serve.specs.Serving.{Hand, holds_now, found_at, begins_parts, Arrives, carried, next_line, line_of, with_line, accepting, parts_refs, heard_or, is_final, Heard, Unheard, Hears, Act, Does, loops, is_long, done_before, refused, unfit, stuck, nowhere, refers, goes, casts, reads, reads_copy, gives_parts, asks_parts, updates, not_done, does, probes_all, misses, taken, breaks, no_probe, clear, unsure, silent, spent, lost, dropped, sends, final, referral, wide_referral, unexplored, none_yet, in_vain_too, heard, unheard, none_asked, unable_too, silent_too, answered, nobody_has, some_silent, no_part, part_unheard, part_unavailable, part_answered, part_breaks}
-use Rattle.x5_model_serve.specs.Accepting.{committed}
+use Rattle.x5_model_serve.specs.Serving.{Hand, holds_now, found_at, begins_parts, Arrives, line_for, carried_for, next_line, line_of, with_line, with_accepted, parts_refs, heard_or, is_final, Heard, Unheard, Hears, Act, Does, loops, is_long, done_before, refused, unfit, stuck, nowhere, refers, goes, casts, reads, reads_copy, gives_parts, asks_parts, updates, not_done, does, probes_all, misses, taken, breaks, no_probe, clear, unsure, silent, spent, lost, dropped, sends, final, referral, wide_referral, unexplored, none_yet, in_vain_too, heard, unheard, none_asked, unable_too, silent_too, answered, nobody_has, some_silent, no_part, part_unheard, part_unavailable, part_answered, part_breaks}
+use Rattle.x5_model_serve.specs.Committed.{committed}
 use Rattle.x5_model_serve.specs.Claims.{Setting}
 use Rattle.x5_model_serve.specs.Following.{IsFinalHeard}
-use Rattle.x5_model_serve.proofs.Carrying.{is_carried, resolving}
+use Rattle.x5_model_run.proofs.Carrying.{is_carried}
+use Rattle.x5_model_serve.proofs.Carrying.{resolving}
 use Rattle.x5_model_serve.proofs.Finals.{leaves}
 use Rattle.x5_model_bounds.specs.Costs.{total, whole_cost, Costs, serving_cost}
 use Rattle.x5_model_bounds.specs.Bounds.{Ready, Stays, Carries, Payable, heard_cost, After, asks_of, cost_of, Pays, ResolutionPays, PartsPay, ProbesPay, JudgeIsMaster, ServingPays}
@@ -97,13 +98,13 @@ module _ (p : Point) (s : Scene) where
           absurd (false_true (sym e ∙ or_left (x == k.receiver) (has ◌==◌ xs k.receiver) ((Decides-eqb x k.receiver).1 is)))
 
   -- the master accepts
-  accepts : (k : Hand) (i j : Journal) (u : Bool) (n t : ℕ) → After p s u i j n → n ≤ t → master_at p (key_of s.message.target) ≡ Some k.receiver → After p s true i (accepting k.receiver j) t
+  accepts : (k : Hand) (i j : Journal) (u : Bool) (n t : ℕ) → After p s u i j n → n ≤ t → master_at p (key_of s.message.target) ≡ Some k.receiver → After p s true i (with_accepted k.receiver j) t
   accepts k i j u n t a h master = record {
     stays = record {
       masters = λ b ib. elim (in_first b k.receiver j.accepted ib) [ inl e ↦ master ∙ ap Some (sym e) | inr l ↦ a.stays.masters b l ];
       quiet = inl refl;
     };
-    costs = costs_more s (whole_cost p) i (accepting k.receiver j) n t a.costs h;
+    costs = costs_more s (whole_cost p) i (with_accepted k.receiver j) n t a.costs h;
   }
 
   quiet_at : (i : Journal) → Stays p s true i → i.accepted ≡ [] → Stays p s false i
@@ -270,8 +271,8 @@ module _ (resolution : ResolutionPays) (parts : PartsPay) (probes : ProbesPay) (
   pays _ _ _ (spent {from} {o} {r} {j} a e) = λ n asks carries le st. after_none p s asks j (1 + n) st
   pays _ _ _ (lost {from} {o} {r} {j} a e f) = λ n asks carries le st. after_line p s asks (next_line s j from o r a) j st
   pays _ _ _ (dropped {from} {o} {r} {i} {j} a y e f d) =
-      let m : Chained = carried from o r in
-      let c = is_carried from o r in
+      let m : Chained = carried_for from o r in
+      let c = is_carried from (line_for o) r in
       let first = pays _ _ _ d in
       λ n asks carries le st.
       let st2 = stays_lined p s asks (line_of s i from a m) i st in
@@ -289,8 +290,8 @@ module _ (resolution : ResolutionPays) (parts : PartsPay) (probes : ProbesPay) (
             }
       ]
   pays _ _ _ (sends {from} {o} {r} {i} {j} {l} a y z e f d u) =
-      let m : Chained = carried from o r in
-      let c = is_carried from o r in
+      let m : Chained = carried_for from o r in
+      let c = is_carried from (line_for o) r in
       let first = pays _ _ _ d in
       let next = pays _ _ _ u in
       λ n asks carries le st.

@@ -16,7 +16,7 @@ use Rattle.x5_model.proofs.Prefixes.{prefix_decides, take_is_prefix}
 use Rattle.x5_model_tree.specs.World.{Specific, Context, Agent, Agreement}
 use Rattle.x5_model_tree.specs.Tree.{lowest}
 use Rattle.x5_model_tree.specs.Masters.{numbered, mastered, held_contexts, holds}
-use Rattle.x5_model_tree.specs.Described.{is_agreement, is_entry_name}
+use Rattle.x5_model_tree.specs.Described.{is_agreement, is_entry_name, is_number}
 use Rattle.x5_model_tree.proofs.Gives.{owner_of}
 use Rattle.x5_model_tree.proofs.Longest.{IsLongest, longest_right}
 use Rattle.x5_model_run.specs.Journal.{same_name}
@@ -95,7 +95,7 @@ module _ (p : Point) (o : ℕ) (sound : IsSound p) where
   holds_it q (inr s) =
       let g = of_map supply_of s.0 (knowledge_at p).agreements s.1 in
       let takes : g.0.consumer ≡ o = ap (λ (x : Supply). x.consumer) (sym g.2) ∙ s.2 in
-      let fit = of_all (is_agreement (knowledge_at p)) g.0 (knowledge_at p).agreements sound.described.agreements g.1 in
+      let fit = (both_true (is_number g.0.number) _ (of_all (is_agreement (knowledge_at p)) g.0 (knowledge_at p).agreements sound.described.agreements g.1)).1 in
       let both = both_true (is_entry_name g.0.context) (nat_lt g.0.supplier (length (knowledge_at p).agents) && nat_lt g.0.consumer (length (knowledge_at p).agents)) fit in
       let less : g.0.consumer < length (knowledge_at p).agents = (less_decides g.0.consumer (length (knowledge_at p).agents)).0 (both_true (nat_lt g.0.supplier (length (knowledge_at p).agents)) (nat_lt g.0.consumer (length (knowledge_at p).agents)) both.1).1 in
       let a = gets (knowledge_at p).agents o (subst (λ (x : ℕ). x < length (knowledge_at p).agents) takes less) in

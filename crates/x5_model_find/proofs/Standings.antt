@@ -36,12 +36,11 @@ module _ (p : Point) (s : updates.Stands p) where
   pins_are q = (λ i. subst (λ (ks : List Key). In q ks) same_pins i, λ i. subst (λ (ks : List Key). In q ks) (sym same_pins) i)
 
 pub stand_alike : StandAlike
-stand_alike p s short = record {
+stand_alike p s = record {
   described = s.described;
   consistent = s.consistent;
   coherent = coherent_now p s;
   pins_are = pins_are p s;
-  short = short;
 }
 
 -- contexts and references stay

@@ -35,10 +35,9 @@ use Rattle.x5_model_serve.specs.Serving.{hand, begins_parts}
 use Rattle.x5_model_serve.specs.Claims.{IsAgent}
 
 -- ---- what a line finds
--- Where updates find a line standing, and no pin has more than 16 RDNs, so do the parts of a query;
+-- Where updates find a line standing, so do the parts of a query;
 abbrev pub StandAlike : Type 0
-StandAlike =
-    (p : Point) → updates.Stands p → ((q : Key) → In q (pins (knowledge_at p)) → length q ≤ 16) → parts.Stands p
+StandAlike = (p : Point) → updates.Stands p → parts.Stands p
 
 -- and copies stand as of their moments, as long as no context is moved.
 abbrev pub CopiesAlways : Type 0

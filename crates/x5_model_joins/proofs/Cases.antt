@@ -1,7 +1,7 @@
 -- The cases of the loop over references: each joins what was gathered so far with what one more reference brought, and
 -- shows that nobody was asked by that reference before.
 use Rattle.std.proofs.Common.{◌≡◌, ℕ, ◌+◌, ◌<◌, ◌≤◌, Bool, true, false, ◌&&◌, ◌||◌, ◌==◌, nat_le, nat_lt, ◌⊎◌, inl, inr, List, [], ◌∷◌, ◌++◌, length, refl, sym, ap, subst, ◌∙◌, arith, Option}
-use Rattle.std.specs.List.{list_any}
+use Rattle.std.specs.List.{list_any, list_all}
 use Rattle.std.specs.Option.{is_some, is_none}
 use Rattle.std.proofs.lemmas.Bool.Decides.{Decides-eqb}
 use Rattle.x5_model.specs.Words.{first_of}
@@ -19,14 +19,14 @@ use Rattle.x5_model.proofs.Lists.{both_true, either_true, or_left, or_right, in_
 use Rattle.x5_model.proofs.Ascending.{in_sorted}
 use Rattle.x5_model_tree.specs.Tree.{Tree, key_at, keys_of, part, is_there, is_there_or_root}
 use Rattle.x5_model_tree.specs.Ask.{Refuses}
-use Rattle.x5_model_run.specs.Journal.{Line, Journal, depth, is_done, is_wide, same_progress, every_line}
-use Rattle.x5_model_run.specs.Needs.{target_of}
+use Rattle.x5_model_run.specs.Journal.{Line, Journal, depth, is_done, is_wide, same_progress}
+use Rattle.x5_model_run.specs.Needs.{target_of, is_unable}
 use Rattle.x5_model_run.specs.History.{Point, knowledge_at, tree_at}
 use Rattle.x5_model_run.specs.Chain.{Scene, IsCarried, AllLicensed}
 use Rattle.x5_model_run.specs.Covers.{told}
 use Rattle.x5_model_run.specs.Blocked.{Asked}
 use Rattle.x5_model_run.specs.Right.{Right, result, changed, error, referral, unheard}
-use Rattle.x5_model_run.specs.Placed.{is_query_below, is_unable, is_long, RightReply, usual, unable, limit}
+use Rattle.x5_model_run.specs.Placed.{is_query_below, is_long, RightReply, usual, unable, limit}
 use Rattle.x5_model_theory.specs.Knowledge.{Area}
 use Rattle.x5_model_theory.specs.Described.{knowledge_of}
 use Rattle.x5_model_theory.specs.Changing.{holding}
@@ -34,8 +34,9 @@ use Rattle.x5_model_parts.specs.Standing.{Stands, knowledge_now}
 use Rattle.x5_model_parts.specs.Parts.{BeginsHere, rest_needs}
 use Rattle.x5_model_parts.proofs.Asking.{false_true}
 use Rattle.x5_model_serve.specs.Answering.{taken_before, is_unavailable, is_service}
-use Rattle.x5_model_serve.specs.Serving.{Hand, line_for, Heard, Unheard, Hears, Whole, limit_reply}
-use Rattle.x5_model_serve.specs.Claims.{SoFar, serving_of, AtHand, Keeps, MayTake, AskedSoFar, TakenRight, last_number, is_served_line, is_settled_line, OnlyBy, MayGather, TakesRight, GathersRight}
+use Rattle.x5_model_serve.specs.Serving.{Hand, line_for, Heard, Unheard, Hears, Whole, limit_reply, is_spent}
+use Rattle.x5_model_run.specs.Thorough.{is_served}
+use Rattle.x5_model_serve.specs.Claims.{line_at, asked_line, SoFar, serving_of, AtHand, Keeps, MayTake, AskedSoFar, TakenRight, last_number, is_settled_line, OnlyBy, MayGather, TakesRight, GathersRight}
 use Rattle.x5_model_parts.proofs.Parting.{target_fits}
 use Rattle.x5_model_parts.proofs.Joining.{sight, View, the_view, asks}
 use Rattle.x5_model_theory.proofs.Following.{query_of}
@@ -48,11 +49,11 @@ use Rattle.x5_model_joins.proofs.Steps.{part_is_gathered, loss_is_gathered, unav
 
 -- ---- nothing is done
 
-none_since : (s : Scene) (test : Line → List Line → Bool) (lines : List Line) (n : ℕ) → AllLicensed s lines → s.sent + length lines ≤ n → every_line (λ l before. nat_le l.number n || test l before) lines ≡ true
+none_since : (s : Scene) (test : Line → Bool) (lines : List Line) (n : ℕ) → AllLicensed s lines → s.sent + length lines ≤ n → list_all (λ l. nat_le l.number n || test l) lines ≡ true
 none_since s test [] n h l = refl
 none_since s test (x ∷ lines) n h l =
     let number : x.number ≡ s.sent + length lines + 1 = h.0.number_is in
-    let first : (nat_le x.number n || test x lines) ≡ true = or_left (nat_le x.number n) (test x lines) (at_most x.number n (omega (arith, l, number))) in
+    let first : (nat_le x.number n || test x) ≡ true = or_left (nat_le x.number n) (test x) (at_most x.number n (omega (arith, l, number))) in
     let rest = none_since s test lines n h.1 (omega (arith, l)) in
     λ i. first i && rest i
 
@@ -62,9 +63,10 @@ keeps_itself p s most o j h = record {
   settled_is = refl;
   grows = ([], refl);
   accepted = h.accepted;
-  finished = inr (none_since s (λ l before. is_served_line s j l before && is_settled_line p s j l) j.lines (last_number s j) h.licensed (omega arith));
+  finished = inr (none_since s (λ l. is_served s j l && is_settled_line p s j l) j.lines (last_number s j) h.licensed (omega arith));
   reads = λ e. refl;
   only_more = λ x i. i;
+  same_line = λ x i. refl;
 }
 
 pub no_part : NoPart
@@ -72,7 +74,7 @@ no_part p s most from o a j rest h may so = (keeps_itself p s most o j h, (λ e 
 
 -- ---- a part more
 
-at_hand_later : (p : Point) (s : Scene) (most : ℕ) (o : Hand) (i j : Journal) → AtHand p s o i → Keeps p s most o i j → AtHand p s o j
+abbrev at_hand_later : (p : Point) (s : Scene) (most : ℕ) (o : Hand) (i j : Journal) → AtHand p s o i → Keeps p s most o i j → AtHand p s o j
 at_hand_later p s most o i j h k = record {
   line = h.line;
   receiver_is = h.receiver_is;
@@ -119,9 +121,9 @@ progress_itself (Next k) = (Decides-eqb k k).1 refl
 progress_itself Done = refl
 
 -- nobody was asked by the next one
-still_fresh : (p : Point) (s : Scene) (from : Option ℕ) (o : Hand) (rs more : List Reference) (r : Reference) (i j : Journal) → MayGather p s from o (rs ++ r ∷ more) i → OnlyBy o rs i j → AskedSoFar s from o r j [] (is_wide r.kind)
+still_fresh : (p : Point) (s : Scene) (from : Option ℕ) (o : Hand) (rs more : List Reference) (r : Reference) (i j : Journal) → MayGather p s from o (rs ++ r ∷ more) i → OnlyBy o rs i j → AskedSoFar s o r j []
 still_fresh p s from o rs more r i j m by = record {
-  each = λ a k. elim k [ ];
+  passed = λ e at a k. elim k [ ];
   only = λ e k agent carried. elim (by e k) [
     | inl old ↦ (m.fresh r (in_right r rs (r ∷ more) here)).only e old agent carried
     | inr x ↦ absurd (not_before r rs more m.once (subst (λ (y : Reference). In y rs) (one e x.0 x.1 x.2 x.3 agent carried) x.1))
@@ -145,21 +147,25 @@ assoc_rest [] r more rest = refl
 assoc_rest (u ∷ us) r more rest = ap (λ zs. u ∷ zs) (assoc_rest us r more rest)
 
 -- the loop so far, and then the next one
-pub record Further (p : Point) (s : Scene) (most : ℕ) (from : Option ℕ) (o : Hand) (rs more rest : List Reference) (b : Answer) (r : Reference) (h : Heard) (i j l : Journal) : Type 0 where
+pub record Further (p : Point) (s : Scene) (most : ℕ) (from : Option ℕ) (o : Hand) (number : ℕ) (rs more rest : List Reference) (b : Answer) (r : Reference) (h : Heard) (i j l : Journal) : Type 0 where
   pub first : Keeps p s most o i j
   pub second : Keeps p s most o j l
   pub whole : Keeps p s most o i l
   pub by : OnlyBy o (rs ++ r ∷ more) i l
-  pub so : SoFar p s (serving_of j o) j.lines b (r ∷ (more ++ rest))
-  pub taken : TakenRight p s most from o r l h ⊎ ((h ≡ Hears limit_reply) × (nat_le most (length l.lines) ≡ true))
-  pub begins : BeginsHere p (line_for o)
-  pub needed : In r (rest_needs p (line_for o))
+  pub so : SoFar p s (serving_of j o number) j.lines b (r ∷ (more ++ rest))
+  pub taken : TakenRight p s most (serving_of j o number) from o r l h ⊎ ((h ≡ Hears limit_reply) × (nat_le most (length l.lines) ≡ true))
+  pub begins : BeginsHere p (line_at o number)
+  pub needed : In r (rest_needs p (line_at o number))
+
+-- where it begins doesn't look at the number of its line
+begins_at : (p : Point) (o : Hand) (number : ℕ) → BeginsHere p (line_for o) → BeginsHere p (line_at o number)
+begins_at p o number b = record { stands = b.stands; agent = b.agent; fit = b.fit; begins = b.begins; copies = b.copies }
 
 pub next : (p : Point) (s : Scene) (most : ℕ) (from : Option ℕ) (o : Hand) (rs more : List Reference) (a b : Answer) (r : Reference) (h : Heard) (i j l : Journal)
     → GathersRight p s most from o rs a (Whole b) i j → TakesRight p s most from o r h j l
-    → (rest : List Reference) → AtHand p s o i → MayGather p s from o (rs ++ r ∷ more) i → SoFar p s (serving_of i o) i.lines a ((rs ++ r ∷ more) ++ rest) → Further p s most from o rs more rest b r h i j l
+    → (rest : List Reference) (at : AtHand p s o i) → MayGather p s from o (rs ++ r ∷ more) i → SoFar p s (serving_of i o at.line.number) i.lines a ((rs ++ r ∷ more) ++ rest) → Further p s most from o at.line.number rs more rest b r h i j l
 next p s most from o rs more a b r h i j l loop one rest at may so =
-    let g = loop (r ∷ (more ++ rest)) at (fewer p s from o rs (r ∷ more) i may) (subst (λ (zs : List Reference). SoFar p s (serving_of i o) i.lines a zs) (assoc_rest rs r more rest) so) in
+    let g = loop (r ∷ (more ++ rest)) at (fewer p s from o rs (r ∷ more) i may) (subst (λ (zs : List Reference). SoFar p s (serving_of i o at.line.number) i.lines a zs) (assoc_rest rs r more rest) so) in
     let t = one (at_hand_later p s most o i j at g.0) (may_later p s most from o r i j (may.takes r (in_right r rs (r ∷ more) here)) g.0) (still_fresh p s from o rs more r i j may g.1) in
     record {
       first = g.0;
@@ -168,14 +174,14 @@ next p s most from o rs more a b r h i j l loop one rest at may so =
       by = only_by_both o rs more r i j l g.1 t.1;
       so = g.2;
       taken = t.2;
-      begins = may.begins;
+      begins = begins_at p o at.line.number may.begins;
       needed = may.needed r (in_right r rs (r ∷ more) here);
     }
 
 pub part_unheard : PartUnheard
 part_unheard p s most from o rs a b r i j l loop one rest at may so =
     let n = next p s most from o rs [] a b r Unheard i j l loop one rest at may so in
-    (n.whole, n.by, elim n.taken [ inl t ↦ loss_is_gathered p s most from o j l b r rest n.second.grows n.so t | inr x ↦ (let e = x.0 in cc) ])
+    (n.whole, n.by, elim n.taken [ inl t ↦ loss_is_gathered p s most from o at.line.number j l b r rest n.second.grows n.so t | inr x ↦ (let e = x.0 in cc) ])
 
 pub part_unavailable : PartUnavailable
 part_unavailable p s most from o rs a b r u i j l loop one rest at may so =
@@ -183,7 +189,7 @@ part_unavailable p s most from o rs a b r u i j l loop one rest at may so =
       n.whole,
       n.by,
       elim n.taken [
-        | inl t ↦ unavailable_is_gathered p s most from (line_for o) j l b r u rest n.begins (in_sorted taken_before r (rest_needs p (line_for o)) n.needed) n.second.grows n.so t
+        | inl t ↦ unavailable_is_gathered p s most from (line_at o at.line.number) j l b r u rest n.begins (in_sorted taken_before r (rest_needs p (line_at o at.line.number)) n.needed) n.second.grows n.second.licensed n.so t
         | inr x ↦ (let e = x.0 in cc)
       ],
     )
@@ -194,7 +200,7 @@ part_answered p s most from o rs a b c r i j l loop one rest at may so =
       n.whole,
       n.by,
       elim n.taken [
-        | inl t ↦ part_is_gathered p s most from (line_for o) j l b c r rest n.begins (in_sorted taken_before r (rest_needs p (line_for o)) n.needed) n.second.grows n.so t
+        | inl t ↦ part_is_gathered p s most from (line_at o at.line.number) j l b c r rest n.begins (in_sorted taken_before r (rest_needs p (line_at o at.line.number)) n.needed) n.second.grows n.second.licensed n.so t
         | inr x ↦ (let e = x.0 in cc)
       ],
     )
@@ -255,10 +261,10 @@ part_told p l from r m copies y b needed carried e =
     by (inr v) = inl (ap is_wide carried.kind_is ∙ ap is_wide v.2.kind)
 
 -- nor is its receiver unable to proceed
-not_unable : (s : Scene) (q : Asked) → is_done q.message.progress ≡ true → is_unable s q ≡ true → ⊥
+not_unable : (s : Scene) (q : Asked) → is_done q.message.progress ≡ true → is_unable (s.holdings q.to) q.message ≡ true → ⊥
 not_unable s q done e = go q.message.progress done e
   where
-    go : (x : Progress) → is_done x ≡ true → is_unable s (record q { message = record q.message { progress = x } }) ≡ true → ⊥
+    go : (x : Progress) → is_done x ≡ true → is_unable (s.holdings q.to) (record q.message { progress = x }) ≡ true → ⊥
     go Start d f = false_true d
     go (Next k) d f = false_true d
     go Done d f =
@@ -274,9 +280,9 @@ not_long q lines short all e = elim (either_true (length q.message.trace == 128)
 ]
 
 other_error : (p : Point) (s : Scene) (q : Asked) (j : Journal) (reply : Reply) → Right p s q j reply → (x : DirError) → reply ≡ Failed x → is_service unavailable (Failed x) ≡ false → told (λ key. false) (tree_at p) q.message ≡ Refuses x
-other_error p s q j reply (result res no_update none) x e f = cc
-other_error p s q j reply (changed update some) x e f = cc
-other_error p s q j reply (error {x = y} t h i n) x e f = (let same : y ≡ x = cc in t ∙ ap Refuses same)
+other_error p s q j reply (result on res no_update none) x e f = cc
+other_error p s q j reply (changed on update some) x e f = cc
+other_error p s q j reply (error {x = y} on t i n) x e f = (let same : y ≡ x = cc in t ∙ ap Refuses same)
 other_error p s q j reply (referral v h n) x e f = cc
 other_error p s q j reply (unheard {r = v} l h n) x e f = (let other : is_service unavailable (is_unavailable v) ≡ false = ap (is_service unavailable) e ∙ f in absurd (false_true (sym other)))
 
@@ -286,16 +292,26 @@ breaks_by p s q j spent reply (usual h right) x e f never done short = absurd (n
 breaks_by p s q j spent reply (unable h) x e f never done short = absurd (not_unable s q done h)
 breaks_by p s q j spent reply (limit h) x e f never done short = (sym e, elim (either_true spent (is_long q j.lines) h) [ inl y ↦ y | inr y ↦ absurd (short y) ])
 
+on_line : {from : Option ℕ} {r : Reference} {m : Chained} (o : Hand) (number : ℕ) → IsCarried from (line_for o) r m → IsCarried from (line_at o number) r m
+on_line o number c = record {
+  target_is = c.target_is;
+  progress_is = c.progress_is;
+  kind_is = c.kind_is;
+  exclusions_are = c.exclusions_are;
+  trace_is = c.trace_is;
+  request_is = c.request_is;
+}
+
 pub part_breaks : PartBreaks
 part_breaks p s most from o before after a b r x i j l other short loop one rest at may so =
     let n = next p s most from o before after a b r (Hears (Failed x)) i j l loop one rest at may so in (
       n.whole,
       n.by,
       elim n.taken [
-        | inl t ↦ breaks_by p s (record { to = t.0.receiver; message = t.0.message; counts = true; stood = t.3.stood }) l (nat_le most (length l.lines)) (Failed x) t.3.right x refl other
-            (λ e. part_told p (line_for o) from r t.0.message (λ key. false) x n.begins n.needed t.2 e)
-            (ap is_done t.2.progress_is ∙ needed_done p (line_for o) n.begins r n.needed)
-            (not_long (record { to = t.0.receiver; message = t.0.message; counts = true; stood = t.3.stood }) l.lines (short t.0 t.3.stands) short)
+        | inl t ↦ breaks_by p s (asked_line t.0 t.3.stood) l (is_spent most l) (Failed x) t.3.right x refl other
+            (λ e. part_told p (line_at o at.line.number) from r t.0.message (λ key. false) x n.begins n.needed (on_line o at.line.number t.2) e)
+            (ap is_done t.2.progress_is ∙ needed_done p (line_at o at.line.number) n.begins r n.needed)
+            (not_long (asked_line t.0 t.3.stood) l.lines (short t.0 t.3.stands) short)
         | inr y ↦ ((let e : Failed x ≡ limit_reply = heard_is (Failed x) limit_reply y.0 in e), y.1)
       ],
     )

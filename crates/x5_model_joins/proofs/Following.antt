@@ -26,6 +26,8 @@ use Rattle.x5_model_serve.specs.Claims.{SoFar, LiesWithin}
 use Rattle.x5_model_joins.specs.Joins.{AreParts, FollowTells}
 use Rattle.x5_model_joins.proofs.Contexts.{of_uncovered, in_uncovered, of_same_left, of_same_right, are_same, meet_back, apart_joined}
 use Rattle.x5_model_joins.proofs.Entries.{told_in_order, told_short}
+use Rattle.x5_model_run.specs.Needs.{passing_needs}
+use Rattle.x5_model_joins.proofs.Untried.{of_contains, untried_passing}
 use Rattle.x5_model_joins.proofs.Replacing.{result_of, are_parts}
 
 -- ---- those that somebody tried, and then the others
@@ -85,15 +87,15 @@ module _ (w : World) where
       apart_two us h u v a.0 b.0 (λ e. false_true (sym (not_true v.tried b.1) ∙ sym (ap (λ (r : Reference). r.tried) e) ∙ a.1)) m))
 
 -- what is tried and blocked is lost
-tried_lost : (s : Scene) (q : Asked) (lines : List Line) (us : List Reference) → AllByRecursion (Blocked s q lines) us → AllByRecursion (IsLost s lines) (tried_of us)
+tried_lost : (s : Scene) (q : Asked) (lines : List Line) (us : List Reference) → AllByRecursion (Blocked s q lines) us → AllByRecursion (IsLost s q lines) (tried_of us)
 tried_lost s q lines [] h = tt
 tried_lost s q lines (u ∷ us) h = by u.tried refl (tried_lost s q lines us h.1)
   where
-    lost_one : Blocked s q lines u → u.tried ≡ true → IsLost s lines u
-    lost_one (untried x) t = absurd (false_true (sym x.untried ∙ t))
+    lost_one : Blocked s q lines u → u.tried ≡ true → IsLost s q lines u
+    lost_one (untried x) t = absurd (false_true (sym (untried_passing (s.holdings q.to) q.message u (of_contains (passing_needs (s.holdings q.to) q.message) u x.needed)) ∙ t))
     lost_one (lost x) t = x
 
-    by : (b : Bool) → u.tried ≡ b → AllByRecursion (IsLost s lines) (tried_of us) → AllByRecursion (IsLost s lines) (cond b (u ∷ tried_of us) (tried_of us))
+    by : (b : Bool) → u.tried ≡ b → AllByRecursion (IsLost s q lines) (tried_of us) → AllByRecursion (IsLost s q lines) (cond b (u ∷ tried_of us) (tried_of us))
     by true t rest = (lost_one h.0 t, rest)
     by false t rest = rest
 
@@ -119,19 +121,21 @@ module _ (p : Point) (s : Scene) (q : Asked) (j : Journal) (st : Stands p) (copi
 
   follow : (a : Answer) → IsResult p s q j.lines a → LiesWithin p q (Answered a) → SoFar p s q j.lines (only_unexplored (passed_by a) a) (to_follow a)
   follow (EntryFound info x) res within = record {
-    tells = record { sources = res.sources; once = res.once; exactly = res.exactly; ordered = refl; answered = res.answered; completed = res.completed; apart = res.apart; nested = λ u z i. elim i [ ] };
+    tells = record { found = res.found; spelled = res.spelled; sources = res.sources; once = res.once; exactly = res.exactly; ordered = refl; answered = res.answered; completed = res.completed; apart = res.apart; nested = λ u z i. elim i [ ] };
     lost = tt;
   }
   follow (Matched equal copy x) res within = record {
-    tells = record { sources = res.sources; once = res.once; exactly = res.exactly; ordered = refl; answered = res.answered; completed = res.completed; apart = res.apart; nested = λ u z i. elim i [ ] };
+    tells = record { found = res.found; spelled = res.spelled; sources = res.sources; once = res.once; exactly = res.exactly; ordered = refl; answered = res.answered; completed = res.completed; apart = res.apart; nested = λ u z i. elim i [ ] };
     lost = tt;
   }
   follow Changed res within = record {
-    tells = record { sources = res.sources; once = res.once; exactly = res.exactly; ordered = refl; answered = res.answered; completed = res.completed; apart = res.apart; nested = λ u z i. elim i [ ] };
+    tells = record { found = res.found; spelled = res.spelled; sources = res.sources; once = res.once; exactly = res.exactly; ordered = refl; answered = res.answered; completed = res.completed; apart = res.apart; nested = λ u z i. elim i [ ] };
     lost = tt;
   }
   follow (Listed subs xs o) res within = record {
     tells = record {
+      found = res.found;
+      spelled = res.spelled;
       sources = res.sources;
       once = res.once;
       exactly = exactly_split (map (λ x. key_of x.context) xs) o.unexplored res.exactly;
@@ -145,6 +149,8 @@ module _ (p : Point) (s : Scene) (q : Asked) (j : Journal) (st : Stands p) (copi
   }
   follow (Found infos xs o) res within = record {
     tells = record {
+      found = res.found;
+      spelled = res.spelled;
       sources = res.sources;
       once = res.once;
       exactly = exactly_split (map (λ x. key_of x.context) xs) o.unexplored res.exactly;

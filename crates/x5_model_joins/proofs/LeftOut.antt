@@ -68,6 +68,8 @@ loss_replaces p s q lines Changed r u rest so lost done roots =
     record { tells = so.tells; lost = so.lost }
 loss_replaces p s q lines (Listed subs sources o) r u rest so lost done roots = record {
   tells = record {
+    found = so.tells.found;
+    spelled = so.tells.spelled;
     sources = so.tells.sources;
     once = so.tells.once;
     exactly = (λ i. same_keys (map (λ x. key_of x.context) sources) (filter (λ pin. not (covered_alike (knowledge_at p) r u roots o.unexplored rest pin i)) (touched (knowledge_at p) (tree_at p) q.to q.message))) ∙ so.tells.exactly;
@@ -77,10 +79,12 @@ loss_replaces p s q lines (Listed subs sources o) r u rest so lost done roots = 
     apart = apart_alike (knowledge_at p) r u roots o.unexplored rest ∙ so.tells.apart;
     nested = λ v b i at. let x : _ = in_after (knowledge_at p) r u roots o.unexplored rest v b i at in so.tells.nested x.0 b x.1 x.2;
   };
-  lost = all_more (IsLost s lines) o.unexplored u so.lost lost;
+  lost = all_more (IsLost s q lines) o.unexplored u so.lost lost;
 }
 loss_replaces p s q lines (Found infos sources o) r u rest so lost done roots = record {
   tells = record {
+    found = so.tells.found;
+    spelled = so.tells.spelled;
     sources = so.tells.sources;
     once = so.tells.once;
     exactly = (λ i. same_keys (map (λ x. key_of x.context) sources) (filter (λ pin. not (covered_alike (knowledge_at p) r u roots o.unexplored rest pin i)) (touched (knowledge_at p) (tree_at p) q.to q.message))) ∙ so.tells.exactly;
@@ -90,5 +94,5 @@ loss_replaces p s q lines (Found infos sources o) r u rest so lost done roots = 
     apart = apart_alike (knowledge_at p) r u roots o.unexplored rest ∙ so.tells.apart;
     nested = λ v b i at. let x : _ = in_after (knowledge_at p) r u roots o.unexplored rest v b i at in so.tells.nested x.0 b x.1 x.2;
   };
-  lost = all_more (IsLost s lines) o.unexplored u so.lost lost;
+  lost = all_more (IsLost s q lines) o.unexplored u so.lost lost;
 }

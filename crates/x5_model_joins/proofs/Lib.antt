@@ -1,3 +1,6 @@
+pub mod Backs
+pub mod Untried
+pub mod Here
 pub mod LeftOut
 pub mod Joined
 pub mod Limits

@@ -15,12 +15,14 @@ pub nothing_more : {A : Type 0} (xs : List A) → xs ++ [] ≡ xs
 nothing_more [] = refl
 nothing_more (x ∷ xs) = ap (λ ys. x ∷ ys) (nothing_more xs)
 
-pub blocked_by : (s : Scene) (q : Asked) (lines : List Line) (us : List Reference) → AllByRecursion (IsLost s lines) us → AllByRecursion (Blocked s q lines) us
+pub blocked_by : (s : Scene) (q : Asked) (lines : List Line) (us : List Reference) → AllByRecursion (IsLost s q lines) us → AllByRecursion (Blocked s q lines) us
 blocked_by s q lines [] h = tt
 blocked_by s q lines (u ∷ us) h = (lost h.0, blocked_by s q lines us h.1)
 
 pub limit_last : LimitLast
 limit_last p s q lines (EntryFound info source) so = record {
+  found = so.tells.found;
+  spelled = so.tells.spelled;
   sources = so.tells.sources;
   once = so.tells.once;
   exactly = so.tells.exactly;
@@ -30,6 +32,8 @@ limit_last p s q lines (EntryFound info source) so = record {
   apart = so.tells.apart;
 }
 limit_last p s q lines (Matched equal copy source) so = record {
+  found = so.tells.found;
+  spelled = so.tells.spelled;
   sources = so.tells.sources;
   once = so.tells.once;
   exactly = so.tells.exactly;
@@ -39,6 +43,8 @@ limit_last p s q lines (Matched equal copy source) so = record {
   apart = so.tells.apart;
 }
 limit_last p s q lines Changed so = record {
+  found = so.tells.found;
+  spelled = so.tells.spelled;
   sources = so.tells.sources;
   once = so.tells.once;
   exactly = so.tells.exactly;
@@ -48,6 +54,8 @@ limit_last p s q lines Changed so = record {
   apart = so.tells.apart;
 }
 limit_last p s q lines (Listed subs sources o) so = record {
+  found = so.tells.found;
+  spelled = so.tells.spelled;
   sources = so.tells.sources;
   once = so.tells.once;
   exactly = subst (λ (us : List Reference). same_keys (source_keys (Listed subs sources o)) (uncovered p q us) ≡ true) (nothing_more o.unexplored) so.tells.exactly;
@@ -57,6 +65,8 @@ limit_last p s q lines (Listed subs sources o) so = record {
   apart = subst (λ (us : List Reference). are_apart (knowledge_at p) us ≡ true) (nothing_more o.unexplored) so.tells.apart;
 }
 limit_last p s q lines (Found infos sources o) so = record {
+  found = so.tells.found;
+  spelled = so.tells.spelled;
   sources = so.tells.sources;
   once = so.tells.once;
   exactly = subst (λ (us : List Reference). same_keys (source_keys (Found infos sources o)) (uncovered p q us) ≡ true) (nothing_more o.unexplored) so.tells.exactly;

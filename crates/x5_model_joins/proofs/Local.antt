@@ -39,7 +39,8 @@ use Rattle.x5_model_parts.proofs.Covering.{root_area, scope_of, scope_touched}
 use Rattle.x5_model_parts.proofs.Owning.{pin_of_area}
 use Rattle.x5_model_parts.proofs.Joining.{sight, View, the_view, spots_are_touched, spots_are_apart, all_are_parts, parts_are_apart}
 use Rattle.x5_model_serve.specs.Answering.{before_sub, before_info, taken_before, local_sources, is_copied_here, local_tree, local_part, rest_of_parts, reply_from}
-use Rattle.x5_model_serve.specs.Claims.{SoFar}
+use Rattle.x5_model_serve.specs.Claims.{asked_line, SoFar}
+use Rattle.x5_model_joins.proofs.Here.{found_locally, spelled_locally}
 use Rattle.x5_model_joins.specs.Joins.{AreParts, LocalTells}
 use Rattle.x5_model_joins.proofs.Joined.{map_same}
 use Rattle.x5_model_joins.proofs.Showing.{shown_in_order, cut_map}
@@ -48,7 +49,7 @@ use Rattle.x5_model_joins.proofs.Sources.{entries_of, of_source, apart_sources}
 use Rattle.x5_model_joins.proofs.Entries.{list_order, sorted_apart, sub_key, info_key}
 use Rattle.x5_model_joins.proofs.Contexts.{of_uncovered, in_uncovered, are_same, meet_back}
 use Rattle.x5_model_joins.proofs.Replacing.{are_parts}
-use Rattle.x5_model_joins.proofs.Spots.{IsSourceHere, here_asked, source_here, source_is, sources_right, keys_here, sources_once}
+use Rattle.x5_model_joins.proofs.Spots.{IsSourceHere, source_here, source_is, sources_right, keys_here, sources_once}
 use Rattle.x5_model_joins.proofs.Basing.{base_there}
 
 -- ---- references in another order are still apart
@@ -88,7 +89,7 @@ module _ (w : World) (below : Reference → Reference → Bool) where
 
 -- ---- at an agent that begins it
 
-module _ (p : Point) (l : Line) (b : BeginsHere p l) (lines : List Line) (stood : ℕ) where
+module _ (p : Point) (l : Line) (b : BeginsHere p l) (lines : List Line) (stood : ℕ) (stands : In l lines) where
   abbrev h : Holdings
   h = holdings_at p l.receiver
 
@@ -102,21 +103,21 @@ module _ (p : Point) (l : Line) (b : BeginsHere p l) (lines : List Line) (stood 
   rest = rest_of_parts (holdings_at p l.receiver) l.message
 
   abbrev q : Asked
-  q = here_asked l stood
+  q = asked_line l stood
 
   query : is_query_below l.message.request.body ≡ true
   query = query_of l.message (ap is_some (sight p l b).sees_it.subset)
 
   parts : AreParts p (local_sources (holdings_at p l.receiver) l.message)
-  parts = are_parts p (here_asked l stood) lines b.copies (local_sources (holdings_at p l.receiver) l.message) (sources_right p l b lines stood) (sources_once p l b lines stood)
+  parts = are_parts p (asked_line l stood) lines b.copies (local_sources (holdings_at p l.receiver) l.message) (sources_right p l b lines stood stands) (sources_once p l b lines stood stands)
 
   -- the references
   of_rest : (u : Reference) → In u rest → In u (rest_needs p l)
   of_rest u i = of_sorted taken_before u (rest_needs p l) i
 
-  exactly : same_keys (map (λ x. key_of x.context) (local_sources (holdings_at p l.receiver) l.message)) (uncovered p (here_asked l stood) (rest_of_parts (holdings_at p l.receiver) l.message)) ≡ true
-  exactly = subst (λ (ks : List Key). same_keys ks (uncovered p (here_asked l stood) (rest_of_parts (holdings_at p l.receiver) l.message)) ≡ true) (sym (keys_here p l b lines stood))
-      (are_same (spots p l) (uncovered p (here_asked l stood) (rest_of_parts (holdings_at p l.receiver) l.message))
+  exactly : same_keys (map (λ x. key_of x.context) (local_sources (holdings_at p l.receiver) l.message)) (uncovered p (asked_line l stood) (rest_of_parts (holdings_at p l.receiver) l.message)) ≡ true
+  exactly = subst (λ (ks : List Key). same_keys ks (uncovered p (asked_line l stood) (rest_of_parts (holdings_at p l.receiver) l.message)) ≡ true) (sym (keys_here p l b lines stood stands))
+      (are_same (spots p l) (uncovered p (asked_line l stood) (rest_of_parts (holdings_at p l.receiver) l.message))
       (λ z i. in_uncovered (knowledge_at p) (rest_of_parts (holdings_at p l.receiver) l.message) (looks_into p l.receiver l.message) z (spots_are_touched p l z b i)
       (λ u j c. false_true (sym (spots_are_apart p l z u b i (of_rest u j)) ∙ c)))
       (λ z i. (let v = of_uncovered (knowledge_at p) (rest_of_parts (holdings_at p l.receiver) l.message) (looks_into p l.receiver l.message) z i in
@@ -149,7 +150,7 @@ module _ (p : Point) (l : Line) (b : BeginsHere p l) (lines : List Line) (stood 
   flat_sources (c ∷ cs) f = λ i. (f c here).entries i ++ flat_sources cs (λ d j. f d (there j)) i
 
   same_entries : (local_tree (holdings_at p l.receiver) l.message).entries ≡ (mixed p (local_sources (holdings_at p l.receiver) l.message)).entries
-  same_entries = ap sorted_entries (flat_sources (evaluated (holdings_at p l.receiver) l.message) (source_is p l b lines stood))
+  same_entries = ap sorted_entries (flat_sources (evaluated (holdings_at p l.receiver) l.message) (source_is p l b lines stood stands))
 
   -- the marks
   abbrev keys : List Key
@@ -158,7 +159,7 @@ module _ (p : Point) (l : Line) (b : BeginsHere p l) (lines : List Line) (stood 
   own_pin : (z : Key) → In z (map (λ s. key_of s.context) (local_sources (holdings_at p l.receiver) l.message)) → In z (tree_at p).pins
   own_pin z i =
       let v = sight p l b in
-      let d = (v.sees_it.looks z).0 (spots_are_touched p l z b (subst (λ (ks : List Key). In z ks) (keys_here p l b lines stood) i)) in
+      let d = (v.sees_it.looks z).0 (spots_are_touched p l z b (subst (λ (ks : List Key). In z ks) (keys_here p l b lines stood stands) i)) in
       subst (λ (x : Key). In x (tree_at p).pins) d.2 (pin_of_area p b.stands d.0 d.1)
 
   same_mark : (e : Named) → In e (entries_of p (local_sources (holdings_at p l.receiver) l.message)) → is_copied_here (holdings_at p l.receiver) l.message (key_at e) ≡ is_copied p (local_sources (holdings_at p l.receiver) l.message) (key_at e)
@@ -263,14 +264,14 @@ module _ (p : Point) (l : Line) (b : BeginsHere p l) (lines : List Line) (stood 
   target : key_of (target_of l.message.request.body) ≡ key_of l.message.target
   target = (key_decides (key_of (target_of l.message.request.body)) (key_of l.message.target)).0 (both_true (same_name (target_of l.message.request.body) l.message.target) _ b.fit).0
 
-  pub tells_locally : (s : Scene) → fault_of l.message.request.body ≡ None
-      → (a : Answer) × (local_part (holdings_at p l.receiver) l.message ≡ Answered a) × SoFar p s (here_asked l stood) lines a (rest_of_parts (holdings_at p l.receiver) l.message)
-  tells_locally s fault = elim (form l.message.request.controls l.message.request.body query target fault) [
+  pub tells_locally : (s : Scene) → s.holdings ≡ holdings_at p → fault_of l.message.request.body ≡ None
+      → (a : Answer) × (local_part (holdings_at p l.receiver) l.message ≡ Answered a) × SoFar p s (asked_line l stood) lines a (rest_of_parts (holdings_at p l.receiver) l.message)
+  tells_locally s scene fault = elim (form l.message.request.controls l.message.request.body query target fault) [
     | inl f ↦ (
       Listed f.0 xs (record { limited = false; unexplored = [] }),
       ap (reply_from xs) f.1,
       record {
-        tells = record { sources = sources_right p l b lines stood; once = sources_once p l b lines stood; exactly = exactly; ordered = f.3; answered = sym f.2; completed = completed; apart = apart; nested = nested };
+        tells = record { found = found_locally p l b lines stood stands s scene (fault, b.fit) (ap is_some (sight p l b).sees_it.subset); spelled = spelled_locally p l b s scene; sources = sources_right p l b lines stood stands; once = sources_once p l b lines stood stands; exactly = exactly; ordered = f.3; answered = sym f.2; completed = completed; apart = apart; nested = nested };
         lost = tt;
       },
     )
@@ -278,7 +279,7 @@ module _ (p : Point) (l : Line) (b : BeginsHere p l) (lines : List Line) (stood 
       Found f.0 xs (record { limited = false; unexplored = [] }),
       ap (reply_from xs) f.1,
       record {
-        tells = record { sources = sources_right p l b lines stood; once = sources_once p l b lines stood; exactly = exactly; ordered = f.3; answered = sym f.2; completed = completed; apart = apart; nested = nested };
+        tells = record { found = found_locally p l b lines stood stands s scene (fault, b.fit) (ap is_some (sight p l b).sees_it.subset); spelled = spelled_locally p l b s scene; sources = sources_right p l b lines stood stands; once = sources_once p l b lines stood stands; exactly = exactly; ordered = f.3; answered = sym f.2; completed = completed; apart = apart; nested = nested };
         lost = tt;
       },
     )
@@ -291,4 +292,4 @@ no_fault (Search base subset f selection) e = refl
 no_fault x e = absurd (false_true e)
 
 pub local_tells : LocalTells
-local_tells p s l lines stood scene b = tells_locally p l b lines stood s (no_fault l.message.request.body (query_of l.message (ap is_some (sight p l b).sees_it.subset)))
+local_tells p s l lines stood scene b stands = tells_locally p l b lines stood stands s scene (no_fault l.message.request.body (query_of l.message (ap is_some (sight p l b).sees_it.subset)))

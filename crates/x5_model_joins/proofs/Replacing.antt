@@ -19,14 +19,14 @@ use Rattle.x5_model_tree.specs.World.{World, Agreement}
 use Rattle.x5_model_tree.specs.Masters.{is_consumer}
 use Rattle.x5_model_tree.specs.Ask.{rest_of, sources_of, unexplored_of, is_update}
 use Rattle.x5_model_run.specs.Network.{is_sent}
-use Rattle.x5_model_run.specs.Journal.{Line, Journal, is_done, is_wide, is_heard}
+use Rattle.x5_model_run.specs.Journal.{Line, Journal, is_done, is_wide}
 use Rattle.x5_model_run.specs.Holdings.{may_copy}
-use Rattle.x5_model_run.specs.Needs.{subset_of}
+use Rattle.x5_model_run.specs.Needs.{subset_of, passing_needs}
 use Rattle.x5_model_run.specs.History.{Point, knowledge_at, tree_at, as_of}
-use Rattle.x5_model_run.specs.Chain.{Scene, IsCarried, is_user, part_body, part_request}
+use Rattle.x5_model_run.specs.Chain.{Scene, AllLicensed, IsCarried, is_user, part_body, part_request}
 use Rattle.x5_model_run.specs.Covers.{covered_roots, covers, are_apart, touched, mixed, is_copied, told}
-use Rattle.x5_model_run.specs.Blocked.{Asked, hears, IsLost, Blocked, untried, lost}
-use Rattle.x5_model_run.specs.Right.{is_copy_source, is_source, same_keys, uncovered, IsResult, Right, result, changed, error, referral, unheard}
+use Rattle.x5_model_run.specs.Blocked.{Asked, hears_by, hears, IsLost, Blocked, untried, lost}
+use Rattle.x5_model_run.specs.Right.{kept_name, is_copy_source, is_source, same_keys, uncovered, IsResult, Right, result, changed, error, referral, unheard}
 use Rattle.x5_model_run.specs.Placed.{is_query_below, RightReply, usual, unable, limit}
 use Rattle.x5_model_parts.specs.Standing.{StoodAt, CopiesStand}
 use Rattle.x5_model_parts.specs.Parts.{BeginsHere, rest_needs, looks_into}
@@ -36,9 +36,11 @@ use Rattle.x5_model_parts.proofs.Parting.{request_is}
 use Rattle.x5_model_parts.proofs.Joining.{sight, View, the_view, asks, scope_is_covered}
 use Rattle.x5_model_parts.proofs.Nesting.{same_are_asked}
 use Rattle.x5_model_serve.specs.Answering.{with_unexplored, limited_answer}
-use Rattle.x5_model_serve.specs.Serving.{hand_of, line_for}
-use Rattle.x5_model_serve.specs.Claims.{Tells, LiesWithin}
+use Rattle.x5_model_serve.specs.Serving.{hand_of, line_for, is_spent}
+use Rattle.x5_model_serve.specs.Claims.{asked_line, Tells, LiesWithin}
 use Rattle.x5_model_joins.specs.Joins.{AreParts, AsksPart, PartReplaces}
+use Rattle.x5_model_joins.proofs.Backs.{hears_further, lost_further}
+use Rattle.x5_model_joins.proofs.Untried.{of_contains, untried_passing}
 use Rattle.x5_model_joins.proofs.Joined.{map_joined}
 use Rattle.x5_model_joins.proofs.Contexts.{all_joined, each_joined, still_apart, exactly_both, once_both, second_covered, covers_below}
 use Rattle.x5_model_joins.proofs.Entries.{alike, told_alike, joins_limited}
@@ -46,9 +48,9 @@ use Rattle.x5_model_joins.proofs.Entries.{alike, told_alike, joins_limited}
 -- ---- what a right reply with an answer to a list or search is
 
 from_right : (p : Point) (s : Scene) (q : Asked) (j : Journal) (reply : Reply) → Right p s q j reply → (c : Answer) → reply ≡ Answered c → is_update q.message.request.body ≡ false → IsResult p s q j.lines c
-from_right p s q j reply (result {a = a} res no_update none) c e f = (let same : a ≡ c = cc in subst (λ (x : Answer). IsResult p s q j.lines x) same res)
-from_right p s q j reply (changed update some) c e f = absurd (false_true (sym f ∙ update))
-from_right p s q j reply (error t h i n) c e f = cc
+from_right p s q j reply (result {a = a} on res no_update none) c e f = (let same : a ≡ c = cc in subst (λ (x : Answer). IsResult p s q j.lines x) same res)
+from_right p s q j reply (changed on update some) c e f = absurd (false_true (sym f ∙ update))
+from_right p s q j reply (error on t i n) c e f = cc
 from_right p s q j reply (referral u h n) c e f = cc
 from_right p s q j reply (unheard l h n) c e f = cc
 
@@ -58,15 +60,15 @@ result_of p s q j spent reply (unable h) c e f = cc
 result_of p s q j spent reply (limit h) c e f = cc
 
 -- what is final and blocked is lost
-all_lost : (s : Scene) (q : Asked) (lines : List Line) (us : List Reference) → AllByRecursion (Blocked s q lines) us → is_empty (filter (λ r. not r.tried) us) ≡ true → AllByRecursion (IsLost s lines) us
+all_lost : (s : Scene) (q : Asked) (lines : List Line) (us : List Reference) → AllByRecursion (Blocked s q lines) us → is_empty (filter (λ r. not r.tried) us) ≡ true → AllByRecursion (IsLost s q lines) us
 all_lost s q lines [] h e = tt
 all_lost s q lines (u ∷ us) h e = by u.tried refl (λ f. all_lost s q lines us h.1 f) e
   where
-    lost_one : Blocked s q lines u → u.tried ≡ true → IsLost s lines u
-    lost_one (untried x) t = absurd (false_true (sym x.untried ∙ t))
+    lost_one : Blocked s q lines u → u.tried ≡ true → IsLost s q lines u
+    lost_one (untried x) t = absurd (false_true (sym (untried_passing (s.holdings q.to) q.message u (of_contains (passing_needs (s.holdings q.to) q.message) u x.needed)) ∙ t))
     lost_one (lost x) t = x
 
-    by : (b : Bool) → u.tried ≡ b → (is_empty (filter (λ r. not r.tried) us) ≡ true → AllByRecursion (IsLost s lines) us) → is_empty (cond (not b) (u ∷ filter (λ r. not r.tried) us) (filter (λ r. not r.tried) us)) ≡ true → AllByRecursion (IsLost s lines) (u ∷ us)
+    by : (b : Bool) → u.tried ≡ b → (is_empty (filter (λ r. not r.tried) us) ≡ true → AllByRecursion (IsLost s q lines) us) → is_empty (cond (not b) (u ∷ filter (λ r. not r.tried) us) (filter (λ r. not r.tried) us)) ≡ true → AllByRecursion (IsLost s q lines) (u ∷ us)
     by true t rest f = (lost_one h.0 t, rest f)
     by false t rest f = absurd (false_true f)
 
@@ -116,15 +118,15 @@ are_parts p q lines copies xs all once = record {
 -- ---- a part
 
 module _ (p : Point) (s : Scene) (l k : Line) (from : Option ℕ) (j : Journal) (stood at : ℕ) (r : Reference) (b : BeginsHere p l) (needed : In r (rest_needs p l)) (agent : In k.receiver r.agents)
-    (carried : IsCarried from (line_for (hand_of l)) r k.message) (stands_in : In k j.lines) (sent : is_sent k.fate ≡ true) where
+    (carried : IsCarried from (line_for (hand_of l)) r k.message) (all : AllLicensed s j.lines) (back : hears_by (λ x. x.number == k.number) (asked_line l stood) j.lines ≡ true) where
   abbrev w : World
   w = knowledge_at p
 
   abbrev q : Asked
-  q = record { to = l.receiver; message = l.message; counts = true; stood = stood }
+  q = asked_line l stood
 
   abbrev qk : Asked
-  qk = record { to = k.receiver; message = k.message; counts = true; stood = at }
+  qk = asked_line k at
 
   on_line : IsCarried from l r k.message
   on_line = record {
@@ -157,10 +159,7 @@ module _ (p : Point) (s : Scene) (l k : Line) (from : Option ℕ) (j : Journal) 
   scope z = scope_is_covered p l from r k.message k.receiver z b needed agent on_line
 
   heard_too : (a : ℕ) → hears qk j.lines a ≡ true → hears q j.lines a ≡ true
-  heard_too a h = or_right (a == l.receiver) (is_heard j.lines a) (elim (either_true (a == k.receiver) (is_heard j.lines a) h) [
-    | inl e ↦ any_in (λ (x : Line). (x.receiver == a) && is_sent x.fate) k j.lines stands_in (and_true (k.receiver == a) (is_sent k.fate) ((Decides-eqb k.receiver a).1 (sym ((Decides-eqb a k.receiver).0 e))) sent)
-    | inr e ↦ e
-  ])
+  heard_too a h = hears_further s q qk (λ x. x.receiver == a) j.lines all back h
 
   module _ (xs ys : List Source) (us cs rs : List Reference)
       (sources : list_all (is_source p q j.lines) xs ≡ true) (once : distinct same_key (map (λ x. key_of x.context) xs) ≡ true)
@@ -234,7 +233,7 @@ module _ (p : Point) (s : Scene) (l k : Line) (from : Option ℕ) (j : Journal) 
     pub parts : AreParts p (xs ++ ys)
     pub asks : AsksPart l.message k.message ys
 
-  pub after_part : (a c : Answer) (xs ys : List Source) (us cs rs : List Reference) → Tells p q j.lines a → sources_of a ≡ xs → unexplored_of a ≡ us ++ r ∷ rs
+  pub after_part : (a c : Answer) (xs ys : List Source) (us cs rs : List Reference) → Tells p s q j.lines a → sources_of a ≡ xs → unexplored_of a ≡ us ++ r ∷ rs
       → IsResult p s qk j.lines c → LiesWithin p qk (Answered c) → sources_of c ≡ ys → unexplored_of c ≡ cs → After xs ys us cs rs
   after_part a c xs ys us cs rs t xa ua res within yc uc = record {
     sources = sources_after xs ys us cs rs t_sources t_once t_exactly t_completed t_apart t_nested c_sources c_once c_exactly c_completed c_apart c_nested;
@@ -290,7 +289,7 @@ module _ (p : Point) (s : Scene) (l k : Line) (from : Option ℕ) (j : Journal) 
   query_here = query
 
   -- it and the whole so far have one form
-  pub in_one_form : (a c : Answer) (rs : List Reference) → Tells p q j.lines (with_unexplored (r ∷ rs) a) → IsResult p s qk j.lines c → alike a c ≡ true
+  pub in_one_form : (a c : Answer) (rs : List Reference) → Tells p s q j.lines (with_unexplored (r ∷ rs) a) → IsResult p s qk j.lines c → alike a c ≡ true
   in_one_form a c rs t res =
       told_alike p l.message k.message (is_user from) (is_wide r.kind) a c b.stands
       (are_parts p q j.lines b.copies (sources_of a) (subst (λ (zs : List Source). list_all (is_source p q j.lines) zs ≡ true) (same_sources a) t.sources) (subst (λ (zs : List Source). distinct same_key (map (λ x. key_of x.context) zs) ≡ true) (same_sources a) t.once))
@@ -316,26 +315,35 @@ module _ (p : Point) (s : Scene) (l k : Line) (from : Option ℕ) (j : Journal) 
       same_rest size (Found infos sources o) = refl
       same_rest size Changed = refl
 
+-- what was lost for a part is lost for the whole
+all_further : (s : Scene) (q r : Asked) (lines : List Line) → AllLicensed s lines → hears_by (λ x. x.number == r.number) q lines ≡ true → r.counts ≡ true → (us : List Reference) → AllByRecursion (IsLost s r lines) us → AllByRecursion (IsLost s q lines) us
+all_further s q r lines all back counts [] h = tt
+all_further s q r lines all back counts (u ∷ us) h = (lost_further s q r lines all back counts u h.0, all_further s q r lines all back counts us h.1)
+
+-- sources of both are spelled as their agents keep them
+spelled_both : (s : Scene) (xs ys : List Source) → map (kept_name s) xs ≡ map (λ x. Some x.context) xs → map (kept_name s) ys ≡ map (λ x. Some x.context) ys → map (kept_name s) (xs ++ ys) ≡ map (λ x. Some x.context) (xs ++ ys)
+spelled_both s xs ys e f = map_joined (kept_name s) xs ys ∙ (λ i. e i ++ f i) ∙ sym (map_joined (λ (x : Source). Some x.context) xs ys)
+
 pub part_replaces : PartReplaces
-part_replaces p s most l k from j stood (Listed subs xs o) (Listed more ys v) r rest b i ia carried so heard =
-    let res = is_answer p s l k from j stood heard.stood r b i ia carried heard.stands heard.heard (nat_le most (length j.lines)) (Listed more ys v) heard.right in
-    let x = after_part p s l k from j stood heard.stood r b i ia carried heard.stands heard.heard (Listed subs xs (record o { unexplored = o.unexplored ++ r ∷ rest })) (Listed more ys v) xs ys o.unexplored v.unexplored rest so.tells refl refl res heard.within refl refl in
-    let t = joins_limited p l.message k.message (Listed subs xs o) (Listed more ys v) b.stands x.parts b.fit (query_here p s l k from j stood heard.stood r b i ia carried heard.stands heard.heard) x.asks so.tells.ordered so.tells.answered res.answered in
+part_replaces p s most l k from j stood (Listed subs xs o) (Listed more ys v) r rest b i all ia carried so heard =
+    let res = is_answer p s l k from j stood heard.stood r b i ia carried all heard.back (is_spent most j) (Listed more ys v) heard.right in
+    let x = after_part p s l k from j stood heard.stood r b i ia carried all heard.back (Listed subs xs (record o { unexplored = o.unexplored ++ r ∷ rest })) (Listed more ys v) xs ys o.unexplored v.unexplored rest so.tells refl refl res heard.within refl refl in
+    let t = joins_limited p l.message k.message (Listed subs xs o) (Listed more ys v) b.stands x.parts b.fit (query_here p s l k from j stood heard.stood r b i ia carried all heard.back) x.asks so.tells.ordered so.tells.answered res.answered in
     record {
-      tells = record { sources = x.sources; once = x.once; exactly = x.exactly; ordered = t.0; answered = t.1; completed = x.completed; apart = x.apart; nested = x.nested };
-      lost = each_joined (IsLost s j.lines) o.unexplored v.unexplored so.lost (all_lost s (record { to = k.receiver; message = k.message; counts = true; stood = heard.stood }) j.lines v.unexplored res.blocked heard.followed);
+      tells = record { found = so.tells.found; spelled = spelled_both s xs ys so.tells.spelled res.spelled; sources = x.sources; once = x.once; exactly = x.exactly; ordered = t.0; answered = t.1; completed = x.completed; apart = x.apart; nested = x.nested };
+      lost = each_joined (IsLost s (asked_line l stood) j.lines) o.unexplored v.unexplored so.lost (all_further s (asked_line l stood) (asked_line k heard.stood) j.lines all heard.back refl v.unexplored (all_lost s (asked_line k heard.stood) j.lines v.unexplored res.blocked heard.followed));
     }
-part_replaces p s most l k from j stood (Found infos xs o) (Found more ys v) r rest b i ia carried so heard =
-    let res = is_answer p s l k from j stood heard.stood r b i ia carried heard.stands heard.heard (nat_le most (length j.lines)) (Found more ys v) heard.right in
-    let x = after_part p s l k from j stood heard.stood r b i ia carried heard.stands heard.heard (Found infos xs (record o { unexplored = o.unexplored ++ r ∷ rest })) (Found more ys v) xs ys o.unexplored v.unexplored rest so.tells refl refl res heard.within refl refl in
-    let t = joins_limited p l.message k.message (Found infos xs o) (Found more ys v) b.stands x.parts b.fit (query_here p s l k from j stood heard.stood r b i ia carried heard.stands heard.heard) x.asks so.tells.ordered so.tells.answered res.answered in
+part_replaces p s most l k from j stood (Found infos xs o) (Found more ys v) r rest b i all ia carried so heard =
+    let res = is_answer p s l k from j stood heard.stood r b i ia carried all heard.back (is_spent most j) (Found more ys v) heard.right in
+    let x = after_part p s l k from j stood heard.stood r b i ia carried all heard.back (Found infos xs (record o { unexplored = o.unexplored ++ r ∷ rest })) (Found more ys v) xs ys o.unexplored v.unexplored rest so.tells refl refl res heard.within refl refl in
+    let t = joins_limited p l.message k.message (Found infos xs o) (Found more ys v) b.stands x.parts b.fit (query_here p s l k from j stood heard.stood r b i ia carried all heard.back) x.asks so.tells.ordered so.tells.answered res.answered in
     record {
-      tells = record { sources = x.sources; once = x.once; exactly = x.exactly; ordered = t.0; answered = t.1; completed = x.completed; apart = x.apart; nested = x.nested };
-      lost = each_joined (IsLost s j.lines) o.unexplored v.unexplored so.lost (all_lost s (record { to = k.receiver; message = k.message; counts = true; stood = heard.stood }) j.lines v.unexplored res.blocked heard.followed);
+      tells = record { found = so.tells.found; spelled = spelled_both s xs ys so.tells.spelled res.spelled; sources = x.sources; once = x.once; exactly = x.exactly; ordered = t.0; answered = t.1; completed = x.completed; apart = x.apart; nested = x.nested };
+      lost = each_joined (IsLost s (asked_line l stood) j.lines) o.unexplored v.unexplored so.lost (all_further s (asked_line l stood) (asked_line k heard.stood) j.lines all heard.back refl v.unexplored (all_lost s (asked_line k heard.stood) j.lines v.unexplored res.blocked heard.followed));
     }
-part_replaces p s most l k from j stood a c r rest b i ia carried so heard =
-    absurd (false_true (in_one_form p s l k from j stood heard.stood r b i ia carried heard.stands heard.heard a c rest so.tells
-    (is_answer p s l k from j stood heard.stood r b i ia carried heard.stands heard.heard (nat_le most (length j.lines)) c heard.right)))
+part_replaces p s most l k from j stood a c r rest b i all ia carried so heard =
+    absurd (false_true (in_one_form p s l k from j stood heard.stood r b i ia carried all heard.back a c rest so.tells
+    (is_answer p s l k from j stood heard.stood r b i ia carried all heard.back (is_spent most j) c heard.right)))
 
 -- what a part is asked is a list or search, by a completed reference
 pub part_asks : (p : Point) (l : Line) (from : Option ℕ) (r : Reference) (m : Chained) → BeginsHere p l → In r (rest_needs p l) → IsCarried from (line_for (hand_of l)) r m → is_query_below m.request.body ≡ true

@@ -16,7 +16,7 @@ use Rattle.x5_model_tree.specs.World.{Agent, Agreement, World}
 use Rattle.x5_model_tree.specs.Tree.{part}
 use Rattle.x5_model_tree.specs.Masters.{master_of, is_consumer}
 use Rattle.x5_model_tree.specs.Consistent.{IsConsistent}
-use Rattle.x5_model_run.specs.Journal.{Line, is_heard}
+use Rattle.x5_model_run.specs.Journal.{Line}
 use Rattle.x5_model_run.specs.Holdings.{Held, Copy, Holdings, copy_at, masters_pin, served, usable_copies, may_copy}
 use Rattle.x5_model_run.specs.Needs.{evaluated}
 use Rattle.x5_model_run.specs.History.{Point, knowledge_at, tree_at, tree_of_moment, as_of, copy_by, agent_holdings, holdings_at}
@@ -35,6 +35,8 @@ use Rattle.x5_model_parts.proofs.Owning.{map_map, own_area_is, own_like, own_in}
 use Rattle.x5_model_parts.proofs.Copying.{usable_sent}
 use Rattle.x5_model_parts.proofs.Joining.{sight, spots_are_right, spots_are_once}
 use Rattle.x5_model_serve.specs.Answering.{stamp_at, local_sources}
+use Rattle.x5_model_serve.specs.Claims.{asked_line}
+use Rattle.x5_model_joins.proofs.Backs.{own_back}
 
 -- ---- an agent has one copy of a context, with the moment of its last refresh
 
@@ -77,20 +79,17 @@ module _ (p : Point) (st : Stands p) (o : ℕ) (a : Agent) where
 
 -- ---- the source of a context that is evaluated on the spot
 
-abbrev pub here_asked : Line → ℕ → Asked
-here_asked l stood = record { to = l.receiver; message = l.message; counts = true; stood = stood }
-
 abbrev pub source_here : Holdings → Held → Source
 source_here h c = record { context = c.prefix; agent = h.me; moment = stamp_at h c }
 
 pub record IsSourceHere (p : Point) (l : Line) (lines : List Line) (stood : ℕ) (h : Holdings) (c : Held) : Type 0 where
   pub entries : c.entries ≡ part (source_tree p (stamp_at h c)) (key_of c.prefix)
-  pub right : is_source p (here_asked l stood) lines (source_here h c) ≡ true
+  pub right : is_source p (asked_line l stood) lines (source_here h c) ≡ true
 
-pub hears_itself : (l : Line) (lines : List Line) (stood : ℕ) → hears (here_asked l stood) lines l.receiver ≡ true
-hears_itself l lines stood = or_left (l.receiver == l.receiver) (is_heard lines l.receiver) ((Decides-eqb l.receiver l.receiver).1 refl)
+pub hears_itself : (l : Line) (lines : List Line) (stood : ℕ) → In l lines → hears (asked_line l stood) lines l.receiver ≡ true
+hears_itself l lines stood stands = own_back (λ x. x.receiver == l.receiver) l stood lines stands ((Decides-eqb l.receiver l.receiver).1 refl)
 
-module _ (p : Point) (l : Line) (b : BeginsHere p l) (lines : List Line) (stood : ℕ) where
+module _ (p : Point) (l : Line) (b : BeginsHere p l) (lines : List Line) (stood : ℕ) (stands : In l lines) where
   abbrev a : Agent
   a = (sight p l b).agent
 
@@ -109,8 +108,8 @@ module _ (p : Point) (l : Line) (b : BeginsHere p l) (lines : List Line) (stood 
       mastered : master_of (knowledge_at p) (key_of c.prefix) ≡ Some l.receiver → IsSourceHere p l lines stood hs c
       mastered m = record {
         entries = entries ∙ ap (λ (o : Option ℕ). part (source_tree p o) (key_of c.prefix)) (sym stamp);
-        right = ap (λ (o : Option ℕ). is_source p (here_asked l stood) lines (record { context = c.prefix; agent = l.receiver; moment = o })) stamp
-            ∙ and_true (hears (here_asked l stood) lines l.receiver) (some_and (λ (x : ℕ). x == l.receiver) (master_of (knowledge_at p) (key_of c.prefix))) (hears_itself l lines stood)
+        right = ap (λ (o : Option ℕ). is_source p (asked_line l stood) lines (record { context = c.prefix; agent = l.receiver; moment = o })) stamp
+            ∙ and_true (hears (asked_line l stood) lines l.receiver) (some_and (λ (x : ℕ). x == l.receiver) (master_of (knowledge_at p) (key_of c.prefix))) (hears_itself l lines stood stands)
             (ap (some_and (λ (x : ℕ). x == l.receiver)) m ∙ (Decides-eqb l.receiver l.receiver).1 refl);
       }
 
@@ -125,8 +124,8 @@ module _ (p : Point) (l : Line) (b : BeginsHere p l) (lines : List Line) (stood 
       → c.entries ≡ part (tree_of_moment p moment) (key_of c.prefix) → stamp_at hs c ≡ Some moment → IsSourceHere p l lines stood hs c
   from_agreement c g moment i consumer refreshed key may entries stamp = record {
     entries = entries ∙ ap (λ (o : Option ℕ). part (source_tree p o) (key_of c.prefix)) (sym stamp);
-    right = ap (λ (o : Option ℕ). is_source p (here_asked l stood) lines (record { context = c.prefix; agent = l.receiver; moment = o })) stamp
-        ∙ and_true (hears (here_asked l stood) lines l.receiver) (may_copy l.message.request && is_copy_source p (record { context = c.prefix; agent = l.receiver; moment = Some moment }) moment) (hears_itself l lines stood)
+    right = ap (λ (o : Option ℕ). is_source p (asked_line l stood) lines (record { context = c.prefix; agent = l.receiver; moment = o })) stamp
+        ∙ and_true (hears (asked_line l stood) lines l.receiver) (may_copy l.message.request && is_copy_source p (record { context = c.prefix; agent = l.receiver; moment = Some moment }) moment) (hears_itself l lines stood stands)
         (and_true (may_copy l.message.request) (is_copy_source p (record { context = c.prefix; agent = l.receiver; moment = Some moment }) moment) may
         (any_in (λ (x : Agreement). is_consumer l.receiver (key_of c.prefix) x && some_and (λ (t : ℕ). t == moment) (as_of p x.number)) g (knowledge_at p).agreements i
         (and_true (is_consumer l.receiver (key_of c.prefix) g) (some_and (λ (t : ℕ). t == moment) (as_of p g.number))
@@ -165,10 +164,10 @@ module _ (p : Point) (l : Line) (b : BeginsHere p l) (lines : List Line) (stood 
   pub source_is : (c : Held) → In c (evaluated (holdings_at p l.receiver) l.message) → IsSourceHere p l lines stood (holdings_at p l.receiver) c
   source_is c i = subst (λ (h : Holdings). IsSourceHere p l lines stood h c) (sym (sight p l b).is) (from_sight c i)
 
-  pub sources_right : list_all (is_source p (here_asked l stood) lines) (local_sources (holdings_at p l.receiver) l.message) ≡ true
-  sources_right = all_in (is_source p (here_asked l stood) lines) (local_sources (holdings_at p l.receiver) l.message) (λ x i.
+  pub sources_right : list_all (is_source p (asked_line l stood) lines) (local_sources (holdings_at p l.receiver) l.message) ≡ true
+  sources_right = all_in (is_source p (asked_line l stood) lines) (local_sources (holdings_at p l.receiver) l.message) (λ x i.
       (let c = of_map (source_here (holdings_at p l.receiver)) x (evaluated (holdings_at p l.receiver) l.message) i in
-      subst (λ (y : Source). is_source p (here_asked l stood) lines y ≡ true) (sym c.2) (source_is c.0 c.1).right))
+      subst (λ (y : Source). is_source p (asked_line l stood) lines y ≡ true) (sym c.2) (source_is c.0 c.1).right))
 
   pub keys_here : map (λ x. key_of x.context) (local_sources (holdings_at p l.receiver) l.message) ≡ spots p l
   keys_here = map_map (source_here (holdings_at p l.receiver)) (λ (x : Source). key_of x.context) (evaluated (holdings_at p l.receiver) l.message)

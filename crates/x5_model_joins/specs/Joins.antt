@@ -1,5 +1,5 @@
 -- How the parts of a list or search are joined: what the sources of both tell together (X.518, sections 19.3 and 21).
-use Rattle.std.specs.Prelude.{◌≡◌, ℕ, ◌⊎◌, Bool, true, false, Some, Option, List, [], ◌∷◌, ◌++◌, map}
+use Rattle.std.specs.Prelude.{◌≡◌, ℕ, ◌⊎◌, Bool, true, false, Some, Option, List, [], ◌∷◌, ◌++◌, length, map}
 use Rattle.x5_model.specs.Members.{In, Once}
 use Rattle.x5_model.specs.Keys.{Key, is_prefix}
 use Rattle.x5_model.specs.Values.{key_of}
@@ -9,7 +9,7 @@ use Rattle.x5_model_tree.specs.Ask.{rest_of, sources_of}
 use Rattle.x5_model_run.specs.Journal.{Line, Journal, is_done}
 use Rattle.x5_model_run.specs.Holdings.{may_copy}
 use Rattle.x5_model_run.specs.History.{Point, knowledge_at, holdings_at}
-use Rattle.x5_model_run.specs.Chain.{Scene, IsCarried, part_request}
+use Rattle.x5_model_run.specs.Chain.{Scene, AllLicensed, IsCarried, part_request}
 use Rattle.x5_model_run.specs.Covers.{covered_roots, mixed, is_copied, told}
 use Rattle.x5_model_run.specs.Blocked.{Asked, IsLost}
 use Rattle.x5_model_run.specs.Right.{IsResult}
@@ -81,7 +81,7 @@ LimitLast =
 abbrev pub LocalTells : Type 0
 LocalTells =
     (p : Point) (s : Scene) (l : Line) (lines : List Line) (stood : ℕ)
-    → s.holdings ≡ holdings_at p → BeginsHere p l
+    → s.holdings ≡ holdings_at p → BeginsHere p l → In l lines
     → (a : Answer) × (local_part (holdings_at p l.receiver) l.message ≡ Answered a)
     × SoFar p s (asked_line l stood) lines a (rest_of_parts (holdings_at p l.receiver) l.message)
 
@@ -90,24 +90,24 @@ abbrev pub PartReplaces : Type 0
 PartReplaces =
     (p : Point) (s : Scene) (most : ℕ) (l k : Line) (from : Option ℕ) (j : Journal) (stood : ℕ) (a c : Answer)
     (r : Reference) (rest : List Reference)
-    → BeginsHere p l → In r (rest_needs p l)
+    → BeginsHere p l → In r (rest_needs p l) → AllLicensed s j.lines
     → In k.receiver r.agents → IsCarried from (line_for (hand_of l)) r k.message
-    → SoFar p s (asked_line l stood) j.lines a (r ∷ rest) → HeardRight p s most j k (Answered c)
+    → SoFar p s (asked_line l stood) j.lines a (r ∷ rest) → HeardRight p s most (asked_line l stood) j k (Answered c)
     → SoFar p s (asked_line l stood) j.lines (merged a c) rest
 
 -- and so does a lost reference that covers the same.
 abbrev pub LossReplaces : Type 0
 LossReplaces =
     (p : Point) (s : Scene) (q : Asked) (lines : List Line) (a : Answer) (r u : Reference) (rest : List Reference)
-    → SoFar p s q lines a (r ∷ rest) → IsLost s lines u → is_done u.progress ≡ true
+    → SoFar p s q lines a (r ∷ rest) → IsLost s q lines u → is_done u.progress ≡ true
     → covered_roots (knowledge_at p) u ≡ covered_roots (knowledge_at p) r
     → SoFar p s q lines (with_unexplored (u ∷ []) a) rest
 
 -- What is right so far stays so where more messages were sent; how many `accepted` lines stood before is nothing to it.
 abbrev pub SoFarStays : Type 0
 SoFarStays =
-    (p : Point) (s : Scene) (o : Hand) (i j : Journal) (a : Answer) (rest : List Reference)
-    → Grows i j → SoFar p s (serving_of i o) i.lines a rest → SoFar p s (serving_of j o) j.lines a rest
+    (p : Point) (s : Scene) (o : Hand) (number : ℕ) (i j : Journal) (a : Answer) (rest : List Reference)
+    → Grows i j → SoFar p s (serving_of i o number) i.lines a rest → SoFar p s (serving_of j o number) j.lines a rest
 
 -- The steps of the loop over references: somebody was heard by it, nobody was, or who was heard told of somebody
 -- unheard.
@@ -115,26 +115,27 @@ abbrev pub PartIsGathered : Type 0
 PartIsGathered =
     (p : Point) (s : Scene) (most : ℕ) (from : Option ℕ) (l : Line) (i j : Journal) (a c : Answer) (r : Reference)
     (rest : List Reference)
-    → BeginsHere p l → In r (rest_of_parts (holdings_at p l.receiver) l.message) → Grows i j
-    → SoFar p s (serving_of i (hand_of l)) i.lines a (r ∷ rest)
-    → TakenRight p s most from (hand_of l) r j (Hears (Answered c))
-    → SoFar p s (serving_of j (hand_of l)) j.lines (merged a c) rest
+    → BeginsHere p l → In r (rest_of_parts (holdings_at p l.receiver) l.message) → Grows i j → AllLicensed s j.lines
+    → SoFar p s (asked_line l (length i.accepted)) i.lines a (r ∷ rest)
+    → TakenRight p s most (asked_line l (length i.accepted)) from (hand_of l) r j (Hears (Answered c))
+    → SoFar p s (asked_line l (length j.accepted)) j.lines (merged a c) rest
 
 abbrev pub LossIsGathered : Type 0
 LossIsGathered =
-    (p : Point) (s : Scene) (most : ℕ) (from : Option ℕ) (o : Hand) (i j : Journal) (a : Answer) (r : Reference)
-    (rest : List Reference)
-    → Grows i j → SoFar p s (serving_of i o) i.lines a (r ∷ rest) → TakenRight p s most from o r j Unheard
-    → SoFar p s (serving_of j o) j.lines (with_unexplored (in_vain r ∷ []) a) rest
+    (p : Point) (s : Scene) (most : ℕ) (from : Option ℕ) (o : Hand) (number : ℕ) (i j : Journal) (a : Answer)
+    (r : Reference) (rest : List Reference)
+    → Grows i j → SoFar p s (serving_of i o number) i.lines a (r ∷ rest)
+    → TakenRight p s most (serving_of i o number) from o r j Unheard
+    → SoFar p s (serving_of j o number) j.lines (with_unexplored (in_vain r ∷ []) a) rest
 
 abbrev pub UnavailableIsGathered : Type 0
 UnavailableIsGathered =
     (p : Point) (s : Scene) (most : ℕ) (from : Option ℕ) (l : Line) (i j : Journal) (a : Answer) (r u : Reference)
     (rest : List Reference)
-    → BeginsHere p l → In r (rest_of_parts (holdings_at p l.receiver) l.message) → Grows i j
-    → SoFar p s (serving_of i (hand_of l)) i.lines a (r ∷ rest)
-    → TakenRight p s most from (hand_of l) r j (Hears (is_unavailable u))
-    → SoFar p s (serving_of j (hand_of l)) j.lines (with_unexplored (in_vain u ∷ []) a) rest
+    → BeginsHere p l → In r (rest_of_parts (holdings_at p l.receiver) l.message) → Grows i j → AllLicensed s j.lines
+    → SoFar p s (asked_line l (length i.accepted)) i.lines a (r ∷ rest)
+    → TakenRight p s most (asked_line l (length i.accepted)) from (hand_of l) r j (Hears (is_unavailable u))
+    → SoFar p s (asked_line l (length j.accepted)) j.lines (with_unexplored (in_vain u ∷ []) a) rest
 
 -- ---- where others follow
 -- Where somebody follows what a right reply left unexplored, that reply tells so far, with what nobody tried still to
@@ -151,7 +152,8 @@ abbrev pub IdleTells : Type 0
 IdleTells =
     (p : Point) (s : Scene) (l : Line) (j : Journal) (a : Answer)
     → s.holdings ≡ holdings_at p → BeginsHere p l → is_idle s (hand_of l) ≡ true
-    → SoFar p s (serving_of j (hand_of l)) j.lines a (rest_of_parts (holdings_at p l.receiver) l.message)
-    → IsResult p s (serving_of j (hand_of l)) j.lines
+    → In l j.lines
+    → SoFar p s (asked_line l (length j.accepted)) j.lines a (rest_of_parts (holdings_at p l.receiver) l.message)
+    → IsResult p s (asked_line l (length j.accepted)) j.lines
     (limited_answer l.message.request.controls.size
     (with_unexplored (rest_of_parts (holdings_at p l.receiver) l.message) a))

@@ -1,13 +1,14 @@
 -- What a run prints (docs/FORMATS.md, output): a line on knowledge, then for each command a block, which begins with the
--- number of its line in the script. Each line is its pieces joined, and ends with LF.
+-- number of its line in the script. Each line is its pieces joined, and ends with LF. All of it is this project's own.
 use Rattle.std.specs.Prelude.{◌≡◌, ℕ, ◌+◌, Bool, true, false, ◌&&◌, ◌||◌, not, ◌==◌, if◌then◌else◌, List, [], ◌∷◌, ◌++◌, length, map, reverse, codes}
-use Rattle.std.specs.List.{concat, flat_map, join_with_byte}
+use Rattle.std.specs.List.{concat, find, flat_map, join_with_byte}
+use Rattle.std.specs.Ordering.{is_lt}
 use Rattle.std.specs.Fmt.{decimal}
 use Rattle.std.specs.declared.option.Option.{Option}
 use Rattle.std.specs.declared.option.Option.TheVariants.{None, Some}
 use Rattle.x5_model.specs.Words.{in_option, sorted, octets_below}
-use Rattle.x5_model.specs.Keys.{same_key, key_below}
-use Rattle.x5_model.specs.Values.{Text, TypeRef, Value, Rdn, key_of}
+use Rattle.x5_model.specs.Keys.{same_key, key_below, rdn_cmp}
+use Rattle.x5_model.specs.Values.{Text, TypeRef, Value, Rdn, key_of, key_of_rdn}
 use Rattle.x5_model.specs.References.{Progress, Start, Next, Done, RefType, Superior, Subordinate, Cross, NonSpecific, Supplier, Own, Reference, TraceItem}
 use Rattle.x5_model.specs.Answers.{Shown, EntryInfo, Sub, Source, Outcome, Answer, EntryFound, Matched, Listed, Found, Changed, DirError, NoSuchObject, AttributeProblem, UpdateProblem, ServiceProblem, Reply, Answered, Failed, Referred}
 use Rattle.x5_model_tree.specs.World.{World}
@@ -33,13 +34,25 @@ names_of w moment = record { agent = λ a. in_option [] (λ x. x.name) (agent_at
 
 -- ---- words
 
+-- words by numbers: a number that a table lacks has none
+abbrev pub word_at : List (ℕ × Text) → ℕ → Text
+word_at words n = in_option [] (λ p. p.1) (find (λ p. p.0 == n) words)
+
+-- operations, by their words in a script
+abbrev pub operation_words : List (ℕ × Text)
+operation_words =
+    (1, codes "read")
+    ∷ (2, codes "compare")
+    ∷ (4, codes "list")
+    ∷ (5, codes "search")
+    ∷ (6, codes "add")
+    ∷ (7, codes "remove")
+    ∷ (8, codes "modify")
+    ∷ (9, codes "move")
+    ∷ []
+
 abbrev pub operation_word : ℕ → Text
-operation_word n =
-    if n == 1 then codes "read"
-    else (if n == 2 then codes "compare"
-    else (if n == 4 then codes "list"
-    else (if n == 5 then codes "search"
-    else (if n == 6 then codes "add" else (if n == 7 then codes "remove" else (if n == 8 then codes "modify" else codes "move"))))))
+operation_word n = word_at operation_words n
 
 abbrev pub progress_text : Progress → Text
 progress_text Start = codes "start"
@@ -59,33 +72,71 @@ kind_word NonSpecific = codes "nonSpecific"
 kind_word Supplier = codes "supplier"
 kind_word Own = codes "self"
 
--- problems (X.511, sections 12.4, 12.9 and 12.8; X.525, section 12.2)
+-- problems of attributes, updates and the service (X.511, sections 12.4, 12.9 and 12.8) and of shadowing (X.525: shadow
+-- error); their numbers are this project's own
+abbrev pub attribute_problems : List (ℕ × Text)
+attribute_problems =
+    (1, codes "noSuchAttributeOrValue")
+    ∷ (2, codes "invalidAttributeSyntax")
+    ∷ (3, codes "undefinedAttributeType")
+    ∷ (4, codes "inappropriateMatching")
+    ∷ (5, codes "constraintViolation")
+    ∷ (6, codes "attributeOrValueAlreadyExists")
+    ∷ []
+
 abbrev pub attribute_problem : ℕ → Text
-attribute_problem n =
-    if n == 1 then codes "noSuchAttributeOrValue"
-    else (if n == 2 then codes "invalidAttributeSyntax"
-    else (if n == 3 then codes "undefinedAttributeType"
-    else (if n == 5 then codes "constraintViolation" else codes "attributeOrValueAlreadyExists")))
+attribute_problem n = word_at attribute_problems n
+
+abbrev pub update_problems : List (ℕ × Text)
+update_problems =
+    (1, codes "namingViolation")
+    ∷ (2, codes "objectClassViolation")
+    ∷ (3, codes "notAllowedOnNonLeaf")
+    ∷ (4, codes "notAllowedOnRDN")
+    ∷ (5, codes "entryAlreadyExists")
+    ∷ (6, codes "affectsMultipleDSAs")
+    ∷ (7, codes "objectClassModificationProhibited")
+    ∷ []
 
 abbrev pub update_problem : ℕ → Text
-update_problem n =
-    if n == 1 then codes "namingViolation"
-    else (if n == 2 then codes "objectClassViolation"
-    else (if n == 3 then codes "notAllowedOnNonLeaf"
-    else (if n == 4 then codes "notAllowedOnRDN"
-    else (if n == 5 then codes "entryAlreadyExists"
-    else (if n == 6 then codes "affectsMultipleDSAs" else codes "objectClassModificationProhibited")))))
+update_problem n = word_at update_problems n
+
+abbrev pub service_problems : List (ℕ × Text)
+service_problems =
+    (1, codes "busy")
+    ∷ (2, codes "unavailable")
+    ∷ (3, codes "unwillingToPerform")
+    ∷ (4, codes "chainingRequired")
+    ∷ (5, codes "unableToProceed")
+    ∷ (6, codes "invalidReference")
+    ∷ (7, codes "timeLimitExceeded")
+    ∷ (8, codes "administrativeLimitExceeded")
+    ∷ (9, codes "loopDetected")
+    ∷ (10, codes "unavailableCriticalExtension")
+    ∷ (11, codes "outOfScope")
+    ∷ (12, codes "ditError")
+    ∷ []
 
 abbrev pub service_problem : ℕ → Text
-service_problem n =
-    if n == 2 then codes "unavailable"
-    else (if n == 5 then codes "unableToProceed"
-    else (if n == 6 then codes "invalidReference" else (if n == 8 then codes "administrativeLimitExceeded" else codes "loopDetected")))
+service_problem n = word_at service_problems n
+
+abbrev pub shadow_problems : List (ℕ × Text)
+shadow_problems =
+    (1, codes "invalidAgreementID")
+    ∷ (2, codes "inactiveAgreement")
+    ∷ (3, codes "invalidInformationReceived")
+    ∷ (4, codes "unsupportedStrategy")
+    ∷ (5, codes "missedPrevious")
+    ∷ (6, codes "fullUpdateRequired")
+    ∷ (7, codes "unwillingToPerform")
+    ∷ (8, codes "unsuitableTiming")
+    ∷ (9, codes "updateAlreadyReceived")
+    ∷ (10, codes "invalidSequencing")
+    ∷ (11, codes "insufficientResources")
+    ∷ []
 
 abbrev pub shadow_problem : ℕ → Text
-shadow_problem n =
-    if n == 1 then codes "invalidAgreementID"
-    else (if n == 2 then codes "inactiveAgreement" else (if n == 5 then codes "missedPrevious" else codes "fullUpdateRequired"))
+shadow_problem n = word_at shadow_problems n
 
 abbrev pub shadow_operation : ShadowOperation → Text
 shadow_operation RequestShadowUpdate = codes "requestShadowUpdate"
@@ -134,9 +185,13 @@ journal_text names j =
 abbrev pub agents_text : Names → List ℕ → Text
 agents_text names agents = join_with_byte comma (map names.agent agents)
 
+-- exclusions by their keys, in whatever order the message has them
+abbrev pub rdn_below : Rdn → Rdn → Bool
+rdn_below a b = is_lt (rdn_cmp (key_of_rdn a) (key_of_rdn b))
+
 abbrev pub exclusions_text : List Rdn → Text
 exclusions_text [] = []
-exclusions_text (r ∷ rs) = codes " less " ++ join_with_byte comma (map text_of_rdn (r ∷ rs))
+exclusions_text (r ∷ rs) = codes " less " ++ join_with_byte comma (map text_of_rdn (sorted rdn_below (r ∷ rs)))
 
 abbrev pub reference_text : Names → Reference → Text
 reference_text names r =

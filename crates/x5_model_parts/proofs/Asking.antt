@@ -1,6 +1,7 @@
 -- What the tests of lists and searches say: subsets, scopes and exclusions.
-use Rattle.std.proofs.Common.{◌≡◌, ℕ, suc, ◌+◌, ◌-◌, ◌<◌, Bool, true, false, inl, inr, ◌↔◌, List, [], ◌∷◌, ◌++◌, length, take, map, refl, sym, ap, subst, ◌∙◌, arith, if◌then◌else◌}
+use Rattle.std.proofs.Common.{◌≡◌, ℕ, suc, ◌+◌, ◌-◌, ◌<◌, Bool, true, false, not, inl, inr, ◌↔◌, List, [], ◌∷◌, ◌++◌, length, take, map, refl, sym, ap, subst, ◌∙◌, arith, if◌then◌else◌}
 use Rattle.std.specs.Bool.{Decides}
+use Rattle.std.specs.List.{filter}
 use Rattle.std.specs.Cmp.Lexicographic.{pointwise}
 use Rattle.x5_model.specs.Words.{has, sorted}
 use Rattle.x5_model.specs.Members.{In, here, there}
@@ -8,7 +9,7 @@ use Rattle.x5_model.specs.Keys.{Key, KeyRdn, IsPrefix, parent}
 use Rattle.x5_model.specs.Values.{Rdn, Name, key_of, key_of_rdn, last_rdn}
 use Rattle.x5_model.specs.Requests.{Subset, Base, OneLevel, WholeSubtree}
 use Rattle.x5_model.proofs.KeyLaws.{key_decides, rdn_decides}
-use Rattle.x5_model.proofs.Lists.{in_first, in_map, of_map, either_true, or_left, or_right, both_true}
+use Rattle.x5_model.proofs.Lists.{in_first, in_map, of_map, in_filter, of_filter, either_true, or_left, or_right, both_true}
 use Rattle.x5_model.proofs.Prefixes.{prefix_decides}
 use Rattle.x5_model.proofs.Decide.{and_decides, nat_same_decides}
 use Rattle.x5_model.proofs.Ascending.{of_sorted, in_sorted}
@@ -78,24 +79,32 @@ listed_decides (y ∷ ys) x =
       ],
     )
 
+abbrev apart_from : Rdn → Rdn → Bool
+apart_from r x = not (same_spelled_rdn r x)
+
 of_once : (k : KeyRdn) (xs : List Rdn) → In k (rdn_keys (once xs)) → In k (rdn_keys xs)
 of_once k [] i = i
-of_once k (r ∷ rs) i = go (has same_spelled_rdn rs r) (of_once k rs) i
-  where
-    go : (b : Bool) → (In k (rdn_keys (once rs)) → In k (rdn_keys rs)) → In k (rdn_keys (if b then once rs else (r ∷ once rs))) → In k (rdn_keys (r ∷ rs))
-    go true more j = there (more j)
-    go false more j = elim (in_first k (key_of_rdn r) (rdn_keys (once rs)) j) [ inl e ↦ subst (λ (x : KeyRdn). In x (rdn_keys (r ∷ rs))) (sym e) here | inr l ↦ there (more l) ]
+of_once k (r ∷ rs) i =
+    elim (in_first k (key_of_rdn r) (rdn_keys (filter (apart_from r) (once rs))) i) [
+      | inl e ↦ subst (λ (x : KeyRdn). In x (rdn_keys (r ∷ rs))) (sym e) here
+      | inr l ↦ (let w = of_map key_of_rdn k (filter (apart_from r) (once rs)) l in
+          let j : In (key_of_rdn w.0) (rdn_keys (once rs)) = in_map key_of_rdn w.0 (once rs) (of_filter (apart_from r) w.0 (once rs) w.1).0 in
+          there (of_once k rs (subst (λ (x : KeyRdn). In x (rdn_keys (once rs))) (sym w.2) j)))
+    ]
 
 into_once : (k : KeyRdn) (xs : List Rdn) → In k (rdn_keys xs) → In k (rdn_keys (once xs))
 into_once k [] i = i
-into_once k (r ∷ rs) i = go (has same_spelled_rdn rs r) refl (into_once k rs)
-  where
-    go : (b : Bool) → has same_spelled_rdn rs r ≡ b → (In k (rdn_keys rs) → In k (rdn_keys (once rs))) → In k (rdn_keys (if b then once rs else (r ∷ once rs)))
-    go true e more = elim (in_first k (key_of_rdn r) (rdn_keys rs) i) [
-      | inl s ↦ more (subst (λ (x : KeyRdn). In x (rdn_keys rs)) (sym s) ((listed_decides rs r).0 e))
-      | inr j ↦ more j
+into_once k (r ∷ rs) i =
+    elim (in_first k (key_of_rdn r) (rdn_keys rs) i) [
+      | inl s ↦ subst (λ (x : KeyRdn). In x (rdn_keys (once (r ∷ rs)))) (sym s) here
+      | inr j ↦ (let w = of_map key_of_rdn k (once rs) (into_once k rs j) in go w.0 w.1 w.2 (same_spelled_rdn r w.0) refl)
     ]
-    go false e more = elim (in_first k (key_of_rdn r) (rdn_keys rs) i) [ inl s ↦ subst (λ (x : KeyRdn). In x (key_of_rdn r ∷ rdn_keys (once rs))) (sym s) here | inr j ↦ there (more j) ]
+  where
+    go : (x : Rdn) → In x (once rs) → k ≡ key_of_rdn x → (b : Bool) → same_spelled_rdn r x ≡ b → In k (rdn_keys (once (r ∷ rs)))
+    go x l e true t =
+        subst (λ (y : KeyRdn). In y (rdn_keys (once (r ∷ rs)))) ((rdn_decides (key_of_rdn r) (key_of_rdn x)).0 t ∙ sym e) here
+    go x l e false t =
+        subst (λ (y : KeyRdn). In y (rdn_keys (once (r ∷ rs)))) (sym e) (there (in_map key_of_rdn x (filter (apart_from r) (once rs)) (in_filter (apart_from r) x (once rs) l (ap not t))))
 
 in_sorted_keys : (below : Rdn → Rdn → Bool) (k : KeyRdn) (xs : List Rdn) → In k (rdn_keys (sorted below xs)) ↔ In k (rdn_keys xs)
 in_sorted_keys below k xs = (

@@ -109,7 +109,7 @@ keep_drop (suc n) [] h = tt
 keep_drop (suc n) (d ∷ before) h = keep_drop n before h.1
 
 pub stands_at_first : StandsAtFirst
-stands_at_first w past described consistent short h =
+stands_at_first w past described consistent h =
     let same : w ≡ knowledge_by w past = sym (knowledge_still w past h) in
     let stood : (t : Tree) → whole w ≡ t → Coherent (with_entries (λ c. keys_of (part t c.prefix)) (knowledge_of (knowledge_by w past))) = λ t tree.
     subst (λ (x : World). Coherent (with_entries (λ c. keys_of (part t c.prefix)) (knowledge_of x))) same
@@ -121,7 +121,6 @@ stands_at_first w past described consistent short h =
         consistent = subst (λ (x : World). IsConsistent x) same consistent;
         coherent = stood (tree_by w past) (sym (tree_still w past h));
         pins_are = pinned (tree_by w past) (sym (tree_still w past h));
-        short = subst (λ (x : World). (q : Key) → In q (pins x) → length q ≤ 16) same short;
       },
       λ g moment i e.
           let at : whole w ≡ tree_by w (drop (length past - moment) past) = sym (tree_still w (drop (length past - moment) past) (keep_drop (length past - moment) past h)) in

@@ -15,7 +15,7 @@ use Rattle.x5_model_tree.specs.Tree.{Tree, lowest}
 use Rattle.x5_model_tree.specs.Ask.{in_subset, is_update}
 use Rattle.x5_model_run.specs.Holdings.{Held, Copy, Holdings, usable_agents, held_at, copy_at, served, subordinates, known_pin}
 use Rattle.x5_model_run.specs.Journal.{is_done, is_wide, same_name, same_kind}
-use Rattle.x5_model_run.specs.Needs.{target_of, others, reference, proceeding, resolves, superior_needs, nssr_at, multicast_needs, copy_answers, supplier_needs, specific_at, specific_needs, pin_needs, resolution_needs, by_pin, subset_of, copied_needs}
+use Rattle.x5_model_run.specs.Needs.{target_of, others, reference, proceeding, resolves, to_superior, superior_needs, nssr_at, multicast_needs, copy_answers, supplier_needs, specific_at, specific_needs, pin_needs, resolution_needs, by_pin, subset_of, copied_needs}
 use Rattle.x5_model_run.specs.History.{knowledge_at, tree_at, holdings_at}
 use Rattle.x5_model_run.specs.Chain.{probe_request, is_probe, part_request, asks_part, is_user}
 use Rattle.x5_model_run.specs.Covers.{context_of, pins_below, reached_below, touched_part, touched}
@@ -42,13 +42,9 @@ module _ (h : Holdings) (m : Chained) (r : Reference) where
   superior_early : In r (superior_needs h m) → is_done r.progress ≡ false
   superior_early i = go h.superior i
     where
-      up : Option ℕ → List ℕ
-      up None = []
-      up (Some s) = s ∷ []
-
-      go : (x : Option ℕ) → In r (map (λ (s : ℕ). reference m.target Start Superior (s ∷ [])) (up x)) → is_done r.progress ≡ false
+      go : (x : Option ℕ) → In r (in_option [] (to_superior m.target) x) → is_done r.progress ≡ false
       go None j = elim j [ ]
-      go (Some s) j = (let x = of_map (λ (s : ℕ). reference m.target Start Superior (s ∷ [])) r (s ∷ []) j in ap (λ (y : Reference). is_done y.progress) x.2)
+      go (Some s) j = elim (in_first r (reference m.target Start Superior (s ∷ [])) [] j) [ inl e ↦ ap (λ (y : Reference). is_done y.progress) e | inr l ↦ elim l [ ] ]
 
   multicast_early : (c : Held) → In r (multicast_needs h m c) → is_done r.progress ≡ false
   multicast_early c i = at (lowest c.entries (key_of m.target)) i

@@ -2,7 +2,7 @@
 use Rattle.std.proofs.Common.{◌≡◌, ℕ, ◌≤◌, ◌==◌, Bool, true, false, not, ◌⊎◌, inl, inr, List, [], ◌∷◌, ◌++◌, length, map, refl, sym, ap, subst, ◌∙◌, if◌then◌else◌}
 use Rattle.std.specs.List.{filter, list_all}
 use Rattle.std.specs.Option.{is_some, is_none}
-use Rattle.x5_model.specs.Words.{has, is_empty, distinct}
+use Rattle.x5_model.specs.Words.{has, distinct}
 use Rattle.x5_model.specs.Members.{In, Once, here, there}
 use Rattle.x5_model.specs.Keys.{Key, IsPrefix, same_key, parent}
 use Rattle.x5_model.specs.Values.{key_of}
@@ -14,7 +14,8 @@ use Rattle.x5_model.proofs.Decide.{once_decides}
 use Rattle.x5_model_tree.specs.World.{Specific, Nssr, Context, Agent, World}
 use Rattle.x5_model_tree.specs.Tree.{Tree, key_at, keys_of, is_there, part, belongs}
 use Rattle.x5_model_tree.specs.Masters.{Mastered, pin_of, numbered, mastered, held_contexts}
-use Rattle.x5_model_tree.specs.Described.{is_rooted, is_kept, is_nssr, is_context, is_agent, are_references}
+use Rattle.x5_model_tree.specs.Described.{is_agent_name, is_rooted, is_kept, is_nssr, is_context, is_agent, are_references}
+use Rattle.x5_model_tree.proofs.Stored.{pins_short}
 use Rattle.x5_model_run.specs.Holdings.{Held, Holdings, may_copy, masters_pin, usable_copies, served}
 use Rattle.x5_model_run.specs.History.{Point, knowledge_at, tree_at, own_context, agent_holdings}
 use Rattle.x5_model_theory.specs.Knowledge.{Knowledge, Area, Pointer, IsReferred}
@@ -129,7 +130,7 @@ module _ (p : Point) (st : Stands p) where
       subst (λ (q : Key). In q t.pins) x.2 ((st.pins_are (pin_of x.0)).1 (in_map pin_of x.0 (mastered w) x.1))
 
   pub pin_short : (q : Area) → In q k.areas → length q.prefix ≤ 16
-  pin_short q i = st.short q.prefix ((st.pins_are q.prefix).0 (pin_of_area q i))
+  pin_short q i = pins_short w st.described q.prefix ((st.pins_are q.prefix).0 (pin_of_area q i))
 
   pub area_of_pin : (q : Key) → In q t.pins → (d : Area) × In d k.areas × (d.prefix ≡ q)
   area_of_pin q i =
@@ -146,12 +147,12 @@ module _ (p : Point) (st : Stands p) where
 
     described_context : (c : Context) → In c a.contexts → is_context w c ≡ true
     described_context c i =
-        let x = both_true (not (is_empty a.name)) _ described_agent in
+        let x = both_true (is_agent_name a.name) _ described_agent in
         of_all (is_context w) c a.contexts (both_true (list_all (is_context w) a.contexts) _ x.1).0 i
 
     pub references_once : Once (map (λ (r : Specific). key_of r.pin) a.subordinate)
     references_once =
-        let x = both_true (not (is_empty a.name)) _ described_agent in
+        let x = both_true (is_agent_name a.name) _ described_agent in
         let y = both_true (list_all (is_context w) a.contexts) _ x.1 in
         let z = both_true (are_references w a.subordinate) _ y.1 in
         (once_decides same_key key_decides (map (λ (r : Specific). key_of r.pin) a.subordinate)).0 (both_true _ (distinct same_key (map (λ (r : Specific). key_of r.pin) a.subordinate)) z.0).1

@@ -18,13 +18,12 @@ abbrev pub knowledge_now : Point → Knowledge
 knowledge_now p = with_entries (λ c. keys_of (part (tree_at p) c.prefix)) (knowledge_of (knowledge_at p))
 
 -- The world is as a description may be and its knowledge is consistent; accepted updates have kept what knowledge says by
--- keys; the tree's pins are the prefixes of contexts; and a name has 16 RDNs at most (docs/FORMATS.md, names).
+-- keys; and the tree's pins are the prefixes of contexts.
 pub record Stands (p : Point) : Type 0 where
   pub described : IsDescribed (knowledge_at p)
   pub consistent : IsConsistent (knowledge_at p)
   pub coherent : Coherent (knowledge_now p)
   pub pins_are : (q : Key) → In q (tree_at p).pins ↔ In q (pins (knowledge_at p))
-  pub short : (q : Key) → In q (pins (knowledge_at p)) → length q ≤ 16
 
 -- So it was at each moment as of which an agent has a copy.
 pub record StoodAt (p : Point) (moment : ℕ) : Type 0 where
@@ -49,5 +48,5 @@ KeepTree [] = ⊤
 KeepTree (d ∷ before) = keeps_tree d.deed × KeepTree before
 
 abbrev pub StandsAtFirst : Type 0
-StandsAtFirst = (w : World) (past : List Did) → IsDescribed w → IsConsistent w → ((q : Key) → In q (pins w) → length q ≤ 16) → KeepTree past
+StandsAtFirst = (w : World) (past : List Did) → IsDescribed w → IsConsistent w → KeepTree past
     → Stands (record { described = w; past = past }) × CopiesStand (record { described = w; past = past })

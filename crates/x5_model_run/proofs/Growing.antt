@@ -4,10 +4,13 @@ use Rattle.std.specs.List.{list_any, list_all, Contains, filter}
 use Rattle.std.proofs.Common.{refl, arith}
 use Rattle.x5_model.specs.Words.{has}
 use Rattle.x5_model.specs.References.{Reference}
-use Rattle.x5_model_run.specs.Network.{is_sent}
-use Rattle.x5_model_run.specs.Journal.{Line, is_wide}
-use Rattle.x5_model_run.specs.Chain.{Scene}
-use Rattle.x5_model_run.specs.Blocked.{Asked, IsUntried, IsUserLost, IsTried, IsProbed, IsLost, Blocked, user, asked, probed, untried, lost, is_unheard_at, is_cleared, others_cleared, holds_nothing, asks_by, lacks_supplier, proceeds}
+use Rattle.x5_model.specs.Values.{key_of}
+use Rattle.x5_model_run.specs.Network.{Fate, is_unheard, is_sent}
+use Rattle.x5_model_run.specs.Journal.{Line, is_wide, some_line, opened_by}
+use Rattle.x5_model_run.specs.Holdings.{masters_pin}
+use Rattle.x5_model_run.specs.Needs.{falls_short}
+use Rattle.x5_model_run.specs.Chain.{Scene, is_probe, asks_by, is_asked, is_cleared, is_broken_off, is_broken_line, is_broken, is_in_vain, is_passed}
+use Rattle.x5_model_run.specs.Blocked.{Asked, hears_by, IsUntried, IsUserLost, IsTried, IsLost, Blocked, user, asked, untried, lost, others_cleared, proceeds}
 
 or_right : (a b : Bool) → b ≡ true → (a || b) ≡ true
 or_right true b e = refl
@@ -36,62 +39,61 @@ all_grow f g more (x ∷ xs) e = by (f x) (g x) (list_all f xs) (more x) (all_gr
 pub contains_more : {X : Type 0} (xs : List X) (y x : X) → Contains xs x → Contains (y ∷ xs) x
 contains_more xs y x c = (suc c.0, omega (arith, c.1), c.2)
 
-unheard_at_grows : (lines : List Line) (l : Line) (number : ℕ) (r : Reference) (a : ℕ) → is_unheard_at lines number r a ≡ true → is_unheard_at (l ∷ lines) number r a ≡ true
-unheard_at_grows lines l number r a e = or_right _ _ e
+some_grows : (f g : Line → List Line → Bool) → ((l : Line) (before : List Line) → f l before ≡ true → g l before ≡ true) → (lines : List Line) → some_line f lines ≡ true → some_line g lines ≡ true
+some_grows f g more [] e = e
+some_grows f g more (l ∷ before) e =
+    both_grow (f l before) (some_line f before) _ _ (more l before) (some_grows f g more before) e
 
-cleared_grows : (s : Scene) (lines : List Line) (l : Line) (r : Reference) (a : ℕ) → is_cleared s lines r a ≡ true → is_cleared s (l ∷ lines) r a ≡ true
-cleared_grows s lines l r a e =
-    and_grows (list_any (λ x. is_sent x.fate && asks_by r a x) lines) (holds_nothing s r a) _ (or_right _ _) e
+asked_grows : (fated : Fate → Bool) (lines : List Line) (l : Line) (number : ℕ) (r : Reference) (a : ℕ) → is_asked fated lines number r a ≡ true → is_asked fated (l ∷ lines) number r a ≡ true
+asked_grows fated lines l number r a e = or_right _ _ e
 
-others_grow : (s : Scene) (lines : List Line) (l : Line) (r full : Reference) → IsTrue (others_cleared s lines r full) → IsTrue (others_cleared s (l ∷ lines) r full)
-others_grow s lines l r full e =
-    or_grows (not (is_wide r.kind && proceeds r.progress)) _ _ (all_grow (is_cleared s lines r) (is_cleared s (l ∷ lines) r) (cleared_grows s lines l r) (filter (λ a. not (has ◌==◌ r.agents a)) full.agents)) e
+and_more : (a b c : Bool) → (b ≡ true → c ≡ true) → (a && b) ≡ true → (a && c) ≡ true
+and_more true b c f e = f e
+and_more false b c f e = e
 
-pub tried_grows : (s : Scene) (lines : List Line) (l : Line) (r : Reference) → IsTried s lines r → IsTried s (l ∷ lines) r
-tried_grows s lines l r t = record {
+cleared_grows : (s : Scene) (lines : List Line) (l : Line) (number : ℕ) (r : Reference) (a : ℕ) → is_cleared s lines number r a ≡ true → is_cleared s (l ∷ lines) number r a ≡ true
+cleared_grows s lines l number r a e =
+    and_grows (is_asked is_sent lines number r a) (falls_short (s.holdings a) (key_of r.target) r.progress) _ (or_right _ _) e
+
+broken_line_grows : (s : Scene) (lines : List Line) (l x : Line) → is_broken_line s lines x ≡ true → is_broken_line s (l ∷ lines) x ≡ true
+broken_line_grows s lines l x e =
+    and_more (is_sent x.fate) _ _ (and_more (not (masters_pin (s.holdings x.receiver) (key_of x.message.target))) (some_line (is_broken_off s x) lines) _ (or_right _ _)) e
+
+broken_grows : (s : Scene) (lines : List Line) (l : Line) (number : ℕ) (r : Reference) (a : ℕ) → is_broken s lines number r a ≡ true → is_broken s (l ∷ lines) number r a ≡ true
+broken_grows s lines l number r a e =
+    or_right _ _ (some_grows (λ x before. asks_by r a x && (opened_by number before x && is_broken_line s lines x)) (λ x before. asks_by r a x && (opened_by number before x && is_broken_line s (l ∷ lines) x)) (λ x before. and_more (asks_by r a x) _ _ (and_more (opened_by number before x) _ _ (broken_line_grows s lines l x))) lines e)
+
+pub vain_grows : (s : Scene) (lines : List Line) (l o : Line) (r : Reference) (a : ℕ) → is_in_vain s lines o r a ≡ true → is_in_vain s (l ∷ lines) o r a ≡ true
+vain_grows s lines l o r a e =
+    both_grow (is_asked is_unheard lines o.number r a) _ _ _ (asked_grows is_unheard lines l o.number r a) (and_more (is_probe o.message.request.body r.target) _ _ (broken_grows s lines l o.number r a)) e
+
+others_grow : (s : Scene) (lines : List Line) (l : Line) (number : ℕ) (r : Reference) (agents : List ℕ) → IsTrue (others_cleared s lines number r agents) → IsTrue (others_cleared s (l ∷ lines) number r agents)
+others_grow s lines l number r agents e =
+    or_grows (not (is_wide r.kind && proceeds r.progress)) _ _ (all_grow (is_cleared s lines number r) (is_cleared s (l ∷ lines) number r) (cleared_grows s lines l number r) (filter (λ a. not (has ◌==◌ r.agents a)) agents)) e
+
+pub tried_grows : (s : Scene) (q : Asked) (lines : List Line) (l : Line) (r : Reference) → IsTried s q lines r → IsTried s q (l ∷ lines) r
+tried_grows s q lines l r t = record {
   line = t.line;
   full = t.full;
   stands = contains_more lines l t.line t.stands;
-  arrived = t.arrived;
+  back = or_right _ _ t.back;
   needed = t.needed;
   same = t.same;
-  unheard = all_grow (is_unheard_at lines t.line.number r) _ (unheard_at_grows lines l t.line.number r) r.agents t.unheard;
-  cleared = others_grow s lines l r t.full t.cleared;
-  tried = t.tried;
+  listed = t.listed;
+  vain = all_grow (is_in_vain s lines t.line t.full) _ (vain_grows s lines l t.line t.full) r.agents t.vain;
+  cleared = others_grow s lines l t.line.number r t.full.agents t.cleared;
 }
 
-pub probed_grows : (s : Scene) (lines : List Line) (l : Line) (r : Reference) → IsProbed s lines r → IsProbed s (l ∷ lines) r
-probed_grows s lines l r t = record {
-  line = t.line;
-  full = t.full;
-  stands = contains_more lines l t.line t.stands;
-  arrived = t.arrived;
-  needed = t.needed;
-  same = t.same;
-  unheard = all_grow (λ a. is_unheard_at lines t.line.number r a || lacks_supplier s lines r a) (λ a. is_unheard_at (l ∷ lines) t.line.number r a || lacks_supplier s (l ∷ lines) r a) (λ a. both_grow (is_unheard_at lines t.line.number r a) (lacks_supplier s lines r a) _ _ (unheard_at_grows lines l t.line.number r a) (or_right _ _)) r.agents t.unheard;
-  cleared = others_grow s lines l r t.full t.cleared;
-  tried = t.tried;
-}
+pub user_lost_grows : (s : Scene) (q : Asked) (lines : List Line) (l : Line) (r : Reference) → IsUserLost s q lines r → IsUserLost s q (l ∷ lines) r
+user_lost_grows s q lines l r t = record { own = t.own; unheard = or_right _ _ t.unheard; same = t.same }
 
-pub user_lost_grows : (s : Scene) (lines : List Line) (l : Line) (r : Reference) → IsUserLost s lines r → IsUserLost s (l ∷ lines) r
-user_lost_grows s lines l r t =
-    record { unheard = or_right _ _ t.unheard; start = t.start; kind_is = t.kind_is; agents_are = t.agents_are; tried = t.tried }
-
-pub lost_grows : (s : Scene) (lines : List Line) (l : Line) (r : Reference) → IsLost s lines r → IsLost s (l ∷ lines) r
-lost_grows s lines l r (user t) = user (user_lost_grows s lines l r t)
-lost_grows s lines l r (asked t) = asked (tried_grows s lines l r t)
-lost_grows s lines l r (probed t) = probed (probed_grows s lines l r t)
+pub lost_grows : (s : Scene) (q : Asked) (lines : List Line) (l : Line) (r : Reference) → IsLost s q lines r → IsLost s q (l ∷ lines) r
+lost_grows s q lines l r (user t) = user (user_lost_grows s q lines l r t)
+lost_grows s q lines l r (asked t) = asked (tried_grows s q lines l r t)
 
 pub untried_grows : (s : Scene) (q : Asked) (lines : List Line) (l : Line) (r : Reference) → IsUntried s q lines r → IsUntried s q (l ∷ lines) r
-untried_grows s q lines l r t = record {
-  full = t.full;
-  idle = t.idle;
-  heard = or_grows (q.counts && (q.to == q.to)) _ _ (or_right _ _) t.heard;
-  needed = t.needed;
-  whole = t.whole;
-  untried = t.untried;
-}
+untried_grows s q lines l r t = record { idle = t.idle; heard = or_right _ _ t.heard; needed = t.needed }
 
 pub blocked_grows : (s : Scene) (q : Asked) (lines : List Line) (l : Line) (r : Reference) → Blocked s q lines r → Blocked s q (l ∷ lines) r
 blocked_grows s q lines l r (untried t) = untried (untried_grows s q lines l r t)
-blocked_grows s q lines l r (lost t) = lost (lost_grows s lines l r t)
+blocked_grows s q lines l r (lost t) = lost (lost_grows s q lines l r t)

@@ -1,7 +1,7 @@
 -- Laws of journals: where the message at hand stands, and what was sent for it.
-use Rattle.std.proofs.Common.{◌≡◌, ℕ, ◌+◌, ◌<◌, ◌≤◌, List, [], ◌∷◌, refl, ap, sym, ◌∙◌, arith}
+use Rattle.std.proofs.Common.{◌≡◌, ℕ, ◌+◌, ◌-◌, ◌<◌, ◌≤◌, Bool, ◌&&◌, ◌||◌, List, [], ◌∷◌, refl, ap, sym, ◌∙◌, arith}
 use Rattle.std.proofs.lemmas.Bool.Decides.{nat_tests}
-use Rattle.x5_model_run.specs.Journal.{Line, depth, settled, siblings}
+use Rattle.x5_model_run.specs.Journal.{Line, depth, settled, siblings, leads_up}
 
 pub settled_past : (d : ℕ) (l : Line) (lines : List Line) → d < depth l → settled d (l ∷ lines) ≡ settled d lines
 settled_past d l lines h = grind (arith, nat_tests)
@@ -36,3 +36,7 @@ siblings_past d l lines h = grind (arith, nat_tests)
 pub siblings_under : (d : ℕ) (l : Line) (lines after : List Line) → depth l ≡ d + 1 → settled (depth l) after ≡ settled (depth l) (l ∷ lines) → siblings d after ≡ l ∷ siblings d lines
 siblings_under d l lines after h e =
     sym (siblings_settled d (depth l) after h) ∙ ap (siblings d) e ∙ siblings_settled d (depth l) (l ∷ lines) h ∙ siblings_past d l lines h
+
+-- from a line itself
+pub leads_from : (ends passes : Line → Bool) (l : Line) (before : List Line) → leads_up ends passes (depth l) (l ∷ before) ≡ (ends l || (passes l && leads_up ends passes (depth l - 1) before))
+leads_from ends passes l before = grind (arith, nat_tests)

@@ -1,7 +1,6 @@
 -- A line is licensed where tests say so: for journals that are written out.
-use Rattle.std.specs.Prelude.{◌≡◌, ℕ, ◌+◌, Bool, true, false, ◌&&◌, ◌==◌, nat_lt, IsTrue, List, [], ◌∷◌, ◌++◌, length, slice_index, slice_index_or, take}
-use Rattle.std.specs.List.{list_any, list_all}
-use Rattle.std.specs.Cmp.Lexicographic.{pointwise}
+use Rattle.std.specs.Prelude.{◌≡◌, ℕ, ◌+◌, Bool, true, false, ◌&&◌, ◌==◌, nat_lt, IsTrue, List, [], ◌∷◌, length, slice_index, slice_index_or, take}
+use Rattle.std.specs.List.{list_all}
 use Rattle.std.specs.declared.option.Option.{Option}
 use Rattle.std.specs.declared.option.Option.TheVariants.{None, Some}
 use Rattle.std.proofs.Common.{refl, arith, ap, sym, subst, ◌∙◌}
@@ -9,9 +8,9 @@ use Rattle.std.proofs.lemmas.Bool.{eqb-true, ltb-true}
 use Rattle.x5_model.specs.Words.{first_of}
 use Rattle.x5_model.specs.References.{Start, Own, Reference}
 use Rattle.x5_model_run.specs.Network.{arrives, fate_of}
-use Rattle.x5_model_run.specs.Journal.{Line, depth, same_name, same_spelled_rdn, is_wide, item_of, settled, siblings}
+use Rattle.x5_model_run.specs.Journal.{Line, depth, settled, siblings}
 use Rattle.x5_model_run.specs.Needs.{needs}
-use Rattle.x5_model_run.specs.Chain.{Scene, Follows, Licensed, begins, later, is_attempt, is_fresh, may_send, may_chain, request_for, is_user}
+use Rattle.x5_model_run.specs.Chain.{Scene, Follows, Licensed, begins, later, carried, is_passed, is_fresh, may_send, may_chain}
 
 pub both : (a b : Bool) → IsTrue (a && b) → IsTrue a × IsTrue b
 both true b e = (refl, e)
@@ -31,25 +30,20 @@ is_caused s before l o r at place =
     && ((depth l == (depth o + 1))
     && (arrives o.fate
     && (nat_lt at (length (needs (s.holdings o.receiver) o.message))
-    && (same_name r.target l.message.target
-    && (pointwise same_spelled_rdn r.exclusions l.message.exclusions
     && (may_send s o l.sender
     && (may_chain s l l.sender
     && (nat_lt place (length r.agents)
     && ((slice_index r.agents place == l.receiver)
-    && (list_all (λ a. list_any (is_attempt (is_wide r.kind) l a) (siblings (depth o) before)) (take place r.agents)
-    && is_fresh (siblings (depth o) before) l))))))))))
+    && (list_all (is_passed s before o r) (take place r.agents)
+    && is_fresh (siblings (depth o) before) l))))))))
 
 pub licensed_by : {s : Scene} {before : List Line} {l : Line} (o : Line) (at place : ℕ) → IsTrue (is_caused s before l o (need_at s o at) at place)
     → l.fate ≡ fate_of s.network l.number l.sender l.receiver
     → first_of (settled (depth o) before) ≡ Some o
     → slice_index_or (needs (s.holdings o.receiver) o.message) at (need_at s o at) ≡ need_at s o at
-    → l.message.progress ≡ (need_at s o at).progress
-    → l.message.kind ≡ (need_at s o at).kind
-    → l.message.trace ≡ o.message.trace ++ item_of o.receiver o.message ∷ []
-    → l.message.request ≡ request_for (is_user l.sender) o.message.request l.message.target (need_at s o at)
+    → l.message ≡ carried l.sender o.receiver o.message (need_at s o at)
     → Licensed s before l
-licensed_by {s} {before} {l} o at place test fate opens needed progress kind trace request =
+licensed_by {s} {before} {l} o at place test fate opens needed carries =
     let a : _ = both _ _ test in
     let b : _ = both _ _ a.1 in
     let c : _ = both _ _ b.1 in
@@ -59,8 +53,6 @@ licensed_by {s} {before} {l} o at place test fate opens needed progress kind tra
     let g : _ = both _ _ f.1 in
     let h : _ = both _ _ g.1 in
     let i : _ = both _ _ h.1 in
-    let j : _ = both _ _ i.1 in
-    let k : _ = both _ _ j.1 in
     record {
       number_is = eqb-true _ _ a.0;
       fate_is = fate;
@@ -73,11 +65,11 @@ licensed_by {s} {before} {l} o at place test fate opens needed progress kind tra
         at_above = refl;
         arrived = c.0;
         needed = (at, ltb-true _ _ d.0, needed);
-        carried = record { target_is = e.0; progress_is = progress; kind_is = kind; exclusions_are = f.0; trace_is = trace; request_is = request };
-        sender_is = g.0;
-        chains = h.0;
-        turn = record { place = place; inside = ltb-true _ _ i.0; here = eqb-true _ _ j.0; earlier = k.0 };
-      }) k.1;
+        carries = carries;
+        sender_is = e.0;
+        chains = f.0;
+        turn = record { place = place; inside = ltb-true _ _ g.0; here = eqb-true _ _ h.0; earlier = i.0 };
+      }) i.1;
     }
 
 -- the user's own line

@@ -1,144 +1,100 @@
 -- What an unexplored reference, a referral or `unavailable` rests on: agents that this request could not hear or might not
 -- ask (X.518, section 10.9: continuation references; X.511, section 12.8: service errors).
-use Rattle.std.specs.Prelude.{◌≡◌, ℕ, zero, suc, Bool, true, false, not, ◌&&◌, ◌||◌, ◌==◌, IsTrue, List, [], ◌∷◌}
+use Rattle.std.specs.Prelude.{◌≡◌, ℕ, ◌+◌, Bool, true, false, not, ◌&&◌, ◌||◌, ◌==◌, if◌then◌else◌, IsTrue, List, [], ◌∷◌}
 use Rattle.std.specs.List.{list_any, list_all, filter, Contains}
 use Rattle.std.specs.Cmp.Lexicographic.{pointwise}
-use Rattle.x5_model.specs.Words.{has, is_empty, in_option}
-use Rattle.x5_model.specs.Keys.{Key}
-use Rattle.x5_model.specs.Values.{key_of}
+use Rattle.x5_model.specs.Words.{has, is_empty}
 use Rattle.x5_model.specs.References.{Progress, Start, Next, Done, Reference, Own, Chained}
-use Rattle.x5_model_run.specs.Network.{arrives, is_unheard, is_sent, refuses}
-use Rattle.x5_model_run.specs.Journal.{Line, same_progress, same_name, same_spelled_rdn, same_kind, is_wide, some_line, opened_by, is_heard}
-use Rattle.x5_model_run.specs.Holdings.{copy_at, holds_within}
-use Rattle.x5_model_run.specs.Needs.{passing_needs, due_probes, needs}
-use Rattle.x5_model_run.specs.Chain.{Scene}
+use Rattle.x5_model_run.specs.Network.{is_unheard, is_sent, refuses}
+use Rattle.x5_model_run.specs.Journal.{Line, depth, is_wide, some_line, leads_up}
+use Rattle.x5_model_run.specs.Needs.{reference, passing_needs, needs}
+use Rattle.x5_model_run.specs.Chain.{Scene, is_cleared, is_in_vain}
 
--- A message that an agent serves, from which its answer is judged: the user's, or one that another agent sent. In what is
--- said of the serving itself its line counts as sent: whether the reply arrives isn't known there. `stood` is how many
--- `accepted` lines stood before.
+-- A message that an agent serves, from which its answer is judged: the user's, or one that another agent sent, and the
+-- number of the line that brought it. In what is said of the serving itself that line counts as having come back: whether
+-- the reply arrives isn't known there. `stood` is how many `accepted` lines stood before.
 pub record Asked : Type 0 where
   pub to : ℕ
   pub message : Chained
+  pub number : ℕ
   pub counts : Bool
   pub stood : ℕ
 
 abbrev pub by_user : Scene → Asked
-by_user s = record { to = s.first; message = s.message; counts = false; stood = 0 }
+by_user s = record { to = s.first; message = s.message; number = s.sent + 1; counts = false; stood = 0 }
 
--- an agent that was heard, this one by its own line
+-- A line came back: it is `sent`, and it brought the message, or the line that brought its owner the message came back. A
+-- reply below a lost reply is heard by nobody.
+abbrev pub is_answered_line : Asked → Line → Bool
+is_answered_line q l = (l.number == q.number) && (q.counts || is_sent l.fate)
+
+abbrev pub came_back : Asked → Line → List Line → Bool
+came_back q l before = leads_up (is_answered_line q) (λ x. is_sent x.fate) (depth l) (l ∷ before)
+
+-- the line that brought the message did
+abbrev pub is_answered : Asked → List Line → Bool
+is_answered q lines = list_any (is_answered_line q) lines
+
+-- so did a line that passes the test; so did one to this agent
+abbrev pub hears_by : (Line → Bool) → Asked → List Line → Bool
+hears_by test q lines = some_line (λ l before. test l && came_back q l before) lines
+
 abbrev pub hears : Asked → List Line → ℕ → Bool
-hears q lines a = (q.counts && (a == q.to)) || is_heard lines a
+hears q lines a = hears_by (λ l. l.receiver == a) q lines
 
 -- it refuses to chain, or may not chain this request
 abbrev pub is_idle : Scene → Asked → Bool
 is_idle s q = q.message.request.controls.nochain || refuses s.network q.to
 
--- the same reference, by keys; of a nonSpecific one some of its agents, in its order
-abbrev pub same_reference : Reference → Reference → Bool
-same_reference r full =
-    same_name r.target full.target
-    && (same_progress r.progress full.progress
-    && (same_kind r.kind full.kind && pointwise same_spelled_rdn r.exclusions full.exclusions))
-
-abbrev pub is_whole : Reference → Reference → Bool
-is_whole r full = same_reference r full && pointwise ◌==◌ r.agents full.agents
-
-abbrev pub is_cut_down : Reference → Reference → Bool
-is_cut_down r full =
-    same_reference r full
-    && (is_wide r.kind && (not (is_empty r.agents) && pointwise ◌==◌ r.agents (filter (has ◌==◌ r.agents) full.agents)))
-
--- 1. Not tried: the agent that was asked was heard and needs it, not for a probe, and may not chain.
+-- 1. Not tried: the agent that was asked was heard and needs just this, not for a probe, and may not chain.
 pub record IsUntried (s : Scene) (q : Asked) (lines : List Line) (r : Reference) : Type 0 where
-  pub full : Reference
   pub idle : IsTrue (is_idle s q)
-  pub heard : IsTrue (hears q lines q.to)
-  pub needed : Contains (passing_needs (s.holdings q.to) q.message) full
-  pub whole : IsTrue (is_whole r full)
-  pub untried : r.tried ≡ false
+  pub heard : IsTrue (is_answered q lines)
+  pub needed : Contains (passing_needs (s.holdings q.to) q.message) r
 
 -- 2. Tried: the user's own message was not heard.
-abbrev pub is_unheard_user : Scene → Reference → Line → List Line → Bool
-is_unheard_user s r l before =
-    is_empty before && (is_unheard l.fate && ((l.receiver == s.first) && same_name l.message.target r.target))
+abbrev pub to_self : Scene → Reference
+to_self s = record (reference s.message.target Start Own (s.first ∷ [])) { tried = true }
 
-pub record IsUserLost (s : Scene) (lines : List Line) (r : Reference) : Type 0 where
-  pub unheard : IsTrue (some_line (is_unheard_user s r) lines)
-  pub start : r.progress ≡ Start
-  pub kind_is : r.kind ≡ Own
-  pub agents_are : r.agents ≡ s.first ∷ []
-  pub tried : r.tried ≡ true
+pub record IsUserLost (s : Scene) (q : Asked) (lines : List Line) (r : Reference) : Type 0 where
+  pub own : q.counts ≡ false
+  pub unheard : IsTrue (list_any (λ l. (l.number == q.number) && is_unheard l.fate) lines)
+  pub same : r ≡ to_self s
 
--- a line for the message of that number that asks this agent by the reference, and isn't heard
-abbrev pub asks_by : Reference → ℕ → Line → Bool
-asks_by r a l = (l.receiver == a) && (same_progress l.message.progress r.progress && same_name l.message.target r.target)
+-- agents of a reference, in its order; all of them, but of a nonSpecific one some
+abbrev pub lists_of : Bool → List ℕ → List ℕ → Bool
+lists_of wide some all =
+    not (is_empty some) && pointwise ◌==◌ some (if wide then filter (has ◌==◌ some) all else all)
 
-abbrev pub is_unheard_at : List Line → ℕ → Reference → ℕ → Bool
-is_unheard_at lines number r a =
-    some_line (λ l before. is_unheard l.fate && (asks_by r a l && opened_by number before l)) lines
-
--- The agents of an NSSR that the reference doesn't list were heard, and hold nothing of what is looked for.
-abbrev pub holds_nothing : Scene → Reference → ℕ → Bool
-holds_nothing s r a = by r.progress
-  where
-    by : Progress → Bool
-    by Start = true
-    by (Next k) = not (holds_within (s.holdings a) (key_of r.target) k)
-    by Done = true
-
-abbrev pub is_cleared : Scene → List Line → Reference → ℕ → Bool
-is_cleared s lines r a = list_any (λ l. is_sent l.fate && asks_by r a l) lines && holds_nothing s r a
-
+-- in name resolution the agents of an NSSR that aren't listed were heard and hold nothing of what is looked for
 abbrev pub proceeds : Progress → Bool
 proceeds Start = false
 proceeds (Next k) = true
 proceeds Done = false
 
-abbrev pub others_cleared : Scene → List Line → Reference → Reference → Bool
-others_cleared s lines r full =
+abbrev pub others_cleared : Scene → List Line → ℕ → Reference → List ℕ → Bool
+others_cleared s lines number r agents =
     not (is_wide r.kind && proceeds r.progress)
-    || list_all (is_cleared s lines r) (filter (λ a. not (has ◌==◌ r.agents a)) full.agents)
+    || list_all (is_cleared s lines number r) (filter (λ a. not (has ◌==◌ r.agents a)) agents)
 
--- 3. Tried: the owner of a line that arrived needs it, and each agent that it lists has a line for that line which isn't
--- heard.
-pub record IsTried (s : Scene) (lines : List Line) (r : Reference) : Type 0 where
+-- 3 and 4. Tried: the owner of a line that came back needs it, and what each agent that it lists was asked for that line was
+-- asked in vain.
+pub record IsTried (s : Scene) (q : Asked) (lines : List Line) (r : Reference) : Type 0 where
   pub line : Line
   pub full : Reference
   pub stands : Contains lines line
-  pub arrived : IsTrue (arrives line.fate)
+  pub back : IsTrue (hears_by (λ l. l.number == line.number) q lines)
   pub needed : Contains (needs (s.holdings line.receiver) line.message) full
-  pub same : IsTrue (is_whole r full || is_cut_down r full)
-  pub unheard : IsTrue (list_all (is_unheard_at lines line.number r) r.agents)
-  pub cleared : IsTrue (others_cleared s lines r full)
-  pub tried : r.tried ≡ true
-
--- 4. Tried, for a probe: a listed agent may also be a consumer of the context whose prefix is the target, where a line with
--- that target to an agent further up its chain of suppliers isn't heard. A chain has four hops at most.
-abbrev pub suppliers_above : ℕ → Scene → Key → ℕ → List ℕ
-suppliers_above zero s pin a = []
-suppliers_above (suc n) s pin a = in_option [] (λ c. c.supplier ∷ suppliers_above n s pin c.supplier) (copy_at (s.holdings a) pin)
-
-abbrev pub lacks_supplier : Scene → List Line → Reference → ℕ → Bool
-lacks_supplier s lines r a =
-    list_any (λ l. is_unheard l.fate && (same_name l.message.target r.target && has ◌==◌ (suppliers_above 4 s (key_of r.target) a) l.receiver)) lines
-
-pub record IsProbed (s : Scene) (lines : List Line) (r : Reference) : Type 0 where
-  pub line : Line
-  pub full : Reference
-  pub stands : Contains lines line
-  pub arrived : IsTrue (arrives line.fate)
-  pub needed : Contains (due_probes (s.holdings line.receiver) line.message) full
-  pub same : IsTrue (is_cut_down r full)
-  pub unheard : IsTrue (list_all (λ a. is_unheard_at lines line.number r a || lacks_supplier s lines r a) r.agents)
-  pub cleared : IsTrue (others_cleared s lines r full)
-  pub tried : r.tried ≡ true
+  pub same : r ≡ record full { agents = r.agents; tried = true }
+  pub listed : IsTrue (lists_of (is_wide full.kind) r.agents full.agents)
+  pub vain : IsTrue (list_all (is_in_vain s lines line full) r.agents)
+  pub cleared : IsTrue (others_cleared s lines line.number r full.agents)
 
 -- by case 2, 3 or 4: somebody wasn't heard
-pub data IsLost (s : Scene) (lines : List Line) (r : Reference) : Type 0 where
-  user : IsUserLost s lines r → IsLost s lines r
-  asked : IsTried s lines r → IsLost s lines r
-  probed : IsProbed s lines r → IsLost s lines r
+pub data IsLost (s : Scene) (q : Asked) (lines : List Line) (r : Reference) : Type 0 where
+  user : IsUserLost s q lines r → IsLost s q lines r
+  asked : IsTried s q lines r → IsLost s q lines r
 
 pub data Blocked (s : Scene) (q : Asked) (lines : List Line) (r : Reference) : Type 0 where
   untried : IsUntried s q lines r → Blocked s q lines r
-  lost : IsLost s lines r → Blocked s q lines r
+  lost : IsLost s q lines r → Blocked s q lines r

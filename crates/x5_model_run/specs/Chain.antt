@@ -1,20 +1,21 @@
 -- Each message of a request has its cause (X.518, section 10 and sections 18 to 20: chaining, referrals and
 -- multi-chaining). A journal has the newest line first.
-use Rattle.std.specs.Prelude.{◌≡◌, ℕ, ◌+◌, ◌<◌, Bool, true, false, not, ◌&&◌, ◌||◌, ◌==◌, if◌then◌else◌, IsTrue, List, [], ◌∷◌, ◌++◌, length, slice_index, take, ⊤}
+use Rattle.std.specs.Prelude.{◌≡◌, ℕ, zero, suc, ◌+◌, ◌-◌, ◌<◌, Bool, true, false, not, ◌&&◌, ◌||◌, ◌==◌, if◌then◌else◌, IsTrue, List, [], ◌∷◌, ◌++◌, length, slice_index, take, ⊤}
 use Rattle.std.specs.List.{list_any, list_all, Contains}
 use Rattle.std.specs.Cmp.Lexicographic.{pointwise}
 use Rattle.std.specs.declared.option.Option.{Option}
 use Rattle.std.specs.declared.option.Option.TheVariants.{None, Some}
-use Rattle.x5_model.specs.Words.{first_of}
-use Rattle.x5_model.specs.Values.{Name}
+use Rattle.x5_model.specs.Words.{has, in_option, first_of}
+use Rattle.x5_model.specs.Keys.{Key}
+use Rattle.x5_model.specs.Values.{Name, key_of}
 use Rattle.x5_model.specs.Requests.{Subset, Base, OneLevel, WholeSubtree, Only, Body, Read, Compare, ListBelow, Search, AddEntry, RemoveEntry, ModifyEntry, ModifyDn, Request}
 use Rattle.x5_model.specs.References.{Start, Reference, Subordinate, Own, Chained}
 use Rattle.x5_model_tree.specs.World.{Network}
 use Rattle.x5_model_tree.specs.Ask.{is_update}
-use Rattle.x5_model_run.specs.Network.{arrives, is_unheard, is_sent, refuses, fate_of}
-use Rattle.x5_model_run.specs.Journal.{Line, depth, operation_of, same_sender, same_progress, same_name, same_spelled_rdn, same_message, is_done, is_wide, same_kind, item_of, settled, siblings}
-use Rattle.x5_model_run.specs.Holdings.{Holdings}
-use Rattle.x5_model_run.specs.Needs.{target_of, needs}
+use Rattle.x5_model_run.specs.Network.{Fate, arrives, is_unheard, is_sent, refuses, fate_of}
+use Rattle.x5_model_run.specs.Journal.{Line, depth, operation_of, same_sender, same_progress, same_name, same_spelled_rdn, same_message, is_done, is_wide, same_kind, item_of, settled, siblings, some_line, opened_by, leads_up}
+use Rattle.x5_model_run.specs.Holdings.{Holdings, masters_pin, copy_at}
+use Rattle.x5_model_run.specs.Needs.{target_of, falls_short, needs}
 use Rattle.x5_model_run.specs.History.{Point, network_at, sent_before, holdings_at}
 
 -- What the lines of a request are judged by: what each agent holds, the network, how many messages were sent before, the
@@ -83,7 +84,19 @@ abbrev pub is_user : Option ℕ → Bool
 is_user None = true
 is_user (Some a) = false
 
--- what is carried by a reference that the owner of a line needs: its trace is the line's and the owner's item
+-- What is carried by a reference that the owner of a message needs: target and exclusions are spelled as the reference
+-- spells them, and the trace is the message's and the owner's item (X.518, section 10.3: chaining arguments).
+abbrev pub carried : Option ℕ → ℕ → Chained → Reference → Chained
+carried sender owner m r = record {
+  target = r.target;
+  progress = r.progress;
+  kind = r.kind;
+  exclusions = r.exclusions;
+  trace = m.trace ++ item_of owner m ∷ [];
+  request = request_for (is_user sender) m.request r.target r;
+}
+
+-- what follows of such a message, where only keys matter
 pub record IsCarried (sender : Option ℕ) (opener : Line) (r : Reference) (m : Chained) : Type 0 where
   pub target_is : IsTrue (same_name r.target m.target)
   pub progress_is : m.progress ≡ r.progress
@@ -92,19 +105,55 @@ pub record IsCarried (sender : Option ℕ) (opener : Line) (r : Reference) (m : 
   pub trace_is : m.trace ≡ opener.message.trace ++ item_of opener.receiver opener.message ∷ []
   pub request_is : m.request ≡ request_for (is_user sender) opener.message.request m.target r
 
--- an earlier line of the same sender for the same reference; where the reference isn't nonSpecific it heard nothing
-abbrev pub is_attempt : Bool → Line → ℕ → Line → Bool
-is_attempt wide l agent e =
-    (e.receiver == agent)
-    && (same_sender e.sender l.sender
-    && (same_progress e.message.progress l.message.progress && (same_name e.message.target l.message.target && (wide || is_unheard e.fate))))
+-- a line for the message of the line of that number that asks this agent by the reference
+abbrev pub asks_by : Reference → ℕ → Line → Bool
+asks_by r a l = (l.receiver == a) && (same_progress l.message.progress r.progress && same_name l.message.target r.target)
 
--- the receiver stands in the reference, and those that stand before it were asked
-pub record Turn (wide : Bool) (tried : List Line) (l : Line) (agents : List ℕ) : Type 0 where
+abbrev pub is_asked : (Fate → Bool) → List Line → ℕ → Reference → ℕ → Bool
+is_asked fated lines number r a = some_line (λ l before. fated l.fate && (asks_by r a l && opened_by number before l)) lines
+
+-- it was heard, and holds nothing of what is looked for
+abbrev pub is_cleared : Scene → List Line → ℕ → Reference → ℕ → Bool
+is_cleared s lines number r a = is_asked is_sent lines number r a && falls_short (s.holdings a) (key_of r.target) r.progress
+
+-- the agents further up an agent's chain of suppliers; it has four hops at most
+abbrev pub suppliers_above : ℕ → Scene → Key → ℕ → List ℕ
+suppliers_above zero s pin a = []
+suppliers_above (suc n) s pin a = in_option [] (λ c. c.supplier ∷ suppliers_above n s pin c.supplier) (copy_at (s.holdings a) pin)
+
+-- A line of a probe is broken: it is `sent` to a consumer that doesn't master the context of the new name, and a line with
+-- that target, below it by lines that all are `sent`, to an agent further up the chain of suppliers isn't heard.
+abbrev pub is_broken_off : Scene → Line → Line → List Line → Bool
+is_broken_off s e l before =
+    is_unheard l.fate
+    && (same_name l.message.target e.message.target
+    && (has ◌==◌ (suppliers_above 4 s (key_of e.message.target) e.receiver) l.receiver
+    && leads_up (λ x. (x.number == e.number) && is_sent x.fate) (λ x. is_sent x.fate) (depth l - 1) before))
+
+abbrev pub is_broken_line : Scene → List Line → Line → Bool
+is_broken_line s lines e =
+    is_sent e.fate && (not (masters_pin (s.holdings e.receiver) (key_of e.message.target)) && some_line (is_broken_off s e) lines)
+
+abbrev pub is_broken : Scene → List Line → ℕ → Reference → ℕ → Bool
+is_broken s lines number r a =
+    some_line (λ e before. asks_by r a e && (opened_by number before e && is_broken_line s lines e)) lines
+
+-- what was asked of an agent for the message of a line gave nothing: it wasn't heard, or, in a probe, is broken
+abbrev pub is_in_vain : Scene → List Line → Line → Reference → ℕ → Bool
+is_in_vain s lines o r a =
+    is_asked is_unheard lines o.number r a || (is_probe o.message.request.body r.target && is_broken s lines o.number r a)
+
+-- An agent of a reference was passed: it was asked in vain or, by a nonSpecific reference in name resolution, holds nothing
+-- of what is looked for.
+abbrev pub is_passed : Scene → List Line → Line → Reference → ℕ → Bool
+is_passed s lines o r a = is_in_vain s lines o r a || (is_wide r.kind && is_cleared s lines o.number r a)
+
+-- the receiver stands in the reference, and those that stand before it were passed
+pub record Turn (s : Scene) (before : List Line) (o : Line) (r : Reference) (receiver : ℕ) : Type 0 where
   pub place : ℕ
-  pub inside : place < length agents
-  pub here : slice_index agents place ≡ l.receiver
-  pub earlier : IsTrue (list_all (λ a. list_any (is_attempt wide l a) tried) (take place agents))
+  pub inside : place < length r.agents
+  pub here : slice_index r.agents place ≡ receiver
+  pub earlier : IsTrue (list_all (is_passed s before o r) (take place r.agents))
 
 -- Who sends: the owner; or, where the owner refuses to chain, the agent from which its message came, and that heard the
 -- owner's referral; or the user who follows, where the owner refuses or chaining is prohibited.
@@ -133,10 +182,10 @@ pub record Follows (s : Scene) (before : List Line) (l : Line) : Type 0 where
   pub at_above : depth opener ≡ above
   pub arrived : IsTrue (arrives opener.fate)
   pub needed : Contains (needs (s.holdings opener.receiver) opener.message) reference
-  pub carried : IsCarried l.sender opener reference l.message
+  pub carries : l.message ≡ carried l.sender opener.receiver opener.message reference
   pub sender_is : IsTrue (may_send s opener l.sender)
   pub chains : IsTrue (may_chain s l l.sender)
-  pub turn : Turn (is_wide reference.kind) (siblings above before) l reference.agents
+  pub turn : Turn s before opener reference l.receiver
 
 -- the user's message, or the raw message that was brought
 pub record IsFirst (s : Scene) (l : Line) : Type 0 where

@@ -7,10 +7,10 @@ use Rattle.x5_model.specs.Keys.{Key, same_key, is_prefix}
 use Rattle.x5_model.specs.Values.{Name, key_of}
 use Rattle.x5_model.specs.Entries.{Named}
 use Rattle.x5_model.specs.Requests.{Request}
-use Rattle.x5_model_tree.specs.World.{Access, Specific, Nssr}
-use Rattle.x5_model_tree.specs.Tree.{longest, belongs, key_at}
+use Rattle.x5_model_tree.specs.World.{Access, Specific, Nssr, Context}
+use Rattle.x5_model_tree.specs.Tree.{longest}
 use Rattle.x5_model_tree.specs.Ask.{is_update}
-use Rattle.x5_model_tree.specs.Apply.{Ground}
+use Rattle.x5_model_tree.specs.Apply.{Ground, own_ground}
 
 -- a naming context that an agent masters or has a copy of, and the knowledge that goes with it
 pub record Held : Type 0 where
@@ -84,15 +84,9 @@ holds_within h n k = list_any (λ p. is_prefix (key_of p) n && nat_le k (length 
 abbrev pub is_first_level : Holdings → Bool
 is_first_level h = is_none h.superior
 
--- What an agent judges an update by: the entries of the contexts that it masters, each where its context is the one of its
--- longest known pin, its known pins, its NSSRs, and the names of its other entries.
+-- What an agent judges an update by: the contexts that it masters and all pins that it knows.
+abbrev pub as_context : Held → Context
+as_context c = record { prefix = c.prefix; entries = c.entries; nssrs = c.nssrs }
+
 abbrev pub ground_at : Request → Holdings → Ground
-ground_at r h = record {
-  entries = flat_map (λ c. filter (λ e. belongs pins (key_of c.prefix) (key_at e)) c.entries) h.own;
-  pins = pins;
-  nssrs = flat_map (λ c. map (λ n. record { context = key_of c.prefix; entry = key_of n.at }) c.nssrs) h.own;
-  taken = flat_map (λ c. map key_at (filter (λ e. not (belongs pins (key_of c.prefix) (key_at e))) c.entries)) h.own;
-}
-  where
-    pins : List Key
-    pins = map key_of (known_pins r h)
+ground_at r h = own_ground (map key_of (known_pins r h)) (map as_context h.own)

@@ -8,7 +8,7 @@ use Rattle.x5_model.specs.Keys.{same_key, same_rdn}
 use Rattle.x5_model.specs.Values.{Rdn, Name, key_of, key_of_rdn}
 use Rattle.x5_model.specs.Requests.{Body, Read, Compare, ListBelow, Search, AddEntry, RemoveEntry, ModifyEntry, ModifyDn}
 use Rattle.x5_model.specs.References.{Progress, Start, Next, Done, RefType, Superior, Subordinate, Cross, NonSpecific, Supplier, Own, TraceItem, Chained}
-use Rattle.x5_model_run.specs.Network.{Fate, arrives, is_sent}
+use Rattle.x5_model_run.specs.Network.{Fate, arrives}
 
 -- a message between agents, whole: its number among all messages of the run, counted from 1, its sender, where none is
 -- the user, its receiver, what was carried, and what became of it (X.518, section 10: chaining arguments)
@@ -129,11 +129,6 @@ siblings above [] = []
 siblings above (l ∷ before) =
     if nat_lt above (depth l) then (if depth l == (above + 1) then l ∷ siblings above before else siblings above before) else []
 
--- the lines of serving the message at this depth that came last, and its own line
-abbrev pub serving : ℕ → List Line → List Line
-serving above [] = []
-serving above (l ∷ before) = if nat_lt above (depth l) then l ∷ serving above before else l ∷ []
-
 -- a line and what came before it pass the test, somewhere in the journal
 abbrev pub some_line : (Line → List Line → Bool) → List Line → Bool
 some_line test [] = false
@@ -150,9 +145,14 @@ abbrev pub opened_by : ℕ → List Line → Line → Bool
 opened_by number before l =
     nat_lt 0 (depth l) && some_and (λ o. (o.number == number) && ((depth o + 1) == depth l)) (first_of (settled (depth l - 1) before))
 
--- an agent has a line that arrived; one whose sender heard of it
+-- Up from the last of these lines that isn't deeper than this, to the line that brought its owner the message, and so on:
+-- each passes, up to one at which it ends.
+abbrev pub leads_up : (Line → Bool) → (Line → Bool) → ℕ → List Line → Bool
+leads_up ends passes above [] = false
+leads_up ends passes above (l ∷ before) =
+    if nat_lt above (depth l) then leads_up ends passes above before
+    else ends l || (passes l && leads_up ends passes (depth l - 1) before)
+
+-- an agent has a line that arrived
 abbrev pub is_reached : List Line → ℕ → Bool
 is_reached lines a = list_any (λ l. (l.receiver == a) && arrives l.fate) lines
-
-abbrev pub is_heard : List Line → ℕ → Bool
-is_heard lines a = list_any (λ l. (l.receiver == a) && is_sent l.fate) lines

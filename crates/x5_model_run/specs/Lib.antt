@@ -7,6 +7,7 @@ pub mod History
 pub mod Chain
 pub mod Covers
 pub mod Blocked
+pub mod Accepting
 pub mod Right
 pub mod Thorough
 pub mod Refresh

@@ -5,12 +5,11 @@ use Rattle.std.specs.declared.option.Option.{Option}
 use Rattle.std.specs.declared.option.Option.TheVariants.{Some}
 use Rattle.x5_model.specs.Words.{has, in_option, first_of}
 use Rattle.x5_model.specs.References.{Reference, Chained}
-use Rattle.x5_model_tree.specs.Ask.{is_update}
 use Rattle.x5_model_run.specs.Network.{arrives, is_sent, refuses}
-use Rattle.x5_model_run.specs.Journal.{Line, Journal, operation_of, same_sender, same_item, item_of, some_line, every_line, opened_by}
+use Rattle.x5_model_run.specs.Journal.{Line, Journal, same_sender, same_item, item_of, some_line, opened_by}
 use Rattle.x5_model_run.specs.Needs.{needs}
-use Rattle.x5_model_run.specs.Chain.{Scene, is_user, is_probe}
-use Rattle.x5_model_run.specs.Blocked.{asks_by}
+use Rattle.x5_model_run.specs.Chain.{Scene, is_user, is_probe, asks_by}
+use Rattle.x5_model_run.specs.Accepting.{is_done_before}
 
 -- the agent passes the message by: it had it before, or 128 agents had (X.518, section 17: loop detection)
 abbrev pub is_stopped : ℕ → Chained → Bool
@@ -38,17 +37,14 @@ is_taken s lines l r =
     if sends_itself s l r then is_sent_by lines l (Some l.receiver) r
     else not (sender_follows s l) || is_sent_by lines l l.sender r
 
--- the agent has accepted this update before, for an earlier message, and answers `changed` at once
-abbrev pub is_done_before : Journal → Line → List Line → Bool
-is_done_before j l before =
-    is_update l.message.request.body
-    && (has ◌==◌ j.accepted l.receiver
-    && some_line (λ e earlier. (e.receiver == l.receiver) && (arrives e.fate && (operation_of e.message.request.body == operation_of l.message.request.body))) before)
+-- For each message that arrived each reference that its receiver needs is taken; but an agent that has accepted the update
+-- answers `changed` at once when it comes again.
+abbrev pub is_served : Scene → Journal → Line → Bool
+is_served s j l =
+    not (arrives l.fate) || (is_done_before s j l || list_all (is_taken s j.lines l) (taken_needs s l))
 
--- for each message that arrived each reference that its receiver needs is taken
 abbrev pub is_thorough : Scene → Journal → Bool
-is_thorough s j =
-    every_line (λ l before. not (arrives l.fate) || (is_done_before j l before || list_all (is_taken s j.lines l) (taken_needs s l))) j.lines
+is_thorough s j = list_all (is_served s j) j.lines
 
 abbrev pub Thorough : Scene → Journal → Type 0
 Thorough s j = IsTrue (is_thorough s j)

@@ -1,5 +1,4 @@
--- What is carried by a reference is what the definition of a licensed message asks for; and where a name goes on, the
--- agent resolves it, whatever it accepted before. Both by cases of the definitions.
+-- Where a name goes on, the agent resolves it, whatever it accepted before: by cases of the definitions.
 use Rattle.std.proofs.Common.{◌≡◌, ℕ, Bool, true, false, not, ◌||◌, List, [], ◌∷◌, refl, sym, Option}
 use Rattle.std.specs.Cmp.Lexicographic.{pointwise}
 use Rattle.x5_model.specs.Values.{Rdn, key_of, key_of_rdn}
@@ -14,21 +13,7 @@ use Rattle.x5_model_run.specs.Needs.{target_of, resolves}
 use Rattle.x5_model_run.specs.Chain.{Scene, IsCarried}
 use Rattle.x5_model_run.specs.Placed.{is_query_below}
 use Rattle.x5_model_serve.specs.Finding.{Found, Stuck, find}
-use Rattle.x5_model_serve.specs.Serving.{Hand, line_for, carried, Arrives, holds_now, found_at}
-
-pub is_carried : (from : Option ℕ) (o : Hand) (r : Reference) → IsCarried from (line_for o) r (carried from o r)
-is_carried from o r = record {
-  target_is = (key_decides (key_of r.target) (key_of r.target)).1 refl;
-  progress_is = refl;
-  kind_is = refl;
-  exclusions_are = themselves r.exclusions;
-  trace_is = refl;
-  request_is = refl;
-}
-  where
-    themselves : (xs : List Rdn) → pointwise same_spelled_rdn xs xs ≡ true
-    themselves [] = refl
-    themselves (x ∷ xs) = and_true (same_spelled_rdn x x) _ ((rdn_decides (key_of_rdn x) (key_of_rdn x)).1 refl) (themselves xs)
+use Rattle.x5_model_serve.specs.Serving.{Hand, Arrives, holds_now, found_at}
 
 -- where a name isn't completed and the agent isn't stuck, it resolves the name
 goes_on : (h : Holdings) (m : Chained) (x : Found) → find h m ≡ x → (x ≡ Stuck → ⊥) → is_done m.progress ≡ false → resolves h m ≡ true

@@ -5,11 +5,11 @@ use Rattle.x5_model.specs.References.{Reference}
 use Rattle.x5_model_run.specs.Journal.{Journal, settled, item_of}
 use Rattle.x5_model_run.specs.Chain.{Scene}
 use Rattle.x5_model_run.proofs.Journals.{settled_past, settled_above}
-use Rattle.x5_model_serve.specs.Serving.{Hand, Act, Does, carried, next_line, loops, is_long, done_before, refused, unfit, stuck, nowhere, refers, goes, casts, reads, reads_copy, gives_parts, asks_parts, updates, not_done, does, probes_all, misses, taken, breaks, no_probe, clear, unsure, silent, spent, lost, dropped, sends, final, referral, wide_referral, unexplored, none_yet, in_vain_too, heard, unheard, none_asked, unable_too, silent_too, answered, nobody_has, some_silent, no_part, part_unheard, part_unavailable, part_answered, part_breaks}
+use Rattle.x5_model_serve.specs.Serving.{Hand, Act, Does, carried_for, next_line, loops, is_long, done_before, refused, unfit, stuck, nowhere, refers, goes, casts, reads, reads_copy, gives_parts, asks_parts, updates, not_done, does, probes_all, misses, taken, breaks, no_probe, clear, unsure, silent, spent, lost, dropped, sends, final, referral, wide_referral, unexplored, none_yet, in_vain_too, heard, unheard, none_asked, unable_too, silent_too, answered, nobody_has, some_silent, no_part, part_unheard, part_unavailable, part_answered, part_breaks}
 use Rattle.x5_model_serve.specs.Framing.{depth_of}
 
 -- a message that is carried for an opener is one deeper
-pub deeper : (from : Option ℕ) (o : Hand) (r : Reference) → length (carried from o r).trace ≡ length o.message.trace + 1
+pub deeper : (from : Option ℕ) (o : Hand) (r : Reference) → length (carried_for from o r).trace ≡ length o.message.trace + 1
 deeper from o r = length-append o.message.trace (item_of o.receiver o.message ∷ [])
 
 module _ (s : Scene) (most : ℕ) where

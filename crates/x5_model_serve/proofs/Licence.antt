@@ -14,9 +14,10 @@ use Rattle.x5_model.proofs.Decide.{nat_same_decides}
 use Rattle.x5_model_run.specs.Network.{is_unheard}
 use Rattle.x5_model_run.specs.Journal.{Line, depth, same_sender, same_progress, same_name, same_message, is_wide, item_of, settled, siblings}
 use Rattle.x5_model_run.specs.Needs.{needs}
-use Rattle.x5_model_run.specs.Chain.{Scene, AllLicensed, Caused, IsCarried, begins, later, is_attempt, is_fresh, request_for, is_user}
+use Rattle.x5_model_run.specs.Chain.{Scene, AllLicensed, Caused, carried, IsCarried, begins, later, is_passed, is_fresh, request_for, is_user}
+use Rattle.x5_model_run.proofs.Carrying.{is_carried, as_carried}
 use Rattle.x5_model_run.proofs.Growing.{contains_more}
-use Rattle.x5_model_serve.specs.Serving.{line_for, line_of}
+use Rattle.x5_model_serve.specs.Serving.{line_for, carried_for, next_line}
 use Rattle.x5_model_serve.specs.Claims.{depth_at}
 use Rattle.x5_model_serve.specs.Licensing.{NextIsLicensed}
 
@@ -106,7 +107,7 @@ siblings_follow s d o (l ∷ before) all opens e i =
           reference = f.reference;
           needed = of_index _ f.needed.0 f.reference f.needed.1 f.needed.2;
           listed = of_agents f.reference.agents f.turn.place x.receiver f.turn.inside f.turn.here;
-          carried = f.carried;
+          carried = as_carried x.sender f.opener f.reference x.message f.carries;
         })
 
     by : (first_of (settled d before) ≡ Some o → In e (siblings d before) → Sibling s o e) → (b : Bool) → nat_lt d (depth l) ≡ b → (c : Bool) → (depth l == d + 1) ≡ c → first_of (cond b (settled d before) (l ∷ before)) ≡ Some o → In e (cond b (cond c (l ∷ siblings d before) (siblings d before)) []) → Sibling s o e
@@ -129,48 +130,38 @@ carried_at {from} {r} {m} o k er em c = record {
 }
 
 pub next_is_licensed : NextIsLicensed
-next_is_licensed p s from o r m before after a j apart hand may split asked carried = record {
+next_is_licensed p s from o r before after a j apart hand may split asked = record {
   number_is = refl;
   fate_is = refl;
   cause = later (record {
     above = depth_at o;
     opener = hand.line;
     reference = r;
-    deeper = ap length carried.trace_is ∙ length-append o.message.trace _;
+    deeper = length-append o.message.trace _;
     opens = hand.at_hand;
     at_above = ap (λ (x : Chained). length x.trace) hand.message_is;
     arrived = hand.arrived;
     needed = contains_of _ r (subst (λ (x : ℕ). In r (needs (s.holdings x) hand.line.message)) (sym hand.receiver_is) (subst (λ (x : Chained). In r (needs (s.holdings o.receiver) x)) (sym hand.message_is) may.needed));
-    carried = carried_at (line_for o) hand.line hand.receiver_is hand.message_is carried;
+    carries = λ i. carried from (sym hand.receiver_is i) (sym hand.message_is i) r;
     sender_is = may.sender_is hand.line hand.at_hand;
-    chains = may.chains l refl carried;
+    chains = may.chains l refl (is_carried from (line_for o) r);
     turn = record {
       place = length before;
       inside = subst (λ xs. length before < length xs) (sym split) (omega (arith, length-append before (a ∷ after)));
       here = ap (λ xs. slice_index xs (length before)) split ∙ at_middle before after a;
-      earlier = subst (λ xs. list_all (λ b. list_any (is_attempt (is_wide r.kind) l b) tried) (take (length before) xs) ≡ true) (sym split) (subst (λ xs. list_all (λ b. list_any (is_attempt (is_wide r.kind) l b) tried) xs ≡ true) (sym (take_first before (a ∷ after))) (all_in _ before attempted));
+      earlier = subst (λ xs. list_all (is_passed s j.lines hand.line r) (take (length before) xs) ≡ true) (sym split) (subst (λ xs. list_all (is_passed s j.lines hand.line r) xs ≡ true) (sym (take_first before (a ∷ after))) (all_in _ before (λ b i. asked.passed hand.line hand.at_hand b i)));
     };
   }) (fresh tried (λ e i. i));
 }
   where
+    m : Chained
+    m = carried_for from o r
+
     l : Line
-    l = line_of s j from a m
+    l = next_line s j from o r a
 
     tried : List Line
     tried = siblings (depth_at o) j.lines
-
-    attempted : (b : ℕ) → In b before → list_any (is_attempt (is_wide r.kind) l b) tried ≡ true
-    attempted b i =
-        let e : _ = asked.each b i in
-        any_in (is_attempt (is_wide r.kind) l b) e.0 tried e.1
-        (and_true (e.0.receiver == b) _ (eq-eqb e.0.receiver b e.2)
-        (and_true (same_sender e.0.sender from) _ (same_sender_is e.0.sender from e.3)
-        (and_true (same_progress e.0.message.progress m.progress) _ (same_progress_is _ _ (e.4.progress_is ∙ sym carried.progress_is))
-        (and_true (same_name e.0.message.target m.target) _ (is_name _ _ (sym (name_is r.target e.0.message.target e.4.target_is) ∙ name_is r.target m.target carried.target_is)) (silent (is_wide r.kind) refl e.0 e.5)))))
-      where
-        silent : (b : Bool) → is_wide r.kind ≡ b → (x : Line) → (is_wide r.kind ≡ false → is_unheard x.fate ≡ true) → (b || is_unheard x.fate) ≡ true
-        silent true q x h = refl
-        silent false q x h = h q
 
     fresh : (xs : List Line) → ((e : Line) → In e xs → In e tried) → IsTrue (is_fresh xs l)
     fresh xs within = by (list_any (same_message l) xs) refl
@@ -182,8 +173,8 @@ next_is_licensed p s from o r m before after a j apart hand may split asked carr
             let f : Sibling s hand.line e = siblings_follow s (depth_at o) hand.line j.lines hand.licensed hand.at_hand e i in
             let n : In f.reference (needs (s.holdings o.receiver) o.message) = subst (λ (x : Chained). In f.reference (needs (s.holdings o.receiver) x)) hand.message_is (subst (λ (x : ℕ). In f.reference (needs (s.holdings x) hand.line.message)) hand.receiver_is f.needed) in
             let to : a ≡ e.receiver = eqb-true _ _ u.0 in
-            let names : key_of f.reference.target ≡ key_of r.target = name_is _ _ f.carried.target_is ∙ sym (name_is _ _ v.1) ∙ sym (name_is _ _ carried.target_is) in
-            let steps : f.reference.progress ≡ r.progress = sym f.carried.progress_is ∙ sym (progress_of_same _ _ v.0) ∙ carried.progress_is in
+            let names : key_of f.reference.target ≡ key_of r.target = name_is _ _ f.carried.target_is ∙ sym (name_is _ _ v.1) in
+            let steps : f.reference.progress ≡ r.progress = sym f.carried.progress_is ∙ sym (progress_of_same _ _ v.0) in
             let one : f.reference ≡ r = apart.unlike f.reference r a n may.needed (is_name _ _ names) (same_progress_is _ _ steps) (subst (λ x. In x f.reference.agents) (sym to) f.listed) (subst (λ xs. In a xs) (sym split) (middle before after a)) in
             not_before before after a (subst Once split (apart.agents r may.needed)) (subst (λ x. In x before) (sym to) (asked.only e i (subst (λ (q : Reference). In e.receiver q.agents) one f.listed) (subst (λ q. IsCarried e.sender (line_for o) q e.message) one (carried_at hand.line (line_for o) (sym hand.receiver_is) (sym hand.message_is) f.carried))))
 

@@ -1,6 +1,6 @@
 -- The statement that one induction over all that is done is to show, by what is done; and those of its lemmas that
 -- are still to be proved. No clause names anything of this file yet.
-use Rattle.std.specs.Prelude.{◌≡◌, ℕ, ◌⊎◌, Bool, true, false, IsTrue, List, [], ◌∷◌, ◌++◌, drop, length}
+use Rattle.std.specs.Prelude.{◌≡◌, ℕ, ◌⊎◌, Bool, true, false, IsTrue, List, [], ◌∷◌, ◌++◌, length}
 use Rattle.std.specs.declared.option.Option.{Option}
 use Rattle.std.specs.declared.option.Option.TheVariants.{Some}
 use Rattle.x5_model.specs.Words.{first_of}
@@ -12,7 +12,7 @@ use Rattle.x5_model.specs.Answers.{Changed, Reply, Answered, Failed, Referred}
 use Rattle.x5_model_tree.specs.Tree.{is_there}
 use Rattle.x5_model_tree.specs.Ask.{is_update}
 use Rattle.x5_model_run.specs.Network.{is_sent}
-use Rattle.x5_model_run.specs.Journal.{Line, Journal, is_wide, settled, siblings}
+use Rattle.x5_model_run.specs.Journal.{Line, Journal, settled, siblings}
 use Rattle.x5_model_run.specs.Holdings.{Held}
 use Rattle.x5_model_run.specs.Needs.{resolves, needs, due_probes}
 use Rattle.x5_model_run.specs.History.{Point, tree_at, holdings_at}
@@ -21,13 +21,13 @@ use Rattle.x5_model_run.specs.Chain.{Scene, scene_at, may_chain, IsCarried}
 use Rattle.x5_model_run.specs.Blocked.{Asked}
 use Rattle.x5_model_run.specs.Right.{master_at, heard_whole, AnswersRight}
 use Rattle.x5_model_run.specs.Placed.{Placed, RightReply}
-use Rattle.x5_model_run.specs.Thorough.{Thorough}
+use Rattle.x5_model_run.specs.Thorough.{is_served, Thorough}
 use Rattle.x5_model_parts.specs.Standing as parts
 use Rattle.x5_model_updates.specs.Standing as updates
 use Rattle.x5_model_serve.specs.Finding.{Here, Onward, IsLooked, find}
 use Rattle.x5_model_serve.specs.Answering.{to_follow}
 use Rattle.x5_model_serve.specs.Serving.{Hand, hand_of, line_for, Heard, Act, Serves, Follows, Sends, Tries, Takes, Spreads, Casts, Gathers, Probes, Updates, Does, IsRequest, holds_now, is_idle, is_final, is_spent}
-use Rattle.x5_model_serve.specs.Claims.{Setting, serving_of, asked_line, LiesWithin, is_settled_line, is_served_line, is_served_itself, depth_at, AtHand, Keeps, MayTake, Apart, AskedSoFar, NotedSoFar, OnlyBy, HeardRight, TakenRight, IsSpentReply, TakesRight, GathersRight, AtMaster}
+use Rattle.x5_model_serve.specs.Claims.{Setting, serving_of, asked_line, LiesWithin, is_settled_line, is_served_itself, depth_at, AtHand, Keeps, MayTake, Apart, AskedSoFar, NotedSoFar, OnlyBy, HeardRight, TakenRight, IsSpentReply, TakesRight, GathersRight, AtMaster}
 
 -- the line of the message at hand
 abbrev pub IsLineOf : Hand → Journal → Line → Type 0
@@ -43,12 +43,11 @@ left_over (Referred r) = r ∷ []
 -- something is left to be followed, its receiver needs that, and sent nothing, since it may not chain.
 pub record ServedRight (p : Point) (s : Scene) (most : ℕ) (k : Hand) (reply : Reply) (i j : Journal) : Type 0 where
   pub keeps : Keeps p s most k i j
-  pub right : RightReply p s (serving_of i k) j (is_spent most j) reply
-  pub within : LiesWithin p (serving_of i k) reply
+  pub right : (e : Line) → IsLineOf k i e → RightReply p s (serving_of i k e.number) j (is_spent most j) reply
+  pub within : (e : Line) → IsLineOf k i e → LiesWithin p (serving_of i k e.number) reply
   pub own :
       (e : Line) → IsLineOf k i e
-      → is_spent most j ≡ true
-      ⊎ (IsTrue (is_served_itself s j e (drop 1 (settled (depth_at k) i.lines))) × IsTrue (is_settled_line p s j e))
+      → is_spent most j ≡ true ⊎ (IsTrue (is_served_itself s j e) × IsTrue (is_settled_line p s j e))
   pub left : is_final reply ≡ false → (is_idle s k ≡ true) × (j ≡ i)
   pub needed : (r : Reference) → In r (left_over reply) → In r (needs (s.holdings k.receiver) k.message)
 
@@ -56,8 +55,8 @@ pub record ServedRight (p : Point) (s : Scene) (most : ℕ) (k : Hand) (reply : 
 -- nothing.
 pub record MayFollow (p : Point) (s : Scene) (from : Option ℕ) (k : Hand) (reply : Reply) (i : Journal) : Type 0 where
   pub heard : (e : Line) → IsLineOf k i e → (is_sent e.fate ≡ true) × (e.sender ≡ from)
-  pub right : (spent : Bool) × RightReply p s (serving_of i k) i spent reply
-  pub within : LiesWithin p (serving_of i k) reply
+  pub right : (e : Line) → IsLineOf k i e → (spent : Bool) × RightReply p s (serving_of i k e.number) i spent reply
+  pub within : (e : Line) → IsLineOf k i e → LiesWithin p (serving_of i k e.number) reply
   pub idle : is_final reply ≡ false → is_idle s k ≡ true × (siblings (depth_at k) i.lines ≡ [])
   pub needed : (r : Reference) → In r (left_over reply) → In r (needs (s.holdings k.receiver) k.message)
   pub chains :
@@ -65,13 +64,13 @@ pub record MayFollow (p : Point) (s : Scene) (from : Option ℕ) (k : Hand) (rep
       → IsTrue (may_chain s l from)
 
 -- A message of a reference whose earlier agents were asked: this one is asked next, heard or not; or messages ran out.
-pub record SentRight (p : Point) (s : Scene) (most : ℕ) (from : Option ℕ) (o : Hand) (r : Reference)
+pub record SentRight (p : Point) (s : Scene) (most number : ℕ) (from : Option ℕ) (o : Hand) (r : Reference)
     (before : List ℕ) (a : ℕ) (h : Heard) (i j : Journal) : Type 0 where
   pub keeps : Keeps p s most o i j
   pub only : OnlyBy o (r ∷ []) i j
   pub sent :
-      (AskedSoFar s from o r j (before ++ a ∷ []) (is_wide r.kind)
-      × TakenRight p s most from o (record r { agents = a ∷ [] }) j h)
+      (AskedSoFar s o r j (before ++ a ∷ [])
+      × TakenRight p s most (serving_of i o number) from o (record r { agents = a ∷ [] }) j h)
       ⊎ IsSpentReply most j h
 
 -- what is heard of an NSSR is right for the message that needed it
@@ -88,29 +87,29 @@ Claim p s most (Follows from k reply final) i j =
     AtHand p s k i → MayFollow p s from k reply i
     → Keeps p s most k i j
     × ((e : Line) → IsLineOf k i e
-    → HeardRight p s most j e final
-    × (is_spent most j ≡ true ⊎ IsTrue (is_served_line s j e (drop 1 (settled (depth_at k) i.lines)))))
+    → HeardRight p s most (asked_line e (length i.accepted)) j e final
+    × (is_spent most j ≡ true ⊎ IsTrue (is_served s j e)))
 Claim p s most (Sends from o r a h) i j =
-    (before : List ℕ) → AtHand p s o i → MayTake s from o r i → In a r.agents
-    → AskedSoFar s from o r i before (is_wide r.kind) → (In a before → ⊥)
-    → SentRight p s most from o r before a h i j
+    (before : List ℕ) (at : AtHand p s o i) → MayTake s from o r i → In a r.agents
+    → AskedSoFar s o r i before → (In a before → ⊥)
+    → SentRight p s most at.line.number from o r before a h i j
 Claim p s most (Tries from o r agents) i j =
-    AtHand p s o i → MayTake s from o r i → AskedSoFar s from o r i [] false
-    → Keeps p s most o i j × OnlyBy o (r ∷ []) i j × AskedSoFar s from o r j agents false
+    AtHand p s o i → MayTake s from o r i → AskedSoFar s o r i []
+    → Keeps p s most o i j × OnlyBy o (r ∷ []) i j × AskedSoFar s o r j agents
 Claim p s most (Takes from o r h) i j = TakesRight p s most from o r h i j
 Claim p s most (Spreads from o r agents noted) i j =
-    AtHand p s o i → MayTake s from o r i → AskedSoFar s from o r i [] true
-    → Keeps p s most o i j × OnlyBy o (r ∷ []) i j × AskedSoFar s from o r j agents true
+    AtHand p s o i → MayTake s from o r i → AskedSoFar s o r i []
+    → Keeps p s most o i j × OnlyBy o (r ∷ []) i j × AskedSoFar s o r j agents
     × NotedSoFar s o r j agents noted
 Claim p s most (Casts from o r reply) i j =
-    AtHand p s o i → MayTake s from o r i → AskedSoFar s from o r i [] true
+    AtHand p s o i → MayTake s from o r i → AskedSoFar s o r i []
     → Keeps p s most o i j × OnlyBy o (r ∷ []) i j
     × ((e : Line) → IsLineOf o i e → CastRight p s most j e reply)
 Claim p s most (Gathers from o rs a whole) i j = GathersRight p s most from o rs a whole i j
 Claim p s most (Probes k r agents noted) i j =
     AtMaster p s k i → due_probes (holds_now s i k) k.message ≡ r ∷ []
-    → MayTake s (Some k.receiver) k r i → AskedSoFar s (Some k.receiver) k r i [] true
-    → Keeps p s most k i j × OnlyBy k (r ∷ []) i j × AskedSoFar s (Some k.receiver) k r j agents true
+    → MayTake s (Some k.receiver) k r i → AskedSoFar s k r i []
+    → Keeps p s most k i j × OnlyBy k (r ∷ []) i j × AskedSoFar s k r j agents
     × NotedSoFar s k r j agents noted × (j.accepted ≡ i.accepted)
 Claim p s most (Updates k reply) i j =
     AtMaster p s k i → Placed p k.message k.receiver → siblings (depth_at k) i.lines ≡ []
@@ -140,7 +139,8 @@ PassesBack =
     (p : Point) (s : Scene) (most : ℕ) (l k : Line) (from : Option ℕ) (j : Journal) (reply : Reply) (stood : ℕ)
     (r : Reference)
     → Setting p s → IsLooked l.message → find (holdings_at p l.receiver) l.message ≡ Onward r
-    → In k.receiver r.agents → IsCarried from (line_for (hand_of l)) r k.message → HeardRight p s most j k reply
+    → In k.receiver r.agents → IsCarried from (line_for (hand_of l)) r k.message
+    → HeardRight p s most (asked_line l stood) j k reply
     → (length j.accepted ≡ stood ⊎ (reply ≡ Answered Changed ⊎ heard_whole j.lines ≡ false))
     → RightReply p s (asked_line l stood) j (is_spent most j) reply
 

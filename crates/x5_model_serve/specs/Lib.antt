@@ -1,6 +1,6 @@
 pub mod Finding
 pub mod Answering
-pub mod Accepting
+pub mod Committed
 pub mod Serving
 pub mod Framing
 pub mod Following

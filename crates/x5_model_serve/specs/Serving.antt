@@ -21,9 +21,9 @@ use Rattle.x5_model_run.specs.Network.{Lost, NoReply, Sent, refuses, fate_of}
 use Rattle.x5_model_run.specs.Journal.{Line, Journal, same_item, item_of, is_wide}
 use Rattle.x5_model_run.specs.Holdings.{Held, Copy, Holdings, ground_at}
 use Rattle.x5_model_run.specs.Needs.{resolves, subset_of, due_probes}
-use Rattle.x5_model_run.specs.Chain.{Scene, is_user, request_for}
+use Rattle.x5_model_run.specs.Chain.{Scene, carried}
 use Rattle.x5_model_run.specs.Placed.{fits}
-use Rattle.x5_model_serve.specs.Accepting.{committed}
+use Rattle.x5_model_serve.specs.Committed.{committed}
 use Rattle.x5_model_serve.specs.Finding as finding
 use Rattle.x5_model_serve.specs.Finding.{find}
 use Rattle.x5_model_serve.specs.Answering.{reply_in_own, reply_in_copy, local_part, rest_of_parts, merged, with_unexplored, only_unexplored, limited_answer, to_follow, passed_by, is_service, in_vain, of_these, is_unavailable, above_next}
@@ -71,18 +71,9 @@ pub data Act : Type 0 where
   Updates : Hand → Reply → Act
 
 -- ---- messages and journals
--- What is carried by a reference for the message of an opener: the reference's target, progress, type and exclusions
--- as they are spelled there, the opener's trace with its receiver's item, and the request that goes with the
--- reference (X.518, section 10: chaining arguments).
-abbrev pub carried : Option ℕ → Hand → Reference → Chained
-carried from o r = record {
-  target = r.target;
-  progress = r.progress;
-  kind = r.kind;
-  exclusions = r.exclusions;
-  trace = o.message.trace ++ item_of o.receiver o.message ∷ [];
-  request = request_for (is_user from) o.message.request r.target r;
-}
+-- what is carried by a reference for the message of an opener (X.518, section 10: chaining arguments)
+abbrev pub carried_for : Option ℕ → Hand → Reference → Chained
+carried_for from o r = carried from o.receiver o.message r
 
 -- the next line, with the fate that the network gives it
 abbrev pub line_of : Scene → Journal → Option ℕ → ℕ → Chained → Line
@@ -96,13 +87,13 @@ line_of s j from a m = record {
 
 -- the next line for an opener, by a reference
 abbrev pub next_line : Scene → Journal → Option ℕ → Hand → Reference → ℕ → Line
-next_line s j from o r a = line_of s j from a (carried from o r)
+next_line s j from o r a = line_of s j from a (carried_for from o r)
 
 abbrev pub with_line : Line → Journal → Journal
 with_line l j = record j { lines = l ∷ j.lines }
 
-abbrev pub accepting : ℕ → Journal → Journal
-accepting a j = record j { accepted = a ∷ j.accepted }
+abbrev pub with_accepted : ℕ → Journal → Journal
+with_accepted a j = record j { accepted = a ∷ j.accepted }
 
 -- no message is left
 abbrev pub is_spent : ℕ → Journal → Bool
@@ -281,12 +272,12 @@ pub data Does (s : Scene) (most : ℕ) : Act → Journal → Journal → Type 0 
   -- Where no probe is due it is done.
   does : {k : Hand} {j : Journal} (mine : List Named)
       → judged s j k ≡ Ok mine → due_probes (holds_now s j k) k.message ≡ []
-      → Does s most (Updates k (Answered Changed)) j (accepting k.receiver j)
+      → Does s most (Updates k (Answered Changed)) j (with_accepted k.receiver j)
   -- It is done where each agent that a probe goes to was heard, and can't go on with the new name.
   probes_all : {k : Hand} {i j : Journal} (mine : List Named) (r : Reference)
       → judged s i k ≡ Ok mine → due_probes (holds_now s i k) k.message ≡ r ∷ []
       → Does s most (Probes k r r.agents []) i j
-      → Does s most (Updates k (Answered Changed)) i (accepting k.receiver j)
+      → Does s most (Updates k (Answered Changed)) i (with_accepted k.receiver j)
   -- Where some weren't heard it is unavailable, by the reference with these agents.
   misses : {k : Hand} {i j : Journal} (mine : List Named) (r : Reference) (a : ℕ) (noted : List ℕ)
       → judged s i k ≡ Ok mine → due_probes (holds_now s i k) k.message ≡ r ∷ []
@@ -338,13 +329,13 @@ pub data Does (s : Scene) (most : ℕ) : Act → Journal → Journal → Type 0 
   -- it is served, and the reply is lost;
   dropped : {from : Option ℕ} {o : Hand} {r : Reference} {i j : Journal} (a : ℕ) (reply : Reply)
       → is_spent most i ≡ false → (next_line s i from o r a).fate ≡ NoReply
-      → Does s most (Serves (hand a (carried from o r)) reply) (with_line (next_line s i from o r a) i) j
+      → Does s most (Serves (hand a (carried_for from o r)) reply) (with_line (next_line s i from o r a) i) j
       → Does s most (Sends from o r a Unheard) i j
   -- or the reply is heard, and what it leaves is followed.
   sends : {from : Option ℕ} {o : Hand} {r : Reference} {i j l : Journal} (a : ℕ) (reply final : Reply)
       → is_spent most i ≡ false → (next_line s i from o r a).fate ≡ Sent
-      → Does s most (Serves (hand a (carried from o r)) reply) (with_line (next_line s i from o r a) i) j
-      → Does s most (Follows from (hand a (carried from o r)) reply final) j l
+      → Does s most (Serves (hand a (carried_for from o r)) reply) (with_line (next_line s i from o r a) i) j
+      → Does s most (Follows from (hand a (carried_for from o r)) reply final) j l
       → Does s most (Sends from o r a (Hears final)) i l
   -- A reply (X.518, section 20: continuation references). Nothing in it is left to be followed;
   final : {from : Option ℕ} {k : Hand} {j : Journal} (reply : Reply)

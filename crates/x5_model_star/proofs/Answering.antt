@@ -23,14 +23,13 @@ use Rattle.x5_model_tree.specs.Ask.{Told, Shows, Compares, Lists, Finds, Changes
 use Rattle.x5_model_tree.specs.Described.{IsDescribed}
 use Rattle.x5_model_tree.proofs.Order.{named_chain, named_never, union_in_order}
 use Rattle.x5_model_tree.proofs.Longest.{none_lowest}
-use Rattle.x5_model_run.specs.Network.{is_sent}
-use Rattle.x5_model_run.specs.Journal.{Line, Journal, same_name, is_heard}
+use Rattle.x5_model_run.specs.Journal.{Line, Journal, same_name}
 use Rattle.x5_model_run.specs.Needs.{target_of}
 use Rattle.x5_model_run.specs.History.{Point, knowledge_at, tree_at}
 use Rattle.x5_model_run.specs.Chain.{Scene, scene_at, opening}
 use Rattle.x5_model_run.specs.Covers.{is_covered, context_of, touched, mixed, is_copied, told}
-use Rattle.x5_model_run.specs.Blocked.{by_user}
-use Rattle.x5_model_run.specs.Right.{Right, result, error, is_source, same_keys, uncovered, first_level_at, hears_master, nssr_agents, hears_nssr, hears_taken, is_told}
+use Rattle.x5_model_run.specs.Blocked.{by_user, is_answered, hears_by, hears}
+use Rattle.x5_model_run.specs.Right.{Right, result, error, is_source, kept_name, same_keys, uncovered, is_found, is_for, first_level_at, hears_of, hears_master, nssr_agents, hears_nssr, hears_taken, is_told}
 use Rattle.x5_model_star.specs.Star.{IsStar}
 use Rattle.x5_model_star.specs.Reads.{is_read, AreQuiet, own_tree, own_source, reply_of}
 use Rattle.x5_model_star.proofs.Seats.{Seat, mastered_as, mine}
@@ -67,7 +66,7 @@ touches : (w : World) (t : Tree) (to : ℕ) (m : Chained) → is_read m.request.
 touches w t to m e =
     read_has (λ b. touched w t to (with_body m b) ≡ context_of t (key_of (target_of b))) (λ n x. refl) (λ n x. refl) m.request.body e
 
-module _ (p : Point) (d : IsDescribed p.described) (s : IsStar p.described) (quiet : AreQuiet p.past) (to : ℕ) (r : Request) (reads : is_read r.body ≡ true) (lines : List Line) (user_heard : is_heard lines to ≡ true) where
+module _ (p : Point) (d : IsDescribed p.described) (s : IsStar p.described) (quiet : AreQuiet p.past) (to : ℕ) (r : Request) (reads : is_read r.body ≡ true) (lines : List Line) (answered : is_answered (by_user (scene_at p to r)) lines ≡ true) where
   abbrev w : World
   w = p.described
 
@@ -86,7 +85,7 @@ module _ (p : Point) (d : IsDescribed p.described) (s : IsStar p.described) (qui
   -- a static refusal
   pub refused_right : (x : DirError) → fault_of r.body ≡ Some x → Right p scene (by_user scene) journal (Failed x)
   refused_right x q =
-      error (refused (λ k. false) (tree_at p) r x q) user_heard (or_left (is_some (fault_of r.body)) _ (ap is_some q)) refl
+      error answered (refused (λ k. false) (tree_at p) r x q) (or_left (is_some (fault_of r.body)) _ (ap is_some q)) refl
 
   none_taken : (x : DirError) → hears_taken p scene (by_user scene) lines x ≡ true
   none_taken (NoSuchObject n) = refl
@@ -95,7 +94,7 @@ module _ (p : Point) (d : IsDescribed p.described) (s : IsStar p.described) (qui
   none_taken (ServiceProblem n x y) = refl
 
   -- resolution ends at an agent that has an entry on the way
-  module _ (place : ℕ) (a : Agent) (c : Context) (seat : Seat w place a c) (heard : is_heard lines place ≡ true) (passed : fault_of r.body ≡ None) (at : Named) (inside : In at c.entries) (low_here : lowest (sorted_entries c.entries) key ≡ Some at) (low_there : lowest (tree_at p).entries key ≡ Some at) where
+  module _ (place : ℕ) (a : Agent) (c : Context) (seat : Seat w place a c) (heard : hears (by_user (scene_at p to r)) lines place ≡ true) (of_target : hears_of (by_user (scene_at p to r)) lines (target_of r.body) place ≡ true) (passed : fault_of r.body ≡ None) (at : Named) (inside : In at c.entries) (low_here : lowest (sorted_entries c.entries) key ≡ Some at) (low_there : lowest (tree_at p).entries key ≡ Some at) (found : (e : Named) → pick key (Some at) ≡ Some e → is_found (scene_at p to r) (by_user (scene_at p to r)) lines ≡ true) where
     abbrev m : Mastered
     m = mastered_as place c
 
@@ -118,7 +117,7 @@ module _ (p : Point) (d : IsDescribed p.described) (s : IsStar p.described) (qui
     master_at_is = ap (in_option None (master_of (knowledge_at p))) its_context ∙ master_is p d s quiet m member
 
     master_heard : hears_master p (by_user scene) lines (Some at) ≡ true
-    master_heard = subst (λ (o : Option ℕ). some_and (λ x. is_heard lines x) o ≡ true) (sym master_at_is) heard
+    master_heard = subst (λ (o : Option ℕ). some_and (hears_of (by_user scene) lines (target_of r.body)) o ≡ true) (sym master_at_is) of_target
 
     no_others : nssr_agents p scene at ≡ []
     no_others =
@@ -160,10 +159,16 @@ module _ (p : Point) (d : IsDescribed p.described) (s : IsStar p.described) (qui
     is_mine =
         and_true _ _ heard (subst (λ (o : Option ℕ). some_and (λ x. x == place) o ≡ true) (sym (master_is p d s quiet m member)) ((nat_same_decides place place).1 refl))
 
+    kept : kept_name scene from ≡ Some c.prefix
+    kept =
+        rw (holdings_are p d s quiet place a c seat) (rw ((key_decides (key_of c.prefix) (key_of c.prefix)).1 refl) refl)
+
     right_as : (t : Told) → t ≡ answer → KindOf (pick key (Some at)) t → Right p scene (by_user scene) journal (reply_of from t)
     right_as (Shows info) e k =
-        result (record {
+        result answered (record {
+          found = found k.0 k.1;
           sources = and_true _ _ is_mine refl;
+          spelled = ap (λ (o : Option Name). o ∷ []) kept;
           once = refl;
           exactly = covers_exactly k.0 k.1;
           answered = e ∙ sym mixed_told;
@@ -172,8 +177,10 @@ module _ (p : Point) (d : IsDescribed p.described) (s : IsStar p.described) (qui
           apart = refl;
         }) no_change refl
     right_as (Compares equal copy) e k =
-        result (record {
+        result answered (record {
+          found = found k.0 k.1;
           sources = and_true _ _ is_mine refl;
+          spelled = ap (λ (o : Option Name). o ∷ []) kept;
           once = refl;
           exactly = covers_exactly k.0 k.1;
           answered = e ∙ sym mixed_told;
@@ -184,7 +191,7 @@ module _ (p : Point) (d : IsDescribed p.described) (s : IsStar p.described) (qui
     right_as (Lists subs cut) e k = absurd k
     right_as (Finds infos cut) e k = absurd k
     right_as Changes e k = absurd k
-    right_as (Refuses x) e k = error (whole_told ∙ sym e) user_heard (error_told x) refl
+    right_as (Refuses x) e k = error answered (whole_told ∙ sym e) (error_told x) refl
 
     pub right_there : Right p scene (by_user scene) journal (reply_of (own_source place (Some c)) (ask (own_tree (Some c)) r))
     right_there =
@@ -192,7 +199,7 @@ module _ (p : Point) (d : IsDescribed p.described) (s : IsStar p.described) (qui
         (right_as answer refl (kind_of (λ k. false) r.body (pick key (Some at)) (Some at) reads))
 
   -- or at a first-level agent that knows nothing on the way
-  module _ (place : ℕ) (passed : fault_of r.body ≡ None) (first_heard : list_any (λ l. is_sent l.fate && first_level_at (knowledge_at p) l.receiver) lines ≡ true) (low_there : lowest (tree_at p).entries key ≡ None) where
+  module _ (place : ℕ) (passed : fault_of r.body ≡ None) (first_heard : hears_by (λ l. first_level_at (knowledge_at p) l.receiver && is_for (target_of r.body) l) (by_user (scene_at p to r)) lines ≡ true) (low_there : lowest (tree_at p).entries key ≡ None) where
     nowhere : ask (own_tree None) r ≡ Refuses (NoSuchObject [])
     nowhere =
         told_is (λ k. false) (own_tree None) r None reads passed (none_lowest [] key (λ f i y. elim i [ ]))
@@ -200,7 +207,7 @@ module _ (p : Point) (d : IsDescribed p.described) (s : IsStar p.described) (qui
     pub right_nowhere : Right p scene (by_user scene) journal (reply_of (own_source place None) (ask (own_tree None) r))
     right_nowhere =
         subst (λ (t : Told). Right p scene (by_user scene) journal (reply_of (own_source place None) t)) (sym nowhere)
-        (error (told_is (λ k. false) (tree_at p) r None reads passed low_there) user_heard
+        (error answered (told_is (λ k. false) (tree_at p) r None reads passed low_there)
         (or_right (is_some (fault_of r.body)) _
         (subst (λ (o : Option Named). (hears_master p (by_user scene) lines o && (hears_nssr p scene (by_user scene) lines o && true)) ≡ true) (sym low_there)
-        (and_true _ _ (or_left _ _ first_heard) refl))) refl)
+        (and_true _ _ first_heard refl))) refl)

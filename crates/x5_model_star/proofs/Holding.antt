@@ -3,7 +3,8 @@ use Rattle.std.proofs.Common.{◌≡◌, ℕ, suc, ◌<◌, Bool, true, false, c
 use Rattle.std.specs.Option.{is_some}
 use Rattle.std.specs.List.{find, flat_map}
 use Rattle.x5_model.specs.Members.{In, here, there}
-use Rattle.x5_model.specs.Keys.{Key, IsPrefix, same_key, is_prefix}
+use Rattle.x5_model.specs.Words.{in_option}
+use Rattle.x5_model.specs.Keys.{Key, IsPrefix, same_key, is_prefix, is_root}
 use Rattle.x5_model.specs.Values.{Name, key_of}
 use Rattle.x5_model.specs.Entries.{Named}
 use Rattle.x5_model.specs.Requests.{Body, Read, Compare, ListBelow, Search, AddEntry, RemoveEntry, ModifyEntry, ModifyDn, Request, Selection}
@@ -13,13 +14,13 @@ use Rattle.x5_model.specs.Answers.{DirError}
 use Rattle.x5_model.specs.Statics.{fault_of}
 use Rattle.x5_model.proofs.KeyLaws.{key_decides}
 use Rattle.x5_model.proofs.Prefixes.{prefix_decides}
-use Rattle.x5_model.proofs.Lists.{in_first, in_map, of_map, of_find, not_found}
+use Rattle.x5_model.proofs.Lists.{and_true, in_first, in_map, of_map, of_find, not_found}
 use Rattle.x5_model_tree.specs.World.{Specific}
-use Rattle.x5_model_tree.specs.Tree.{longest, lowest}
+use Rattle.x5_model_tree.specs.Tree.{is_there, longest, lowest}
 use Rattle.x5_model_tree.specs.Ask.{is_update}
 use Rattle.x5_model_tree.proofs.Longest.{IsLongest, longest_right, longest_is}
-use Rattle.x5_model_run.specs.Holdings.{Held, Holdings, may_copy, usable_agents, usable_copies, subordinates, known_pins, known_pin, held_at}
-use Rattle.x5_model_run.specs.Needs.{proceeding, by_pin, subset_of, new_name, resolves, specific_at, superior_needs, multicast_needs, pin_needs, resolution_needs, part_needs, copied_needs, probe_needs, needs}
+use Rattle.x5_model_run.specs.Holdings.{Held, Holdings, may_copy, usable_agents, usable_copies, subordinates, known_pins, known_pin, held_at, is_first_level}
+use Rattle.x5_model_run.specs.Needs.{proceeding, by_pin, subset_of, new_name, resolves, ends_at_pin, ends_here, specific_at, superior_needs, multicast_needs, pin_needs, resolution_needs, part_needs, copied_needs, probe_needs, needs}
 use Rattle.x5_model_star.specs.Reads.{is_read}
 
 -- ---- what holds of a read and of a compare
@@ -231,6 +232,15 @@ module _ (me : ℕ) (superior : Option ℕ) (prefix : Name) (entries : List Name
         by : (b : Bool) → cond b (pin_needs holds m (known_pin m.request holds (key_of m.target))) [] ≡ []
         by true = at_pin
         by false = refl
+
+    -- and the name is found here, where it is
+    pub ends_own : IsPrefix (key_of prefix) (key_of m.target) → resolves holds m ≡ true → is_there entries (key_of m.target) ≡ true → ends_here holds m ≡ true
+    ends_own p e inside =
+        and_true _ _ e (ap (in_option (is_first_level holds && is_root (key_of m.target)) (ends_at_pin holds m)) (pin_is m.request (key_of m.target) ∙ longest_own p) ∙ rw held_at_mine inside)
+      where
+        held_at_mine : held_at holds.own (key_of prefix) ≡ Some (record { prefix = prefix; entries = entries; subordinate = subs; nssrs = [] })
+        held_at_mine =
+            ap (λ (b : Bool). cond b (Some (record { prefix = prefix; entries = entries; subordinate = subs; nssrs = [] })) None) ((key_decides (key_of prefix) (key_of prefix)).1 refl)
 
     pub needs_up : (IsPrefix (key_of prefix) (key_of m.target) → ⊥) → resolves holds m ≡ true → resolution_needs holds m ≡ superior_needs holds m
     needs_up never e =

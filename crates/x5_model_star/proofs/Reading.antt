@@ -1,5 +1,5 @@
 -- A read or compare over a star of agents is answered right.
-use Rattle.std.proofs.Common.{◌≡◌, ℕ, zero, suc, ◌-◌, ◌<◌, ◌≤◌, Bool, true, false, cond, not, ◌&&◌, ◌==◌, ◌⊎◌, inl, inr, List, [], ◌∷◌, ◌++◌, map, take, drop, length, refl, sym, ap, subst, ◌∙◌, arith, Option, Some, None}
+use Rattle.std.proofs.Common.{◌≡◌, ℕ, zero, suc, ◌-◌, ◌<◌, ◌≤◌, Bool, true, false, cond, not, ◌&&◌, ◌||◌, ◌==◌, nat_le, ◌⊎◌, inl, inr, List, [], ◌∷◌, ◌++◌, map, take, drop, length, refl, sym, ap, subst, ◌∙◌, arith, Option, Some, None}
 use Rattle.std.specs.Option.{is_some, is_none}
 use Rattle.std.specs.List.{list_all, find, slice_get}
 use Rattle.x5_model.specs.Words.{distinct, is_empty, in_option}
@@ -17,33 +17,35 @@ use Rattle.x5_model.proofs.Lists.{both_true, and_true, or_left, or_right, of_all
 use Rattle.x5_model.proofs.Decide.{nat_same_decides, once_decides}
 use Rattle.x5_model.proofs.Ascending.{of_sorted, in_sorted}
 use Rattle.x5_model_tree.specs.World.{Specific, Context, Agent, World}
-use Rattle.x5_model_tree.specs.Tree.{Tree, key_at, named_below, sorted_entries, lowest}
+use Rattle.x5_model_tree.specs.Tree.{Tree, key_at, named_below, sorted_entries, is_there, lowest}
 use Rattle.x5_model_tree.specs.Masters.{Mastered, pin_of, numbered, mastered, agent_at}
 use Rattle.x5_model_tree.specs.Conditions.{Refers}
 use Rattle.x5_model_tree.specs.Described.{is_agent, is_context, are_references, is_reference, IsDescribed}
 use Rattle.x5_model_tree.specs.Good.{Good}
 use Rattle.x5_model_tree.specs.Reached.{Reached, KnowsNone, NoLower}
 use Rattle.x5_model_tree.specs.Ask.{is_update, ask, Told}
+use Rattle.std.proofs.lemmas.Bool.Decides.{nat_tests}
+use Rattle.x5_model_tree.proofs.Exact.{there_decides}
 use Rattle.x5_model_tree.proofs.Longest.{IsLowest, lowest_right}
 use Rattle.x5_model_tree.proofs.Resolution.{lowest_of_all, nothing_there}
 use Rattle.x5_model_tree.proofs.WholeTree.{lowest_there, none_there}
-use Rattle.x5_model_run.specs.Network.{is_sent}
-use Rattle.x5_model_run.specs.Journal.{Line, Journal, is_heard}
-use Rattle.x5_model_run.specs.Holdings.{Holdings}
-use Rattle.x5_model_run.specs.Needs.{target_of, reference, proceeding, resolves, superior_needs, resolution_needs, needs}
+use Rattle.x5_model_run.specs.Journal.{Line, Journal}
+use Rattle.x5_model_run.specs.Holdings.{Holdings, holds_within}
+use Rattle.x5_model_run.specs.Needs.{target_of, reference, proceeding, resolves, superior_needs, resolution_needs, needs, ends_here}
 use Rattle.x5_model_run.specs.History.{Point, knowledge_at, sent_before, tree_at, holdings_at}
 use Rattle.x5_model_run.specs.Chain.{Scene, scene_at, opening}
-use Rattle.x5_model_run.specs.Blocked.{by_user}
-use Rattle.x5_model_run.specs.Right.{Right, AnswersRight, is_due, first_level_at}
+use Rattle.x5_model_run.specs.Blocked.{by_user, is_answered, hears_by, hears}
+use Rattle.x5_model_run.specs.Right.{Right, AnswersRight, is_found, is_for, first_level_at, hears_of}
 use Rattle.x5_model_run.specs.Thorough.{Thorough}
+use Rattle.x5_model_run.proofs.Queries.{query_finished}
 use Rattle.x5_model_star.specs.Star.{IsStar}
 use Rattle.x5_model_star.specs.Reads.{is_read, covering, way_down, way_up, user_line, up_line, down_line, lines_down, lines_from, star_lines, own_tree, own_source, reply_of, own_reply, IsStarRead, AreQuiet, StarReadIsRight, StarReadIsThere}
 use Rattle.x5_model_star.proofs.Seats.{Seat, mastered_as, in_none, in_agents, mine, alone, seat_at, seat_of, top, under, pins_once, first_length, leads, knows_none}
 use Rattle.x5_model_star.proofs.Consistency.{zero_or_more, other_length, no_third, star_is_good}
-use Rattle.x5_model_star.proofs.Holding.{no_update, one_held, none_refused, read_needs, needs_down, needs_here, needs_up}
-use Rattle.x5_model_star.proofs.Sending.{Way, begins, goes_on, sound, licensed, thorough, heard}
+use Rattle.x5_model_star.proofs.Holding.{no_update, length_key, one_held, none_refused, read_needs, needs_down, needs_here, ends_own, needs_up}
+use Rattle.x5_model_star.proofs.Sending.{Way, begins, goes_on, sound, licensed, thorough, answered, heard}
 use Rattle.x5_model_star.proofs.Quiet.{tree_is, knowledge_is, network_is, holdings_are}
-use Rattle.x5_model_star.proofs.Asking.{refused}
+use Rattle.x5_model_star.proofs.Asking.{refused, pick, pick_some}
 use Rattle.x5_model_star.proofs.Answering.{refused_right, right_there, right_nowhere}
 
 -- ---- the target of a message down is the name, in another spelling
@@ -117,10 +119,8 @@ module _ (p : Point) (d : IsDescribed p.described) (s : IsStar p.described) (qui
   good : Good w
   good = star_is_good w d s
 
-  user_heard : (lines : List Line) → Way scene lines → is_heard lines to ≡ true
-  user_heard _ (begins {l} n a b m f) =
-      or_left _ _ (and_true (l.receiver == to) (is_sent l.fate) ((nat_same_decides l.receiver to).1 b) (ap is_sent f))
-  user_heard _ (goes_on {o} {rest} a t q k e v x) = or_right _ _ (user_heard (o ∷ rest) v)
+  user_heard : (lines : List Line) → Way scene lines → is_answered (by_user scene) lines ≡ true
+  user_heard lines v = answered scene (network_is p d s quiet) chains reads lines v
 
   user_way : Way scene (user ∷ [])
   user_way = begins refl refl refl refl refl
@@ -128,11 +128,19 @@ module _ (p : Point) (d : IsDescribed p.described) (s : IsStar p.described) (qui
   request_is : (l : Line) (before : List Line) → Way scene (l ∷ before) → l.message.request ≡ r
   request_is l before v = (sound scene (network_is p d s quiet) chains reads (l ∷ before) v).2
 
-  receiver_heard : (l : Line) (before : List Line) → Way scene (l ∷ before) → is_heard (l ∷ before) l.receiver ≡ true
-  receiver_heard l before v = heard scene (network_is p d s quiet) chains reads l before v
+  last_heard : (test : Line → Bool) (l : Line) (before : List Line) → Way scene (l ∷ before) → test l ≡ true → hears_by test (by_user scene) (l ∷ before) ≡ true
+  last_heard test l before v e = heard scene (network_is p d s quiet) chains reads test l before v e
 
-  is_sent_last : (l : Line) (before : List Line) → Way scene (l ∷ before) → is_sent l.fate ≡ true
-  is_sent_last l before v = ap is_sent (sound scene (network_is p d s quiet) chains reads (l ∷ before) v).0
+  receiver_heard : (l : Line) (before : List Line) → Way scene (l ∷ before) → hears (by_user scene) (l ∷ before) l.receiver ≡ true
+  receiver_heard l before v =
+      last_heard (λ x. x.receiver == l.receiver) l before v ((nat_same_decides l.receiver l.receiver).1 refl)
+
+  for_target : (l : Line) → key_of l.message.target ≡ key → is_for (target_of r.body) l ≡ true
+  for_target l e = (key_decides (key_of l.message.target) key).1 e
+
+  receiver_asked : (l : Line) (before : List Line) → Way scene (l ∷ before) → key_of l.message.target ≡ key → hears_of (by_user scene) (l ∷ before) (target_of r.body) l.receiver ≡ true
+  receiver_asked l before v e =
+      last_heard (λ x. (x.receiver == l.receiver) && is_for (target_of r.body) x) l before v (and_true (l.receiver == l.receiver) _ ((nat_same_decides l.receiver l.receiver).1 refl) (for_target l e))
 
   -- ---- the lowest entry on the way
 
@@ -222,8 +230,14 @@ module _ (p : Point) (d : IsDescribed p.described) (s : IsStar p.described) (qui
         ap (find (λ x. is_prefix (key_of x.prefix) key)) seat.only ∙ ap (λ (x : Bool). cond x (Some c) None) e
 
     -- the receiver has a context on the way, and no reference
-    ends_here : (l : Line) (before : List Line) → Way scene (l ∷ before) → (a : Agent) (c : Context) → Seat w l.receiver a c → key_of l.message.target ≡ key → way_down a key ≡ None → IsPrefix (key_of c.prefix) key → Ends p to r l before
-    ends_here l before v a c seat target no_way own =
+    found_here : (l : Line) (before : List Line) → Way scene (l ∷ before) → (a : Agent) (c : Context) → Seat w l.receiver a c → key_of l.message.target ≡ key → find (λ x. is_prefix (key_of x.pin) (key_of l.message.target)) a.subordinate ≡ None → IsPrefix (key_of c.prefix) key → resolves (one_held l.receiver a.superior c.prefix (sorted_entries c.entries) a.subordinate) l.message ≡ true → (at e : Named) → In at c.entries → pick key (Some at) ≡ Some e → is_found scene (by_user scene) (l ∷ before) ≡ true
+    found_here l before v a c seat target off own able at e i h =
+        let there_is : is_there (sorted_entries c.entries) (key_of l.message.target) ≡ true = (there_decides (sorted_entries c.entries) (key_of l.message.target)).1 (at, in_sorted named_below at c.entries i, pick_some key at e h ∙ sym target) in
+        let ends : ends_here (one_held l.receiver a.superior c.prefix (sorted_entries c.entries) a.subordinate) l.message ≡ true = ends_own l.receiver a.superior c.prefix (sorted_entries c.entries) a.subordinate l.message off (subst (λ (z : Key). IsPrefix (key_of c.prefix) z) (sym target) own) able there_is in
+        last_heard (λ x. ends_here (scene.holdings x.receiver) x.message) l before v (ap (λ (y : Holdings). ends_here y l.message) (holdings_are p d s quiet l.receiver a c seat) ∙ ends)
+
+    ends_there : (l : Line) (before : List Line) → Way scene (l ∷ before) → (a : Agent) (c : Context) → Seat w l.receiver a c → key_of l.message.target ≡ key → way_down a key ≡ None → IsPrefix (key_of c.prefix) key → resolves (one_held l.receiver a.superior c.prefix (sorted_entries c.entries) a.subordinate) l.message ≡ true → Ends p to r l before
+    ends_there l before v a c seat target no_way own able =
         let low = lowest_reached l.receiver a c seat no_way own in
         let off : find (λ x. is_prefix (key_of x.pin) (key_of l.message.target)) a.subordinate ≡ None = subst (λ (z : Key). find (λ x. is_prefix (key_of x.pin) z) a.subordinate ≡ None) (sym target) no_way in
         record {
@@ -233,7 +247,7 @@ module _ (p : Point) (d : IsDescribed p.described) (s : IsStar p.described) (qui
           right = λ x e. let same : x ≡ a = inside x a (sym e ∙ seat.at) in
               let covered : covering x key ≡ Some c = ap (λ (y : Agent). covering y key) same ∙ covering_is l.receiver a c seat true ((prefix_decides (key_of c.prefix) key).1 own) in
               subst (λ (o : Option Context). Right p scene (by_user scene) (record { lines = l ∷ before; accepted = [] }) (reply_of (own_source l.receiver o) (ask (own_tree o) r))) (sym covered)
-              (right_there p d s quiet to r reads (l ∷ before) (user_heard (l ∷ before) v) l.receiver a c seat (receiver_heard l before v) passed low.0 low.1 low.2 low.3);
+              (right_there p d s quiet to r reads (l ∷ before) (user_heard (l ∷ before) v) l.receiver a c seat (receiver_heard l before v) (receiver_asked l before v target) passed low.0 low.1 low.2 low.3 (λ e i. found_here l before v a c seat target off own able low.0 e low.1 i));
         }
 
     -- the first agent knows nothing on the way
@@ -251,7 +265,7 @@ module _ (p : Point) (d : IsDescribed p.described) (s : IsStar p.described) (qui
           right = λ x e. let same : x ≡ a = inside x a (sym e ∙ seat.at) in
               let covered : covering x key ≡ None = ap (λ (y : Agent). covering y key) same ∙ covering_is l.receiver a c seat false (not_prefix c out) in
               subst (λ (o : Option Context). Right p scene (by_user scene) (record { lines = l ∷ before; accepted = [] }) (reply_of (own_source l.receiver o) (ask (own_tree o) r))) (sym covered)
-              (right_nowhere p d s quiet to r reads (l ∷ before) (user_heard (l ∷ before) v) l.receiver passed (or_left _ _ (and_true (is_sent l.fate) (first_level_at (knowledge_at p) l.receiver) (is_sent_last l before v) level)) (nothing_reached l.receiver a c seat no_way z out));
+              (right_nowhere p d s quiet to r reads (l ∷ before) (user_heard (l ∷ before) v) l.receiver passed (last_heard (λ y. first_level_at (knowledge_at p) y.receiver && is_for (target_of r.body) y) l before v (and_true (first_level_at (knowledge_at p) l.receiver) _ level (for_target l target))) (nothing_reached l.receiver a c seat no_way z out));
         }
       where
         resolves_start : (l : Line) (h : Holdings) → l.message.progress ≡ Start → resolves h l.message ≡ true
@@ -284,24 +298,32 @@ module _ (p : Point) (d : IsDescribed p.described) (s : IsStar p.described) (qui
         let way : Way scene (down_line l k ∷ l ∷ before) = goes_on k.access.master (take (length k.pin - 1) k.pin ++ drop (length k.pin - 1) l.message.target) (Next (length k.pin)) Subordinate refl v needed in
         let same_target : key_of (down_line l k).message.target ≡ key = spelled k.pin l.message.target (subst (λ (y : Key). IsPrefix (key_of k.pin) y) (sym target) on) ∙ target in
         let no_way : way_down b.0 key ≡ None = ap (find (λ x. is_prefix (key_of x.pin) key)) (knows_none w s k.access.master b.0 below.number more) in
-        ends_here (down_line l k) (l ∷ before) way b.0 t.0.context below same_target no_way (subst (λ (y : Key). IsPrefix y key) (sym t.4) on)
+        ends_there (down_line l k) (l ∷ before) way b.0 t.0.context below same_target no_way (subst (λ (y : Key). IsPrefix y key) (sym t.4) on)
+        (reaches_pin b.0 t.0.context k (down_line l k).message.target k.access.master (subst (λ (y : Key). IsPrefix y (key_of (down_line l k).message.target)) (sym t.4) (subst (λ (y : Key). IsPrefix (key_of k.pin) y) (sym same_target) on)) (sym (length_key t.0.context.prefix) ∙ ap length t.4 ∙ length_key k.pin))
       where
         starts : (l : Line) (h : Holdings) → l.message.progress ≡ Start → resolves h l.message ≡ true
         starts l h e = rw e refl
 
+        reaches_pin : (b : Agent) (c : Context) (k : Specific) (n : Name) (place : ℕ) → IsPrefix (key_of c.prefix) (key_of n) → length c.prefix ≡ length k.pin → holds_within (one_held place b.superior c.prefix (sorted_entries c.entries) b.subordinate) (key_of n) (length k.pin) ≡ true
+        reaches_pin b c k n place p e =
+            or_left (is_prefix (key_of c.prefix) (key_of n) && nat_le (length k.pin) (length c.prefix)) false (and_true (is_prefix (key_of c.prefix) (key_of n)) (nat_le (length k.pin) (length c.prefix)) ((prefix_decides (key_of c.prefix) (key_of n)).1 p) (grind (arith, nat_tests, e)))
+
     -- what an agent without a superior on the way does: it answers, or passes the message down
     module _ (l : Line) (before : List Line) (v : Way scene (l ∷ before)) (a : Agent) (c : Context) (seat : Seat w l.receiver a c) (start : l.message.progress ≡ Start) (target : key_of l.message.target ≡ key) where
+      starts : resolves (one_held l.receiver a.superior c.prefix (sorted_entries c.entries) a.subordinate) l.message ≡ true
+      starts = rw start refl
+
       down_from : (o : Option Specific) → way_down a key ≡ o → (l.receiver ≡ 0) ⊎ (IsPrefix (key_of c.prefix) key) → AllEnds p to r (in_option (l ∷ before) (λ k. down_line l k ∷ l ∷ before) o)
       down_from (Some k) e h =
           elim (zero_or_more l.receiver) [
             | inl z ↦ ends_below l before v a c seat z start target k e
             | inr m ↦ (let none : way_down a key ≡ None = ap (find (λ x. is_prefix (key_of x.pin) key)) (knows_none w s l.receiver a seat.number m) in absurd (let q : Some k ≡ None = sym e ∙ none in cc))
           ]
-      down_from None e (inr own) = ends_here l before v a c seat target e own
+      down_from None e (inr own) = ends_there l before v a c seat target e own starts
       down_from None e (inl z) = by (is_prefix (key_of c.prefix) key) refl
         where
           by : (b : Bool) → is_prefix (key_of c.prefix) key ≡ b → Ends p to r l before
-          by true q = ends_here l before v a c seat target e ((prefix_decides (key_of c.prefix) key).0 q)
+          by true q = ends_there l before v a c seat target e ((prefix_decides (key_of c.prefix) key).0 q) starts
           by false q =
               ends_nowhere l before v a c seat z start target e (λ y. let t : is_prefix (key_of c.prefix) key ≡ true = (prefix_decides (key_of c.prefix) key).1 y in let u : true ≡ false = sym t ∙ q in absurd (cc_false u))
             where
@@ -390,14 +412,12 @@ module _ (p : Point) (d : IsDescribed p.described) (s : IsStar p.described) (qui
   finished last before a e at = (
     record {
       licensed = licensed scene (network_is p d s quiet) chains reads (last ∷ before) e.way;
-      accepts = record { one = refl; right = refl; done = or_left _ _ (never_due (no_update r.body reads)); probed = refl };
+      accepts = record { one = refl; right = refl; probed = refl };
+      finished = query_finished p scene (last ∷ before) (no_update r.body reads);
       answer = e.right a at;
     },
     thorough scene (network_is p d s quiet) chains reads last before e.way e.none,
   )
-    where
-      never_due : is_update r.body ≡ false → not (is_due p scene (by_user scene) (last ∷ before)) ≡ true
-      never_due u = rw u refl
 
 pub star_read_is_right : StarReadIsRight
 star_read_is_right p d s quiet to l r is j reply x =

@@ -1,6 +1,6 @@
 -- A way: the user's message, and then each agent passes it on by the one reference that it needs. Where the last one needs
 -- none, each message of a way is licensed and none is left out.
-use Rattle.std.proofs.Common.{◌≡◌, ℕ, ◌+◌, ◌-◌, Bool, true, false, cond, not, ◌&&◌, ◌||◌, ◌==◌, nat_lt, List, [], ◌∷◌, length, refl, sym, ap, subst, ◌∙◌, arith, length-append, Option, Some, None}
+use Rattle.std.proofs.Common.{◌≡◌, ℕ, ◌+◌, ◌-◌, Bool, true, false, cond, not, ◌&&◌, ◌||◌, ◌==◌, nat_lt, List, [], ◌∷◌, ◌++◌, length, refl, sym, ap, subst, ◌∙◌, arith, length-append, Option, Some, None}
 use Rattle.std.specs.List.{list_all, Contains}
 use Rattle.std.specs.Prelude.{IsTrue}
 use Rattle.x5_model.specs.Words.{some_and, first_of}
@@ -13,12 +13,13 @@ use Rattle.x5_model.proofs.Decide.{nat_same_decides, less_decides}
 use Rattle.x5_model_tree.specs.World.{Network}
 use Rattle.x5_model_tree.specs.Ask.{is_update}
 use Rattle.x5_model_run.specs.Network.{Sent, arrives, is_sent, refuses, fate_of}
-use Rattle.x5_model_run.specs.Journal.{Line, Journal, depth, same_sender, same_progress, same_name, same_kind, is_done, is_wide, item_of, settled, some_line, every_line, opened_by, is_heard}
+use Rattle.x5_model_run.specs.Journal.{Line, Journal, depth, same_sender, same_progress, same_name, same_kind, is_done, is_wide, item_of, settled, some_line, opened_by, leads_up}
 use Rattle.x5_model_run.specs.Needs.{target_of, reference, needs}
-use Rattle.x5_model_run.specs.Chain.{Scene, AllLicensed, Licensed, later, request_for, probe_request, part_request, is_fresh, is_prohibited}
-use Rattle.x5_model_run.specs.Blocked.{asks_by}
-use Rattle.x5_model_run.specs.Thorough.{Thorough, is_stopped, taken_needs, sends_itself, sender_follows, is_sent_by, is_taken, is_done_before}
-use Rattle.x5_model_run.proofs.Journals.{settled_at, siblings_at}
+use Rattle.x5_model_run.specs.Chain.{Scene, AllLicensed, Licensed, later, request_for, probe_request, part_request, asks_by, is_fresh, is_prohibited}
+use Rattle.x5_model_run.specs.Blocked.{by_user, is_answered_line, came_back, is_answered, hears_by}
+use Rattle.x5_model_run.specs.Accepting.{is_done_before}
+use Rattle.x5_model_run.specs.Thorough.{Thorough, is_stopped, sends_itself, sender_follows, is_sent_by, is_taken, is_served}
+use Rattle.x5_model_run.proofs.Journals.{settled_at, siblings_at, leads_from}
 use Rattle.x5_model_run.proofs.Licensing.{licensed_first}
 use Rattle.x5_model_star.specs.Star.{idle}
 use Rattle.x5_model_star.specs.Reads.{is_read, passed_on}
@@ -89,13 +90,13 @@ module _ (s : Scene) (quiet : s.network ≡ idle) (chains : s.message.request.co
       at_above = refl;
       arrived = ap arrives h.0;
       needed = subst (λ (xs : List Reference). Contains xs (reference t p k (a ∷ []))) (sym q) (0, omega arith, refl);
-      carried = record {
-        target_is = (key_decides (key_of t) (key_of t)).1 refl;
-        progress_is = refl;
-        kind_is = refl;
-        exclusions_are = refl;
-        trace_is = refl;
-        request_is = sym (request_same o.message.request t (reference t p k (a ∷ [])) (no_update_in o h.2) e);
+      carries = λ i. record {
+        target = t;
+        progress = p;
+        kind = k;
+        exclusions = [];
+        trace = o.message.trace ++ item_of o.receiver o.message ∷ [];
+        request = sym (request_same o.message.request t (reference t p k (a ∷ [])) (no_update_in o h.2) e) i;
       };
       sender_is = or_left _ _ ((nat_same_decides o.receiver o.receiver).1 refl);
       chains = or_right _ _ (and_true (not (refuses s.network o.receiver)) (not (is_prohibited s)) (willing o.receiver) (ap not chains));
@@ -115,18 +116,14 @@ module _ (s : Scene) (quiet : s.network ≡ idle) (chains : s.message.request.co
     abbrev journal : Journal
     journal = record { lines = all; accepted = [] }
 
-    abbrev is_served : Line → List Line → Bool
-    is_served l before =
-        not (arrives l.fate) || (is_done_before journal l before || list_all (is_taken s all l) (taken_needs s l))
-
     -- the head has taken what it needs, and the others have as their next lines show
     abbrev Taken : List Line → Type 0
     Taken [] = ⊥
     Taken (l ∷ before) = list_all (is_taken s all l) (needs (s.holdings l.receiver) l.message) ≡ true
 
-    served : (l : Line) (before : List Line) → list_all (is_taken s all l) (needs (s.holdings l.receiver) l.message) ≡ true → is_served l before ≡ true
-    served l before h =
-        or_right (not (arrives l.fate)) _ (or_right (is_done_before journal l before) _ (by (is_stopped l.receiver l.message)))
+    served : (l : Line) → list_all (is_taken s all l) (needs (s.holdings l.receiver) l.message) ≡ true → is_served s journal l ≡ true
+    served l h =
+        or_right (not (arrives l.fate)) _ (or_right (is_done_before s journal l) _ (by (is_stopped l.receiver l.message)))
       where
         by : (b : Bool) → list_all (is_taken s all l) (cond b [] (needs (s.holdings l.receiver) l.message)) ≡ true
         by true = refl
@@ -157,17 +154,32 @@ module _ (s : Scene) (quiet : s.network ≡ idle) (chains : s.message.request.co
         and_true _ _ (and_true (a == a) _ ((nat_same_decides a a).1 refl) (and_true (same_progress p p) (same_name t t) (progress_itself p) ((key_decides (key_of t) (key_of t)).1 refl)))
         (and_true (o.receiver == o.receiver) _ ((nat_same_decides o.receiver o.receiver).1 refl) (opened o rest a t p k))
 
-    all_served : (lines : List Line) → Way s lines → ((test : Line → List Line → Bool) → some_line test lines ≡ true → some_line test all ≡ true) → Taken lines → every_line is_served lines ≡ true
-    all_served _ (begins {l} n a b m f) within h = and_true (is_served l []) true (served l [] h) refl
+    all_served : (lines : List Line) → Way s lines → ((test : Line → List Line → Bool) → some_line test lines ≡ true → some_line test all ≡ true) → Taken lines → list_all (is_served s journal) lines ≡ true
+    all_served _ (begins {l} n a b m f) within h = and_true (is_served s journal l) true (served l h) refl
     all_served _ (goes_on {o} {rest} a t p k e w q) within h =
         let l : Line = passed_on o a t p k in
-        and_true (is_served l (o ∷ rest)) (every_line is_served (o ∷ rest)) (served l (o ∷ rest) h)
+        and_true (is_served s journal l) (list_all (is_served s journal) (o ∷ rest)) (served l h)
         (all_served (o ∷ rest) w (λ test i. within test (or_right (test l (o ∷ rest)) (some_line test (o ∷ rest)) i)) (taken o rest a t p k (sound (o ∷ rest) w) q (within (is_next o (reference t p k (a ∷ [])) a) (or_left _ _ (next_there o rest a t p k)))))
 
   pub thorough : (l : Line) (before : List Line) → Way s (l ∷ before) → needs (s.holdings l.receiver) l.message ≡ [] → Thorough s (record { lines = l ∷ before; accepted = [] })
   thorough l before w none =
       all_served (l ∷ before) (l ∷ before) w (λ test i. i) (subst (λ (xs : List Reference). list_all (is_taken s (l ∷ before) l) xs ≡ true) (sym none) refl)
 
-  pub heard : (l : Line) (before : List Line) → Way s (l ∷ before) → is_heard (l ∷ before) l.receiver ≡ true
-  heard l before w =
-      or_left _ _ (and_true (l.receiver == l.receiver) (is_sent l.fate) ((nat_same_decides l.receiver l.receiver).1 refl) (ap is_sent (sound (l ∷ before) w).0))
+  -- each message of a way came back, and so did the user's
+  back : (l : Line) (before : List Line) → Way s (l ∷ before) → came_back (by_user s) l before ≡ true
+  back _ _ (begins {l} n a b m f) =
+      leads_from (is_answered_line (by_user s)) (λ x. is_sent x.fate) l [] ∙ or_left _ _ (and_true (l.number == (s.sent + 1)) (is_sent l.fate) ((nat_same_decides l.number (s.sent + 1)).1 n) (ap is_sent f))
+  back _ _ (goes_on {o} {rest} a t p k e w q) =
+      let l : Line = passed_on o a t p k in
+      let above : depth l - 1 ≡ depth o = omega (arith, deeper o a t p k) in
+      leads_from (is_answered_line (by_user s)) (λ x. is_sent x.fate) l (o ∷ rest)
+      ∙ or_right (is_answered_line (by_user s) l) _ (subst (λ (d : ℕ). leads_up (is_answered_line (by_user s)) (λ x. is_sent x.fate) d (o ∷ rest) ≡ true) (sym above) (back o rest w))
+
+  pub answered : (lines : List Line) → Way s lines → is_answered (by_user s) lines ≡ true
+  answered _ (begins {l} n a b m f) =
+      or_left _ _ (and_true (l.number == (s.sent + 1)) (is_sent l.fate) ((nat_same_decides l.number (s.sent + 1)).1 n) (ap is_sent f))
+  answered _ (goes_on {o} {rest} a t p k e w q) =
+      or_right (is_answered_line (by_user s) (passed_on o a t p k)) _ (answered (o ∷ rest) w)
+
+  pub heard : (test : Line → Bool) (l : Line) (before : List Line) → Way s (l ∷ before) → test l ≡ true → hears_by test (by_user s) (l ∷ before) ≡ true
+  heard test l before w e = or_left _ _ (and_true (test l) (came_back (by_user s) l before) e (back l before w))

@@ -14,7 +14,9 @@ use Rattle.x5_model_run.specs.Journal.{Line, depth, item_of, is_done, is_wide, s
 use Rattle.x5_model_run.specs.Needs.{target_of, new_name, passing_needs, due_probes, needs}
 use Rattle.x5_model_run.specs.Chain.{Scene, scene_at, opening, probe_request, is_probe, part_body, part_request, asks_part, is_user, IsCarried, Caused, begins, later, AllLicensed}
 use Rattle.x5_model_run.specs.Placed.{Placed}
-use Rattle.x5_model_theory.specs.Leading.{IsSound, item_for, level_of, Leads, IsGoing, with_own, JournalsArePlaced, OpeningIsPlaced, IsWithin, NamesStayWithin, NoJournalIsLong}
+use Rattle.x5_model_tree.proofs.Stored.{pins_short as pins_are_short}
+use Rattle.x5_model_theory.specs.Leading.{IsSound, PinsWithin, item_for, level_of, Leads, IsGoing, with_own, JournalsArePlaced, OpeningIsPlaced, IsWithin, NamesStayWithin, NoJournalIsLong}
+use Rattle.x5_model_run.proofs.Carrying.{as_carried}
 use Rattle.x5_model_theory.proofs.Stages.{key_length, same_progress_is}
 use Rattle.x5_model_theory.proofs.Following.{leads_on, followed_is_placed}
 use Rattle.x5_model_theory.proofs.Probing.{probes_are_placed, probe_within}
@@ -72,7 +74,7 @@ by_causes p s P same first step (x ∷ before) l all i =
         let needed : In f.reference (needs (holdings_at p f.opener.receiver) f.opener.message) =
         subst (λ (h : ℕ → Holdings). In f.reference (needs (h f.opener.receiver) f.opener.message)) same (of_contains (needs (s.holdings f.opener.receiver) f.opener.message) f.reference f.needed) in
         let agent : In x.receiver f.reference.agents = of_agents f.reference.agents f.turn.place x.receiver f.turn.inside f.turn.here in
-        step x.sender f.opener f.reference x.message x.receiver needed agent f.carried (more f.opener (of_settled f.above earlier f.opener f.opens))
+        step x.sender f.opener f.reference x.message x.receiver needed agent (as_carried x.sender f.opener f.reference x.message f.carries) (more f.opener (of_settled f.above earlier f.opener f.opens))
 
 pub journals_are_placed : JournalsArePlaced
 journals_are_placed p s lines l sound same first going all i =
@@ -153,7 +155,8 @@ names_stay_within n p sender opener r m a sound fit pins_short i ia carried befo
     }
 
 pub no_journal_is_long : NoJournalIsLong
-no_journal_is_long p first r lines l sound pins_short target fresh all i =
+no_journal_is_long p first r lines l sound target fresh all i =
+    let pins_short : PinsWithin 16 (knowledge_at p) = pins_are_short (knowledge_at p) sound.described in
     let open_is = opening_is_placed p first r in
     let begun : IsWithin 16 first (opening r) = record {
       target = target;

@@ -147,5 +147,5 @@ NamesStayWithin = (n : ℕ) (p : Point) (sender : Option ℕ) (opener : Line) (r
     → IsWithin n opener.receiver opener.message → IsWithin n a m
 
 abbrev pub NoJournalIsLong : Type 0
-NoJournalIsLong = (p : Point) (first : ℕ) (r : Request) (lines : List Line) (l : Line) → IsSound p → PinsWithin 16 (knowledge_at p) → length (target_of r.body) ≤ 16
+NoJournalIsLong = (p : Point) (first : ℕ) (r : Request) (lines : List Line) (l : Line) → IsSound p → length (target_of r.body) ≤ 16
     → ((name : Name) → new_name r.body ≡ Some name → length name ≤ 16) → AllLicensed (scene_at p first r) lines → In l lines → length l.message.trace ≤ 96

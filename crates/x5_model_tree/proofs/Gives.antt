@@ -15,7 +15,7 @@ use Rattle.x5_model_tree.specs.Good.{IsContext, Good}
 use Rattle.x5_model_tree.proofs.Exact.{conditions_hold}
 use Rattle.x5_model_tree.proofs.Grown.{context_grown}
 
-of_numbered : (n : ℕ) (xs : List Agent) (a : ℕ × Agent) → In a (enumerate_from n xs) → In a.1 xs
+pub of_numbered : (n : ℕ) (xs : List Agent) (a : ℕ × Agent) → In a (enumerate_from n xs) → In a.1 xs
 of_numbered n [] a i = elim i [ ]
 of_numbered n (x ∷ xs) a i =
     elim (in_first a (n, x) (enumerate_from (n + 1) xs) i) [

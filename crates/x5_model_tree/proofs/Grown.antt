@@ -160,7 +160,7 @@ context_grown w c h =
       grown = r.grown;
       once = r.once;
       one_entry = λ e f i j q. once_map key_at c.entries e f r.once i j q;
-      kept = λ e i. (let v = both_true (is_entry_name e.name) (is_ordered e.entry && has_rdn e.entry (last_rdn e.name)) (of_all is_kept e c.entries b.0 i) in (filled_name e.name v.0, (both_true (is_ordered e.entry) (has_rdn e.entry (last_rdn e.name)) v.1).0));
+      kept = λ e i. (let v = both_true (is_entry_name e.name) _ (of_all is_kept e c.entries b.0 i) in (filled_name e.name v.0, (both_true (is_ordered e.entry) _ v.1).0));
       nssr_there = λ n i. (there_decides c.entries (key_of n.at)).0 (both_true (is_there c.entries (key_of n.at)) _ (of_all (is_nssr w c) n c.nssrs d.0 i)).0;
       one_nssr = λ n k i j q. once_map (λ (x : Nssr). key_of x.at) c.nssrs n k ((once_decides same_key key_decides (map (λ x. key_of x.at) c.nssrs)).0 d.1) i j q;
     }

@@ -1,8 +1,10 @@
 pub mod Order
+pub mod FileOrder
 pub mod Exact
 pub mod FirstBreach
 pub mod Grown
 pub mod Gives
+pub mod Stored
 pub mod Resolution
 pub mod Longest
 pub mod WholeTree

@@ -1,4 +1,5 @@
--- What an update makes of the tree, or of what one agent has (X.511, section 11).
+-- What an update makes of the tree, or of what one agent has (X.511, section 11). That an agent judges by the pins that it
+-- knows, and the order in which refusals count, is this project's own.
 use Rattle.std.specs.Prelude.{ℕ, ◌+◌, Bool, not, ◌&&◌, ◌||◌, if◌then◌else◌, List, [], ◌∷◌, ◌++◌, length, map, take, drop}
 use Rattle.std.specs.List.{list_any, filter, flat_map}
 use Rattle.std.specs.declared.option.Option.{Option}
@@ -145,13 +146,14 @@ apply_over g body = by (fault_of body)
 abbrev pub ground_of : Tree → Ground
 ground_of t = record { entries = t.entries; pins = t.pins; nssrs = []; taken = [] }
 
--- an agent's: its mastered contexts, and all pins that it knows, their prefixes included (X.518, section 18)
+-- an agent's: the contexts that it holds as their master, of two with one prefix the first, and all pins that it knows,
+-- their prefixes included
 abbrev pub counts_in : List Key → Context → Named → Bool
 counts_in pins c e = belongs pins (key_of c.prefix) (key_at e)
 
 abbrev pub own_ground : List Key → List Context → Ground
 own_ground pins contexts = record {
-  entries = sorted_entries (flat_map (λ c. filter (counts_in pins c) c.entries) contexts);
+  entries = flat_map (λ c. filter (counts_in pins c) c.entries) contexts;
   pins = pins;
   nssrs = flat_map (λ c. map (λ n. record { context = key_of c.prefix; entry = key_of n.at }) c.nssrs) contexts;
   taken = flat_map (λ c. map key_at (filter (λ e. not (counts_in pins c e)) c.entries)) contexts;

@@ -1,4 +1,4 @@
--- What the one tree answers (X.511, sections 9 to 11). The parts of a real answer that tell where it comes from, its
+-- What the one tree answers (X.511, sections 9 to 11; the order of what is listed and found is this project's own). The parts of a real answer that tell where it comes from, its
 -- sources and its unexplored references, are no matter of a tree: `rest_of` says what an answer tells beside them.
 -- So 'the rest of the answer is what the sources together would answer' reads `rest_of answer ≡ ask_marked copies t request`,
 -- where `copies` says for a key whether its part comes from a shadow; for the one tree it's `ask t request`.

@@ -1,8 +1,7 @@
--- When knowledge is consistent: ten conditions on the lists of a world (after X.501, section 22, and X.518, section 9;
--- the conditions are this project's own). Each is the list of its breaches in file order, with the two values that are
--- printed; it holds where that list is empty. Of two breaches of one condition the place of the first value in the file
--- counts, then that of the second.
-use Rattle.std.specs.Prelude.{◌≡◌, ℕ, zero, suc, Bool, true, false, not, ◌&&◌, ◌||◌, ◌==◌, nat_lt, List, [], ◌∷◌, ◌++◌, length}
+-- When knowledge is consistent: ten conditions on the lists of a world. They are this project's own, after X.501
+-- (knowledge). Each is the list of its breaches in file order, with the two values that are printed; it holds where that
+-- list is empty. `Breaking` says in its own words which breach is the first.
+use Rattle.std.specs.Prelude.{◌≡◌, ℕ, zero, suc, Bool, true, false, not, ◌&&◌, ◌||◌, ◌==◌, nat_lt, List, [], ◌∷◌, ◌++◌, length, map}
 use Rattle.std.specs.List.{list_any, filter, flat_map}
 use Rattle.std.specs.declared.option.Option.{Option}
 use Rattle.std.specs.declared.option.Option.TheVariants.{None, Some}
@@ -45,6 +44,26 @@ longer_pin m e p =
 abbrev pub breaches_3 : World → List Inconsistency
 breaches_3 w = flat_map (λ m. flat_map (λ e. flat_map (longer_pin m e) (mastered w)) m.context.entries) (mastered w)
 
+-- the references of an agent, both kinds together, in the order of the file; those that this order doesn't count stand
+-- behind all others
+pub data FileReference : Type 0 where
+  ToBelow : Specific → FileReference
+  ToAnywhere : Specific → FileReference
+
+abbrev pub specific_of : FileReference → Specific
+specific_of (ToBelow k) = k
+specific_of (ToAnywhere k) = k
+
+abbrev pub in_file_order : List Bool → List Specific → List Specific → List FileReference
+in_file_order [] below anywhere = map ToBelow below ++ map ToAnywhere anywhere
+in_file_order (false ∷ order) [] anywhere = in_file_order order [] anywhere
+in_file_order (false ∷ order) (k ∷ below) anywhere = ToBelow k ∷ in_file_order order below anywhere
+in_file_order (true ∷ order) below [] = in_file_order order below []
+in_file_order (true ∷ order) below (k ∷ anywhere) = ToAnywhere k ∷ in_file_order order below anywhere
+
+abbrev pub references : Agent → List FileReference
+references a = in_file_order a.crosses a.subordinate a.cross
+
 -- 4. Each subordinate or cross reference names a pin and its master; a subordinate one names a child of an entry that
 -- the agent masters, or of the root at a first-level agent: the agent, the reference's name.
 abbrev pub names_master : World → Specific → Bool
@@ -54,16 +73,15 @@ abbrev pub child_of_own : Agent → Key → Bool
 child_of_own a pin =
     (is_first_level a && (length pin == 1)) || list_any (λ c. list_any (λ e. is_child (key_at e) pin) c.entries) a.contexts
 
-abbrev pub false_subordinate : World → ℕ → Agent → Specific → List Inconsistency
-false_subordinate w place a k =
-    when (not (names_master w k && child_of_own a (key_of k.pin))) (breach 4 (AgentPrinted place) (NamePrinted k.pin))
+abbrev pub is_right : World → Agent → FileReference → Bool
+is_right w a (ToBelow k) = names_master w k && child_of_own a (key_of k.pin)
+is_right w a (ToAnywhere k) = names_master w k
 
-abbrev pub false_cross : World → ℕ → Specific → List Inconsistency
-false_cross w place k = when (not (names_master w k)) (breach 4 (AgentPrinted place) (NamePrinted k.pin))
+abbrev pub false_reference : World → ℕ → Agent → FileReference → List Inconsistency
+false_reference w place a r = when (not (is_right w a r)) (breach 4 (AgentPrinted place) (NamePrinted (specific_of r).pin))
 
 abbrev pub breaches_4 : World → List Inconsistency
-breaches_4 w =
-    flat_map (λ a. flat_map (false_subordinate w a.0 a.1) a.1.subordinate ++ flat_map (false_cross w a.0) a.1.cross) (numbered w)
+breaches_4 w = flat_map (λ a. flat_map (false_reference w a.0 a.1) (references a.1)) (numbered w)
 
 -- 5. The shadow agents of a reference are distinct consumers of that context: the reference's name, the shadow agent.
 abbrev pub false_shadows : World → Specific → List Inconsistency
@@ -71,10 +89,10 @@ false_shadows w k =
     unfit ◌==◌ (λ s. s) (λ s. consumes w s (key_of k.pin)) (λ s. breach 5 (NamePrinted k.pin) (AgentPrinted s)) [] k.access.shadows
 
 abbrev pub breaches_5 : World → List Inconsistency
-breaches_5 w = flat_map (λ a. flat_map (false_shadows w) (a.1.subordinate ++ a.1.cross)) (numbered w)
+breaches_5 w = flat_map (λ a. flat_map (λ r. false_shadows w (specific_of r)) (references a.1)) (numbered w)
 
 -- 6. Each pin whose parent is in a context is, at that context's master, mastered too, known by a subordinate
--- reference, or its master stands in the parent's NSSR: that master, the pin.
+-- reference, or its master stands in the parent's NSSR: that master, the pin. Pin by pin, and for each the masters.
 abbrev pub in_nssr : Context → Key → ℕ → Bool
 in_nssr c at a = list_any (λ n. same_key (key_of n.at) at && has ◌==◌ n.agents a) c.nssrs
 
@@ -90,8 +108,7 @@ unknown_below w place a c p =
     when (is_there c.entries (parent (pin_of p)) && not (knows w a c place (pin_of p))) (breach 6 (AgentPrinted place) (NamePrinted p.context.prefix))
 
 abbrev pub breaches_6 : World → List Inconsistency
-breaches_6 w =
-    flat_map (λ a. flat_map (λ c. flat_map (unknown_below w a.0 a.1 c) (mastered w)) a.1.contexts) (numbered w)
+breaches_6 w = flat_map (λ p. flat_map (λ a. flat_map (λ c. unknown_below w a.0 a.1 c p) a.1.contexts) (numbered w)) (mastered w)
 
 -- 7. Each agent of an NSSR stands there once, isn't the context's master, and masters a pin just below the NSSR's
 -- entry: the entry, the agent.

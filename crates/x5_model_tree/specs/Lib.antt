@@ -6,5 +6,6 @@ pub mod Masters
 pub mod Consistent
 pub mod Described
 pub mod Conditions
+pub mod Breaking
 pub mod Good
 pub mod Reached

@@ -1,4 +1,4 @@
--- Who masters, consumes and holds what in a world (X.501, section 22; X.525, section 7), by keys.
+-- Who masters, consumes and holds what in a world (X.501: knowledge; X.525: shadowing agreements), by keys.
 use Rattle.std.specs.Prelude.{ℕ, Bool, ◌&&◌, ◌||◌, ◌==◌, if◌then◌else◌, List, [], ◌∷◌, map, slice_get}
 use Rattle.std.specs.List.{list_any, flat_map, enumerate_from}
 use Rattle.std.specs.declared.option.Option.{Option}

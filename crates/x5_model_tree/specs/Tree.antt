@@ -1,4 +1,4 @@
--- The one tree (X.501, section 8: the directory information tree): entries with their names, in the order of their
+-- The one tree (X.501, section 7: the directory information tree): entries with their names, in the order of their
 -- keys, and the pins, which are the prefixes of naming contexts.
 use Rattle.std.specs.Prelude.{ℕ, zero, suc, Bool, true, false, not, ◌&&◌, ◌||◌, nat_lt, if◌then◌else◌, IsTrue, List, [], ◌∷◌, length, map, take}
 use Rattle.std.specs.List.{find, filter, list_all, list_any}
@@ -78,7 +78,7 @@ abbrev pub longest : List Key → Key → Option Key
 longest [] key = None
 longest (p ∷ ps) key = or_longer p (is_prefix p key) (longest ps key)
 
--- the key belongs to the naming context of this pin: no longer pin is its prefix (X.501, section 22)
+-- the key belongs to the naming context of this pin: no longer pin is its prefix (X.501: naming contexts)
 abbrev pub belongs : List Key → Key → Key → Bool
 belongs pins pin key = some_and (same_key pin) (longest pins key)
 

@@ -1,7 +1,7 @@
 -- The world as it is described: agents, the naming contexts that they master, what they know of others, and the
--- shadowing agreements (X.501, section 22; X.518, section 9; X.525, section 7). An agent is its place in the list.
+-- shadowing agreements (X.501: knowledge; X.525: shadowing agreements). An agent is its place in the list.
 -- Names of entries are whole: the context prefix as it is spelled for the context, then the RDNs of the entries on the way.
-use Rattle.std.specs.Prelude.{ℕ, List}
+use Rattle.std.specs.Prelude.{ℕ, Bool, List}
 use Rattle.std.specs.declared.option.Option.{Option}
 use Rattle.x5_model.specs.Values.{Text, Name}
 use Rattle.x5_model.specs.Entries.{Named}
@@ -27,13 +27,15 @@ pub record Context : Type 0 where
   pub entries : List Named
   pub nssrs : List Nssr
 
--- an agent without a superior is first-level
+-- An agent without a superior is first-level. Its references stand in the file in one list: `crosses` tells of each of them,
+-- in their order, whether it's a cross reference.
 pub record Agent : Type 0 where
   pub name : Text
   pub superior : Option ℕ
   pub contexts : List Context
   pub subordinate : List Specific
   pub cross : List Specific
+  pub crosses : List Bool
 
 pub record Agreement : Type 0 where
   pub number : ℕ

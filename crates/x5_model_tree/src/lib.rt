@@ -2,21 +2,23 @@
 //! Each function states one consequence by its clauses; none does anything.
 #![tactic(auto)]
 
-ghost use Rattle.std.specs.Prelude.{◌≡◌, ℕ, ◌≤◌, ◌<◌, ◌↔◌, true, None, Some, Option, List, ◌++◌, length};
+ghost use Rattle.std.specs.Prelude.{◌≡◌, ℕ, ◌≤◌, ◌<◌, ◌↔◌, ◌⊎◌, true, None, Some, Option, List, ◌++◌, length};
 ghost use Rattle.std.specs.List.{filter};
 ghost use Rattle.x5_model.specs.Words.{ascending, distinct};
 ghost use Rattle.x5_model.specs.Members.{In, Once};
 ghost use Rattle.x5_model.specs.Keys.{Key, IsPrefix, same_key};
 ghost use Rattle.x5_model.specs.Values.{Name, key_of};
+ghost use Rattle.x5_model.specs.Normal.{IsStored};
 ghost use Rattle.x5_model.specs.Entries.{Named};
 ghost use Rattle.x5_model.specs.Filters.{Filter};
 ghost use Rattle.x5_model.specs.Requests.{Subset};
-ghost use Rattle.x5_model_tree.specs.World.{Agent, World};
+ghost use Rattle.x5_model_tree.specs.World.{Specific, Nssr, Agent, World};
 ghost use Rattle.x5_model_tree.specs.Tree.{Tree, IsTree, key_at, keys_of, named_below, sorted_entries, part, entry_at, lowest};
-ghost use Rattle.x5_model_tree.specs.Masters.{Mastered, pin_of, pins, mastered, whole};
+ghost use Rattle.x5_model_tree.specs.Masters.{Mastered, pin_of, pins, numbered, mastered, whole};
 ghost use Rattle.x5_model_tree.specs.Ask.{just_below, searched, limited};
-ghost use Rattle.x5_model_tree.specs.Consistent.{Inconsistency, first_breach, by_condition, IsConsistent};
-ghost use Rattle.x5_model_tree.specs.Conditions.{Conditions, IsFirstIn, AreNumbered};
+ghost use Rattle.x5_model_tree.specs.Consistent.{Inconsistency, first_breach, IsConsistent};
+ghost use Rattle.x5_model_tree.specs.Conditions.{Conditions};
+ghost use Rattle.x5_model_tree.specs.Breaking.{IsFirstBreach};
 ghost use Rattle.x5_model_tree.specs.Described.{IsDescribed};
 ghost use Rattle.x5_model_tree.specs.Good.{Good};
 ghost use Rattle.x5_model_tree.specs.Reached.{Reached, NoneLonger, KnowsNone, NoLower};
@@ -52,17 +54,26 @@ pub fn conditions_are_exact()
     ensures no_breach { (w : World) → IsConsistent w → first_breach w ≡ None }
 {}
 
-/// The first breach is of the first condition that fails, and the first of it in file order; each breach has its condition's number.
-#[tactic(auto, using(crate::proofs::FirstBreach::first_in_order, crate::proofs::FirstBreach::each_numbered))]
+/// The first breach is of the first condition that fails, and there of the first place in the file; the two values that are told of it are those of that place.
+#[tactic(auto, using(crate::proofs::FirstBreach::first_is))]
 pub fn first_breach_comes_first()
-    ensures first { (w : World) (b : Inconsistency) → first_breach w ≡ Some b → IsFirstIn (by_condition w) b }
-    ensures numbered { (w : World) → AreNumbered 1 (by_condition w) }
+    ensures { (w : World) (b : Inconsistency) → first_breach w ≡ Some b → IsFirstBreach w b }
 {}
 
 /// Consistent knowledge gives the facts on contexts and keys.
 #[tactic(auto, using(crate::proofs::Gives::consistent_is_good))]
 pub fn consistent_knowledge_is_good()
     ensures { (w : World) → IsDescribed w → IsConsistent w → Good w }
+{}
+
+/// Each name of a described world has the normal forms of its texts, and keeps to the limits of names, so a pin has 16 RDNs at most.
+#[tactic(auto, using(crate::proofs::Stored::prefix_stored, crate::proofs::Stored::entry_stored, crate::proofs::Stored::nssr_stored, crate::proofs::Stored::reference_stored, crate::proofs::Stored::pins_short))]
+pub fn described_names_are_stored()
+    ensures prefixes { (w : World) → IsDescribed w → (m : Mastered) → In m (mastered w) → IsStored m.context.prefix }
+    ensures entries { (w : World) → IsDescribed w → (m : Mastered) (e : Named) → In m (mastered w) → In e m.context.entries → IsStored e.name }
+    ensures nssrs { (w : World) → IsDescribed w → (m : Mastered) (n : Nssr) → In m (mastered w) → In n m.context.nssrs → IsStored n.at }
+    ensures references { (w : World) → IsDescribed w → (place : ℕ) (a : Agent) (k : Specific) → In (place, a) (numbered w) → In k a.subordinate ⊎ In k a.cross → IsStored k.pin }
+    ensures short { (w : World) → IsDescribed w → (q : Key) → In q (pins w) → length q ≤ 16 }
 {}
 
 /// Where resolution stops at a master, and no agent of an NSSR there masters a longer prefix, the lowest entry on the way is the lowest of the whole tree; a first-level agent that knows no pin on the way proves that nothing is there.

@@ -1,18 +1,19 @@
 -- The ground of an agent at a line is made of its parts of the tree and of pins.
 use Rattle.std.proofs.Common.{◌≡◌, ℕ, true, false, not, List, map, sym, ap, subst, ◌∙◌}
-use Rattle.std.specs.List.{filter}
+use Rattle.std.specs.List.{filter, flat_map}
+use Rattle.std.proofs.lemmas.List.Folds.{flat_map-map}
 use Rattle.x5_model.specs.Members.{In}
 use Rattle.x5_model.specs.Keys.{Key, parent}
 use Rattle.x5_model.specs.Values.{key_of}
 use Rattle.x5_model.specs.Entries.{Named}
 use Rattle.x5_model.specs.Requests.{Request}
 use Rattle.x5_model.proofs.Lists.{not_true, in_map, of_map, in_flat, of_flat, in_filter, of_filter}
-use Rattle.x5_model_tree.specs.World.{Specific, Nssr, Agent}
+use Rattle.x5_model_tree.specs.World.{Specific, Nssr, Context, Agent}
 use Rattle.x5_model_tree.specs.Tree.{key_at, keys_of, is_there, part, belongs}
 use Rattle.x5_model_tree.specs.Masters.{Mastered, pin_of, numbered, mastered}
-use Rattle.x5_model_tree.specs.Apply.{At}
+use Rattle.x5_model_tree.specs.Apply.{At, Ground, counts_in}
 use Rattle.x5_model_tree.proofs.Longest.{belongs_decides}
-use Rattle.x5_model_run.specs.Holdings.{Held, Holdings, known_pins, ground_at}
+use Rattle.x5_model_run.specs.Holdings.{Held, Holdings, known_pins, as_context, ground_at}
 use Rattle.x5_model_run.specs.History.{Point, knowledge_at, tree_at, world_at, own_context, holdings_at}
 use Rattle.x5_model_theory.specs.Knowledge.{Area, Spot, Pointer}
 use Rattle.x5_model_theory.specs.Described.{spot_of, area_of, pointer_of, pointers_of, knowledge_of}
@@ -23,6 +24,27 @@ use Rattle.x5_model_updates.specs.Keeping.{keys_in}
 use Rattle.x5_model_updates.proofs.Trees.{pin_there, of_part}
 use Rattle.x5_model_updates.proofs.Grounds.{Knows}
 use Rattle.x5_model_updates.proofs.Held.{now, of_area, in_area, mastered_still, holder_of, own_held, of_held, known_mastered, known_own, known_subordinate}
+
+-- the ground of what an agent holds
+abbrev pub counted_in : List Key → Held → List Named
+counted_in known c = filter (λ (e : Named). belongs known (key_of c.prefix) (key_at e)) c.entries
+
+abbrev pub uncounted_in : List Key → Held → List Key
+uncounted_in known c = map key_at (filter (λ (e : Named). not (belongs known (key_of c.prefix) (key_at e))) c.entries)
+
+abbrev pub ats_in : Held → List At
+ats_in c = map (λ (n : Nssr). record { context = key_of c.prefix; entry = key_of n.at }) c.nssrs
+
+abbrev pub held_ground : List Key → List Held → Ground
+held_ground known own =
+    record { entries = flat_map (counted_in known) own; pins = known; nssrs = flat_map ats_in own; taken = flat_map (uncounted_in known) own }
+
+pub ground_is : (r : Request) (h : Holdings) → ground_at r h ≡ held_ground (map key_of (known_pins r h)) h.own
+ground_is r h =
+    λ i. record { entries = flat_map-map (λ (c : Context). filter (counts_in known c) c.entries) as_context h.own i; pins = known; nssrs = flat_map-map (λ (c : Context). map (λ (n : Nssr). record { context = key_of c.prefix; entry = key_of n.at }) c.nssrs) as_context h.own i; taken = flat_map-map (λ (c : Context). map key_at (filter (λ e. not (counts_in known c e)) c.entries)) as_context h.own i }
+  where
+    known : List Key
+    known = map key_of (known_pins r h)
 
 module _ (p : Point) (s : Stands p) (r : Request) (o : ℕ) where
   abbrev known : List Key
@@ -64,8 +86,8 @@ module _ (p : Point) (s : Stands p) (r : Request) (o : ℕ) where
   abbrev ats : Held → List At
   ats c = map (λ (n : Nssr). record { context = key_of c.prefix; entry = key_of n.at }) c.nssrs
 
-  pub own_knows : Knows (knowledge_of (world_at p)) (tree_at p) o (ground_at r (holdings_at p o))
-  own_knows = record {
+  held_knows : Knows (knowledge_of (world_at p)) (tree_at p) o (held_ground (map key_of (known_pins r (holdings_at p o))) (holdings_at p o).own)
+  held_knows = record {
     of_own = λ e i. (let w = of_flat counted e (holdings_at p o).own i in
         let h = of_held p s o w.0 w.1 in
         let f = of_filter (λ (x : Named). belongs (map key_of (known_pins r (holdings_at p o))) (key_of w.0.prefix) (key_at x)) e w.0.entries w.2 in
@@ -123,3 +145,7 @@ module _ (p : Point) (s : Stands p) (r : Request) (o : ℕ) where
         let b2 : belongs (map key_of (known_pins r (holdings_at p o))) (pin_of h.1) (key_at e.0) ≡ false = subst (λ (y : Held). belongs (map key_of (known_pins r (holdings_at p o))) (key_of y.prefix) (key_at e.0) ≡ false) h.6 b in
         cc);
   }
+
+  pub own_knows : Knows (knowledge_of (world_at p)) (tree_at p) o (ground_at r (holdings_at p o))
+  own_knows =
+      subst (Knows (knowledge_of (world_at p)) (tree_at p) o) (sym (ground_is r (holdings_at p o))) held_knows

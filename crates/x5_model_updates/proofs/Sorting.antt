@@ -25,13 +25,14 @@ use Rattle.x5_model_run.specs.History.{knowledge_at, tree_at, own_context, agent
 use Rattle.x5_model_theory.proofs.Places.{at_agent}
 use Rattle.x5_model_theory.proofs.Views.{at_place}
 use Rattle.x5_model_theory.proofs.Cohering.{map_map}
-use Rattle.x5_model_updates.specs.Judging.{in_order, HoldsItsContexts, OwnGroundSorted, OrderRefuses, OrderAccepts}
+use Rattle.x5_model_updates.specs.Judging.{in_order, HoldsItsContexts, OwnGroundHeld, OrderRefuses, OrderAccepts}
 use Rattle.x5_model_updates.specs.Afterwards.{new_key}
 use Rattle.x5_model_updates.proofs.Lookups.{agree, OneEach, same_entry_at, same_lowest, same_matched}
 use Rattle.x5_model_updates.proofs.Outcomes.{clashes, add_none, add_taken, add_free, remove_none, remove_some, modify_none, modify_some, rename_none, rename_some, none_or_some, ok_or_err, refused_over, accepted_over, over_update}
 use Rattle.x5_model_updates.proofs.Grounds.{no_such, Taken, taken_decides, has_below_decides}
 use Rattle.x5_model_updates.proofs.Moments.{now_context}
 use Rattle.x5_model_updates.proofs.Consists.{was_numbered}
+use Rattle.x5_model_updates.proofs.Own.{counted_in, uncounted_in, ats_in, held_ground, ground_is}
 use Rattle.x5_model_updates.proofs.Judged.{made_members, more_after}
 
 -- two grounds with the same entries, in any order, and all else the same
@@ -207,39 +208,30 @@ all_held before (c ∷ cs) h fresh =
     not_before true e = absurd (fresh c here (of_has same_key key_decides (key_of c.prefix) before e))
     not_before false e = e
 
--- the ground of what an agent holds
-abbrev counted : List Key → Held → List Named
-counted known c = filter (λ (e : Named). belongs known (key_of c.prefix) (key_at e)) c.entries
-
-abbrev uncounted : List Key → Held → List Key
-uncounted known c = map key_at (filter (λ (e : Named). not (belongs known (key_of c.prefix) (key_at e))) c.entries)
-
-abbrev ats : Held → List At
-ats c = map (λ (n : Nssr). record { context = key_of c.prefix; entry = key_of n.at }) c.nssrs
-
-abbrev held_ground : List Key → List Held → Ground
-held_ground known own = record { entries = flat_map (counted known) own; pins = known; nssrs = flat_map ats own; taken = flat_map (uncounted known) own }
-
-same_ground : (t : Tree) (known : List Key) (b : Agent) (cs : List Context) → own_ground known (map (now_context t) cs) ≡ in_order (held_ground known (map (own_context t b) cs))
-same_ground t known b cs = λ i. record { entries = sorted_entries (entries i); pins = known; nssrs = nssrs i; taken = taken_keys i }
+same_ground : (t : Tree) (known : List Key) (b : Agent) (cs : List Context) → own_ground known (map (now_context t) cs) ≡ held_ground known (map (own_context t b) cs)
+same_ground t known b cs = λ i. record { entries = entries i; pins = known; nssrs = nssrs i; taken = taken_keys i }
   where
-    entries : flat_map (λ (c : Context). filter (counts_in known c) c.entries) (map (now_context t) cs) ≡ flat_map (counted known) (map (own_context t b) cs)
-    entries = flat_map-map (λ (c : Context). filter (counts_in known c) c.entries) (now_context t) cs ∙ sym (flat_map-map (counted known) (own_context t b) cs)
+    entries : flat_map (λ (c : Context). filter (counts_in known c) c.entries) (map (now_context t) cs) ≡ flat_map (counted_in known) (map (own_context t b) cs)
+    entries = flat_map-map (λ (c : Context). filter (counts_in known c) c.entries) (now_context t) cs ∙ sym (flat_map-map (counted_in known) (own_context t b) cs)
 
-    nssrs : flat_map (λ (c : Context). map (λ (n : Nssr). record { context = key_of c.prefix; entry = key_of n.at }) c.nssrs) (map (now_context t) cs) ≡ flat_map ats (map (own_context t b) cs)
-    nssrs = flat_map-map (λ (c : Context). map (λ (n : Nssr). record { context = key_of c.prefix; entry = key_of n.at }) c.nssrs) (now_context t) cs ∙ sym (flat_map-map ats (own_context t b) cs)
+    nssrs : flat_map (λ (c : Context). map (λ (n : Nssr). record { context = key_of c.prefix; entry = key_of n.at }) c.nssrs) (map (now_context t) cs) ≡ flat_map ats_in (map (own_context t b) cs)
+    nssrs = flat_map-map (λ (c : Context). map (λ (n : Nssr). record { context = key_of c.prefix; entry = key_of n.at }) c.nssrs) (now_context t) cs ∙ sym (flat_map-map ats_in (own_context t b) cs)
 
-    taken_keys : flat_map (λ (c : Context). map key_at (filter (λ e. not (counts_in known c e)) c.entries)) (map (now_context t) cs) ≡ flat_map (uncounted known) (map (own_context t b) cs)
-    taken_keys = flat_map-map (λ (c : Context). map key_at (filter (λ e. not (counts_in known c e)) c.entries)) (now_context t) cs ∙ sym (flat_map-map (uncounted known) (own_context t b) cs)
+    taken_keys : flat_map (λ (c : Context). map key_at (filter (λ e. not (counts_in known c e)) c.entries)) (map (now_context t) cs) ≡ flat_map (uncounted_in known) (map (own_context t b) cs)
+    taken_keys = flat_map-map (λ (c : Context). map key_at (filter (λ e. not (counts_in known c e)) c.entries)) (now_context t) cs ∙ sym (flat_map-map (uncounted_in known) (own_context t b) cs)
 
 pub holds_its_contexts : HoldsItsContexts
 holds_its_contexts p o a s i =
     ap (λ (x : Option Agent). (in_option (no_holdings o) (agent_holdings p o) x).own) (at_place (knowledge_at p) o a i)
     ∙ ap (map (own_context (tree_at p) a)) (all_held [] a.contexts (own_once 0 (knowledge_at p).agents (o, a) i (conditions_hold (knowledge_at p) s.consistent).one_master) (λ c j l. elim l [ ]))
 
-pub own_ground_sorted : OwnGroundSorted
-own_ground_sorted p o a r s i =
+pub own_ground_held : OwnGroundHeld
+own_ground_held p o a r s i =
     let b = was_numbered (tree_at p) 0 (knowledge_at p).agents (o, a) i in
-    ap (λ (x : Agent). own_ground (map key_of (known_pins r (holdings_at p o))) x.contexts) b.2
+    let once : Once (map prefix_of b.0.contexts) = own_once 0 (knowledge_at p).agents (o, b.0) b.1 (conditions_hold (knowledge_at p) s.consistent).one_master in
+    let mapped : Once (map prefix_of (map (now_context (tree_at p)) b.0.contexts)) = subst Once (sym (map_map (now_context (tree_at p)) prefix_of b.0.contexts)) once in
+    ap (λ (x : Agent). own_ground (map key_of (known_pins r (holdings_at p o))) (held_contexts [] x.contexts)) b.2
+    ∙ ap (own_ground (map key_of (known_pins r (holdings_at p o)))) (all_held [] (map (now_context (tree_at p)) b.0.contexts) mapped (λ c j l. elim l [ ]))
     ∙ same_ground (tree_at p) (map key_of (known_pins r (holdings_at p o))) b.0 b.0.contexts
-    ∙ ap (λ (xs : List Held). in_order (held_ground (map key_of (known_pins r (holdings_at p o))) xs)) (sym (holds_its_contexts p o b.0 s b.1))
+    ∙ ap (held_ground (map key_of (known_pins r (holdings_at p o)))) (sym (holds_its_contexts p o b.0 s b.1))
+    ∙ sym (ground_is r (holdings_at p o))

@@ -13,7 +13,7 @@ use Rattle.x5_model.specs.Answers.{DirError, UpdateProblem}
 use Rattle.x5_model.specs.Problems.{entry_already_exists}
 use Rattle.x5_model_tree.specs.World.{Agent}
 use Rattle.x5_model_tree.specs.Tree.{Tree, key_at, keys_of, sorted_entries, is_there, part}
-use Rattle.x5_model_tree.specs.Masters.{Mastered, pin_of, numbered, mastered, masters, holds}
+use Rattle.x5_model_tree.specs.Masters.{Mastered, pin_of, numbered, mastered, masters, holds, held_contexts}
 use Rattle.x5_model_tree.specs.Ask.{is_update}
 use Rattle.x5_model_tree.specs.Apply.{Ground, Outcome, own_ground, apply_over, apply}
 use Rattle.x5_model_run.specs.Holdings.{Held, known_pins, ground_at, holds_within}
@@ -90,14 +90,15 @@ JudgedAfter = (p : Point) (o : ℕ) (m : Chained) (mine : List Named) (u : Tree)
 abbrev pub HoldsItsContexts : Type 0
 HoldsItsContexts = (p : Point) (o : ℕ) (a : Agent) → Stands p → In (o, a) (numbered (knowledge_at p)) → (holdings_at p o).own ≡ map (own_context (tree_at p) a) a.contexts
 
--- The ground that is made of the agent's contexts in the world of the moment, and of the pins that it knows, is the same
--- with its entries in order; and in which order they stand is nothing to what is refused, accepted and had afterwards.
+-- The ground that is made of the contexts that the agent holds in the world of the moment, and of the pins that it knows,
+-- is the same.
+abbrev pub OwnGroundHeld : Type 0
+OwnGroundHeld = (p : Point) (o : ℕ) (a : Agent) (r : Request) → Stands p → In (o, a) (numbered (world_at p))
+    → own_ground (map key_of (known_pins r (holdings_at p o))) (held_contexts [] a.contexts) ≡ ground_at r (holdings_at p o)
+
+-- In which order its entries stand is nothing to what is refused, accepted and had afterwards.
 abbrev pub in_order : Ground → Ground
 in_order g = record g { entries = sorted_entries g.entries }
-
-abbrev pub OwnGroundSorted : Type 0
-OwnGroundSorted = (p : Point) (o : ℕ) (a : Agent) (r : Request) → Stands p → In (o, a) (numbered (world_at p))
-    → own_ground (map key_of (known_pins r (holdings_at p o))) a.contexts ≡ in_order (ground_at r (holdings_at p o))
 
 abbrev pub OrderRefuses : Type 0
 OrderRefuses = (g : Ground) (body : Body) (x : DirError) → Once (keys_of g.entries) → ((e : Named) → In e g.entries → 0 < length (key_at e)) → is_update body ≡ true

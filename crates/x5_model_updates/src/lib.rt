@@ -6,7 +6,7 @@ ghost use Rattle.x5_model_updates.specs.Afterwards.{EntriesAfter, KeysAfter, Par
 ghost use Rattle.x5_model_run.specs.Right.{AnswersRight};
 ghost use Rattle.x5_model_updates.specs.Keeping.{UpdatesKeep, OrderStays, LinesStand, RunsStand};
 ghost use Rattle.x5_model_updates.specs.Standing.{TreeIsUnion, StandsAsTree, StandsConsistent, StandsGood};
-ghost use Rattle.x5_model_updates.specs.Judging.{HolderIsMaster, RefusesAlike, AcceptsAlone, ProbesNewName, AcceptsProbed, UnableMastersNone, RefusesProbed, AcceptsAbsent, RefusesPresent, JudgedAfter, HoldsItsContexts, OwnGroundSorted, OrderRefuses, OrderAccepts};
+ghost use Rattle.x5_model_updates.specs.Judging.{HolderIsMaster, RefusesAlike, AcceptsAlone, ProbesNewName, AcceptsProbed, UnableMastersNone, RefusesProbed, AcceptsAbsent, RefusesPresent, JudgedAfter, HoldsItsContexts, OwnGroundHeld, OrderRefuses, OrderAccepts};
 
 /// What the master of a context concludes of an update from its own entries, the pins that it knows, its NSSRs and its
 /// probes, holds of the whole tree (X.511, section 11; X.518, section 19.1).
@@ -27,7 +27,7 @@ pub fn judging()
 /// which order their entries stand is nothing to it.
 pub fn own_grounds()
     ensures holds { HoldsItsContexts }
-    ensures sorted { OwnGroundSorted }
+    ensures ground { OwnGroundHeld }
     ensures refuses { OrderRefuses }
     ensures accepts { OrderAccepts }
 {}

@@ -17,13 +17,14 @@ use Rattle.x5_model_run.specs.Holdings.{Holdings}
 use Rattle.x5_model_run.specs.Needs.{target_of, resolves}
 use Rattle.x5_model_run.specs.History.{Point, tree_at, holdings_at}
 use Rattle.x5_model_run.specs.Chain.{Scene, AllLicensed, Caused, begins, later, is_user, is_probe, asks_part, probe_request, part_body, part_request, request_for}
+use Rattle.x5_model_run.proofs.Carrying.{as_carried}
 use Rattle.x5_model_run.specs.Right.{master_at, is_master_at, is_accepted_right}
 use Rattle.x5_model_run.specs.Placed.{fits, is_query_below}
 use Rattle.x5_model_updates.specs.Judging.{IsJudge}
 use Rattle.x5_model_serve.specs.Finding as finding
 use Rattle.x5_model_serve.specs.Finding.{find}
 use Rattle.x5_model_serve.specs.Serving.{Hand, holds_now}
-use Rattle.x5_model_serve.specs.Accepting.{committed}
+use Rattle.x5_model_serve.specs.Committed.{committed}
 use Rattle.x5_model_serve.specs.Claims.{Setting, AtMaster}
 use Rattle.x5_model_serve.proofs.Carrying.{resolving}
 use Rattle.x5_model_verdicts.specs.Verdicts.{NoneAccepted}
@@ -99,13 +100,13 @@ module _ (s : Scene) (up : is_update s.message.request.body ≡ true) (fit : key
   of_cause before l ih (begins f) = inr (ap (λ (m : Chained). m.request.body) f.message_is, ap (λ (m : Chained). key_of m.target) f.message_is ∙ fit)
   of_cause before l ih (later f fresh) =
       elim (ih f.opener (of_settled f.above before f.opener f.opens)) [
-        | inl read ↦ inl (subst (λ (x : Request). is_read x.body ≡ true) (sym f.carried.request_is) (carried_read (is_user l.sender) f.opener.message.request l.message.target f.reference read))
+        | inl read ↦ inl (subst (λ (x : Request). is_read x.body ≡ true) (sym (as_carried l.sender f.opener f.reference l.message f.carries).request_is) (carried_read (is_user l.sender) f.opener.message.request l.message.target f.reference read))
         | inr w ↦
             let u : is_update f.opener.message.request.body ≡ true = ap (λ (b : Body). is_update b) w.0 ∙ up in
             elim (carried_update (is_user l.sender) f.opener.message.request l.message.target f.reference u) [
-              | inl read ↦ inl (subst (λ (x : Request). is_read x.body ≡ true) (sym f.carried.request_is) read)
+              | inl read ↦ inl (subst (λ (x : Request). is_read x.body ≡ true) (sym (as_carried l.sender f.opener f.reference l.message f.carries).request_is) read)
               | inr v ↦ inr (
-                ap (λ (x : Request). x.body) f.carried.request_is ∙ v.0 ∙ w.0,
+                ap (λ (x : Request). x.body) (as_carried l.sender f.opener f.reference l.message f.carries).request_is ∙ v.0 ∙ w.0,
                 sym ((key_decides (key_of (target_of f.opener.message.request.body)) (key_of l.message.target)).0 v.1) ∙ ap (λ (b : Body). key_of (target_of b)) w.0,
               )
             ]
@@ -142,7 +143,7 @@ module _ (s : Scene) (off : is_update s.message.request.body ≡ false) where
   off_cause : (before : List Line) (l : Line) → ((e : Line) → In e before → is_update e.message.request.body ≡ false) → Caused s before l → is_update l.message.request.body ≡ false
   off_cause before l ih (begins f) = ap (λ (m : Chained). is_update m.request.body) f.message_is ∙ off
   off_cause before l ih (later f fresh) =
-      subst (λ (x : Request). is_update x.body ≡ false) (sym f.carried.request_is) (carried_off (is_user l.sender) f.opener.message.request l.message.target f.reference (ih f.opener (of_settled f.above before f.opener f.opens)))
+      subst (λ (x : Request). is_update x.body ≡ false) (sym (as_carried l.sender f.opener f.reference l.message f.carries).request_is) (carried_off (is_user l.sender) f.opener.message.request l.message.target f.reference (ih f.opener (of_settled f.above before f.opener f.opens)))
 
   pub each_off : (lines : List Line) → AllLicensed s lines → (l : Line) → In l lines → is_update l.message.request.body ≡ false
   each_off [] all l i = elim i [ ]
@@ -225,7 +226,7 @@ module _ (p : Point) (s : Scene) (k : Hand) (i : Journal) (set : Setting p s) (a
       by [] e = e
       by (a ∷ xs) e =
           let member : In a i.accepted = subst (λ (ys : List ℕ). In a ys) (sym e) here in
-          let right = of_all (is_accepted_right p (record { to = s.first; message = s.message; counts = false; stood = 0 }) i.lines) a i.accepted at.at_hand.accepted.right member in
+          let right = of_all (is_accepted_right p s i.lines) a i.accepted at.at_hand.accepted.right member in
           let r1 = both_true (is_update s.message.request.body) (is_reached i.lines a && (is_master_at p (key_of s.message.target) a && is_ok (apply (tree_at p) s.message.request))) right in
           let r2 = both_true (is_reached i.lines a) (is_master_at p (key_of s.message.target) a && is_ok (apply (tree_at p) s.message.request)) r1.1 in
           let r3 = both_true (is_master_at p (key_of s.message.target) a) (is_ok (apply (tree_at p) s.message.request)) r2.1 in

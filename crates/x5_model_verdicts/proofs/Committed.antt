@@ -47,7 +47,7 @@ use Rattle.x5_model_updates.proofs.Held.{now, in_area, known_own}
 use Rattle.x5_model_updates.proofs.Own.{known_there, held_of, own_knows}
 use Rattle.x5_model_updates.proofs.Judges.{Seat, seat_of, refuses_alike}
 use Rattle.x5_model_verdicts.specs.Committing.{accepting_at, IsStamped, CommittedIsAfter}
-use Rattle.x5_model_serve.specs.Accepting.{is_counted, holds_target, alone_at, with_outcome, changed_at, committed_if, committed}
+use Rattle.x5_model_serve.specs.Committed.{is_counted, holds_target, alone_at, with_outcome, changed_at, committed_if, committed}
 use Rattle.x5_model_verdicts.proofs.Alone.{alone, alone_made, map_same, filter_same, filter_all, filter_none, parent_stays}
 
 abbrev or_left : Tree → Applied → Tree

@@ -1,6 +1,6 @@
 -- What may be accepted while a message is sent, and what is answered then: lines only grow, by one induction, and what
 -- a lost reply hides stays lost.
-use Rattle.std.proofs.Common.{◌≡◌, ℕ, true, false, not, ◌&&◌, ◌⊎◌, inl, inr, List, [], ◌∷◌, ◌++◌, append_assoc, refl, sym, ap, subst, ◌∙◌, Option, Ok}
+use Rattle.std.proofs.Common.{◌≡◌, ℕ, true, false, not, ◌&&◌, ◌⊎◌, inl, inr, List, [], ◌∷◌, ◌++◌, append_assoc, refl, sym, ap, subst, ◌∙◌, Option, Ok, Err}
 use Rattle.std.specs.List.{list_any}
 use Rattle.std.specs.Result.{is_ok}
 use Rattle.x5_model.specs.Words.{is_empty}
@@ -14,7 +14,7 @@ use Rattle.x5_model.specs.Statics.{fault_of}
 use Rattle.x5_model.proofs.Lists.{both_true, either_true, not_true, not_false, in_right, any_in, of_any, of_all}
 use Rattle.x5_model_tree.specs.Tree.{Tree}
 use Rattle.x5_model_tree.specs.Ask.{Refuses, is_update, updated}
-use Rattle.x5_model_tree.specs.Apply.{Applied, ground_of, apply}
+use Rattle.x5_model_tree.specs.Apply.{Outcome, Applied, ground_of, apply_over, apply}
 use Rattle.x5_model_run.specs.Journal.{Line, Journal, is_reached}
 use Rattle.x5_model_run.specs.History.{tree_at}
 use Rattle.x5_model_run.specs.Chain.{Scene}
@@ -27,7 +27,6 @@ use Rattle.x5_model_serve.specs.Answering.{is_service}
 use Rattle.x5_model_serve.specs.Claims.{Grows}
 use Rattle.x5_model_serve.specs.Serving.{Hand, Act, Does, next_line, Tries, Sends, Unheard, loops, is_long, done_before, refused, unfit, stuck, nowhere, refers, goes, casts, reads, reads_copy, gives_parts, asks_parts, updates, not_done, does, probes_all, misses, taken, breaks, no_probe, clear, unsure, silent, spent, lost, dropped, sends, final, referral, wide_referral, unexplored, none_yet, in_vain_too, heard, unheard, none_asked, unable_too, silent_too, answered, nobody_has, some_silent, no_part, part_unheard, part_unavailable, part_answered, part_breaks}
 use Rattle.x5_model_verdicts.specs.Growth.{LinesGrow, NoErrorAfter, AcceptedMeanwhile, TriedInVain}
-use Rattle.x5_model_verdicts.proofs.Done.{applied}
 use Rattle.x5_model_verdicts.proofs.Refused.{told_update}
 
 -- ---- lines grow
@@ -128,10 +127,17 @@ some_member (x ∷ xs) e = (x, here)
 no_refusal : (t : Tree) (r : Request) (u : Tree) (x : DirError) → apply t r ≡ Ok u → updated (apply t r) ≡ Refuses x → ⊥
 no_refusal t r u x e f = (let g = sym (ap updated e) ∙ f in cc)
 
+abbrev as_applied : Tree → Outcome → Applied
+as_applied t (Ok entries) = Ok (record t { entries = entries })
+as_applied t (Err x) = Err x
+
+abbrev applied : Tree → Body → Applied
+applied t body = as_applied t (apply_over (ground_of t) body)
+
 pub no_error_after : NoErrorAfter
 no_error_after p s q j x acc some body going h =
     let a = some_member j.accepted some in
-    let r = of_all (is_accepted_right p (record { to = s.first; message = s.message; counts = false; stood = 0 }) j.lines) a.0 j.accepted acc.right a.1 in
+    let r = of_all (is_accepted_right p s j.lines) a.0 j.accepted acc.right a.1 in
     let r1 = both_true (is_update s.message.request.body) (is_reached j.lines a.0 && (is_master_at p (key_of s.message.target) a.0 && is_ok (apply (tree_at p) s.message.request))) r in
     let r2 = both_true (is_reached j.lines a.0) (is_master_at p (key_of s.message.target) a.0 && is_ok (apply (tree_at p) s.message.request)) r1.1 in
     let r3 = both_true (is_master_at p (key_of s.message.target) a.0) (is_ok (apply (tree_at p) s.message.request)) r2.1 in
@@ -155,9 +161,9 @@ accepted_meanwhile p s q j over reply acc some body going more (usual able r) = 
     never n = (let f = more in absurd (let z : true ≡ false = sym n ∙ f in cc))
 
     by : (y : Reply) → Right p s q j y → abbrev_goal y
-    by _ (result x u n) = never n
-    by _ (changed u n) = inl refl
-    by _ (right.error {x} t h o n) = never n
+    by _ (result on x u n) = never n
+    by _ (changed on u n) = inl refl
+    by _ (right.error {x} on t o n) = never n
     by _ (right.referral u f n) = never n
     by _ (right.unheard l f n) = elim (either_true (accepts_none q j) (not (heard_whole j.lines)) n) [ inl e ↦ never e | inr e ↦ inr (inl (not_true (heard_whole j.lines) e)) ]
 accepted_meanwhile p s q j over reply acc some body going more (placed.unable u) = inr (inr (inl refl))

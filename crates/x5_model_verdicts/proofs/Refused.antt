@@ -26,14 +26,14 @@ use Rattle.x5_model_tree.specs.Apply.{Ground, Outcome, apply, apply_over, update
 use Rattle.x5_model_tree.proofs.Longest.{IsLongest, IsLowest, lowest_is, lowest_right}
 use Rattle.x5_model_run.specs.Journal.{Line, Journal, same_name, is_done, is_wide}
 use Rattle.x5_model_run.specs.Holdings.{Held, Holdings, known_pins, ground_at, holds_within}
-use Rattle.x5_model_run.specs.Needs.{resolves, new_name}
+use Rattle.x5_model_run.specs.Needs.{resolves, falls_short, is_unable, new_name}
 use Rattle.x5_model_run.specs.History.{Point, knowledge_at, tree_at, world_at, holdings_at}
 use Rattle.x5_model_run.specs.Chain.{Scene}
 use Rattle.x5_model_run.specs.Covers.{told}
-use Rattle.x5_model_run.specs.Blocked.{hears}
+use Rattle.x5_model_run.specs.Blocked.{Asked}
 use Rattle.x5_model_run.specs.Right as right
-use Rattle.x5_model_run.specs.Right.{master_at, hears_master, hears_nssr, hears_taken, is_pin, knows, is_told}
-use Rattle.x5_model_run.specs.Placed.{is_unable, usual}
+use Rattle.x5_model_run.specs.Right.{master_at, is_for, hears_of, hears_master, hears_nssr, hears_pin, hears_taken, is_pin, knows, is_told}
+use Rattle.x5_model_run.specs.Placed.{usual}
 use Rattle.x5_model_theory.specs.Described.{knowledge_of}
 use Rattle.x5_model_updates.proofs.Outcomes.{clashes, add_none, add_free, rename_none, rename_some, none_or_some, ok_or_err, over_update}
 use Rattle.x5_model_updates.proofs.Grounds.{Knows, Taken, taken_decides}
@@ -45,8 +45,9 @@ use Rattle.x5_model_updates.proofs.Judges.{refuses_alike}
 use Rattle.x5_model_serve.specs.Serving.{Hand, judged}
 use Rattle.x5_model_serve.specs.Claims.{Setting, serving_of, AtMaster}
 use Rattle.x5_model_verdicts.specs.Verdicts.{RefusalIsRight}
+use Rattle.x5_model_joins.proofs.Backs.{own_back, own_answered}
 use Rattle.x5_model_verdicts.proofs.Here.{resolves_by, IsHere, found_here}
-use Rattle.x5_model_verdicts.proofs.At.{holds_is, found_is, judge}
+use Rattle.x5_model_verdicts.proofs.At.{holds_is, found_is, judge, line_in}
 
 -- ---- what is told of an update that was resolved
 
@@ -153,11 +154,6 @@ taken_name g (ModifyDn n rdn drops) name h q =
 
 -- ---- who knows
 
-abbrev unable_by : Scene → Hand → Progress → Bool
-unable_by s k Start = false
-unable_by s k (Next n) = not (holds_within (s.holdings k.receiver) (key_of k.message.target) n)
-unable_by s k Done = false
-
 module _ (p : Point) (s : Scene) (k : Hand) (i : Journal) (set : Setting p s) (at : AtMaster p s k i) where
   here_is : IsHere (holdings_at p k.receiver) k.message at.context
   here_is = (found_here (holdings_at p k.receiver) k.message at.context at.arrives.fit at.update (found_is p s k i set at)).1
@@ -185,18 +181,25 @@ module _ (p : Point) (s : Scene) (k : Hand) (i : Journal) (set : Setting p s) (a
       subst (λ (x : Key). 0 < length x) entry_key
       (tree_filled (knowledge_of (world_at p)) (tree_at p) set.whole.coherent set.whole.tree here_is.entry entry_there)
 
-  pub hears_itself : (lines : List Line) → hears (serving_of i k) lines k.receiver ≡ true
-  hears_itself lines = or_left (true && (k.receiver == k.receiver)) _ ((nat_same_decides k.receiver k.receiver).1 refl)
+  abbrev asked : Asked
+  asked = serving_of i k at.at_hand.line.number
 
-  pub told_master : (lines : List Line) → hears_master p (serving_of i k) lines (lowest (tree_at p).entries (key_of k.message.target)) ≡ true
-  told_master lines =
-      ap (hears_master p (serving_of i k) lines) lowest_there
-      ∙ ap (some_and (hears (serving_of i k) lines)) (ap (master_at p) entry_key ∙ (judge p s k i set at).master)
-      ∙ hears_itself lines
+  -- the line at hand asked it for the target, and counts as having come back
+  hears_itself : (lines : List Line) → In at.at_hand.line lines → hears_of (serving_of i k at.at_hand.line.number) lines k.message.target k.receiver ≡ true
+  hears_itself lines stands =
+      own_back (λ l. (l.receiver == k.receiver) && is_for k.message.target l) at.at_hand.line (length i.accepted) lines stands
+      (and_true (at.at_hand.line.receiver == k.receiver) _ ((nat_same_decides at.at_hand.line.receiver k.receiver).1 at.at_hand.receiver_is)
+      ((key_decides (key_of at.at_hand.line.message.target) (key_of k.message.target)).1 (ap (λ (m : Chained). key_of m.target) at.at_hand.message_is)))
 
-  pub told_nssr : (lines : List Line) → hears_nssr p s (serving_of i k) lines (lowest (tree_at p).entries (key_of k.message.target)) ≡ true
+  told_master : (lines : List Line) → In at.at_hand.line lines → hears_master p (serving_of i k at.at_hand.line.number) lines (lowest (tree_at p).entries (key_of k.message.target)) ≡ true
+  told_master lines stands =
+      ap (hears_master p (serving_of i k at.at_hand.line.number) lines) lowest_there
+      ∙ ap (some_and (hears_of (serving_of i k at.at_hand.line.number) lines k.message.target)) (ap (master_at p) entry_key ∙ (judge p s k i set at).master)
+      ∙ hears_itself lines stands
+
+  told_nssr : (lines : List Line) → hears_nssr p s (serving_of i k at.at_hand.line.number) lines (lowest (tree_at p).entries (key_of k.message.target)) ≡ true
   told_nssr lines =
-      ap (hears_nssr p s (serving_of i k) lines) lowest_there ∙ or_left (same_name here_is.entry.name k.message.target) _ here_is.same
+      ap (hears_nssr p s (serving_of i k at.at_hand.line.number) lines) lowest_there ∙ or_left (same_name here_is.entry.name k.message.target) _ here_is.same
 
   -- a pin that its own ground takes it knows
   knows_taken : (x : Key) → is_taken (ground_at k.message.request (holdings_at p k.receiver)) x ≡ true → is_pin p x ≡ true → knows s k.message.request k.receiver x ≡ true
@@ -218,7 +221,7 @@ module _ (p : Point) (s : Scene) (k : Hand) (i : Journal) (set : Setting p s) (a
       by (inr (inl l)) = l
       by (inr (inr l)) = absurd (g.none_taken x l)
 
-  told_taken : (lines : List Line) (x : DirError) → judged s i k ≡ Err x → hears_taken p s (serving_of i k) lines x ≡ true
+  told_taken : (lines : List Line) (x : DirError) → judged s i k ≡ Err x → hears_taken p s (serving_of i k at.at_hand.line.number) lines x ≡ true
   told_taken lines (NoSuchObject n) h = refl
   told_taken lines (AttributeProblem n kind) h = refl
   told_taken lines (ServiceProblem n r t) h = refl
@@ -228,19 +231,13 @@ module _ (p : Point) (s : Scene) (k : Hand) (i : Journal) (set : Setting p s) (a
         | inl t ↦ or_right (not (n == entry_already_exists)) _ (named (new_name k.message.request.body) refl (is_exists n t))
       ]
     where
-      abbrev_by : Key → Bool
-      abbrev_by pin =
-          not (is_pin p pin)
-          || (some_and (λ o. knows s k.message.request o pin) (master_at p (key_of k.message.target))
-          || some_and (hears (serving_of i k) lines) (master_of (knowledge_at p) pin))
-
       refusal : n ≡ entry_already_exists → update (ground_at k.message.request (holdings_at p k.receiver)) k.message.request.body ≡ Err (UpdateProblem entry_already_exists)
       refusal e =
           sym (over_update (ground_at k.message.request (holdings_at p k.receiver)) k.message.request.body at.arrives.unrefused)
           ∙ ap (λ (y : Holdings). apply_over (ground_at k.message.request y) k.message.request.body) (sym (holds_is p s k i set at))
           ∙ h ∙ ap (λ (y : ℕ). bad (UpdateProblem y)) e
 
-      named : (o : Option Name) → new_name k.message.request.body ≡ o → n ≡ entry_already_exists → in_option true (λ name. abbrev_by (key_of name)) o ≡ true
+      named : (o : Option Name) → new_name k.message.request.body ≡ o → n ≡ entry_already_exists → in_option true (hears_pin p s (serving_of i k at.at_hand.line.number) lines) o ≡ true
       named None q e = refl
       named (Some name) q e =
           elim (true_or_false (is_pin p (key_of name))) [
@@ -251,17 +248,17 @@ module _ (p : Point) (s : Scene) (k : Hand) (i : Journal) (set : Setting p s) (a
                 ∙ knows_taken (key_of name) (taken_name (ground_at k.message.request (holdings_at p k.receiver)) k.message.request.body name (refusal e) q) t))
           ]
 
-  pub is_told_by : (lines : List Line) (x : DirError) → hears_taken p s (serving_of i k) lines x ≡ true → is_told p s (serving_of i k) lines x ≡ true
-  is_told_by lines x t =
+  is_told_by : (lines : List Line) → In at.at_hand.line lines → (x : DirError) → hears_taken p s (serving_of i k at.at_hand.line.number) lines x ≡ true → is_told p s (serving_of i k at.at_hand.line.number) lines x ≡ true
+  is_told_by lines stands x t =
       or_right (is_some (fault_of k.message.request.body)) _
-      (and_true (hears_master p (serving_of i k) lines (lowest (tree_at p).entries (key_of k.message.target))) _ (told_master lines)
-      (and_true (hears_nssr p s (serving_of i k) lines (lowest (tree_at p).entries (key_of k.message.target))) _ (told_nssr lines) t))
+      (and_true (hears_master p (serving_of i k at.at_hand.line.number) lines (lowest (tree_at p).entries (key_of k.message.target))) _ (told_master lines stands)
+      (and_true (hears_nssr p s (serving_of i k at.at_hand.line.number) lines (lowest (tree_at p).entries (key_of k.message.target))) _ (told_nssr lines) t))
 
   pub told_is : told (λ key. false) (tree_at p) k.message ≡ updated (apply (tree_at p) k.message.request)
   told_is = told_update (tree_at p) k.message (not_done (holdings_at p k.receiver) k.message (judge p s k i set at).resolving) at.arrives.unrefused at.update
 
   -- it goes on, so it isn't unable to
-  pub able : is_unable s (serving_of i k) ≡ false
+  pub able : is_unable (s.holdings k.receiver) k.message ≡ false
   able =
       ap (λ (b : Bool). nat_lt (length k.message.trace) 128 && (is_none (fault_of k.message.request.body) && b)) (no_way k.message.progress (judge p s k i set at).resolving)
       ∙ and_false (nat_lt (length k.message.trace) 128) (is_none (fault_of k.message.request.body))
@@ -275,7 +272,7 @@ module _ (p : Point) (s : Scene) (k : Hand) (i : Journal) (set : Setting p s) (a
       wide_false true = refl
       wide_false false = refl
 
-      no_way : (x : Progress) → resolves_by (holdings_at p k.receiver) (key_of k.message.target) x ≡ true → (is_wide k.message.kind && unable_by s k x) ≡ false
+      no_way : (x : Progress) → resolves_by (holdings_at p k.receiver) (key_of k.message.target) x ≡ true → (is_wide k.message.kind && falls_short (s.holdings k.receiver) (key_of k.message.target) x) ≡ false
       no_way Start q = wide_false (is_wide k.message.kind)
       no_way (Next n) q =
           ap (λ (h : ℕ → Holdings). is_wide k.message.kind && not (holds_within (h k.receiver) (key_of k.message.target) n)) set.holdings
@@ -291,5 +288,6 @@ refusal_is_right p s k i x spent set at h =
     let mine : apply_over (ground_at k.message.request (holdings_at p k.receiver)) k.message.request.body ≡ Err x =
     ap (λ (y : Holdings). apply_over (ground_at k.message.request y) k.message.request.body) (sym (holds_is p s k i set at)) ∙ h in
     usual (ap not (able p s k i set at))
-    (right.error (told_is p s k i set at ∙ ap updated (refuses_alike p k.receiver k.message x j mine)) (hears_itself p s k i set at i.lines)
-    (is_told_by p s k i set at i.lines x (told_taken p s k i set at i.lines x h)) ((nat_same_decides (length i.accepted) (length i.accepted)).1 refl))
+    (right.error (own_answered at.at_hand.line (length i.accepted) i.lines (line_in p s k i set at))
+    (told_is p s k i set at ∙ ap updated (refuses_alike p k.receiver k.message x j mine))
+    (is_told_by p s k i set at i.lines (line_in p s k i set at) x (told_taken p s k i set at i.lines x h)) ((nat_same_decides (length i.accepted) (length i.accepted)).1 refl))

@@ -11,7 +11,7 @@ use Rattle.x5_model_tree.specs.Apply.{apply}
 use Rattle.x5_model_run.specs.History.{Did, Accepts, Point, knowledge_at, tree_at, as_of, holdings_at}
 use Rattle.x5_model_run.specs.Run.{Command, Block, Judge, IsRun}
 use Rattle.x5_model_updates.specs.Judging.{IsJudge}
-use Rattle.x5_model_serve.specs.Accepting.{committed}
+use Rattle.x5_model_serve.specs.Committed.{committed}
 
 -- the line after one at which this agent accepted the update
 abbrev pub accepting_at : Point → ℕ → Request → ℕ → Point

@@ -3,7 +3,7 @@
 #![tactic(auto)]
 
 ghost use Rattle.x5_model_verdicts.specs.Committing.{CommittedIsAfter, RunsAreStamped};
-ghost use Rattle.x5_model_verdicts.specs.Verdicts.{NoneAccepted, RefusalIsRight, AloneIsRight, ProbedIsRight, MissedIsRight, TakenIsRight, BreakIsRight, ProbesAcceptNone};
+ghost use Rattle.x5_model_verdicts.specs.Verdicts.{NoneAccepted, RefusalIsRight, ProbesAcceptNone};
 ghost use Rattle.x5_model_verdicts.specs.Growth.{LinesGrow, NoErrorAfter, AcceptedMeanwhile, TriedInVain};
 ghost use Rattle.x5_model_run.specs.Right.{AnswersRight};
 
@@ -14,16 +14,11 @@ pub fn committing()
     ensures stamped { RunsAreStamped AnswersRight }
 {}
 
-/// What the judge of an update answers is right, and what it accepts is the one thing that was accepted (X.511, section 11;
-/// X.518, section 19.1).
+/// Where an update comes to its master nothing was accepted before. What the master's own ground refuses is refused rightly,
+/// and nothing is accepted while probes are sent (X.511, section 11; X.518, section 19.1).
 pub fn verdicts()
     ensures none { NoneAccepted }
     ensures refusal { RefusalIsRight }
-    ensures alone { AloneIsRight }
-    ensures probed { ProbedIsRight }
-    ensures missed { MissedIsRight }
-    ensures taken { TakenIsRight }
-    ensures breaking { BreakIsRight }
     ensures silence { ProbesAcceptNone }
 {}
 

@@ -1,6 +1,7 @@
 -- What the described knowledge of agents stands for. To which context a reference belongs is no part of the
--- definitions' references: there it stands with its context.
-use Rattle.std.specs.Prelude.{map}
+-- definitions' references: there it stands with its context. An agent of the code has its subordinate references before
+-- its cross references, as a file has them whose list stands so.
+use Rattle.std.specs.Prelude.{true, false, ◌++◌, map}
 use Rattle.x5_model_tree.specs.World as model
 use Rattle.x5_ops.specs.declared.knowledge.Specific.{Specific}
 use Rattle.x5_ops.specs.declared.knowledge.Cross.{Cross}
@@ -27,4 +28,5 @@ agent_view a = record {
   contexts = map context_view a.contexts;
   subordinate = map specific_view a.specific;
   cross = map cross_view a.cross;
+  crosses = map (λ k. false) a.specific ++ map (λ k. true) a.cross;
 }

@@ -1,9 +1,9 @@
-//! Agents, and their names (X.501, section 21: directory system agents).
+//! Agents, and their names (X.501: DSA models).
 
 ghost use Rattle.std.specs.Prelude.{◌≡◌, ◌<◌, ◌≤◌, [], ◌∷◌, length, slice_get, Some};
 ghost use Rattle.std.specs.List.{list_all, position};
 ghost use Rattle.x5_model.specs.Words.{same_octets};
-ghost use Rattle.x5_ops.specs.AgentNames.{is_agent_name, begins_with_letter, is_name_octet};
+ghost use Rattle.x5_model_tree.specs.Described.{is_agent_name, begins_with_letter, is_name_octet};
 
 use crate::lists::Listed;
 use std::alloc::AllocError;

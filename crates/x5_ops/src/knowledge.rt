@@ -1,4 +1,4 @@
-//! What agents keep: naming contexts, and what they know of others (X.501, section 22; X.518, section 9; X.525, section 7).
+//! What agents keep: naming contexts, and what they know of others (X.501: knowledge; X.525: shadowing agreements).
 
 ghost use Rattle.std.specs.Prelude.{◌≡◌};
 

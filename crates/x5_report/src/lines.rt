@@ -8,6 +8,7 @@ ghost use Rattle.x5_model_text.specs.NameText.{text_of_rdn};
 ghost use Rattle.x5_ops.specs.ReferenceViews.{progress_view};
 ghost use Rattle.x5_report.specs.Spelled as spelled;
 
+use crate::order::sorted_rdns;
 use crate::words::{fate_word, kind_word, operation_word, shadow_operation, tried_mark, wide_mark};
 use std::alloc::{AllocError, Global};
 use x5_memory::NoMemory;
@@ -202,7 +203,8 @@ fn exclusions(alloc: Global, excluded: &[Rdn]) -> Result<String, NoMemory>
     if excluded.is_empty() {
         return Ok(String::new(alloc));
     }
-    let rdns = rdns(alloc, excluded)?;
+    let ordered = sorted_rdns(alloc, excluded)?;
+    let rdns = rdns(alloc, ordered.as_slice())?;
     Ok(format!(in alloc; " less {rdns}")?)
 }
 

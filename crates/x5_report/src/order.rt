@@ -1,12 +1,14 @@
-//! The order of sources and of unexplored references in the output.
+//! The order of sources, of unexplored references and of exclusions in the output.
 
 ghost use Rattle.std.specs.Prelude.{◌≡◌, ◌≤◌, not, length, IfOk, OnOk};
 ghost use Rattle.std.specs.List.{position_or_len};
 ghost use Rattle.x5_model.specs.Words.{insert_sorted, sorted, octets_below};
+ghost use Rattle.x5_model_output.specs.Output as print;
 ghost use Rattle.x5_report.specs.Spelled as spelled;
 
 use std::alloc::Global;
 use x5_memory::NoMemory;
+use x5_names::Rdn;
 use x5_ops::{AccessPoint, Reference, Source};
 
 /// Whether the source stands before the other: by their contexts.
@@ -112,6 +114,49 @@ pub(crate) fn sorted_references(
     for done in 0..references.len() {
         let reference = &references[references.len() - 1 - done];
         put_reference(&mut ordered, reference.clone()?)?;
+    }
+    Ok(ordered)
+}
+
+/// Whether the RDN stands before the other: by their keys.
+fn is_rdn_below(alloc: Global, a: &Rdn, b: &Rdn) -> Result<bool, NoMemory>
+    ensures { IfOk result (λ below. below ≡ print.rdn_below a.now b.now) }
+{
+    let first = a.key(alloc)?;
+    let second = b.key(alloc)?;
+    Ok(first.cmp(&second).is_lt())
+}
+
+/// The place of the first RDN that doesn't stand before this one.
+fn place_of_rdn(alloc: Global, rdns: &[Rdn], rdn: &Rdn) -> Result<usize, NoMemory>
+    ensures place { IfOk result (λ place. place ≡ position_or_len (λ r. not (print.rdn_below r rdn.now)) rdns.now) }
+    ensures inside { IfOk result (λ place. place ≤ length rdns.now) }
+{
+    for (i, other) in rdns.iter().enumerate() {
+        if !is_rdn_below(alloc, other, rdn)? {
+            return Ok(i);
+        }
+    }
+    Ok(rdns.len())
+}
+
+/// Puts the RDN where the order has it.
+fn put_rdn(alloc: Global, rdns: &mut Vec<Rdn>, rdn: Rdn) -> Result<(), NoMemory>
+    ensures { OnOk result (rdns.new.items ≡ insert_sorted print.rdn_below rdn rdns.old.items) }
+{
+    let place = place_of_rdn(alloc, rdns, &rdn)?;
+    rdns.insert(place, rdn)?;
+    Ok(())
+}
+
+/// The RDNs in the order of their keys. Agents send exclusions so, and then each goes to the front at once.
+pub(crate) fn sorted_rdns(alloc: Global, rdns: &[Rdn]) -> Result<Vec<Rdn>, NoMemory>
+    ensures { IfOk result (λ v. v.items ≡ sorted print.rdn_below rdns.now) }
+{
+    let mut ordered = Vec::new(alloc);
+    for done in 0..rdns.len() {
+        let rdn = &rdns[rdns.len() - 1 - done];
+        put_rdn(alloc, &mut ordered, rdn.clone()?)?;
     }
     Ok(ordered)
 }

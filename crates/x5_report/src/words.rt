@@ -1,4 +1,4 @@
-//! Words of the output, each for a number or a variant.
+//! Words of the output, each for a number or a variant; a number that stands for nothing has no word.
 
 ghost use Rattle.std.specs.Prelude.{◌≡◌, codes};
 ghost use Rattle.x5_model_output.specs.Output as print;
@@ -20,7 +20,8 @@ pub(crate) fn operation_word(operation: u8) -> &'static str
         6 => "add",
         7 => "remove",
         8 => "modify",
-        _ => "move",
+        9 => "move",
+        _ => "",
     }
 }
 
@@ -68,8 +69,10 @@ pub(crate) fn attribute_problem(problem: u8) -> &'static str
         1 => "noSuchAttributeOrValue",
         2 => "invalidAttributeSyntax",
         3 => "undefinedAttributeType",
+        4 => "inappropriateMatching",
         5 => "constraintViolation",
-        _ => "attributeOrValueAlreadyExists",
+        6 => "attributeOrValueAlreadyExists",
+        _ => "",
     }
 }
 
@@ -84,7 +87,8 @@ pub(crate) fn update_problem(problem: u8) -> &'static str
         4 => "notAllowedOnRDN",
         5 => "entryAlreadyExists",
         6 => "affectsMultipleDSAs",
-        _ => "objectClassModificationProhibited",
+        7 => "objectClassModificationProhibited",
+        _ => "",
     }
 }
 
@@ -93,11 +97,19 @@ pub(crate) fn service_problem(problem: u8) -> &'static str
     ensures { result.now ≡ print.service_problem problem }
 {
     match problem {
+        1 => "busy",
         2 => "unavailable",
+        3 => "unwillingToPerform",
+        4 => "chainingRequired",
         5 => "unableToProceed",
         6 => "invalidReference",
+        7 => "timeLimitExceeded",
         8 => "administrativeLimitExceeded",
-        _ => "loopDetected",
+        9 => "loopDetected",
+        10 => "unavailableCriticalExtension",
+        11 => "outOfScope",
+        12 => "ditError",
+        _ => "",
     }
 }
 
@@ -108,8 +120,16 @@ pub(crate) fn shadow_problem(problem: u8) -> &'static str
     match problem {
         1 => "invalidAgreementID",
         2 => "inactiveAgreement",
+        3 => "invalidInformationReceived",
+        4 => "unsupportedStrategy",
         5 => "missedPrevious",
-        _ => "fullUpdateRequired",
+        6 => "fullUpdateRequired",
+        7 => "unwillingToPerform",
+        8 => "unsuitableTiming",
+        9 => "updateAlreadyReceived",
+        10 => "invalidSequencing",
+        11 => "insufficientResources",
+        _ => "",
     }
 }
 

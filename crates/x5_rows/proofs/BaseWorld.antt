@@ -1,5 +1,5 @@
 -- The world of the worked examples: five agents, four naming contexts and one agreement.
-use Rattle.std.specs.Prelude.{List, [], ◌∷◌}
+use Rattle.std.specs.Prelude.{false, List, [], ◌∷◌}
 use Rattle.std.specs.declared.option.Option.TheVariants.{None, Some}
 use lib.Chars.{codes}
 use Rattle.x5_model.specs.Values.{Rdn, Name}
@@ -83,19 +83,19 @@ to_acme = record { pin = acme; access = record { master = 1; shadows = 4 ∷ [] 
 
 abbrev pub alpha : Agent
 alpha =
-    record { name = codes "Alpha"; superior = None; contexts = nl_context ∷ []; subordinate = to_acme ∷ []; cross = [] }
+    record { name = codes "Alpha"; superior = None; contexts = nl_context ∷ []; subordinate = to_acme ∷ []; cross = []; crosses = false ∷ [] }
 
 abbrev pub beta : Agent
-beta = record { name = codes "Beta"; superior = Some 0; contexts = acme_context ∷ []; subordinate = []; cross = [] }
+beta = record { name = codes "Beta"; superior = Some 0; contexts = acme_context ∷ []; subordinate = []; cross = []; crosses = [] }
 
 abbrev pub gamma : Agent
-gamma = record { name = codes "Gamma"; superior = Some 1; contexts = lab_context ∷ []; subordinate = []; cross = [] }
+gamma = record { name = codes "Gamma"; superior = Some 1; contexts = lab_context ∷ []; subordinate = []; cross = []; crosses = [] }
 
 abbrev pub delta : Agent
-delta = record { name = codes "Delta"; superior = Some 1; contexts = shop_context ∷ []; subordinate = []; cross = [] }
+delta = record { name = codes "Delta"; superior = Some 1; contexts = shop_context ∷ []; subordinate = []; cross = []; crosses = [] }
 
 abbrev pub epsilon : Agent
-epsilon = record { name = codes "Epsilon"; superior = Some 0; contexts = []; subordinate = []; cross = [] }
+epsilon = record { name = codes "Epsilon"; superior = Some 0; contexts = []; subordinate = []; cross = []; crosses = [] }
 
 abbrev pub first_agreement : Agreement
 first_agreement = record { number = 1; supplier = 1; consumer = 4; context = acme }

@@ -1,11 +1,15 @@
 -- The base world is consistent, and so is its whole tree; and for each condition a world that breaks it, with the two
 -- values that are told of it.
-use Rattle.std.specs.Prelude.{◌≡◌, [], ◌∷◌}
+use Rattle.std.specs.Prelude.{◌≡◌, true, false, [], ◌∷◌}
 use Rattle.std.specs.declared.option.Option.TheVariants.{None, Some}
 use Rattle.std.proofs.Common.{refl}
+use Rattle.std.specs.Str.{chars}
+use Rattle.caseless.proofs.Computing.{caseless}
 use lib.Chars.{codes}
+use lib.Utf8.{encode}
 use Rattle.x5_model.specs.Values.{Name}
-use Rattle.x5_model_tree.specs.World.{World}
+use Rattle.x5_model.specs.Normal.{folded}
+use Rattle.x5_model_tree.specs.World.{Specific, Agent, World}
 use Rattle.x5_model_tree.specs.Described.{IsDescribed}
 use Rattle.x5_model_tree.specs.Tree.{IsTree}
 use Rattle.x5_model_tree.specs.Masters.{whole}
@@ -21,8 +25,9 @@ pub nothing_broken : first_breach base_world ≡ None
 nothing_broken = refl
 
 pub described : IsDescribed base_world
+unfolding caseless folded chars encode
 described =
-    record { agents_there = refl; names_apart = refl; agents = refl; superiors = refl; agreements = refl; numbers_apart = refl }
+    record { agents_there = refl; names_apart = refl; agents = refl; superiors = refl; agreements = refl; numbers_apart = refl; stored = refl; listed = refl; limits = refl; network = refl }
 
 pub is_tree : IsTree (whole base_world)
 is_tree = record { in_order = refl; above = refl; pins_there = refl; ordered = refl }
@@ -71,7 +76,7 @@ broken_4 = refl
 -- 4 too: a subordinate reference whose parent the agent doesn't master.
 abbrev pub far_reference : World
 far_reference =
-    world_of ((record alpha { subordinate = to_acme ∷ (record { pin = lab; access = record { master = 2; shadows = [] } }) ∷ [] }) ∷ beta ∷ gamma ∷ delta ∷ epsilon ∷ []) (first_agreement ∷ [])
+    world_of ((record alpha { subordinate = to_acme ∷ (record { pin = lab; access = record { master = 2; shadows = [] } }) ∷ []; crosses = false ∷ false ∷ [] }) ∷ beta ∷ gamma ∷ delta ∷ epsilon ∷ []) (first_agreement ∷ [])
 
 pub broken_4_far : first_breach far_reference ≡ Some (breach 4 (AgentPrinted 0) (NamePrinted lab))
 broken_4_far = refl
@@ -92,6 +97,37 @@ shadow_twice =
 pub broken_5_twice : first_breach shadow_twice ≡ Some (breach 5 (NamePrinted acme) (AgentPrinted 4))
 broken_5_twice = refl
 
+-- Two breaches of one condition: the first in the order of the file is told. Alpha's two references are false, and the cross
+-- reference stands before the subordinate one, or behind it.
+abbrev across : Specific
+across = record { pin = lab; access = record { master = 3; shadows = 1 ∷ [] } }
+
+abbrev below : Specific
+below = record { pin = acme; access = record { master = 2; shadows = 2 ∷ [] } }
+
+abbrev pub two_false : Agent → World
+two_false first = world_of (first ∷ beta ∷ gamma ∷ delta ∷ epsilon ∷ []) (first_agreement ∷ [])
+
+abbrev cross_first : Agent
+cross_first = record alpha { subordinate = below ∷ []; cross = across ∷ []; crosses = true ∷ false ∷ [] }
+
+pub first_of_4 : first_breach (two_false cross_first) ≡ Some (breach 4 (AgentPrinted 0) (NamePrinted lab))
+first_of_4 = refl
+
+pub last_of_4 : first_breach (two_false (record cross_first { crosses = false ∷ true ∷ [] })) ≡ Some (breach 4 (AgentPrinted 0) (NamePrinted acme))
+last_of_4 = refl
+
+-- the same with right masters and two false shadow agents
+abbrev cross_shadow_first : Agent
+cross_shadow_first =
+    record cross_first { subordinate = (record below { access = record { master = 1; shadows = 2 ∷ [] } }) ∷ []; cross = (record across { access = record { master = 2; shadows = 1 ∷ [] } }) ∷ [] }
+
+pub first_of_5 : first_breach (two_false cross_shadow_first) ≡ Some (breach 5 (NamePrinted lab) (AgentPrinted 1))
+first_of_5 = refl
+
+pub last_of_5 : first_breach (two_false (record cross_shadow_first { crosses = false ∷ true ∷ [] })) ≡ Some (breach 5 (NamePrinted acme) (AgentPrinted 2))
+last_of_5 = refl
+
 -- 6. Beta doesn't know Shop.
 abbrev pub unknown_shop : World
 unknown_shop =
@@ -99,6 +135,15 @@ unknown_shop =
 
 pub broken_6 : first_breach unknown_shop ≡ Some (breach 6 (AgentPrinted 1) (NamePrinted shop))
 broken_6 = refl
+
+-- Of two pins that nobody knows, the first in the order of the file is told, with the master that lacks it, although an agent
+-- before that master lacks the other: Beta has Acme below Alpha's NL, and Gamma Lab below Beta's Acme.
+abbrev pub two_unknown : World
+two_unknown =
+    world_of ((record beta { superior = Some 1; contexts = (record acme_context { nssrs = [] }) ∷ [] }) ∷ (record alpha { subordinate = []; crosses = [] }) ∷ (record gamma { superior = Some 0 }) ∷ []) []
+
+pub first_of_6 : first_breach two_unknown ≡ Some (breach 6 (AgentPrinted 1) (NamePrinted acme))
+first_of_6 = refl
 
 -- 7. Epsilon stands in Beta's NSSR and masters nothing below it.
 abbrev pub false_member : World
@@ -119,7 +164,7 @@ broken_8 = refl
 -- 9. Two agents are each other's superior.
 abbrev pub circle : World
 circle =
-    world_of ((record { name = codes "X"; superior = Some 1; contexts = []; subordinate = []; cross = [] }) ∷ (record { name = codes "Y"; superior = Some 0; contexts = []; subordinate = []; cross = [] }) ∷ []) []
+    world_of ((record { name = codes "X"; superior = Some 1; contexts = []; subordinate = []; cross = []; crosses = [] }) ∷ (record { name = codes "Y"; superior = Some 0; contexts = []; subordinate = []; cross = []; crosses = [] }) ∷ []) []
 
 pub broken_9 : first_breach circle ≡ Some (breach 9 (AgentPrinted 0) (AgentPrinted 1))
 broken_9 = refl

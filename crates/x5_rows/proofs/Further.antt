@@ -2,7 +2,7 @@
 -- sender follows, a cross reference, contexts that one agent evaluates together, and a probe that a shadow can't answer.
 use Rattle.std.specs.Prelude.{◌≡◌, [], ◌∷◌}
 use Rattle.std.specs.declared.option.Option.TheVariants.{None, Some}
-use Rattle.std.proofs.Common.{refl, arith}
+use Rattle.std.proofs.Common.{true, refl, arith}
 use lib.Chars.{codes}
 use Rattle.x5_model.specs.Values.{Known, TextValue}
 use Rattle.x5_model.specs.Requests.{Request, Read, ListBelow, WholeSubtree, Only}
@@ -15,7 +15,7 @@ use Rattle.x5_model_run.specs.Journal.{Line, Journal}
 use Rattle.x5_model_run.specs.Needs.{reference}
 use Rattle.x5_model_run.specs.History.{Point, Outs}
 use Rattle.x5_model_run.specs.Chain.{scene_at, probe_request}
-use Rattle.x5_model_run.specs.Blocked.{probed}
+use Rattle.x5_model_run.specs.Blocked.{asked}
 use Rattle.x5_model_run.specs.Right.{AnswersRight, result, unheard}
 use Rattle.x5_model_run.specs.Thorough.{Thorough}
 use Rattle.x5_model_run.proofs.Licensing.{licensed_by, licensed_first}
@@ -42,9 +42,10 @@ list_journal =
 
 pub nl_listed : AnswersRight at_first 0 list_nl list_journal (Answered (Listed (sub_at acme ∷ []) (now nl 0 ∷ now acme 1 ∷ []) whole_outcome))
 nl_listed = record {
-  licensed = (licensed_by list_at_alpha 0 0 refl refl refl refl refl refl refl refl, (licensed_first refl refl refl refl refl, tt));
-  accepts = record { one = refl; right = refl; done = refl; probed = refl };
-  answer = result (record { sources = refl; once = refl; exactly = refl; answered = refl; blocked = tt; completed = refl; apart = refl }) refl refl;
+  licensed = (licensed_by list_at_alpha 0 0 refl refl refl refl refl, (licensed_first refl refl refl refl refl, tt));
+  accepts = record { one = refl; right = refl; probed = refl };
+  finished = record { done = refl; at_once = refl };
+  answer = result refl (record { found = refl; sources = refl; spelled = refl; once = refl; exactly = refl; answered = refl; blocked = tt; completed = refl; apart = refl }) refl refl;
 }
 
 pub list_thorough : Thorough (scene_at at_first 0 list_nl) list_journal
@@ -63,9 +64,10 @@ parts_journal =
 
 pub parts_followed : AnswersRight beta_refuses 0 from_nl parts_journal (Answered (Found (bare nl ∷ bare acme ∷ bare desk ∷ bare lab ∷ bare jan ∷ bare shop ∷ bare ada ∷ []) the_sources whole_outcome))
 parts_followed = record {
-  licensed = (licensed_by nl_part 1 0 refl refl refl refl refl refl refl refl, (licensed_by nl_part 0 0 refl refl refl refl refl refl refl refl, (licensed_by nl_at_alpha 0 0 refl refl refl refl refl refl refl refl, (licensed_first refl refl refl refl refl, tt))));
-  accepts = record { one = refl; right = refl; done = refl; probed = refl };
-  answer = result (record { sources = refl; once = refl; exactly = refl; answered = refl; blocked = tt; completed = refl; apart = refl }) refl refl;
+  licensed = (licensed_by nl_part 1 0 refl refl refl refl refl, (licensed_by nl_part 0 0 refl refl refl refl refl, (licensed_by nl_at_alpha 0 0 refl refl refl refl refl, (licensed_first refl refl refl refl refl, tt))));
+  accepts = record { one = refl; right = refl; probed = refl };
+  finished = record { done = refl; at_once = refl };
+  answer = result refl (record { found = refl; sources = refl; spelled = refl; once = refl; exactly = refl; answered = refl; blocked = tt; completed = refl; apart = refl }) refl refl;
 }
 
 pub parts_thorough : Thorough (scene_at beta_refuses 0 from_nl) parts_journal
@@ -74,7 +76,7 @@ parts_thorough = refl
 -- Gamma knows Shop by a cross reference
 abbrev pub crossed : World
 crossed =
-    world_of (alpha ∷ beta ∷ (record gamma { cross = (record { pin = shop; access = record { master = 3; shadows = [] } }) ∷ [] }) ∷ delta ∷ epsilon ∷ []) (first_agreement ∷ [])
+    world_of (alpha ∷ beta ∷ (record gamma { cross = (record { pin = shop; access = record { master = 3; shadows = [] } }) ∷ []; crosses = true ∷ [] }) ∷ delta ∷ epsilon ∷ []) (first_agreement ∷ [])
 
 pub crossed_consistent : first_breach crossed ≡ None
 crossed_consistent = refl
@@ -90,15 +92,16 @@ ada_journal = journal (ada_at_gamma ∷ passes 2 ada_at_gamma 3 ada (Next 3) Cro
 
 pub ada_read : AnswersRight (point crossed []) 2 read_ada ada_journal (Answered (EntryFound (info ada (shows 4 (TextValue (codes "Bos") ∷ []) ∷ [])) (now shop 3)))
 ada_read = record {
-  licensed = (licensed_by ada_at_gamma 0 0 refl refl refl refl refl refl refl refl, (licensed_first refl refl refl refl refl, tt));
-  accepts = record { one = refl; right = refl; done = refl; probed = refl };
-  answer = result (record { sources = refl; once = refl; exactly = refl; answered = refl; blocked = tt; completed = refl; apart = refl }) refl refl;
+  licensed = (licensed_by ada_at_gamma 0 0 refl refl refl refl refl, (licensed_first refl refl refl refl refl, tt));
+  accepts = record { one = refl; right = refl; probed = refl };
+  finished = record { done = refl; at_once = refl };
+  answer = result refl (record { found = refl; sources = refl; spelled = refl; once = refl; exactly = refl; answered = refl; blocked = tt; completed = refl; apart = refl }) refl refl;
 }
 
 -- Alpha masters Acme too, and evaluates both on the spot
 abbrev pub together : World
 together =
-    world_of ((record alpha { contexts = nl_context ∷ acme_context ∷ []; subordinate = [] }) ∷ (record beta { contexts = [] }) ∷ gamma ∷ delta ∷ epsilon ∷ []) ((record first_agreement { supplier = 0 }) ∷ [])
+    world_of ((record alpha { contexts = nl_context ∷ acme_context ∷ []; subordinate = []; crosses = [] }) ∷ (record beta { contexts = [] }) ∷ gamma ∷ delta ∷ epsilon ∷ []) ((record first_agreement { supplier = 0 }) ∷ [])
 
 pub together_consistent : first_breach together ≡ None
 together_consistent = refl
@@ -109,9 +112,10 @@ together_journal =
 
 pub together_searched : AnswersRight (point together []) 0 from_nl together_journal (Answered (Found (bare nl ∷ bare acme ∷ bare desk ∷ bare lab ∷ bare jan ∷ bare shop ∷ bare ada ∷ []) (now nl 0 ∷ now acme 0 ∷ now lab 2 ∷ now shop 3 ∷ []) whole_outcome))
 together_searched = record {
-  licensed = (licensed_by nl_at_alpha 1 0 refl refl refl refl refl refl refl refl, (licensed_by nl_at_alpha 0 0 refl refl refl refl refl refl refl refl, (licensed_first refl refl refl refl refl, tt)));
-  accepts = record { one = refl; right = refl; done = refl; probed = refl };
-  answer = result (record { sources = refl; once = refl; exactly = refl; answered = refl; blocked = tt; completed = refl; apart = refl }) refl refl;
+  licensed = (licensed_by nl_at_alpha 1 0 refl refl refl refl refl, (licensed_by nl_at_alpha 0 0 refl refl refl refl refl, (licensed_first refl refl refl refl refl, tt)));
+  accepts = record { one = refl; right = refl; probed = refl };
+  finished = record { done = refl; at_once = refl };
+  answer = result refl (record { found = refl; sources = refl; spelled = refl; once = refl; exactly = refl; answered = refl; blocked = tt; completed = refl; apart = refl }) refl refl;
 }
 
 pub together_thorough : Thorough (scene_at (point together []) 0 from_nl) together_journal
@@ -140,18 +144,19 @@ probe_journal =
 
 pub probes_unheard : AnswersRight shadowed_down 1 add_lab probe_journal (Failed (ServiceProblem unavailable (Some (in_vain NonSpecific new_lab (Next 3) (2 ∷ 3 ∷ []))) None))
 probes_unheard = record {
-  licensed = (licensed_by probe_at_delta 0 0 refl refl refl refl refl refl refl refl, (licensed_by add_at_beta 0 1 refl refl refl refl refl refl refl refl, (licensed_by add_at_beta 0 0 refl refl refl refl refl refl refl refl, (licensed_first refl refl refl refl refl, tt))));
-  accepts = record { one = refl; right = refl; done = refl; probed = refl };
-  answer = unheard (probed (record {
+  licensed = (licensed_by probe_at_delta 0 0 refl refl refl refl refl, (licensed_by add_at_beta 0 1 refl refl refl refl refl, (licensed_by add_at_beta 0 0 refl refl refl refl refl, (licensed_first refl refl refl refl refl, tt))));
+  accepts = record { one = refl; right = refl; probed = refl };
+  finished = record { done = refl; at_once = refl };
+  answer = unheard (asked (record {
     line = add_at_beta;
     full = reference new_lab (Next 3) NonSpecific (2 ∷ 3 ∷ []);
     stands = (3, omega arith, refl);
-    arrived = refl;
+    back = refl;
     needed = (0, omega arith, refl);
     same = refl;
-    unheard = refl;
+    listed = refl;
+    vain = refl;
     cleared = refl;
-    tried = refl;
   })) refl refl;
 }
 

@@ -24,19 +24,8 @@ use Rattle.x5_rows.proofs.Searching.{nl_at_alpha, nl_part, root_at_alpha, shop_k
 abbrev pub start : Point
 start = point base_world []
 
--- no pin has more than 16 RDNs
-short_by : (w : World) → list_all (λ q. nat_le (length q) 16) (pins w) ≡ true → (q : Key) → In q (pins w) → length q ≤ 16
-short_by w e q i =
-    elim (leb_tells (length q) 16) [
-      | inl t ↦ t.1
-      | inr f ↦ absurd (never (sym f.0 ∙ of_all (λ (x : Key). nat_le (length x) 16) q (pins w) e i))
-    ]
-  where
-    never : false ≡ true → ⊥
-    never e = cc
-
 pub stands : Stands start × CopiesStand start
-stands = stands_at_first base_world [] described consistent (short_by base_world refl) tt
+stands = stands_at_first base_world [] described consistent tt
 
 -- Alpha has the base and asks Beta for what is below Acme
 pub nl_begins : BeginsHere start nl_at_alpha

@@ -13,6 +13,7 @@ pub mod Judging
 pub mod Shadowing
 pub mod Refused
 pub mod Losing
+pub mod Forged
 pub mod Placing
 pub mod Running
 pub mod Further

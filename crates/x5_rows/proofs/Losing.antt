@@ -29,8 +29,9 @@ losing_first = point base_world (did (Loses true 1) 0 ∷ [])
 pub gears_unheard : AnswersRight losing_first 1 put_gears (accepted_journal (asks 1 1 put_gears NoReply ∷ []) 1) (Failed (ServiceProblem unavailable (Some (in_vain Own acme Start (1 ∷ []))) None))
 gears_unheard = record {
   licensed = (licensed_first refl refl refl refl refl, tt);
-  accepts = record { one = refl; right = refl; done = refl; probed = refl };
-  answer = unheard (user (record { unheard = refl; start = refl; kind_is = refl; agents_are = refl; tried = refl })) refl refl;
+  accepts = record { one = refl; right = refl; probed = refl };
+  finished = record { done = refl; at_once = refl };
+  answer = unheard (user (record { own = refl; unheard = refl; same = refl })) refl refl;
 }
 
 abbrev pub read_description : Request
@@ -39,8 +40,9 @@ read_description = plainly (Read acme (Only (Known 13 ∷ [])))
 pub gears_there : AnswersRight (point base_world (did (takes 1 put_gears) 1 ∷ did (Loses true 1) 0 ∷ [])) 1 read_description (journal (asks 2 1 read_description Sent ∷ [])) (Answered (EntryFound (info acme (shows 13 (TextValue (codes "gears") ∷ TextValue (codes "tools") ∷ []) ∷ [])) (now acme 1)))
 gears_there = record {
   licensed = (licensed_first refl refl refl refl refl, tt);
-  accepts = record { one = refl; right = refl; done = refl; probed = refl };
-  answer = result (record { sources = refl; once = refl; exactly = refl; answered = refl; blocked = tt; completed = refl; apart = refl }) refl refl;
+  accepts = record { one = refl; right = refl; probed = refl };
+  finished = record { done = refl; at_once = refl };
+  answer = result refl (record { found = refl; sources = refl; spelled = refl; once = refl; exactly = refl; answered = refl; blocked = tt; completed = refl; apart = refl }) refl refl;
 }
 
 -- Gamma takes the update, Beta doesn't hear it and asks Delta too
@@ -59,18 +61,19 @@ put_journal =
 
 pub lab_unheard : AnswersRight losing_second 1 put_lab put_journal (Failed (ServiceProblem unavailable (Some (in_vain NonSpecific lab (Next 3) (2 ∷ []))) None))
 lab_unheard = record {
-  licensed = (licensed_by put_at_beta 0 1 refl refl refl refl refl refl refl refl, (licensed_by put_at_beta 0 0 refl refl refl refl refl refl refl refl, (licensed_first refl refl refl refl refl, tt)));
-  accepts = record { one = refl; right = refl; done = refl; probed = refl };
+  licensed = (licensed_by put_at_beta 0 1 refl refl refl refl refl, (licensed_by put_at_beta 0 0 refl refl refl refl refl, (licensed_first refl refl refl refl refl, tt)));
+  accepts = record { one = refl; right = refl; probed = refl };
+  finished = record { done = refl; at_once = refl };
   answer = unheard (asked (record {
     line = put_at_beta;
     full = reference lab (Next 3) NonSpecific (2 ∷ 3 ∷ []);
     stands = (2, omega arith, refl);
-    arrived = refl;
+    back = refl;
     needed = (0, omega arith, refl);
     same = refl;
-    unheard = refl;
+    listed = refl;
+    vain = refl;
     cleared = refl;
-    tried = refl;
   })) refl refl;
 }
 

@@ -36,9 +36,10 @@ ada_journal = journal (ada_at_delta ∷ passes 2 ada_at_delta 2 ada (Next 4) Sub
 
 pub ada_at_gamma : AnswersRight after_split 3 read_ada ada_journal (Answered (EntryFound (info ada (shows 4 (TextValue (codes "Bos") ∷ []) ∷ [])) (now ada 2)))
 ada_at_gamma = record {
-  licensed = (licensed_by ada_at_delta 0 0 refl refl refl refl refl refl refl refl, (licensed_first refl refl refl refl refl, tt));
-  accepts = record { one = refl; right = refl; done = refl; probed = refl };
-  answer = result (record { sources = refl; once = refl; exactly = refl; answered = refl; blocked = tt; completed = refl; apart = refl }) refl refl;
+  licensed = (licensed_by ada_at_delta 0 0 refl refl refl refl refl, (licensed_first refl refl refl refl refl, tt));
+  accepts = record { one = refl; right = refl; probed = refl };
+  finished = record { done = refl; at_once = refl };
+  answer = result refl (record { found = refl; sources = refl; spelled = refl; once = refl; exactly = refl; answered = refl; blocked = tt; completed = refl; apart = refl }) refl refl;
 }
 
 pub ada_thorough : Thorough (scene_at after_split 3 read_ada) ada_journal
@@ -54,8 +55,9 @@ unsplit_consistent = refl
 pub ada_back : AnswersRight after_unsplit 3 read_ada (journal (asks 3 3 read_ada Sent ∷ [])) (Answered (EntryFound (info ada (shows 4 (TextValue (codes "Bos") ∷ []) ∷ [])) (now shop 3)))
 ada_back = record {
   licensed = (licensed_first refl refl refl refl refl, tt);
-  accepts = record { one = refl; right = refl; done = refl; probed = refl };
-  answer = result (record { sources = refl; once = refl; exactly = refl; answered = refl; blocked = tt; completed = refl; apart = refl }) refl refl;
+  accepts = record { one = refl; right = refl; probed = refl };
+  finished = record { done = refl; at_once = refl };
+  answer = result refl (record { found = refl; sources = refl; spelled = refl; once = refl; exactly = refl; answered = refl; blocked = tt; completed = refl; apart = refl }) refl refl;
 }
 
 -- Shop leaves Delta for Beta, and Delta leaves the NSSR
@@ -68,6 +70,7 @@ shop_consistent = refl
 pub shop_read : AnswersRight shop_at_beta 1 read_ada (journal (asks 1 1 read_ada Sent ∷ [])) (Answered (EntryFound (info ada (shows 4 (TextValue (codes "Bos") ∷ []) ∷ [])) (now acme 1)))
 shop_read = record {
   licensed = (licensed_first refl refl refl refl refl, tt);
-  accepts = record { one = refl; right = refl; done = refl; probed = refl };
-  answer = result (record { sources = refl; once = refl; exactly = refl; answered = refl; blocked = tt; completed = refl; apart = refl }) refl refl;
+  accepts = record { one = refl; right = refl; probed = refl };
+  finished = record { done = refl; at_once = refl };
+  answer = result refl (record { found = refl; sources = refl; spelled = refl; once = refl; exactly = refl; answered = refl; blocked = tt; completed = refl; apart = refl }) refl refl;
 }

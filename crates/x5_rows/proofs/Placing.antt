@@ -60,7 +60,8 @@ pub gamma_unable : RepliesRight at_first for_absent (journal (raw_line for_absen
 gamma_unable = record {
   placed = record { fit = refl; lower = refl; brought = refl };
   licensed = (licensed_first refl refl refl refl refl, tt);
-  accepts = record { one = refl; right = refl; done = refl; probed = refl };
+  accepts = record { one = refl; right = refl; probed = refl };
+  finished = λ usual. record { done = refl; at_once = refl };
   answer = unable refl;
 }
 
@@ -73,8 +74,9 @@ pub delta_part : RepliesRight at_first for_part (journal (raw_line for_part ∷ 
 delta_part = record {
   placed = record { fit = refl; lower = refl; brought = refl };
   licensed = (licensed_first refl refl refl refl refl, tt);
-  accepts = record { one = refl; right = refl; done = refl; probed = refl };
-  answer = usual refl (result (record { sources = refl; once = refl; exactly = refl; answered = refl; blocked = tt; completed = refl; apart = refl }) refl refl);
+  accepts = record { one = refl; right = refl; probed = refl };
+  finished = λ usual. record { done = refl; at_once = refl };
+  answer = usual refl (result refl (record { found = refl; sources = refl; spelled = refl; once = refl; exactly = refl; answered = refl; blocked = tt; completed = refl; apart = refl }) refl refl);
 }
 
 -- a list by a reference to the pin Shop asks for Shop's own RDN
@@ -86,8 +88,9 @@ pub shop_itself : RepliesRight at_first for_own (journal (raw_line for_own ∷ [
 shop_itself = record {
   placed = record { fit = refl; lower = refl; brought = refl };
   licensed = (licensed_first refl refl refl refl refl, tt);
-  accepts = record { one = refl; right = refl; done = refl; probed = refl };
-  answer = usual refl (result (record { sources = refl; once = refl; exactly = refl; answered = refl; blocked = tt; completed = refl; apart = refl }) refl refl);
+  accepts = record { one = refl; right = refl; probed = refl };
+  finished = λ usual. record { done = refl; at_once = refl };
+  answer = usual refl (result refl (record { found = refl; sources = refl; spelled = refl; once = refl; exactly = refl; answered = refl; blocked = tt; completed = refl; apart = refl }) refl refl);
 }
 
 -- Alpha refuses to chain, and the user follows its referral
@@ -109,7 +112,8 @@ followed_journal =
 
 pub followed : IsRight alpha_refuses following followed_journal (Answered (EntryFound (info lab (shows 11 (TextValue (codes "Lab") ∷ []) ∷ [])) (now lab 2)))
 followed = record {
-  licensed = (licensed_by then_asked 0 0 refl refl refl refl refl refl refl refl, (licensed_by first_asked 0 0 refl refl refl refl refl refl refl refl, (licensed_first refl refl refl refl refl, tt)));
-  accepts = record { one = refl; right = refl; done = refl; probed = refl };
-  answer = result (record { sources = refl; once = refl; exactly = refl; answered = refl; blocked = tt; completed = refl; apart = refl }) refl refl;
+  licensed = (licensed_by then_asked 0 0 refl refl refl refl refl, (licensed_by first_asked 0 0 refl refl refl refl refl, (licensed_first refl refl refl refl refl, tt)));
+  accepts = record { one = refl; right = refl; probed = refl };
+  finished = record { done = refl; at_once = refl };
+  answer = result refl (record { found = refl; sources = refl; spelled = refl; once = refl; exactly = refl; answered = refl; blocked = tt; completed = refl; apart = refl }) refl refl;
 }

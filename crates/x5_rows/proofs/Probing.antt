@@ -14,7 +14,7 @@ use Rattle.x5_model_run.specs.Journal.{Line, Journal}
 use Rattle.x5_model_run.specs.Needs.{reference}
 use Rattle.x5_model_run.specs.History.{Point, Nothing, Outs}
 use Rattle.x5_model_run.specs.Chain.{scene_at, probe_request}
-use Rattle.x5_model_run.specs.Blocked.{probed}
+use Rattle.x5_model_run.specs.Blocked.{asked}
 use Rattle.x5_model_run.specs.Right.{AnswersRight, changed, error, unheard}
 use Rattle.x5_model_run.specs.Thorough.{Thorough}
 use Rattle.x5_model_run.proofs.Licensing.{licensed_by, licensed_first}
@@ -38,8 +38,9 @@ add_journal =
 
 pub lab_is_there : AnswersRight (point base_world []) 1 add_lab add_journal (Failed (UpdateProblem entry_already_exists))
 lab_is_there = record {
-  licensed = (licensed_by add_at_beta 0 0 refl refl refl refl refl refl refl refl, (licensed_first refl refl refl refl refl, tt));
-  accepts = record { one = refl; right = refl; done = refl; probed = refl };
+  licensed = (licensed_by add_at_beta 0 0 refl refl refl refl refl, (licensed_first refl refl refl refl refl, tt));
+  accepts = record { one = refl; right = refl; probed = refl };
+  finished = record { done = refl; at_once = refl };
   answer = error refl refl refl refl;
 }
 
@@ -59,18 +60,19 @@ again_journal =
 
 pub lab_unknown : AnswersRight gamma_down 1 add_lab again_journal (Failed (ServiceProblem unavailable (Some (in_vain NonSpecific new_lab (Next 3) (2 ∷ []))) None))
 lab_unknown = record {
-  licensed = (licensed_by again_at_beta 0 1 refl refl refl refl refl refl refl refl, (licensed_by again_at_beta 0 0 refl refl refl refl refl refl refl refl, (licensed_first refl refl refl refl refl, tt)));
-  accepts = record { one = refl; right = refl; done = refl; probed = refl };
-  answer = unheard (probed (record {
+  licensed = (licensed_by again_at_beta 0 1 refl refl refl refl refl, (licensed_by again_at_beta 0 0 refl refl refl refl refl, (licensed_first refl refl refl refl refl, tt)));
+  accepts = record { one = refl; right = refl; probed = refl };
+  finished = record { done = refl; at_once = refl };
+  answer = unheard (asked (record {
     line = again_at_beta;
     full = reference new_lab (Next 3) NonSpecific (2 ∷ 3 ∷ []);
     stands = (2, omega arith, refl);
-    arrived = refl;
+    back = refl;
     needed = (0, omega arith, refl);
     same = refl;
-    unheard = refl;
+    listed = refl;
+    vain = refl;
     cleared = refl;
-    tried = refl;
   })) refl refl;
 }
 
@@ -84,7 +86,8 @@ remove_acme = plainly (RemoveEntry acme)
 pub acme_stays : AnswersRight (point base_world []) 1 remove_acme (journal (asks 1 1 remove_acme Sent ∷ [])) (Failed (UpdateProblem affects_multiple_dsas))
 acme_stays = record {
   licensed = (licensed_first refl refl refl refl refl, tt);
-  accepts = record { one = refl; right = refl; done = refl; probed = refl };
+  accepts = record { one = refl; right = refl; probed = refl };
+  finished = record { done = refl; at_once = refl };
   answer = error refl refl refl refl;
 }
 
@@ -104,8 +107,9 @@ pen_journal = accepted_journal (asks 2 1 add_pen Sent ∷ []) 1
 pub pen_added : AnswersRight second_line 1 add_pen pen_journal (Answered Changed)
 pen_added = record {
   licensed = (licensed_first refl refl refl refl refl, tt);
-  accepts = record { one = refl; right = refl; done = refl; probed = refl };
-  answer = changed refl refl;
+  accepts = record { one = refl; right = refl; probed = refl };
+  finished = record { done = refl; at_once = refl };
+  answer = changed refl refl refl;
 }
 
 pub pen_thorough : Thorough (scene_at second_line 1 add_pen) pen_journal
@@ -121,6 +125,7 @@ remove_desk = plainly (RemoveEntry desk)
 pub desk_stays : AnswersRight third_line 1 remove_desk (journal (asks 3 1 remove_desk Sent ∷ [])) (Failed (UpdateProblem not_allowed_on_non_leaf))
 desk_stays = record {
   licensed = (licensed_first refl refl refl refl refl, tt);
-  accepts = record { one = refl; right = refl; done = refl; probed = refl };
+  accepts = record { one = refl; right = refl; probed = refl };
+  finished = record { done = refl; at_once = refl };
   answer = error refl refl refl refl;
 }

@@ -10,15 +10,16 @@ use Rattle.x5_model_run.specs.Network.{Lost, Sent}
 use Rattle.x5_model_run.specs.Journal.{Line, Journal}
 use Rattle.x5_model_run.specs.Needs.{reference, fails}
 use Rattle.x5_model_run.specs.Chain.{Scene, Licensed, Caused, later, scene_at}
-use Rattle.x5_model_run.specs.Blocked.{Blocked, untried, lost, user, asked, probed, by_user}
+use Rattle.x5_model_run.specs.Blocked.{Blocked, untried, lost, user, asked, by_user}
 use Rattle.x5_model_run.specs.Right.{Right, result, error, unheard}
 use Rattle.x5_model_run.proofs.Licensing.{both, no_sender, no_repeat}
+use Rattle.x5_model_run.proofs.Refusing.{all_unheard}
 use Rattle.x5_rows.proofs.BaseWorld.{nl, acme, desk, jan, lab, shop, ada}
 use Rattle.x5_rows.proofs.Messages.{passes, journal, now, bare, in_vain, whole_outcome, left_out}
 use Rattle.x5_rows.proofs.Resolution.{at_first, gamma_down, read_jan, jan_at_delta, jan_at_beta, jan_at_gamma, jan_journal, read_absent, absent, absent_at_beta, read_lab, lab_at_alpha, lab_at_beta, lab_journal}
 use Rattle.x5_rows.proofs.Searching.{from_root, root_journal, the_sources}
 
-no : false ≡ true → ⊥
+pub no : false ≡ true → ⊥
 no e = cc
 
 -- Lines. Gamma is down, and the line says that it was reached.
@@ -53,27 +54,24 @@ abbrev pub jan_scene : Scene
 jan_scene = scene_at at_first 3 read_jan
 
 pub no_forged : Blocked jan_scene (by_user jan_scene) jan_journal.lines (in_vain NonSpecific jan (Next 3) (2 ∷ [])) → ⊥
-no_forged (untried u) = no (sym u.untried)
+no_forged (untried u) = no u.idle
 no_forged (lost (user u)) = no u.unheard
-no_forged (lost (asked a)) = no a.unheard
-no_forged (lost (probed a)) = no a.unheard
+no_forged (lost (asked a)) = no (all_unheard jan_scene jan_journal.lines a.line a.full (2 ∷ []) refl a.vain)
 
 -- An agent is said not to be asked, and nothing kept Delta from asking it.
 pub no_excuse : Blocked jan_scene (by_user jan_scene) jan_journal.lines (reference jan Start Superior (1 ∷ [])) → ⊥
 no_excuse (untried u) = no u.idle
-no_excuse (lost (user u)) = no u.tried
-no_excuse (lost (asked a)) = no a.tried
-no_excuse (lost (probed a)) = no a.tried
+no_excuse (lost (user u)) = no u.unheard
+no_excuse (lost (asked a)) = no (ap (λ r. r.tried) a.same)
 
 -- Gamma was not heard, and Delta, which was, is named beside it.
 abbrev pub lab_scene : Scene
 lab_scene = scene_at gamma_down 0 read_lab
 
 pub no_one_more : Blocked lab_scene (by_user lab_scene) lab_journal.lines (in_vain NonSpecific lab (Next 3) (2 ∷ 3 ∷ [])) → ⊥
-no_one_more (untried u) = no (sym u.untried)
+no_one_more (untried u) = no u.idle
 no_one_more (lost (user u)) = no u.unheard
-no_one_more (lost (asked a)) = no (both _ _ a.unheard).1
-no_one_more (lost (probed a)) = no (both _ _ a.unheard).1
+no_one_more (lost (asked a)) = no (both _ _ (all_unheard lab_scene lab_journal.lines a.line a.full (2 ∷ 3 ∷ []) refl a.vain)).1
 
 -- Answers. A search from the root drops an entry.
 abbrev pub count_of : Told → ℕ
@@ -88,7 +86,7 @@ without_desk =
     Found (bare nl ∷ bare acme ∷ bare lab ∷ bare jan ∷ bare shop ∷ bare ada ∷ []) the_sources whole_outcome
 
 pub no_entry_dropped : Right at_first root_scene (by_user root_scene) root_journal (Answered without_desk) → ⊥
-no_entry_dropped (result r query none) = let fewer : ◌≡◌ {A = ℕ} 6 7 = ap count_of r.answered in omega (arith, fewer)
+no_entry_dropped (result answered r query none) = let fewer : ◌≡◌ {A = ℕ} 6 7 = ap count_of r.answered in omega (arith, fewer)
 
 -- It leaves Gamma's part out, and calls it unexplored.
 abbrev pub without_lab : Answer
@@ -96,13 +94,12 @@ without_lab =
     Found (bare nl ∷ bare acme ∷ bare desk ∷ bare shop ∷ bare ada ∷ []) (now nl 0 ∷ now acme 1 ∷ now shop 3 ∷ []) (left_out (in_vain NonSpecific acme Done (2 ∷ []) ∷ []))
 
 pub no_false_unexplored : Right at_first root_scene (by_user root_scene) root_journal (Answered without_lab) → ⊥
-no_false_unexplored (result r query none) = by r.blocked.0
+no_false_unexplored (result answered r query none) = by r.blocked.0
   where
     by : Blocked root_scene (by_user root_scene) root_journal.lines (in_vain NonSpecific acme Done (2 ∷ [])) → ⊥
-    by (untried u) = no (sym u.untried)
+    by (untried u) = no u.idle
     by (lost (user u)) = no u.unheard
-    by (lost (asked a)) = no a.unheard
-    by (lost (probed a)) = no a.unheard
+    by (lost (asked a)) = no (all_unheard root_scene root_journal.lines a.line a.full (2 ∷ []) refl a.vain)
 
 -- It leaves Gamma's part out and says nothing.
 abbrev pub silent : Answer
@@ -110,7 +107,7 @@ silent =
     Found (bare nl ∷ bare acme ∷ bare desk ∷ bare shop ∷ bare ada ∷ []) (now nl 0 ∷ now acme 1 ∷ now shop 3 ∷ []) whole_outcome
 
 pub no_silence : Right at_first root_scene (by_user root_scene) root_journal (Answered silent) → ⊥
-no_silence (result r query none) = no r.exactly
+no_silence (result answered r query none) = no r.exactly
 
 -- A name is said to be absent, and Gamma, which might have it, was not heard.
 abbrev pub absent_scene : Scene
@@ -121,9 +118,9 @@ stopped_journal =
     journal (absent_at_beta ∷ passes 2 absent_at_beta 2 absent (Next 3) NonSpecific read_absent Lost ∷ passes 3 absent_at_beta 3 absent (Next 3) NonSpecific read_absent Sent ∷ [])
 
 pub no_guess : Right gamma_down absent_scene (by_user absent_scene) stopped_journal (Failed (NoSuchObject acme)) → ⊥
-no_guess (error given heard known none) = no known
+no_guess (error answered given known none) = no known
 
 -- A read is unavailable, and every message was heard.
 pub no_false_unavailable : Right at_first jan_scene (by_user jan_scene) jan_journal (Failed (ServiceProblem unavailable (Some (in_vain NonSpecific jan (Next 3) (2 ∷ []))) None)) → ⊥
 no_false_unavailable (unheard l phase none) = no_forged (lost l)
-no_false_unavailable (error given heard known none) = no (ap fails given)
+no_false_unavailable (error answered given known none) = no (ap fails given)

@@ -35,8 +35,9 @@ acme_journal = journal (asks 1 1 read_acme Sent ∷ [])
 pub acme_read : AnswersRight at_first 1 read_acme acme_journal (Answered (EntryFound (info acme (shows 0 (OidValue (2 ∷ 5 ∷ 6 ∷ 4 ∷ []) ∷ []) ∷ shows 10 (TextValue (codes "Acme") ∷ []) ∷ shows 13 (TextValue (codes "tools") ∷ []) ∷ [])) (now acme 1)))
 acme_read = record {
   licensed = (licensed_first refl refl refl refl refl, tt);
-  accepts = record { one = refl; right = refl; done = refl; probed = refl };
-  answer = result (record { sources = refl; once = refl; exactly = refl; answered = refl; blocked = tt; completed = refl; apart = refl }) refl refl;
+  accepts = record { one = refl; right = refl; probed = refl };
+  finished = record { done = refl; at_once = refl };
+  answer = result refl (record { found = refl; sources = refl; spelled = refl; once = refl; exactly = refl; answered = refl; blocked = tt; completed = refl; apart = refl }) refl refl;
 }
 
 pub acme_thorough : Thorough (scene_at at_first 1 read_acme) acme_journal
@@ -60,9 +61,10 @@ jan_journal = journal (jan_at_delta ∷ jan_at_beta ∷ jan_at_gamma ∷ [])
 
 pub jan_read : AnswersRight at_first 3 read_jan jan_journal (Answered (EntryFound (info jan (shows 4 (TextValue (codes "Smit") ∷ []) ∷ [])) (now lab 2)))
 jan_read = record {
-  licensed = (licensed_by jan_at_beta 0 0 refl refl refl refl refl refl refl refl, (licensed_by jan_at_delta 0 0 refl refl refl refl refl refl refl refl, (licensed_first refl refl refl refl refl, tt)));
-  accepts = record { one = refl; right = refl; done = refl; probed = refl };
-  answer = result (record { sources = refl; once = refl; exactly = refl; answered = refl; blocked = tt; completed = refl; apart = refl }) refl refl;
+  licensed = (licensed_by jan_at_beta 0 0 refl refl refl refl refl, (licensed_by jan_at_delta 0 0 refl refl refl refl refl, (licensed_first refl refl refl refl refl, tt)));
+  accepts = record { one = refl; right = refl; probed = refl };
+  finished = record { done = refl; at_once = refl };
+  answer = result refl (record { found = refl; sources = refl; spelled = refl; once = refl; exactly = refl; answered = refl; blocked = tt; completed = refl; apart = refl }) refl refl;
 }
 
 pub jan_thorough : Thorough (scene_at at_first 3 read_jan) jan_journal
@@ -84,8 +86,9 @@ absent_journal =
 
 pub absent_read : AnswersRight at_first 1 read_absent absent_journal (Failed (NoSuchObject acme))
 absent_read = record {
-  licensed = (licensed_by absent_at_beta 0 1 refl refl refl refl refl refl refl refl, (licensed_by absent_at_beta 0 0 refl refl refl refl refl refl refl refl, (licensed_first refl refl refl refl refl, tt)));
-  accepts = record { one = refl; right = refl; done = refl; probed = refl };
+  licensed = (licensed_by absent_at_beta 0 1 refl refl refl refl refl, (licensed_by absent_at_beta 0 0 refl refl refl refl refl, (licensed_first refl refl refl refl refl, tt)));
+  accepts = record { one = refl; right = refl; probed = refl };
+  finished = record { done = refl; at_once = refl };
   answer = error refl refl refl refl;
 }
 
@@ -111,18 +114,19 @@ lab_journal =
 
 pub lab_unavailable : AnswersRight gamma_down 0 read_lab lab_journal (Failed (ServiceProblem unavailable (Some (in_vain NonSpecific lab (Next 3) (2 ∷ []))) None))
 lab_unavailable = record {
-  licensed = (licensed_by lab_at_beta 0 1 refl refl refl refl refl refl refl refl, (licensed_by lab_at_beta 0 0 refl refl refl refl refl refl refl refl, (licensed_by lab_at_alpha 0 0 refl refl refl refl refl refl refl refl, (licensed_first refl refl refl refl refl, tt))));
-  accepts = record { one = refl; right = refl; done = refl; probed = refl };
+  licensed = (licensed_by lab_at_beta 0 1 refl refl refl refl refl, (licensed_by lab_at_beta 0 0 refl refl refl refl refl, (licensed_by lab_at_alpha 0 0 refl refl refl refl refl, (licensed_first refl refl refl refl refl, tt))));
+  accepts = record { one = refl; right = refl; probed = refl };
+  finished = record { done = refl; at_once = refl };
   answer = unheard (asked (record {
     line = lab_at_beta;
     full = reference lab (Next 3) NonSpecific (2 ∷ 3 ∷ []);
     stands = (2, omega arith, refl);
-    arrived = refl;
+    back = refl;
     needed = (0, omega arith, refl);
     same = refl;
-    unheard = refl;
+    listed = refl;
+    vain = refl;
     cleared = refl;
-    tried = refl;
   })) refl refl;
 }
 
@@ -147,9 +151,10 @@ shop_journal =
 
 pub shop_read : AnswersRight gamma_still_down 0 read_shop shop_journal (Answered (EntryFound (info shop (shows 11 (TextValue (codes "Shop") ∷ []) ∷ [])) (now shop 3)))
 shop_read = record {
-  licensed = (licensed_by shop_at_beta 0 1 refl refl refl refl refl refl refl refl, (licensed_by shop_at_beta 0 0 refl refl refl refl refl refl refl refl, (licensed_by shop_at_alpha 0 0 refl refl refl refl refl refl refl refl, (licensed_first refl refl refl refl refl, tt))));
-  accepts = record { one = refl; right = refl; done = refl; probed = refl };
-  answer = result (record { sources = refl; once = refl; exactly = refl; answered = refl; blocked = tt; completed = refl; apart = refl }) refl refl;
+  licensed = (licensed_by shop_at_beta 0 1 refl refl refl refl refl, (licensed_by shop_at_beta 0 0 refl refl refl refl refl, (licensed_by shop_at_alpha 0 0 refl refl refl refl refl, (licensed_first refl refl refl refl refl, tt))));
+  accepts = record { one = refl; right = refl; probed = refl };
+  finished = record { done = refl; at_once = refl };
+  answer = result refl (record { found = refl; sources = refl; spelled = refl; once = refl; exactly = refl; answered = refl; blocked = tt; completed = refl; apart = refl }) refl refl;
 }
 
 -- Beta refuses to chain: Alpha follows its referral
@@ -174,9 +179,10 @@ followed_journal =
 
 pub followed_read : AnswersRight beta_refuses 0 name_lab followed_journal (Answered (EntryFound (info lab (shows 11 (TextValue (codes "Lab") ∷ []) ∷ [])) (now lab 2)))
 followed_read = record {
-  licensed = (licensed_by name_at_beta 0 0 refl refl refl refl refl refl refl refl, (licensed_by name_at_alpha 0 0 refl refl refl refl refl refl refl refl, (licensed_first refl refl refl refl refl, tt)));
-  accepts = record { one = refl; right = refl; done = refl; probed = refl };
-  answer = result (record { sources = refl; once = refl; exactly = refl; answered = refl; blocked = tt; completed = refl; apart = refl }) refl refl;
+  licensed = (licensed_by name_at_beta 0 0 refl refl refl refl refl, (licensed_by name_at_alpha 0 0 refl refl refl refl refl, (licensed_first refl refl refl refl refl, tt)));
+  accepts = record { one = refl; right = refl; probed = refl };
+  finished = record { done = refl; at_once = refl };
+  answer = result refl (record { found = refl; sources = refl; spelled = refl; once = refl; exactly = refl; answered = refl; blocked = tt; completed = refl; apart = refl }) refl refl;
 }
 
 pub followed_thorough : Thorough (scene_at beta_refuses 0 name_lab) followed_journal
@@ -192,8 +198,9 @@ to_beta = reference lab (Next 2) Subordinate (1 ∷ 4 ∷ [])
 pub lab_referred : AnswersRight alpha_refuses 0 read_lab (journal (lab_at_alpha ∷ [])) (Referred to_beta)
 lab_referred = record {
   licensed = (licensed_first refl refl refl refl refl, tt);
-  accepts = record { one = refl; right = refl; done = refl; probed = refl };
-  answer = referral (record { full = to_beta; idle = refl; heard = refl; needed = (0, omega arith, refl); whole = refl; untried = refl }) refl refl;
+  accepts = record { one = refl; right = refl; probed = refl };
+  finished = record { done = refl; at_once = refl };
+  answer = referral (record { idle = refl; heard = refl; needed = (0, omega arith, refl) }) refl refl;
 }
 
 pub referred_thorough : Thorough (scene_at alpha_refuses 0 read_lab) (journal (lab_at_alpha ∷ []))
@@ -206,8 +213,9 @@ beta_down = point base_world (did (Outs (Down 1)) 0 ∷ [])
 pub acme_unheard : AnswersRight beta_down 1 read_acme (journal (asks 1 1 read_acme Lost ∷ [])) (Failed (ServiceProblem unavailable (Some (in_vain Own acme Start (1 ∷ []))) None))
 acme_unheard = record {
   licensed = (licensed_first refl refl refl refl refl, tt);
-  accepts = record { one = refl; right = refl; done = refl; probed = refl };
-  answer = unheard (user (record { unheard = refl; start = refl; kind_is = refl; agents_are = refl; tried = refl })) refl refl;
+  accepts = record { one = refl; right = refl; probed = refl };
+  finished = record { done = refl; at_once = refl };
+  answer = unheard (user (record { own = refl; unheard = refl; same = refl })) refl refl;
 }
 
 -- a country has two letters: the value isn't of the kind, and that is refused at once
@@ -218,6 +226,7 @@ compare_country =
 pub country_refused : AnswersRight at_first 0 compare_country (journal (asks 1 0 compare_country Sent ∷ [])) (Failed (AttributeProblem invalid_attribute_syntax (Known 6)))
 country_refused = record {
   licensed = (licensed_first refl refl refl refl refl, tt);
-  accepts = record { one = refl; right = refl; done = refl; probed = refl };
+  accepts = record { one = refl; right = refl; probed = refl };
+  finished = record { done = refl; at_once = refl };
   answer = error refl refl refl refl;
 }

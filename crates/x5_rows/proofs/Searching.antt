@@ -52,9 +52,10 @@ root_journal =
 
 pub root_searched : AnswersRight (point base_world []) 2 from_root root_journal (Answered (Found (bare nl ∷ bare acme ∷ bare desk ∷ bare lab ∷ bare jan ∷ bare shop ∷ bare ada ∷ []) the_sources whole_outcome))
 root_searched = record {
-  licensed = (licensed_by acme_part 1 0 refl refl refl refl refl refl refl refl, (licensed_by acme_part 0 0 refl refl refl refl refl refl refl refl, (licensed_by root_at_alpha 0 0 refl refl refl refl refl refl refl refl, (licensed_by root_at_beta 0 0 refl refl refl refl refl refl refl refl, (licensed_by root_at_gamma 0 0 refl refl refl refl refl refl refl refl, (licensed_first refl refl refl refl refl, tt))))));
-  accepts = record { one = refl; right = refl; done = refl; probed = refl };
-  answer = result (record { sources = refl; once = refl; exactly = refl; answered = refl; blocked = tt; completed = refl; apart = refl }) refl refl;
+  licensed = (licensed_by acme_part 1 0 refl refl refl refl refl, (licensed_by acme_part 0 0 refl refl refl refl refl, (licensed_by root_at_alpha 0 0 refl refl refl refl refl, (licensed_by root_at_beta 0 0 refl refl refl refl refl, (licensed_by root_at_gamma 0 0 refl refl refl refl refl, (licensed_first refl refl refl refl refl, tt))))));
+  accepts = record { one = refl; right = refl; probed = refl };
+  finished = record { done = refl; at_once = refl };
+  answer = result refl (record { found = refl; sources = refl; spelled = refl; once = refl; exactly = refl; answered = refl; blocked = tt; completed = refl; apart = refl }) refl refl;
 }
 
 pub root_thorough : Thorough (scene_at (point base_world []) 2 from_root) root_journal
@@ -79,14 +80,17 @@ nl_journal =
 
 pub nl_searched : AnswersRight gamma_down 0 from_nl nl_journal (Answered (Found (bare nl ∷ bare acme ∷ bare desk ∷ bare shop ∷ bare ada ∷ []) (now nl 0 ∷ now acme 1 ∷ now shop 3 ∷ []) (left_out (in_vain NonSpecific acme Done (2 ∷ []) ∷ []))))
 nl_searched = record {
-  licensed = (licensed_by nl_part 1 0 refl refl refl refl refl refl refl refl, (licensed_by nl_part 0 0 refl refl refl refl refl refl refl refl, (licensed_by nl_at_alpha 0 0 refl refl refl refl refl refl refl refl, (licensed_first refl refl refl refl refl, tt))));
-  accepts = record { one = refl; right = refl; done = refl; probed = refl };
-  answer = result (record {
+  licensed = (licensed_by nl_part 1 0 refl refl refl refl refl, (licensed_by nl_part 0 0 refl refl refl refl refl, (licensed_by nl_at_alpha 0 0 refl refl refl refl refl, (licensed_first refl refl refl refl refl, tt))));
+  accepts = record { one = refl; right = refl; probed = refl };
+  finished = record { done = refl; at_once = refl };
+  answer = result refl (record {
+    found = refl;
     sources = refl;
+    spelled = refl;
     once = refl;
     exactly = refl;
     answered = refl;
-    blocked = (lost (asked (record { line = nl_part; full = reference acme Done NonSpecific (2 ∷ []); stands = (2, omega arith, refl); arrived = refl; needed = (0, omega arith, refl); same = refl; unheard = refl; cleared = refl; tried = refl })), tt);
+    blocked = (lost (asked (record { line = nl_part; full = reference acme Done NonSpecific (2 ∷ []); stands = (2, omega arith, refl); back = refl; needed = (0, omega arith, refl); same = refl; listed = refl; vain = refl; cleared = refl })), tt);
     completed = refl;
     apart = refl;
   }) refl refl;
@@ -105,13 +109,16 @@ acme_reference = reference acme Done Subordinate (1 ∷ 4 ∷ [])
 pub nl_unchained : AnswersRight (point base_world []) 0 unchained (journal (asks 1 0 unchained Sent ∷ [])) (Answered (Found (bare nl ∷ []) (now nl 0 ∷ []) (left_out (acme_reference ∷ []))))
 nl_unchained = record {
   licensed = (licensed_first refl refl refl refl refl, tt);
-  accepts = record { one = refl; right = refl; done = refl; probed = refl };
-  answer = result (record {
+  accepts = record { one = refl; right = refl; probed = refl };
+  finished = record { done = refl; at_once = refl };
+  answer = result refl (record {
+    found = refl;
     sources = refl;
+    spelled = refl;
     once = refl;
     exactly = refl;
     answered = refl;
-    blocked = (untried (record { full = acme_reference; idle = refl; heard = refl; needed = (0, omega arith, refl); whole = refl; untried = refl }), tt);
+    blocked = (untried (record { idle = refl; heard = refl; needed = (0, omega arith, refl) }), tt);
     completed = refl;
     apart = refl;
   }) refl refl;
@@ -123,7 +130,7 @@ unchained_thorough = refl
 -- Beta knows Shop by a subordinate reference too: the NSSR's agents are asked without it
 abbrev pub shop_known : World
 shop_known =
-    world_of (alpha ∷ (record beta { subordinate = (record { pin = shop; access = record { master = 3; shadows = [] } }) ∷ [] }) ∷ gamma ∷ delta ∷ epsilon ∷ []) (first_agreement ∷ [])
+    world_of (alpha ∷ (record beta { subordinate = (record { pin = shop; access = record { master = 3; shadows = [] } }) ∷ []; crosses = false ∷ [] }) ∷ gamma ∷ delta ∷ epsilon ∷ []) (first_agreement ∷ [])
 
 abbrev pub shop_known_down : Point
 shop_known_down = point shop_known (did (Outs (Down 2)) 0 ∷ [])
@@ -143,14 +150,17 @@ less_shop = record (reference acme Done NonSpecific (2 ∷ [])) { exclusions = s
 
 pub less_searched : AnswersRight shop_known_down 1 below_acme less_journal (Answered (Found (bare desk ∷ bare shop ∷ []) (now acme 1 ∷ now shop 3 ∷ []) (left_out (record less_shop { tried = true } ∷ []))))
 less_searched = record {
-  licensed = (licensed_by below_at_beta 0 0 refl refl refl refl refl refl refl refl, (licensed_by below_at_beta 2 0 refl refl refl refl refl refl refl refl, (licensed_by below_at_beta 1 0 refl refl refl refl refl refl refl refl, (licensed_first refl refl refl refl refl, tt))));
-  accepts = record { one = refl; right = refl; done = refl; probed = refl };
-  answer = result (record {
+  licensed = (licensed_by below_at_beta 0 0 refl refl refl refl refl, (licensed_by below_at_beta 2 0 refl refl refl refl refl, (licensed_by below_at_beta 1 0 refl refl refl refl refl, (licensed_first refl refl refl refl refl, tt))));
+  accepts = record { one = refl; right = refl; probed = refl };
+  finished = record { done = refl; at_once = refl };
+  answer = result refl (record {
+    found = refl;
     sources = refl;
+    spelled = refl;
     once = refl;
     exactly = refl;
     answered = refl;
-    blocked = (lost (asked (record { line = below_at_beta; full = less_shop; stands = (3, omega arith, refl); arrived = refl; needed = (1, omega arith, refl); same = refl; unheard = refl; cleared = refl; tried = refl })), tt);
+    blocked = (lost (asked (record { line = below_at_beta; full = less_shop; stands = (3, omega arith, refl); back = refl; needed = (1, omega arith, refl); same = refl; listed = refl; vain = refl; cleared = refl })), tt);
     completed = refl;
     apart = refl;
   }) refl refl;
@@ -175,9 +185,10 @@ sub_at name = record { rdn = last_rdn name; copy = false }
 
 pub acme_listed : AnswersRight (point base_world []) 1 list_acme list_journal (Answered (Listed (sub_at desk ∷ sub_at lab ∷ sub_at shop ∷ []) (now acme 1 ∷ now lab 2 ∷ now shop 3 ∷ []) whole_outcome))
 acme_listed = record {
-  licensed = (licensed_by list_at_beta 1 0 refl refl refl refl refl refl refl refl, (licensed_by list_at_beta 0 0 refl refl refl refl refl refl refl refl, (licensed_first refl refl refl refl refl, tt)));
-  accepts = record { one = refl; right = refl; done = refl; probed = refl };
-  answer = result (record { sources = refl; once = refl; exactly = refl; answered = refl; blocked = tt; completed = refl; apart = refl }) refl refl;
+  licensed = (licensed_by list_at_beta 1 0 refl refl refl refl refl, (licensed_by list_at_beta 0 0 refl refl refl refl refl, (licensed_first refl refl refl refl refl, tt)));
+  accepts = record { one = refl; right = refl; probed = refl };
+  finished = record { done = refl; at_once = refl };
+  answer = result refl (record { found = refl; sources = refl; spelled = refl; once = refl; exactly = refl; answered = refl; blocked = tt; completed = refl; apart = refl }) refl refl;
 }
 
 pub list_thorough : Thorough (scene_at (point base_world []) 1 list_acme) list_journal
@@ -205,9 +216,10 @@ smit_journal =
 
 pub smit_found : AnswersRight (point base_world []) 4 (smit_below []) smit_journal (Answered (Found (info jan (shows 3 (TextValue (codes "Jan") ∷ []) ∷ shows 4 (TextValue (codes "Smit") ∷ []) ∷ []) ∷ []) the_sources whole_outcome))
 smit_found = record {
-  licensed = (licensed_by smit_part 1 0 refl refl refl refl refl refl refl refl, (licensed_by smit_part 0 0 refl refl refl refl refl refl refl refl, (licensed_by smit_at_alpha 0 0 refl refl refl refl refl refl refl refl, (licensed_by smit_at_epsilon 0 0 refl refl refl refl refl refl refl refl, (licensed_first refl refl refl refl refl, tt)))));
-  accepts = record { one = refl; right = refl; done = refl; probed = refl };
-  answer = result (record { sources = refl; once = refl; exactly = refl; answered = refl; blocked = tt; completed = refl; apart = refl }) refl refl;
+  licensed = (licensed_by smit_part 1 0 refl refl refl refl refl, (licensed_by smit_part 0 0 refl refl refl refl refl, (licensed_by smit_at_alpha 0 0 refl refl refl refl refl, (licensed_by smit_at_epsilon 0 0 refl refl refl refl refl, (licensed_first refl refl refl refl refl, tt)))));
+  accepts = record { one = refl; right = refl; probed = refl };
+  finished = record { done = refl; at_once = refl };
+  answer = result refl (record { found = refl; sources = refl; spelled = refl; once = refl; exactly = refl; answered = refl; blocked = tt; completed = refl; apart = refl }) refl refl;
 }
 
 pub smit_thorough : Thorough (scene_at (point base_world []) 4 (smit_below [])) smit_journal
@@ -233,9 +245,10 @@ twice_journal =
 
 pub twice_searched : AnswersRight beta_cut_off 0 from_nl twice_journal (Answered (Found (bare nl ∷ bare acme ∷ bare desk ∷ bare lab ∷ bare jan ∷ bare shop ∷ bare ada ∷ []) the_sources whole_outcome))
 twice_searched = record {
-  licensed = (licensed_by acme_at_beta 1 0 refl refl refl refl refl refl refl refl, (licensed_by acme_at_beta 0 0 refl refl refl refl refl refl refl refl, (licensed_by copy_at_gamma 0 0 refl refl refl refl refl refl refl refl, (licensed_by nl_at_alpha 0 1 refl refl refl refl refl refl refl refl, (licensed_by nl_at_alpha 0 0 refl refl refl refl refl refl refl refl, (licensed_first refl refl refl refl refl, tt))))));
-  accepts = record { one = refl; right = refl; done = refl; probed = refl };
-  answer = result (record { sources = refl; once = refl; exactly = refl; answered = refl; blocked = tt; completed = refl; apart = refl }) refl refl;
+  licensed = (licensed_by acme_at_beta 1 0 refl refl refl refl refl, (licensed_by acme_at_beta 0 0 refl refl refl refl refl, (licensed_by copy_at_gamma 0 0 refl refl refl refl refl, (licensed_by nl_at_alpha 0 1 refl refl refl refl refl, (licensed_by nl_at_alpha 0 0 refl refl refl refl refl, (licensed_first refl refl refl refl refl, tt))))));
+  accepts = record { one = refl; right = refl; probed = refl };
+  finished = record { done = refl; at_once = refl };
+  answer = result refl (record { found = refl; sources = refl; spelled = refl; once = refl; exactly = refl; answered = refl; blocked = tt; completed = refl; apart = refl }) refl refl;
 }
 
 pub twice_thorough : Thorough (scene_at beta_cut_off 0 from_nl) twice_journal

@@ -56,8 +56,9 @@ gears_journal = accepted_journal (asks 3 1 put_gears Sent ∷ []) 1
 pub gears_put : AnswersRight (point base_world (first_did ∷ [])) 1 put_gears gears_journal (Answered Changed)
 gears_put = record {
   licensed = (licensed_first refl refl refl refl refl, tt);
-  accepts = record { one = refl; right = refl; done = refl; probed = refl };
-  answer = changed refl refl;
+  accepts = record { one = refl; right = refl; probed = refl };
+  finished = record { done = refl; at_once = refl };
+  answer = changed refl refl refl;
 }
 
 -- line 3: Epsilon answers from its copy, as of line 1
@@ -76,8 +77,9 @@ description_at_epsilon = asks 4 4 read_description Sent
 pub copy_read : AnswersRight third_line 4 read_description (journal (description_at_epsilon ∷ [])) (Answered (EntryFound (copied (info acme (shows 13 (TextValue (codes "tools") ∷ []) ∷ []))) as_of_first))
 copy_read = record {
   licensed = (licensed_first refl refl refl refl refl, tt);
-  accepts = record { one = refl; right = refl; done = refl; probed = refl };
-  answer = result (record { sources = refl; once = refl; exactly = refl; answered = refl; blocked = tt; completed = refl; apart = refl }) refl refl;
+  accepts = record { one = refl; right = refl; probed = refl };
+  finished = record { done = refl; at_once = refl };
+  answer = result refl (record { found = refl; sources = refl; spelled = refl; once = refl; exactly = refl; answered = refl; blocked = tt; completed = refl; apart = refl }) refl refl;
 }
 
 pub copy_thorough : Thorough (scene_at third_line 4 read_description) (journal (description_at_epsilon ∷ []))
@@ -99,9 +101,10 @@ master_journal =
 
 pub master_read : AnswersRight fourth_line 4 at_master master_journal (Answered (EntryFound (info acme (shows 13 (TextValue (codes "gears") ∷ TextValue (codes "tools") ∷ []) ∷ [])) (now acme 1)))
 master_read = record {
-  licensed = (licensed_by master_at_epsilon 0 0 refl refl refl refl refl refl refl refl, (licensed_first refl refl refl refl refl, tt));
-  accepts = record { one = refl; right = refl; done = refl; probed = refl };
-  answer = result (record { sources = refl; once = refl; exactly = refl; answered = refl; blocked = tt; completed = refl; apart = refl }) refl refl;
+  licensed = (licensed_by master_at_epsilon 0 0 refl refl refl refl refl, (licensed_first refl refl refl refl refl, tt));
+  accepts = record { one = refl; right = refl; probed = refl };
+  finished = record { done = refl; at_once = refl };
+  answer = result refl (record { found = refl; sources = refl; spelled = refl; once = refl; exactly = refl; answered = refl; blocked = tt; completed = refl; apart = refl }) refl refl;
 }
 
 pub master_thorough : Thorough (scene_at fourth_line 4 at_master) master_journal
@@ -166,9 +169,10 @@ new_journal =
 
 pub new_added : AnswersRight (point base_world (first_did ∷ [])) 1 add_new new_journal (Answered Changed)
 new_added = record {
-  licensed = (licensed_by new_at_beta 0 1 refl refl refl refl refl refl refl refl, (licensed_by new_at_beta 0 0 refl refl refl refl refl refl refl refl, (licensed_first refl refl refl refl refl, tt)));
-  accepts = record { one = refl; right = refl; done = refl; probed = refl };
-  answer = changed refl refl;
+  licensed = (licensed_by new_at_beta 0 1 refl refl refl refl refl, (licensed_by new_at_beta 0 0 refl refl refl refl refl, (licensed_first refl refl refl refl refl, tt)));
+  accepts = record { one = refl; right = refl; probed = refl };
+  finished = record { done = refl; at_once = refl };
+  answer = changed refl refl refl;
 }
 
 pub new_thorough : Thorough (scene_at (point base_world (first_did ∷ [])) 1 add_new) new_journal
@@ -193,9 +197,10 @@ below_journal =
 
 pub below_searched : AnswersRight (point base_world beta_down) 0 below_acme below_journal (Answered (Found (copied (bare desk) ∷ bare lab ∷ bare shop ∷ []) (as_of_first ∷ now lab 2 ∷ now shop 3 ∷ []) whole_outcome))
 below_searched = record {
-  licensed = (licensed_by below_at_epsilon 1 0 refl refl refl refl refl refl refl refl, (licensed_by below_at_epsilon 0 0 refl refl refl refl refl refl refl refl, (licensed_by below_at_alpha 0 1 refl refl refl refl refl refl refl refl, (licensed_by below_at_alpha 0 0 refl refl refl refl refl refl refl refl, (licensed_first refl refl refl refl refl, tt)))));
-  accepts = record { one = refl; right = refl; done = refl; probed = refl };
-  answer = result (record { sources = refl; once = refl; exactly = refl; answered = refl; blocked = tt; completed = refl; apart = refl }) refl refl;
+  licensed = (licensed_by below_at_epsilon 1 0 refl refl refl refl refl, (licensed_by below_at_epsilon 0 0 refl refl refl refl refl, (licensed_by below_at_alpha 0 1 refl refl refl refl refl, (licensed_by below_at_alpha 0 0 refl refl refl refl refl, (licensed_first refl refl refl refl refl, tt)))));
+  accepts = record { one = refl; right = refl; probed = refl };
+  finished = record { done = refl; at_once = refl };
+  answer = result refl (record { found = refl; sources = refl; spelled = refl; once = refl; exactly = refl; answered = refl; blocked = tt; completed = refl; apart = refl }) refl refl;
 }
 
 pub below_thorough : Thorough (scene_at (point base_world beta_down) 0 below_acme) below_journal
@@ -217,18 +222,19 @@ unknown_journal =
 
 pub new_unavailable : AnswersRight (point base_world (did Nothing 5 ∷ beta_down)) 0 read_new unknown_journal (Failed (ServiceProblem unavailable (Some (in_vain Supplier new_name (Next 2) (1 ∷ []))) None))
 new_unavailable = record {
-  licensed = (licensed_by new_at_epsilon 0 0 refl refl refl refl refl refl refl refl, (licensed_by new_at_alpha 0 1 refl refl refl refl refl refl refl refl, (licensed_by new_at_alpha 0 0 refl refl refl refl refl refl refl refl, (licensed_first refl refl refl refl refl, tt))));
-  accepts = record { one = refl; right = refl; done = refl; probed = refl };
+  licensed = (licensed_by new_at_epsilon 0 0 refl refl refl refl refl, (licensed_by new_at_alpha 0 1 refl refl refl refl refl, (licensed_by new_at_alpha 0 0 refl refl refl refl refl, (licensed_first refl refl refl refl refl, tt))));
+  accepts = record { one = refl; right = refl; probed = refl };
+  finished = record { done = refl; at_once = refl };
   answer = unheard (asked (record {
     line = new_at_epsilon;
     full = reference new_name (Next 2) Supplier (1 ∷ []);
     stands = (1, omega arith, refl);
-    arrived = refl;
+    back = refl;
     needed = (0, omega arith, refl);
     same = refl;
-    unheard = refl;
+    listed = refl;
+    vain = refl;
     cleared = refl;
-    tried = refl;
   })) refl refl;
 }
 
@@ -248,17 +254,18 @@ acme_journal =
 
 pub acme_unavailable : AnswersRight (point base_world (did Nothing 4 ∷ did Nothing 5 ∷ beta_down)) 0 read_master acme_journal (Failed (ServiceProblem unavailable (Some (in_vain Subordinate acme (Next 2) (1 ∷ []))) None))
 acme_unavailable = record {
-  licensed = (licensed_by acme_at_alpha 0 0 refl refl refl refl refl refl refl refl, (licensed_first refl refl refl refl refl, tt));
-  accepts = record { one = refl; right = refl; done = refl; probed = refl };
+  licensed = (licensed_by acme_at_alpha 0 0 refl refl refl refl refl, (licensed_first refl refl refl refl refl, tt));
+  accepts = record { one = refl; right = refl; probed = refl };
+  finished = record { done = refl; at_once = refl };
   answer = unheard (asked (record {
     line = acme_at_alpha;
     full = reference acme (Next 2) Subordinate (1 ∷ []);
     stands = (1, omega arith, refl);
-    arrived = refl;
+    back = refl;
     needed = (0, omega arith, refl);
     same = refl;
-    unheard = refl;
+    listed = refl;
+    vain = refl;
     cleared = refl;
-    tried = refl;
   })) refl refl;
 }

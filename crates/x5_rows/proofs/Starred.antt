@@ -4,8 +4,12 @@ use Rattle.std.specs.Prelude.{◌≡◌, true, false, List, [], ◌∷◌}
 use Rattle.std.specs.declared.option.Option.TheVariants.{None, Some}
 use Rattle.std.proofs.Common.{refl, arith}
 use Rattle.std.specs.Fmt.{digits}
+use Rattle.std.specs.Str.{chars}
+use Rattle.caseless.proofs.Computing.{caseless}
+use lib.Utf8.{encode}
 use lib.Chars.{codes}
 use Rattle.x5_model.specs.Values.{Known, TextValue, OidValue, Name}
+use Rattle.x5_model.specs.Normal.{folded}
 use Rattle.x5_model.specs.Entries.{Named}
 use Rattle.x5_model.specs.Requests.{Request, Read, Compare, All}
 use Rattle.x5_model.specs.References.{Start, Next, Superior, Subordinate}
@@ -34,6 +38,7 @@ alpha = record {
   contexts = (record { prefix = nl; entries = nl_entry ∷ []; nssrs = [] }) ∷ [];
   subordinate = (record { pin = acme; access = record { master = 1; shadows = [] } }) ∷ [];
   cross = [];
+  crosses = false ∷ [];
 }
 
 abbrev beta : Agent
@@ -43,14 +48,16 @@ beta = record {
   contexts = (record { prefix = acme; entries = bare_acme ∷ []; nssrs = [] }) ∷ [];
   subordinate = [];
   cross = [];
+  crosses = [];
 }
 
 abbrev pub star : World
 star = record { agents = alpha ∷ beta ∷ []; agreements = []; network = idle }
 
 pub described : IsDescribed star
+unfolding caseless folded chars encode
 described =
-    record { agents_there = refl; names_apart = refl; agents = refl; superiors = refl; agreements = refl; numbers_apart = refl }
+    record { agents_there = refl; names_apart = refl; agents = refl; superiors = refl; agreements = refl; numbers_apart = refl; stored = refl; listed = refl; limits = refl; network = refl }
 
 pub is_star : IsStar star
 is_star =
@@ -144,18 +151,20 @@ gamma = record {
   contexts = (record { prefix = lab_name; entries = named lab_name (class 4 ∷ one 10 (text (codes "Lab") (codes "lab")) ∷ []) ∷ []; nssrs = [] }) ∷ [];
   subordinate = [];
   cross = [];
+  crosses = [];
 }
 
 abbrev pub star_of_three : World
 star_of_three = record {
-  agents = record alpha { subordinate = (record { pin = acme; access = record { master = 1; shadows = [] } }) ∷ (record { pin = lab_name; access = record { master = 2; shadows = [] } }) ∷ [] } ∷ beta ∷ gamma ∷ [];
+  agents = record alpha { subordinate = (record { pin = acme; access = record { master = 1; shadows = [] } }) ∷ (record { pin = lab_name; access = record { master = 2; shadows = [] } }) ∷ []; crosses = false ∷ false ∷ [] } ∷ beta ∷ gamma ∷ [];
   agreements = [];
   network = idle;
 }
 
 pub three_described : IsDescribed star_of_three
+unfolding caseless folded chars encode
 three_described =
-    record { agents_there = refl; names_apart = refl; agents = refl; superiors = refl; agreements = refl; numbers_apart = refl }
+    record { agents_there = refl; names_apart = refl; agents = refl; superiors = refl; agreements = refl; numbers_apart = refl; stored = refl; listed = refl; limits = refl; network = refl }
 
 pub is_star_of_three : IsStar star_of_three
 is_star_of_three =
