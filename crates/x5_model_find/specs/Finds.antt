@@ -1,17 +1,15 @@
 -- What it comes to where the resolution of a name ends at an agent (X.518, section 18): which references are needed
 -- there, and what the one tree has.
-use Rattle.std.specs.Prelude.{◌≡◌, ℕ, ◌<◌, ◌≤◌, ◌⊎◌, true, false, List, [], ◌∷◌, length, map}
+use Rattle.std.specs.Prelude.{◌≡◌, ℕ, ◌<◌, ◌⊎◌, true, false, List, [], ◌∷◌, length, map}
 use Rattle.std.specs.Option.{is_some}
 use Rattle.std.specs.declared.option.Option.TheVariants.{None, Some}
 use Rattle.x5_model.specs.Members.{In, Once}
-use Rattle.x5_model.specs.Keys.{Key}
 use Rattle.x5_model.specs.Values.{Name, key_of}
 use Rattle.x5_model.specs.Entries.{Named}
 use Rattle.x5_model.specs.References.{Next, Reference, Chained}
 use Rattle.x5_model.specs.Answers.{NoSuchObject}
 use Rattle.x5_model_tree.specs.World.{World}
 use Rattle.x5_model_tree.specs.Tree.{key_at, tree_of, lowest}
-use Rattle.x5_model_tree.specs.Masters.{pins}
 use Rattle.x5_model_tree.specs.Consistent.{IsConsistent}
 use Rattle.x5_model_tree.specs.Described.{IsDescribed}
 use Rattle.x5_model_tree.specs.Ask.{Refuses, is_update, ask_marked}

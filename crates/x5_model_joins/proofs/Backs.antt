@@ -1,15 +1,14 @@
 -- What came back to a line that itself came back to another's came back to that one too: the way up from a line passes
 -- the first, since no two lines of a journal have one number, and goes on from there.
-use Rattle.std.proofs.Common.{◌≡◌, ℕ, suc, ◌+◌, ◌-◌, ◌<◌, ◌≤◌, Bool, true, false, cond, ◌&&◌, ◌||◌, ◌==◌, nat_lt, inl, inr, List, [], ◌∷◌, length, refl, sym, ap, subst, ◌∙◌, arith, Some, if◌then◌else◌}
+use Rattle.std.proofs.Common.{◌≡◌, ℕ, ◌+◌, ◌-◌, ◌≤◌, Bool, true, false, ◌&&◌, ◌||◌, ◌==◌, nat_lt, inl, inr, List, [], ◌∷◌, length, refl, sym, ap, subst, ◌∙◌, arith, if◌then◌else◌}
 use Rattle.std.proofs.lemmas.Bool.Decides.{Decides-eqb}
-use Rattle.std.specs.List.{list_any}
 use Rattle.x5_model.specs.Members.{In, here, there}
 use Rattle.x5_model.specs.References.{Reference}
 use Rattle.x5_model.proofs.Lists.{both_true, and_true, either_true, or_left, or_right, in_first, any_in}
 use Rattle.x5_model_run.specs.Network.{is_sent}
 use Rattle.x5_model_run.specs.Journal.{Line, depth, leads_up, some_line}
 use Rattle.x5_model_run.specs.Chain.{Scene, AllLicensed}
-use Rattle.x5_model_run.specs.Blocked.{Asked, is_answered_line, is_answered, came_back, hears_by, IsUserLost, IsTried, IsLost, user, asked}
+use Rattle.x5_model_run.specs.Blocked.{Asked, is_answered_line, is_answered, came_back, hears_by, IsLost, user, asked}
 use Rattle.x5_model_run.proofs.Journals.{leads_from}
 use Rattle.x5_model_serve.specs.Claims.{asked_line}
 

@@ -1,6 +1,6 @@
 -- An agent that begins a list or search before its name is completed has found the base, and its sources are spelled as it
 -- keeps them: by the cases of `find`, and since it holds each prefix once.
-use Rattle.std.proofs.Common.{◌≡◌, ℕ, Bool, true, false, cond, not, ◌&&◌, ◌||◌, inl, inr, List, [], ◌∷◌, ◌++◌, map, length, refl, sym, ap, subst, ◌∙◌, Option, Some, None, if◌then◌else◌}
+use Rattle.std.proofs.Common.{◌≡◌, ℕ, Bool, true, false, not, ◌&&◌, inl, inr, List, [], ◌∷◌, map, length, refl, sym, ap, subst, ◌∙◌, Option, Some, None, if◌then◌else◌}
 use Rattle.std.specs.List.{find, filter}
 use Rattle.std.specs.Option.{is_some, is_none}
 use Rattle.x5_model.specs.Words.{in_option}
@@ -12,16 +12,15 @@ use Rattle.x5_model.specs.Requests.{Request}
 use Rattle.x5_model.specs.References.{Progress, Start, Next, Done, Reference, Chained}
 use Rattle.x5_model.specs.Answers.{Source}
 use Rattle.x5_model.proofs.KeyLaws.{key_decides}
-use Rattle.x5_model.proofs.Lists.{both_true, true_or_false, and_true, or_left, or_right, not_true, in_first, in_either, in_map, of_map, of_filter, any_in}
+use Rattle.x5_model.proofs.Lists.{true_or_false, and_true, or_left, or_right, not_true, in_first, in_either, in_map, of_map, of_filter, any_in}
 use Rattle.x5_model_tree.specs.Tree.{key_at, is_there, lowest}
 use Rattle.x5_model_tree.proofs.Longest.{IsLowest, lowest_right}
 use Rattle.x5_model_run.specs.Journal.{Line, is_done, same_name}
 use Rattle.x5_model_run.specs.Holdings.{Held, Copy, Holdings, held_at, copy_at, masters_pin, served, usable_copies, may_copy, known_pin, holds_within, is_first_level}
-use Rattle.x5_model_run.specs.Needs.{evaluated, subset_of, superior_needs, multicast_needs, specific_needs, supplier_needs, copy_answers, ends_at_pin, ends_here, resolves, resolves_by}
+use Rattle.x5_model_run.specs.Needs.{evaluated, subset_of, multicast_needs, specific_needs, copy_answers, ends_at_pin, ends_here, resolves, resolves_by}
 use Rattle.x5_model_run.specs.History.{Point, knowledge_at, tree_at, holdings_at}
 use Rattle.x5_model_run.specs.Chain.{Scene}
 use Rattle.x5_model_run.specs.Right.{is_found, kept_name}
-use Rattle.x5_model_theory.proofs.Following.{query_of}
 use Rattle.x5_model_parts.specs.Parts.{BeginsHere}
 use Rattle.x5_model_parts.proofs.Asking.{false_true}
 use Rattle.x5_model_parts.proofs.Joining.{sight}

@@ -1,26 +1,17 @@
 -- Who may not chain answers with what it has and all references for the rest: it needs each of them, and nobody tried
 -- it, so each is blocked.
-use Rattle.std.proofs.Common.{◌≡◌, ℕ, Bool, true, false, ◌==◌, if◌then◌else◌, inl, inr, List, [], ◌∷◌, ◌++◌, map, length, refl, sym, ap, subst, arith, Option, Some, None}
-use Rattle.std.specs.List.{flat_map, AllByRecursion}
+use Rattle.std.proofs.Common.{◌≡◌, ℕ, Bool, true, if◌then◌else◌, List, [], ◌∷◌, ◌++◌, length, refl, sym, ap, subst, arith}
+use Rattle.std.specs.List.{AllByRecursion}
 use Rattle.std.specs.Prelude.{Contains}
 use Rattle.std.specs.Option.{is_some}
-use Rattle.std.specs.Cmp.Lexicographic.{pointwise, bytes_decides}
-use Rattle.std.proofs.lemmas.Bool.Decides.{Decides-eqb}
-use Rattle.x5_model.specs.Words.{in_option}
 use Rattle.x5_model.specs.Members.{In, here, there}
-use Rattle.x5_model.specs.Values.{Rdn, key_of, key_of_rdn}
-use Rattle.x5_model.specs.Entries.{Named}
-use Rattle.x5_model.specs.Requests.{Subset}
-use Rattle.x5_model.specs.References.{Done, Subordinate, NonSpecific, Reference, Chained}
+use Rattle.x5_model.specs.References.{Reference}
 use Rattle.x5_model.specs.Answers.{Answer, EntryFound, Matched, Listed, Found, Changed}
-use Rattle.x5_model.proofs.KeyLaws.{key_decides, rdn_decides}
-use Rattle.x5_model.proofs.Lists.{and_true, in_left, in_right, in_either, of_map, of_flat}
+use Rattle.x5_model.proofs.Lists.{in_left, in_right}
 use Rattle.x5_model.proofs.Ascending.{of_sorted}
-use Rattle.x5_model_tree.specs.World.{Specific, Nssr}
-use Rattle.x5_model_tree.specs.Tree.{entry_at}
-use Rattle.x5_model_run.specs.Journal.{Line, Journal, same_progress, same_name, same_kind, kind_number, same_spelled_rdn}
-use Rattle.x5_model_run.specs.Holdings.{Held, Holdings, usable_agents}
-use Rattle.x5_model_run.specs.Needs.{subset_of, reference, evaluated, answers_root, below_needs, in_scope, others, treated_below, wide_needs, part_needs, resolution_needs, copied_needs, passing_needs}
+use Rattle.x5_model_run.specs.Journal.{Line, Journal}
+use Rattle.x5_model_run.specs.Holdings.{Holdings}
+use Rattle.x5_model_run.specs.Needs.{part_needs, resolution_needs, copied_needs, passing_needs}
 use Rattle.x5_model_run.specs.History.{Point, holdings_at}
 use Rattle.x5_model_run.specs.Chain.{Scene}
 use Rattle.x5_model_run.specs.Blocked.{Blocked, untried}

@@ -1,6 +1,6 @@
 -- The right answer of a part takes the place of the reference by which it was asked: field by field of what tells so
 -- far, from the laws of contexts and of entries.
-use Rattle.std.proofs.Common.{◌≡◌, ℕ, Bool, true, false, cond, not, ◌&&◌, ◌==◌, ◌⊎◌, inl, inr, ◌↔◌, List, [], ◌∷◌, ◌++◌, map, length, nat_le, refl, sym, ap, subst, ◌∙◌, Option, Some, None}
+use Rattle.std.proofs.Common.{◌≡◌, ℕ, Bool, true, false, cond, not, ◌&&◌, ◌==◌, ◌⊎◌, inl, inr, ◌↔◌, List, [], ◌∷◌, ◌++◌, map, refl, sym, ap, subst, ◌∙◌, Option, Some, None}
 use Rattle.std.specs.List.{list_all, filter, AllByRecursion}
 use Rattle.std.specs.Option.{is_some}
 use Rattle.std.proofs.lemmas.Bool.Decides.{Decides-eqb}
@@ -14,11 +14,10 @@ use Rattle.x5_model.specs.Answers.{Source, Answer, EntryFound, Matched, Listed, 
 use Rattle.x5_model.proofs.KeyLaws.{key_decides}
 use Rattle.x5_model.proofs.Prefixes.{prefix_decides}
 use Rattle.x5_model.proofs.Decide.{once_decides}
-use Rattle.x5_model.proofs.Lists.{both_true, and_true, either_true, or_right, in_left, in_right, in_either, in_map, any_in, of_any, of_all, all_in}
+use Rattle.x5_model.proofs.Lists.{both_true, and_true, in_left, in_right, in_either, in_map, of_any, of_all, all_in}
 use Rattle.x5_model_tree.specs.World.{World, Agreement}
 use Rattle.x5_model_tree.specs.Masters.{is_consumer}
 use Rattle.x5_model_tree.specs.Ask.{rest_of, sources_of, unexplored_of, is_update}
-use Rattle.x5_model_run.specs.Network.{is_sent}
 use Rattle.x5_model_run.specs.Journal.{Line, Journal, is_done, is_wide}
 use Rattle.x5_model_run.specs.Holdings.{may_copy}
 use Rattle.x5_model_run.specs.Needs.{subset_of, passing_needs}

@@ -11,7 +11,7 @@ use Rattle.x5_model.specs.Answers.{Source}
 use Rattle.x5_model.specs.Requests.{Request}
 use Rattle.x5_model.proofs.KeyLaws.{key_decides}
 use Rattle.x5_model.proofs.Decide.{once_decides}
-use Rattle.x5_model.proofs.Lists.{and_true, or_left, not_true, in_either, in_map, of_map, of_filter, of_find, not_found, any_in, all_in, once_map}
+use Rattle.x5_model.proofs.Lists.{and_true, not_true, in_either, in_map, of_map, of_filter, of_find, not_found, any_in, all_in, once_map}
 use Rattle.x5_model_tree.specs.World.{Agent, Agreement, World}
 use Rattle.x5_model_tree.specs.Tree.{part}
 use Rattle.x5_model_tree.specs.Masters.{master_of, is_consumer}
@@ -21,7 +21,7 @@ use Rattle.x5_model_run.specs.Holdings.{Held, Copy, Holdings, copy_at, masters_p
 use Rattle.x5_model_run.specs.Needs.{evaluated}
 use Rattle.x5_model_run.specs.History.{Point, knowledge_at, tree_at, tree_of_moment, as_of, copy_by, agent_holdings, holdings_at}
 use Rattle.x5_model_run.specs.Covers.{source_tree}
-use Rattle.x5_model_run.specs.Blocked.{Asked, hears}
+use Rattle.x5_model_run.specs.Blocked.{hears}
 use Rattle.x5_model_run.specs.Right.{is_copy_source, is_source}
 use Rattle.x5_model_theory.specs.Described.{supply_of}
 use Rattle.x5_model_theory.proofs.Cohering.{agreements_apart}

@@ -1,6 +1,6 @@
 -- The steps of the loop over references, and where it begins anew when what was left unexplored is followed: each takes
 -- the head of what is still to be asked away.
-use Rattle.std.proofs.Common.{◌≡◌, ℕ, Bool, true, false, cond, not, ◌&&◌, ◌==◌, if◌then◌else◌, nat_le, inl, inr, List, [], ◌∷◌, ◌++◌, map, length, refl, sym, ap, subst, ◌∙◌, arith, Option, Some, None}
+use Rattle.std.proofs.Common.{◌≡◌, ℕ, Bool, true, false, cond, not, ◌==◌, if◌then◌else◌, inl, inr, List, [], ◌∷◌, ◌++◌, map, length, refl, sym, ap, subst, ◌∙◌, arith, Option, Some, None}
 use Rattle.std.specs.List.{filter, AllByRecursion}
 use Rattle.x5_model.specs.Members.{here}
 use Rattle.x5_model.specs.Keys.{Key}
@@ -16,11 +16,9 @@ use Rattle.x5_model.proofs.Ascending.{of_sorted}
 use Rattle.x5_model_tree.specs.Tree.{Tree, is_there_or_root, matched}
 use Rattle.x5_model_tree.specs.Masters.{pin_of, mastered}
 use Rattle.x5_model_tree.specs.Ask.{Told, Refuses, limited_list, limited_found, just_below, searched, sources_of, unexplored_of}
-use Rattle.x5_model_run.specs.Network.{is_sent}
 use Rattle.x5_model_run.specs.Journal.{Line, Journal, is_done, is_wide}
-use Rattle.x5_model_run.specs.Holdings.{may_copy}
 use Rattle.x5_model_run.specs.History.{Point, knowledge_at, tree_at}
-use Rattle.x5_model_run.specs.Chain.{Scene, IsCarried}
+use Rattle.x5_model_run.specs.Chain.{Scene}
 use Rattle.x5_model_run.specs.Covers.{covered_roots, is_below_wide, told}
 use Rattle.x5_model_run.specs.Blocked.{Asked, hears_by, hears, IsLost, user, asked}
 use Rattle.x5_model_run.specs.Right.{is_found, is_source, same_phase, Right, result, changed, error, referral, unheard}

@@ -1,10 +1,9 @@
 -- Nobody tried a reference that an agent needs of itself: by the ways in which needed references are made.
 use Rattle.std.proofs.Common.{◌≡◌, ℕ, zero, suc, ◌<◌, length, slice_index_or, arith, Bool, true, false, ◌&&◌, ◌∙◌, inl, inr, List, [], ◌∷◌, ◌++◌, map, refl, ap, subst, sym, Option, Some, None, if◌then◌else◌}
-use Rattle.std.specs.List.{filter, flat_map, Contains}
+use Rattle.std.specs.List.{flat_map, Contains}
 use Rattle.std.specs.Option.{is_some}
 use Rattle.x5_model.specs.Words.{in_option, when}
 use Rattle.x5_model.specs.Members.{In, here, there}
-use Rattle.x5_model.specs.Keys.{Key}
 use Rattle.x5_model.specs.Values.{key_of}
 use Rattle.x5_model.specs.Requests.{Subset}
 use Rattle.x5_model.specs.References.{Reference, Chained, Done, NonSpecific, Subordinate, Cross}

@@ -1,16 +1,14 @@
 -- Where a name goes on, the agent resolves it, whatever it accepted before: by cases of the definitions.
-use Rattle.std.proofs.Common.{◌≡◌, ℕ, Bool, true, false, not, ◌||◌, List, [], ◌∷◌, refl, sym, Option}
-use Rattle.std.specs.Cmp.Lexicographic.{pointwise}
-use Rattle.x5_model.specs.Values.{Rdn, key_of, key_of_rdn}
+use Rattle.std.proofs.Common.{◌≡◌, ℕ, Bool, true, false, not, ◌||◌, refl, sym}
+use Rattle.x5_model.specs.Values.{key_of}
 use Rattle.x5_model.specs.Requests.{Body, Read, Compare, ListBelow, Search, AddEntry, RemoveEntry, ModifyEntry, ModifyDn}
-use Rattle.x5_model.specs.References.{Progress, Start, Next, Done, Reference, Chained}
-use Rattle.x5_model.proofs.KeyLaws.{key_decides, rdn_decides}
-use Rattle.x5_model.proofs.Lists.{and_true, both_true}
+use Rattle.x5_model.specs.References.{Progress, Start, Next, Done, Chained}
+use Rattle.x5_model.proofs.Lists.{both_true}
 use Rattle.x5_model_tree.specs.Ask.{is_update}
-use Rattle.x5_model_run.specs.Journal.{Journal, same_name, same_spelled_rdn, is_done}
+use Rattle.x5_model_run.specs.Journal.{Journal, same_name, is_done}
 use Rattle.x5_model_run.specs.Holdings.{Holdings, holds_within}
 use Rattle.x5_model_run.specs.Needs.{target_of, resolves}
-use Rattle.x5_model_run.specs.Chain.{Scene, IsCarried}
+use Rattle.x5_model_run.specs.Chain.{Scene}
 use Rattle.x5_model_run.specs.Placed.{is_query_below}
 use Rattle.x5_model_serve.specs.Finding.{Found, Stuck, find}
 use Rattle.x5_model_serve.specs.Serving.{Hand, Arrives, holds_now, found_at}

@@ -1,7 +1,7 @@
 -- The next message of a needed reference has its cause: its opener is at hand, the agents before it in the reference
 -- were asked, and no line asks the same, since needed references are apart.
-use Rattle.std.proofs.Common.{◌≡◌, ℕ, zero, suc, ◌+◌, ◌<◌, Bool, true, false, cond, not, ◌||◌, ◌==◌, nat_lt, inl, inr, List, [], ◌∷◌, ◌++◌, length, take, slice_index, slice_index_or, refl, sym, ap, subst, ◌∙◌, arith, Option, Some, None, length-append}
-use Rattle.std.proofs.lemmas.Bool.{eqb-true, eq-eqb}
+use Rattle.std.proofs.Common.{◌≡◌, ℕ, zero, suc, ◌+◌, ◌<◌, Bool, true, false, cond, not, ◌==◌, nat_lt, inl, inr, List, [], ◌∷◌, ◌++◌, length, take, slice_index, slice_index_or, refl, sym, ap, subst, ◌∙◌, arith, Option, Some, None, length-append}
+use Rattle.std.proofs.lemmas.Bool.{eqb-true}
 use Rattle.std.specs.Prelude.{IsTrue}
 use Rattle.std.specs.List.{list_any, list_all, Contains}
 use Rattle.x5_model.specs.Words.{first_of}
@@ -9,10 +9,9 @@ use Rattle.x5_model.specs.Members.{In, here, there, Once}
 use Rattle.x5_model.specs.Values.{Name, key_of}
 use Rattle.x5_model.specs.References.{Progress, Start, Next, Done, Reference, Chained}
 use Rattle.x5_model.proofs.KeyLaws.{key_decides}
-use Rattle.x5_model.proofs.Lists.{both_true, and_true, in_first, any_in, of_any, all_in}
+use Rattle.x5_model.proofs.Lists.{both_true, in_first, of_any, all_in}
 use Rattle.x5_model.proofs.Decide.{nat_same_decides}
-use Rattle.x5_model_run.specs.Network.{is_unheard}
-use Rattle.x5_model_run.specs.Journal.{Line, depth, same_sender, same_progress, same_name, same_message, is_wide, item_of, settled, siblings}
+use Rattle.x5_model_run.specs.Journal.{Line, depth, same_sender, same_progress, same_name, same_message, item_of, settled, siblings}
 use Rattle.x5_model_run.specs.Needs.{needs}
 use Rattle.x5_model_run.specs.Chain.{Scene, AllLicensed, Caused, carried, IsCarried, begins, later, is_passed, is_fresh, request_for, is_user}
 use Rattle.x5_model_run.proofs.Carrying.{is_carried, as_carried}
