@@ -1,32 +1,17 @@
 -- The new name of an update is another than its target's, and a probe asks for it: by cases of the update.
-use Rattle.std.proofs.Common.{◌≡◌, ◌≤◌, ◌<◌, ◌-◌, ℕ, ◌==◌, Bool, true, false, not, ◌&&◌, inl, inr, List, [], ◌∷◌, ◌++◌, map, length, refl, sym, ap, subst, ◌∙◌, arith, Option, Some, None, Ok, Err, length-take, if◌then◌else◌}
-use Rattle.std.specs.List.{flat_map, list_all, list_any, filter}
-use Rattle.std.specs.Option.{is_some}
-use Rattle.std.specs.Result.{is_ok, is_err}
-use Rattle.x5_model.specs.Words.{in_option, some_and}
+use Rattle.std.proofs.Common.{◌≡◌, ◌≤◌, ◌<◌, ◌-◌, Bool, true, false, List, [], ◌∷◌, ◌++◌, length, refl, sym, ap, subst, ◌∙◌, arith, Some, None, length-take, if◌then◌else◌}
 use Rattle.x5_model.specs.Members.{In, here}
 use Rattle.x5_model.specs.Keys.{Key}
 use Rattle.x5_model.specs.Values.{Name, key_of, name_above}
-use Rattle.x5_model.specs.Entries.{Named}
-use Rattle.x5_model.specs.Requests.{Body, Read, Compare, ListBelow, Search, AddEntry, RemoveEntry, ModifyEntry, ModifyDn, Request}
-use Rattle.x5_model.specs.References.{Progress, Start, Next, Done, Reference, Chained}
-use Rattle.x5_model.specs.Answers.{Changed, Answered}
-use Rattle.x5_model.specs.Statics.{fault_of}
+use Rattle.x5_model.specs.Requests.{Body, Read, Compare, ListBelow, Search, AddEntry, RemoveEntry, ModifyEntry, ModifyDn}
+use Rattle.x5_model.specs.References.{Reference}
 use Rattle.x5_model.proofs.KeyLaws.{key_decides}
-use Rattle.x5_model.proofs.Lists.{both_true, and_true, not_true, in_first, in_right, any_in, of_any, all_in}
-use Rattle.x5_model.proofs.Decide.{nat_same_decides}
-use Rattle.x5_model_tree.specs.Tree.{Tree, key_at, is_there, longest, belongs}
-use Rattle.x5_model_tree.specs.Masters.{masters}
-use Rattle.x5_model_tree.specs.Ask.{is_update}
-use Rattle.x5_model_tree.specs.Apply.{Ground, Outcome, Applied, ground_of, apply, apply_over}
-use Rattle.x5_model_run.specs.Network.{arrives, is_sent}
-use Rattle.x5_model_run.specs.Holdings.{Held, Holdings, prefixes, known_pins, ground_at, holds_within, held_at}
-use Rattle.x5_model_run.specs.Needs.{target_of, resolves, new_name, due_probes, probe_of}
-use Rattle.x5_model_run.specs.History.{Point, knowledge_at, tree_at, holdings_at}
-use Rattle.x5_model_run.specs.Chain.{Scene, AllLicensed, opening, is_probe_line}
+use Rattle.x5_model_run.specs.Holdings.{Holdings}
+use Rattle.x5_model_run.specs.Needs.{target_of, new_name, due_probes}
+use Rattle.x5_model_run.specs.History.{Point, holdings_at}
+use Rattle.x5_model_run.specs.Chain.{Scene}
 use Rattle.x5_model_theory.proofs.Stages.{key_length}
-use Rattle.x5_model_updates.proofs.Probes.{Probe, probe_is}
-use Rattle.x5_model_updates.proofs.Judges.{accepts_alone, accepts_probed, probes_new_name, unable_masters_none}
+use Rattle.x5_model_updates.proofs.Judges.{probes_new_name}
 use Rattle.x5_model_serve.specs.Serving.{Hand, holds_now}
 use Rattle.x5_model_serve.specs.Claims.{Setting, AtMaster}
 use Rattle.x5_model_verdicts.proofs.At.{holds_is}

@@ -1,6 +1,6 @@
 -- What the judge of an update refuses is the tree's error, by who knows: the judge is the master of the lowest entry on
 -- the way, and knows every pin just below it or asks for it.
-use Rattle.std.proofs.Common.{◌≡◌, ◌≤◌, ◌<◌, ℕ, nat_lt, ◌++◌, ◌==◌, Bool, true, false, not, ◌&&◌, ◌||◌, inl, inr, List, [], ◌∷◌, map, length, refl, sym, ap, subst, ◌∙◌, Option, Some, None, Ok, Err, if◌then◌else◌}
+use Rattle.std.proofs.Common.{◌≡◌, ◌≤◌, ◌<◌, ℕ, nat_lt, ◌++◌, ◌==◌, Bool, true, false, not, ◌&&◌, inl, inr, List, [], ◌∷◌, map, length, refl, sym, ap, subst, ◌∙◌, Option, Some, None, Ok, Err, if◌then◌else◌}
 use Rattle.std.specs.Option.{is_some, is_none}
 use Rattle.x5_model.specs.Words.{has, in_option, some_and}
 use Rattle.x5_model.specs.Members.{In}
@@ -20,14 +20,14 @@ use Rattle.x5_model.proofs.Lists.{both_true, and_true, or_left, or_right, true_o
 use Rattle.x5_model.proofs.Prefixes.{prefix_itself, prefix_length}
 use Rattle.x5_model.proofs.Decide.{nat_same_decides}
 use Rattle.x5_model_tree.specs.Tree.{Tree, key_at, lowest, entry_at}
-use Rattle.x5_model_tree.specs.Masters.{pin_of, master_of}
+use Rattle.x5_model_tree.specs.Masters.{pin_of}
 use Rattle.x5_model_tree.specs.Ask.{Told, Refuses, is_update, updated, ask_body, ask_marked}
 use Rattle.x5_model_tree.specs.Apply.{Ground, Outcome, apply, apply_over, update, is_taken, above_pin}
 use Rattle.x5_model_tree.proofs.Longest.{IsLongest, IsLowest, lowest_is, lowest_right}
 use Rattle.x5_model_run.specs.Journal.{Line, Journal, same_name, is_done, is_wide}
 use Rattle.x5_model_run.specs.Holdings.{Held, Holdings, known_pins, ground_at, holds_within}
 use Rattle.x5_model_run.specs.Needs.{resolves, falls_short, is_unable, new_name}
-use Rattle.x5_model_run.specs.History.{Point, knowledge_at, tree_at, world_at, holdings_at}
+use Rattle.x5_model_run.specs.History.{Point, tree_at, world_at, holdings_at}
 use Rattle.x5_model_run.specs.Chain.{Scene}
 use Rattle.x5_model_run.specs.Covers.{told}
 use Rattle.x5_model_run.specs.Blocked.{Asked}
