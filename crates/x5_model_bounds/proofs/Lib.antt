@@ -1,0 +1,17 @@
+pub mod Parting
+pub mod Unables
+pub mod Costing
+pub mod Walk
+pub mod Losses
+pub mod Whole
+pub mod Top
+pub mod Able
+pub mod Judge
+pub mod Agents
+pub mod Steps
+pub mod Going
+pub mod Probing
+pub mod Sums
+pub mod Scopes
+pub mod Paying
+pub mod Searching

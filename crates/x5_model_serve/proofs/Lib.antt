@@ -1,0 +1,5 @@
+pub mod Carrying
+pub mod Frame
+pub mod Licence
+pub mod Needing
+pub mod Finals

@@ -1,0 +1,23 @@
+//! What agents do with a message, step by step: the relation of messages, journals and replies (X.518, sections 17 to 21).
+//! Each function here does nothing; its clauses are the theorems, which `proofs/` shows by cases of the relation.
+#![tactic(auto)]
+
+ghost use Rattle.x5_model_serve.specs.Framing.{ServingIsFramed};
+ghost use Rattle.x5_model_serve.specs.Following.{IdleIsFollowed};
+ghost use Rattle.x5_model_serve.specs.Licensing.{NextIsLicensed};
+
+/// What is done for a message leaves all that stands above it in the journal.
+pub fn framing()
+    ensures { ServingIsFramed }
+{}
+
+/// The next message of a needed reference has its cause, where no two needed references ask the same of one agent.
+pub fn licensing()
+    ensures { NextIsLicensed }
+{}
+
+/// Whoever leaves something to be followed may not chain and sent nothing, and a sender hears nothing that is left to be
+/// followed (X.518, section 20).
+pub fn following_up()
+    ensures { IdleIsFollowed }
+{}
