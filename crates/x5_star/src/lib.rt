@@ -10,6 +10,7 @@ mod held;
 mod json;
 mod members;
 mod star;
+mod stored;
 #[cfg(test)]
 mod tests;
 mod world;
