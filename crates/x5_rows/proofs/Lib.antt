@@ -19,3 +19,4 @@ pub mod Further
 pub mod Moving
 pub mod Starred
 pub mod Outputs
+pub mod Descriptions
