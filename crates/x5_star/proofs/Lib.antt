@@ -5,3 +5,4 @@ pub mod Lookups
 pub mod Names
 pub mod Stars
 pub mod Steps
+pub mod Listing

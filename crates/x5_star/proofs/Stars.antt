@@ -1,17 +1,23 @@
 -- What a world file describes is a star, and described well.
-use Rattle.std.proofs.Common.{◌≡◌, ℕ, suc, Bool, true, false, cond, List, [], ◌∷◌, refl, sym, ap, ◌∙◌, Option, Some, None, ◌&&◌, IsTrue, subst, option_map, codes}
+use Rattle.std.proofs.Common.{◌≡◌, ℕ, suc, ◌≤◌, ◌==◌, ◌++◌, arith, Bool, true, false, cond, List, [], ◌∷◌, refl, sym, ap, ◌∙◌, Option, Some, None, ◌&&◌, IsTrue, subst, option_map, codes}
 use Rattle.std.specs.Prelude.{option_and_then}
 use Rattle.std.specs.Prelude.{nat_le, length}
-use Rattle.std.specs.List.{list_all}
-use Rattle.x5_model.proofs.Lists.{both_true}
-use Rattle.x5_model_tree.specs.World.{Agent, World}
-use Rattle.x5_model_tree.specs.Described.{IsDescribed}
-use Rattle.x5_model_star.specs.Star.{IsStar}
+use Rattle.std.specs.List.{list_all, flat_map}
+use Rattle.x5_model.specs.Words.{is_empty}
+use Rattle.x5_model.specs.Members.{In}
+use Rattle.x5_model.specs.Entries.{Named}
+use Rattle.x5_model.proofs.Lists.{both_true, and_true, of_all, empty_flat}
+use Rattle.x5_model_tree.specs.World.{Nssr, Context, Agent, World}
+use Rattle.x5_model_tree.specs.Masters.{Mastered, numbered, mastered, all_entries}
+use Rattle.x5_model_tree.specs.Described as model
+use Rattle.x5_model_tree.specs.Described.{most_nssr_agents, nssr_agents, most_with_copies, IsDescribed}
+use Rattle.x5_model_tree.proofs.Gives.{of_numbered, owner_of}
+use Rattle.x5_model_star.specs.Star.{IsStar, is_below_first, is_simple}
 use Rattle.serde_json.specs.Data.{Data, Items, no_items, item}
 use Rattle.serde_json.specs.Events.{items_len}
 use Rattle.x5_model.specs.Values.{Text}
 use Rattle.x5_star.specs.Json.{object_of, list_at, each}
-use Rattle.x5_star.specs.WorldFile.{most_agents, knows_short_names, if_few, names_in, named_in, agent_of, agents_of, has_heads, world_members, world_in, world_with, is_star_world, is_within_limits, is_well_described, is_star, if_star, star_of}
+use Rattle.x5_star.specs.WorldFile.{most_agents, most_contexts, most_entries, knows_short_names, if_few, names_in, named_in, agent_of, agents_of, has_heads, world_members, world_in, world_with, is_star_world, is_within_limits, is_well_described, is_kept_well, is_star, if_star, star_of}
 
 same_of : {X : Type 0} (x y : X) → Some x ≡ Some y → x ≡ y
 same_of x y e = cc
@@ -86,29 +92,86 @@ few d agents e =
     let v = unwrap world_in (object_of world_members d) u.0 u.1 in
     few_in v.0 agents (v.2 ∙ ap (λ (w : World). Some w) (if_star_is u.0 (world_with agents) u.2))
 
+-- ---- what follows for the limits
+
+no_members : (nssrs : List Nssr) → is_empty nssrs ≡ true → flat_map (λ (n : Nssr). n.agents) nssrs ≡ []
+no_members [] e = refl
+no_members (n ∷ more) e = cc
+
+no_nssr_agents : (w : World) → IsTrue (list_all is_simple w.agents) → nssr_agents w ≡ []
+no_nssr_agents w simple = empty_flat (λ (m : Mastered). flat_map (λ (n : Nssr). n.agents) m.context.nssrs) (mastered w) each
+  where
+    each : (m : Mastered) → In m (mastered w) → flat_map (λ (n : Nssr). n.agents) m.context.nssrs ≡ []
+    each m i =
+        let o = owner_of w m i in
+        let s = both_true (length o.0.contexts == 1) _ (of_all is_simple o.0 w.agents simple (of_numbered 0 w.agents (m.master, o.0) o.1)) in
+        let n = both_true (list_all (λ (c : Context). is_empty c.nssrs) o.0.contexts) _ s.1 in
+        no_members m.context.nssrs (of_all (λ (c : Context). is_empty c.nssrs) m.context o.0.contexts n.0 o.2)
+
+by_test : (n k : ℕ) → nat_le n k ≡ true → n ≤ k
+by_test n k e = grind arith
+
+no_more : (ys : List Named) → length (ys ++ []) ≡ length ys
+no_more [] = refl
+no_more (y ∷ ys) = ap suc (no_more ys)
+
+beside_none : (xs : List Named) → nat_le (length xs) most_entries ≡ true → nat_le (length (xs ++ [])) most_with_copies ≡ true
+beside_none xs e =
+    let l : length xs ≤ most_entries = by_test (length xs) most_entries e in
+    let same : length (xs ++ []) ≡ length xs = no_more xs in grind arith
+
 module _ (agents : List Agent) (t : IsTrue (is_star_world (world_with agents))) where
   abbrev w : World
   w = world_with agents
 
-  abbrev parts : IsTrue (is_within_limits w) × IsTrue (is_well_described w && is_star w)
+  abbrev parts : IsTrue (is_within_limits w) × IsTrue (is_well_described w && (is_kept_well w && is_star w))
   parts = both_true _ _ t
 
-  abbrev tests : IsTrue (is_well_described w) × IsTrue (is_star w)
+  abbrev tests : IsTrue (is_well_described w) × IsTrue (is_kept_well w && is_star w)
   tests = both_true _ _ parts.1
 
+  abbrev kept : IsTrue (is_kept_well w) × IsTrue (is_star w)
+  kept = both_true _ _ tests.1
+
+  abbrev star_tests : IsTrue (list_all is_simple w.agents)
+  star_tests = (both_true (list_all is_simple w.agents) _ (both_true (list_all is_below_first (numbered w)) _ kept.1).1).0
+
   pub short : IsTrue (list_all knows_short_names agents)
-  short = (both_true _ _ parts.0).1
+  short =
+      let a = both_true (nat_le (length w.agents) most_agents) _ parts.0 in
+      let b = both_true (nat_le (length (mastered w)) most_contexts) _ a.1 in
+      (both_true (nat_le (length (all_entries w)) most_entries) _ b.1).1
+
+  limits : model.is_within_limits w ≡ true
+  limits =
+      let a = both_true (nat_le (length w.agents) most_agents) _ parts.0 in
+      let b = both_true (nat_le (length (mastered w)) most_contexts) _ a.1 in
+      let c = both_true (nat_le (length (all_entries w)) most_entries) _ b.1 in
+      and_true _ _ a.0 (and_true _ _ b.0 (and_true _ _ (ap (λ (xs : List ℕ). nat_le (length xs) most_nssr_agents) (no_nssr_agents w star_tests))
+      (and_true _ _ c.0 (beside_none (all_entries w) c.0))))
 
   pub described : IsDescribed w
   described =
       let a = both_true _ _ tests.0 in
       let b = both_true _ _ a.1 in
       let c = both_true _ _ b.1 in
-      record { agents_there = a.0; names_apart = b.0; agents = c.0; superiors = c.1; agreements = refl; numbers_apart = refl }
+      let d = both_true _ _ kept.0 in
+      record {
+        agents_there = a.0;
+        names_apart = b.0;
+        agents = c.0;
+        superiors = c.1;
+        agreements = refl;
+        numbers_apart = refl;
+        stored = and_true _ _ d.1 refl;
+        listed = d.0;
+        limits = limits;
+        network = refl;
+      }
 
   pub is_a_star : IsStar w
   is_a_star =
-      let a = both_true _ _ tests.1 in
+      let a = both_true _ _ kept.1 in
       let b = both_true _ _ a.1 in
       let c = both_true _ _ b.1 in
       let d = both_true _ _ c.1 in

@@ -11,10 +11,9 @@ use Rattle.x5_model.specs.Values.{Text}
 use Rattle.x5_model.specs.Keys.{same_key}
 use Rattle.x5_model.specs.Normal.{most_rdns}
 use Rattle.x5_model_tree.specs.World.{Specific, Context, Agent, World}
-use Rattle.x5_model_tree.specs.Described.{is_agent, has_superior}
+use Rattle.x5_model_tree.specs.Described.{is_agent_name, is_agent, has_superior, is_stored_agent, are_listed}
 use Rattle.x5_model_tree.specs.Masters.{mastered, numbered, pins, all_entries}
 use Rattle.x5_model_star.specs.Star.{idle, is_below_first, is_simple, is_placed, is_knowing}
-use Rattle.x5_ops.specs.AgentNames.{is_agent_name}
 use Rattle.x5_star.specs.Json.{object_of, text_at, list_at, list_if_any, is_word, each}
 use Rattle.x5_star.specs.Members.{agent_in, context_in, reference_in}
 
@@ -45,7 +44,7 @@ references_in names d = option_and_then (each (reference_in names)) (list_if_any
 
 abbrev pub agent_with : Text → Option ℕ → List Context → List Specific → Agent
 agent_with name superior contexts references =
-    record { name = name; superior = superior; contexts = contexts; subordinate = references; cross = [] }
+    record { name = name; superior = superior; contexts = contexts; subordinate = references; cross = []; crosses = map (λ k. false) references }
 
 abbrev pub agent_described : List Text → Data → Option Agent
 agent_described names d =
@@ -91,6 +90,9 @@ world_in d = if has_heads d then option_map world_with (option_and_then agents_o
 
 -- ---- limits
 
+abbrev pub most_contexts : ℕ
+most_contexts = 4096
+
 abbrev pub most_entries : ℕ
 most_entries = 100000
 
@@ -101,7 +103,13 @@ abbrev pub knows_short_names : Agent → Bool
 knows_short_names a = list_all is_short a.subordinate
 
 abbrev pub is_within_limits : World → Bool
-is_within_limits w = nat_le (length (all_entries w)) most_entries && list_all knows_short_names w.agents
+is_within_limits w =
+    nat_le (length w.agents) most_agents
+    && (nat_le (length (mastered w)) most_contexts && (nat_le (length (all_entries w)) most_entries && list_all knows_short_names w.agents))
+
+-- names and values have the normal forms of their texts, and an agent has so many references
+abbrev pub is_kept_well : World → Bool
+is_kept_well w = list_all are_listed w.agents && list_all is_stored_agent w.agents
 
 -- ---- it is described well, and a star
 
@@ -117,7 +125,7 @@ is_star w =
     && (distinct same_key (pins w) && (list_all (is_placed w) (mastered w) && list_all (is_knowing w) (numbered w))))
 
 abbrev pub is_star_world : World → Bool
-is_star_world w = is_within_limits w && (is_well_described w && is_star w)
+is_star_world w = is_within_limits w && (is_well_described w && (is_kept_well w && is_star w))
 
 abbrev pub if_star : World → Option World
 if_star w = if is_star_world w then Some w else None

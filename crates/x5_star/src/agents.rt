@@ -121,6 +121,7 @@ fn references_in(
 }
 
 /// The agent that the members of an object describe.
+#[tactic(auto, using(crate::proofs::Listing::none_across))]
 fn agent_described(
     alloc: Global,
     names: &AgentNames,

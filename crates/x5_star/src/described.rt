@@ -5,7 +5,8 @@ ghost use Rattle.std.specs.Cmp.Lexicographic.{pointwise};
 ghost use Rattle.std.specs.List.{list_all, list_any};
 ghost use Rattle.x5_model.specs.Attributes.{is_ordered, has_rdn as has_rdn_of};
 ghost use Rattle.x5_model.specs.Values.{key_of, name_above, last_rdn};
-ghost use Rattle.x5_model.specs.Words.{ascending, is_empty};
+ghost use Rattle.x5_model.specs.Statics.{entry_refusals};
+ghost use Rattle.x5_model.specs.Words.{is_empty};
 ghost use Rattle.x5_model_tree.specs.Described as model;
 ghost use Rattle.x5_model_tree.specs.Tree.{key_at, is_there as is_there_in};
 ghost use Rattle.x5_ops.specs.KnowledgeViews.{nssr_view, context_view, specific_view, cross_view, agent_view};
@@ -13,52 +14,25 @@ ghost use Rattle.x5_star.specs.Grown.{grown_behind};
 ghost use Rattle.x5_star.specs.Views.{star_world};
 
 use crate::apart::{cross_apart, nssr_apart, specific_apart};
+use crate::entry::has_class;
 use x5_names::{Name, Pair, Rdn};
 use x5_ops::{
     Access, AgentId, AgentName, AgentSpec, ContextSpec, Cross, Entry, Named, Nssr, Specific,
-    has_rdn,
+    doubled, has_rdn,
 };
 
-/// Whether the pair's type has the smaller number.
-fn is_below(a: &Pair, b: &Pair) -> bool
-    ensures { result ≡ nat_lt a.now.kind b.now.kind }
-{
-    a.kind().number() < b.kind().number()
-}
+/// Shadow agents of a reference at most.
+const MOST_SHADOWS: usize = 8;
 
-/// Whether the pairs ascend by type.
-fn ascends(pairs: &[Pair]) -> bool
-    ensures { result ≡ ascending (λ p q. nat_lt p.kind q.kind) pairs.now }
-{
-    for i in 1..pairs.len() {
-        if !is_below(&pairs[i - 1], &pairs[i]) {
-            return false;
-        }
-    }
-    true
-}
-
-/// Whether the RDN has pairs, which ascend by type.
-fn is_rdn(rdn: &Rdn) -> bool
-    ensures { result ≡ model.is_rdn rdn.now }
-{
-    let pairs = rdn.pairs();
-    !pairs.is_empty() && ascends(pairs)
-}
-
-/// Whether all RDNs are such.
-fn are_rdns(rdns: &[Rdn]) -> bool
-    ensures { result ≡ model.is_name rdns.now }
-{
-    rdns.iter().all(|rdn| is_rdn(rdn))
-}
+/// References of an agent at most.
+const MOST_REFERENCES: usize = 4096;
 
 /// Whether the name is one that an entry may have.
 fn is_entry_name(name: &Name) -> bool
     ensures { result ≡ model.is_entry_name name.now }
 {
     let rdns = name.rdns();
-    !rdns.is_empty() && are_rdns(rdns)
+    !rdns.is_empty()
 }
 
 /// Whether the two pairs are spelled alike.
@@ -86,7 +60,7 @@ fn same_pairs(a: &[Pair], b: &[Pair]) -> bool
 }
 
 /// Whether the RDNs are spelled alike.
-fn same_spelling(a: &[Rdn], b: &[Rdn]) -> bool
+pub(crate) fn same_spelling(a: &[Rdn], b: &[Rdn]) -> bool
     ensures { result ≡ model.same_spelling a.now b.now }
 {
     if a.len() != b.len() {
@@ -160,18 +134,32 @@ fn is_rooted(context: &ContextSpec) -> bool
     are_grown(entries)
 }
 
-/// Whether it's a name of an entry, whose RDN's values the entry has.
+/// Whether the entry has an object class, and no two values of a single-valued type.
+fn is_complete(entry: &Entry) -> bool
+    ensures { result ≡ is_empty (entry_refusals entry.now) }
+{
+    has_class(entry) && doubled(entry).is_none()
+}
+
+/// Whether the entry has the values of its RDN, and is complete.
+fn has_parts(entry: &Entry, rdn: &Rdn) -> bool
+    ensures { result ≡ (has_rdn_of entry.now rdn.now && is_empty (entry_refusals entry.now)) }
+{
+    has_rdn(entry, rdn) && is_complete(entry)
+}
+
+/// Whether it's a name of an entry, which has the values of its RDN and is complete.
 fn keeps(name: &Name, entry: &Entry) -> bool
-    ensures { result ≡ (model.is_entry_name name.now && (is_ordered entry.now && has_rdn_of entry.now (last_rdn name.now))) }
+    ensures { result ≡ (model.is_entry_name name.now && (is_ordered entry.now && (has_rdn_of entry.now (last_rdn name.now) && is_empty (entry_refusals entry.now)))) }
 {
     let _ordered = entry.attributes();
     match name.last() {
-        Some(rdn) => is_entry_name(name) && has_rdn(entry, rdn),
+        Some(rdn) => is_entry_name(name) && has_parts(entry, rdn),
         None => false,
     }
 }
 
-/// Whether the entry has a name, and the values of its RDN.
+/// Whether the entry has a name, and what an entry must have.
 fn is_kept(entry: &Named) -> bool
     ensures { result ≡ model.is_kept entry.now }
 {
@@ -247,9 +235,11 @@ fn are_contexts(agents: &[AgentSpec], contexts: &[ContextSpec]) -> bool
 fn is_reference(agents: &[AgentSpec], pin: &Name, access: &Access) -> bool
     ensures { result ≡ model.is_reference (star_world agents.now) (record { pin = pin.now; access = access.now }) }
 {
+    let shadows = access.shadows.as_slice();
     is_entry_name(pin)
         && is_agent_of(agents, access.master)
-        && are_agents_of(agents, access.shadows.as_slice())
+        && are_agents_of(agents, shadows)
+        && shadows.len() <= MOST_SHADOWS
 }
 
 /// Whether all subordinate references are such.
@@ -290,12 +280,19 @@ fn cross_fit(agents: &[AgentSpec], references: &[Cross]) -> bool
     are_cross(agents, references) && cross_apart(references)
 }
 
-/// Whether the name has characters.
+/// Whether the text may name an agent.
 fn is_named(name: &AgentName) -> bool
-    ensures { result ≡ not (is_empty name.now) }
+    ensures { result ≡ model.is_agent_name name.now }
 {
-    let octets = name.as_str().as_bytes();
-    !octets.is_empty()
+    AgentName::is_name(name.as_str())
+}
+
+/// Whether the agent has no more references than it may have.
+pub(crate) fn is_listed(agent: &AgentSpec) -> bool
+    ensures { result ≡ model.are_listed (agent_view agent.now) }
+{
+    let below = agent.specific.as_slice().len();
+    below <= MOST_REFERENCES && agent.cross.as_slice().len() <= MOST_REFERENCES - below
 }
 
 /// Whether the agent is described well.

@@ -107,7 +107,7 @@ fn with_texts(alloc: Global, entry: Entry, items: &[Json]) -> Result<Entry, Worl
 }
 
 /// Whether the entry has an object class.
-fn has_class(entry: &Entry) -> bool
+pub(crate) fn has_class(entry: &Entry) -> bool
     ensures { result ≡ is_present entry.now 0 }
 {
     match TypeId::new(0) {

@@ -10,6 +10,7 @@ mod held;
 mod json;
 mod members;
 mod star;
+mod stored;
 mod world;
 
 pub use fault::WorldFault;

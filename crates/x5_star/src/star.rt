@@ -16,12 +16,16 @@ ghost use Rattle.x5_star.specs.HeldView.{held_view};
 ghost use Rattle.x5_star.specs.WorldFile as file;
 
 use crate::apart::{name_apart, prefix_apart};
-use crate::described::{is_agent, is_there};
+use crate::described::{is_agent, is_listed, is_there};
 use crate::held::{Held, Star};
+use crate::stored::are_stored_agents;
 use std::alloc::Global;
 use x5_names::{Name, NoMemory};
-use x5_ops::{AgentId, AgentSpec, Named, Specific};
+use x5_ops::{AgentId, AgentSpec, MOST_AGENTS, Named, Specific};
 use x5_syntax::MOST_RDNS;
+
+/// Contexts of all agents together at most.
+const MOST_CONTEXTS: usize = 4096;
 
 /// Entries of all contexts together at most.
 const MOST_ENTRIES: usize = 100_000;
@@ -327,7 +331,10 @@ fn is_within_limits(star: &Star<'_>, agents: &[AgentSpec]) -> bool
     requires { star.now ≡ star_world agents.now }
     ensures { result ≡ file.is_within_limits (star_world agents.now) }
 {
-    entries_fit(star) && know_short_names(agents)
+    agents.len() <= MOST_AGENTS
+        && star.held().len() <= MOST_CONTEXTS
+        && entries_fit(star)
+        && know_short_names(agents)
 }
 
 /// Whether the agents are described well.
@@ -335,6 +342,26 @@ fn is_well_described(agents: &[AgentSpec]) -> bool
     ensures { result ≡ file.is_well_described (star_world agents.now) }
 {
     !agents.is_empty() && name_apart(agents) && are_agents(agents) && have_superiors(agents)
+}
+
+/// Whether no agent has more references than it may have.
+fn are_listed(agents: &[AgentSpec]) -> bool
+    ensures { result ≡ list_all described.are_listed (map agent_view agents.now) }
+{
+    for agent in agents {
+        if !is_listed(agent) {
+            return false;
+        }
+    }
+    true
+}
+
+/// Whether names and values have their normal forms, and no agent has too many references.
+fn is_kept_well(alloc: Global, agents: &[AgentSpec]) -> Result<bool, NoMemory>
+    ensures { IfOk result (λ b. b ≡ file.is_kept_well (star_world agents.now)) }
+{
+    let stored = are_stored_agents(alloc, agents)?;
+    Ok(are_listed(agents) && stored)
 }
 
 /// Whether the agents form a star.
@@ -357,6 +384,7 @@ pub(crate) fn is_star_world(alloc: Global, agents: &[AgentSpec]) -> Result<bool,
     ensures { IfOk result (λ b. b ≡ file.is_star_world (star_world agents.now)) }
 {
     let star = Star::new(alloc, agents)?;
+    let kept = is_kept_well(alloc, agents)?;
     let found = is_star(alloc, &star, agents)?;
-    Ok(is_within_limits(&star, agents) && is_well_described(agents) && found)
+    Ok(is_within_limits(&star, agents) && is_well_described(agents) && kept && found)
 }
