@@ -1,5 +1,5 @@
 pub mod WordLaws
-pub mod LineLaws
+pub mod Cursor
 pub mod ScriptLaws
 pub mod ReaderLaws
 pub mod Few

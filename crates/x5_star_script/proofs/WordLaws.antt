@@ -1,17 +1,37 @@
--- Words: places in lists, and lists of types.
-use Rattle.std.proofs.Common.{◌≡◌, ℕ, ◌+◌, ◌<◌, ◌≤◌, Bool, not, if◌then◌else◌, List, [], ◌∷◌, ◌++◌, map, length, Option, None, Some, refl, sym, ◌∙◌, ap, append_assoc, inl, inr, arith}
+-- Words: texts that are some, places in lists, and lists of types.
+use Rattle.std.proofs.Common.{◌≡◌, ℕ, ◌+◌, ◌<◌, ◌≤◌, ◌==◌, Bool, true, false, not, if◌then◌else◌, List, [], ◌∷◌, ◌++◌, map, length, Option, None, Some, Result, Ok, Err, refl, sym, ◌∙◌, ap, append_assoc, inl, inr, arith}
 use Rattle.std.proofs.lemmas.Bool.{cases_lt, lt-ltb, le-ltb}
 use Rattle.std.proofs.lemmas.List.{map-append, length-map}
 use Rattle.std.specs.List.{position, position_or_len}
 use Rattle.std.specs.Option.{option_map, option_and_then}
 use Rattle.x5_model.specs.Values.{Text}
 use Rattle.x5_model.specs.Values as model
-use Rattle.x5_model.specs.Words.{same_octets}
+use Rattle.std.specs.Str.{is_utf8}
+use Rattle.std.specs.Str.Lossy.{utf8_valid_len}
+use Rattle.x5_model.specs.Words.{is_empty, same_octets}
 use Rattle.x5_ops.specs.declared.knowledge.AgentSpec.{AgentSpec}
 use Rattle.x5_model_text.specs.TypeText.{type_of_text}
 use Rattle.x5_syntax.specs.declared.kinds.TypeRef.{TypeRef}
 use Rattle.x5_syntax.specs.TypeView.{type_view}
-use Rattle.x5_star_script.specs.Lines.{all_of, place_of}
+use Rattle.x5_star_script.specs.Words.{Word}
+use Rattle.x5_star_script.specs.Lines.{LineFault, BadWord, sound, all_of, place_of}
+
+-- ---- words
+
+pub some_octets : (octets : Text) → false ≡ (length octets == 0) → is_empty octets ≡ false
+some_octets [] h = absurd (cc)
+some_octets (b ∷ bs) h = refl
+
+abbrev sound_from : ℕ → Text → Bool → Bool → Result Word LineFault
+sound_from column octets empty valid = if empty then Err (BadWord column) else if valid then Ok (record { column = column; text = octets }) else Err (BadWord (column + utf8_valid_len octets))
+
+pub sound_word : (column : ℕ) (octets text : Text) → is_empty octets ≡ false → text ≡ octets → is_utf8 octets ≡ true → sound (record { column = column; text = octets }) ≡ Ok (record { column = column; text = text })
+sound_word column octets text some same valid =
+    ap (λ b. sound_from column octets b (is_utf8 octets)) some ∙ ap (sound_from column octets false) valid ∙ ap (λ (t : Text). Ok (record { column = column; text = t })) (sym same)
+
+pub unsound_word : (column n : ℕ) (octets : Text) → is_empty octets ≡ false → is_utf8 octets ≡ false → n ≡ utf8_valid_len octets → sound (record { column = column; text = octets }) ≡ Err (BadWord (column + n))
+unsound_word column n octets some faulty up =
+    ap (λ b. sound_from column octets b (is_utf8 octets)) some ∙ ap (sound_from column octets false) faulty ∙ ap (λ (m : ℕ). Err (BadWord (column + m))) (sym up)
 
 -- ---- places
 

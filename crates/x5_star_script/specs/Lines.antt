@@ -1,15 +1,18 @@
--- The lines of a script that are taken so far, and the first fault of one that isn't (docs/FORMATS.md, script).
-use Rattle.std.specs.Prelude.{ℕ, ◌+◌, Bool, false, ◌&&◌, ◌==◌, if◌then◌else◌, List, [], ◌∷◌, length, drop, Option, Some, None, Result, Ok, Err, option_map, option_and_then, codes, nat_eq}
+-- The lines of a script that are taken so far, and the first fault from the left of one that isn't (docs/FORMATS.md, script).
+use Rattle.std.specs.Prelude.{ℕ, ◌+◌, Bool, false, ◌==◌, if◌then◌else◌, List, [], ◌∷◌, drop, Option, Some, None, Result, Ok, Err, option_map, option_and_then, codes, nat_eq, is_some}
 use Rattle.std.specs.List.{list_any, position, slice_split, starts_with, before_first, after_first}
 use Rattle.std.specs.Result.{result_ok}
-use Rattle.x5_model.specs.Words.{is_empty, same_octets}
+use Rattle.std.specs.Str.{is_utf8}
+use Rattle.std.specs.Str.Lossy.{utf8_valid_len}
+use Rattle.x5_model.specs.Words.{is_empty, same_octets, first_of}
 use Rattle.x5_model.specs.Values.{Text, TypeRef, Name}
 use Rattle.x5_model.specs.Normal.{stored}
 use Rattle.x5_model.specs.Assertions.{assertion_of}
-use Rattle.x5_model.specs.Requests.{All, Only, Body, Read, Compare, Request}
+use Rattle.x5_model.specs.Requests.{All, Only, Selection, Body, Read, Compare, Request}
 use Rattle.x5_model_text.specs.TypeText.{type_of_text}
 use Rattle.x5_model_text.specs.NameText.{name_of_text, value_of_text}
 use Rattle.x5_model_run.specs.Run.{Command, Asks}
+use Rattle.x5_star_script.specs.Words.{Word, Left, passed}
 
 -- Why a line isn't taken: it is too long; no agent has the name, or the word is no name, at this column; another word at this
 -- column isn't as it should be, or is missing; the line is of another form. Columns are counted from 1.
@@ -28,10 +31,37 @@ abbrev pub or_fault : {A : Type 0} → LineFault → Option A → Result A LineF
 or_fault fault None = Err fault
 or_fault fault (Some x) = Ok x
 
--- ---- words
+-- ---- words one by one
 
-abbrev pub is_space : ℕ → Bool
-is_space b = b == 32
+-- a word that isn't empty and is UTF-8; the first octet that isn't has the column of the fault
+abbrev pub sound : Word → Result Word LineFault
+sound w = if is_empty w.text then Err (BadWord w.column) else if is_utf8 w.text then Ok w else Err (BadWord (w.column + utf8_valid_len w.text))
+
+-- the next word; one that is missing is looked for behind the line
+abbrev pub next : Left → Result (Word × Left) LineFault
+next left = do
+  w ← or_fault (BadWord left.end) (first_of left.words)
+  word ← sound w
+  Ok (word, passed left)
+
+-- the next word, read so; one that isn't such a word has this fault
+abbrev pub reading : {A : Type 0} → (Text → Option A) → (ℕ → LineFault) → Left → Result (A × Left) LineFault
+reading read fault left = do
+  w ← next left
+  x ← or_fault (fault w.0.column) (read w.0.text)
+  Ok (x, w.1)
+
+-- no word is left
+abbrev pub ended_by : Option Word → Result (Unit {0}) LineFault
+ended_by None = Ok tt
+ended_by (Some w) = do
+  word ← sound w
+  Err (BadWord word.column)
+
+abbrev pub ended : Left → Result (Unit {0}) LineFault
+ended left = ended_by (first_of left.words)
+
+-- ---- what a word spells
 
 abbrev pub is_comma : ℕ → Bool
 is_comma b = b == 44
@@ -54,8 +84,9 @@ all_of read (x ∷ xs) = option_and_then (λ y. option_map (λ ys. y ∷ ys) (al
 abbrev pub types_in : Text → Option (List TypeRef)
 types_in t = if is_empty t then Some [] else all_of type_of_text (slice_split is_comma t)
 
-abbrev pub attrs : Text
-attrs = codes "attrs="
+-- `attrs=T,T`
+abbrev pub attrs_in : Text → Option (List TypeRef)
+attrs_in t = if starts_with nat_eq t (codes "attrs=") then types_in (drop 6 t) else None
 
 -- a type, `=` and a value
 abbrev pub asserted_for : Name → Text → TypeRef → Option Body
@@ -65,71 +96,70 @@ abbrev pub compared : Name → Text → Option Body
 compared object t =
     if list_any is_equals t then option_and_then (asserted_for object t) (type_of_text (before_first is_equals t)) else None
 
--- ---- requests: which one a line asks for, its words being these
+-- ---- operations
+
+abbrev pub name : Left → Result (Name × Left) LineFault
+name left = reading name_in BadName left
+
+abbrev pub types : Left → Result (List TypeRef × Left) LineFault
+types left = reading attrs_in BadWord left
+
+abbrev pub listed : Left → Result (Selection × Left) LineFault
+listed left = do
+  kinds ← types left
+  Ok (Only kinds.0, kinds.1)
+
+-- `attrs=T,T`, if a word is left; else all attributes
+abbrev pub selection : Left → Result (Selection × Left) LineFault
+selection left = if is_some (first_of left.words) then listed left else Ok (All, left)
+
+-- `NAME`, `NAME attrs=T,T`
+abbrev pub read : Left → Result (Body × Left) LineFault
+read left = do
+  object ← name left
+  shown ← selection object.1
+  Ok (Read object.0 shown.0, shown.1)
+
+-- `NAME T=value`
+abbrev pub compare : Left → Result (Body × Left) LineFault
+compare left = do
+  object ← name left
+  reading (compared object.0) BadWord object.1
+
+-- the operation that a word names, with its arguments
+abbrev pub operation_by : Word → Left → Result (Body × Left) LineFault
+operation_by w left =
+    if same_octets w.text (codes "read") then read left
+    else if same_octets w.text (codes "compare") then compare left
+    else Err NotYet
+
+abbrev pub operation : Left → Result (Body × Left) LineFault
+operation left = do
+  w ← next left
+  operation_by w.0 w.1
+
+-- ---- requests
 
 -- a request that may be chained and answered from copies
 abbrev pub plain : Body → Request
 plain body = record { controls = record { nocopy = false; nochain = false; size = None }; body = body }
 
--- the fault of a word at the column that names no agent, or is no name: an empty one is missing
-abbrev pub due : ℕ → Text → LineFault
-due column word = if is_empty word then BadWord column else BadName column
+abbrev pub agent : List Text → Left → Result (ℕ × Left) LineFault
+agent names left = reading (place_of names) BadName left
 
--- A word's column is one more than the octets before it: `at ` has three, ` read ` six and ` compare ` nine.
+-- `AGENT OPERATION`, and nothing behind it
+abbrev pub request : List Text → Left → Result Command LineFault
+request names left = do
+  to ← agent names left
+  body ← operation to.1
+  nothing ← ended body.1
+  Ok (Asks to.0 (plain body.0))
 
--- a read of all attributes, or of the types listed in the word at the column
-abbrev pub selecting : ℕ → Name → Option Text → Result Body LineFault
-selecting column name None = Ok (Read name All)
-selecting column name (Some types) = or_fault (BadWord column) (option_map (λ kinds. Read name (Only kinds)) (types_in types))
+-- what a line asks for by its first word, which is `at`
+abbrev pub command_by : List Text → Word → Left → Result Command LineFault
+command_by names w left = if same_octets w.text (codes "at") then request names left else Err NotYet
 
-abbrev pub read_of : List Text → Text → Text → Option Text → Result Command LineFault
-read_of names agent object selected = do
-  to ← or_fault (due 4 agent) (place_of names agent)
-  name ← or_fault (due (length agent + 10) object) (name_in object)
-  body ← selecting (length agent + length object + 11) name selected
-  Ok (Asks to (plain body))
-
-abbrev pub compare_of : List Text → Text → Text → Text → Result Command LineFault
-compare_of names agent object asserted = do
-  to ← or_fault (due 4 agent) (place_of names agent)
-  name ← or_fault (due (length agent + 13) object) (name_in object)
-  body ← or_fault (BadWord (length agent + length object + 14)) (compared name asserted)
-  Ok (Asks to (plain body))
-
--- a line that ends where a word is due, which is missing at the column behind the line
-abbrev pub lacking : List Text → Text → ℕ → Result Command LineFault
-lacking names agent column = do
-  to ← or_fault (due 4 agent) (place_of names agent)
-  Err (BadWord column)
-
-abbrev pub lacking_value : List Text → Text → Text → Result Command LineFault
-lacking_value names agent object = do
-  to ← or_fault (due 4 agent) (place_of names agent)
-  name ← or_fault (due (length agent + 13) object) (name_in object)
-  Err (BadWord (length agent + length object + 13))
-
--- the words that say what is asked, in lines of a read and of a comparison
-abbrev pub asks_read : Text → Text → Bool
-asks_read at operation = same_octets at (codes "at") && same_octets operation (codes "read")
-
-abbrev pub asks_compare : Text → Text → Bool
-asks_compare at operation = same_octets at (codes "at") && same_octets operation (codes "compare")
-
-abbrev pub lists_types : Text → Text → Text → Bool
-lists_types at operation last = asks_read at operation && starts_with nat_eq last attrs
-
--- `at AGENT read NAME`, the same with `attrs=T,T`, and `at AGENT compare NAME T=value`; or the first words of one
-abbrev pub request_of : List Text → List Text → Result Command LineFault
-request_of names (at ∷ agent ∷ operation ∷ []) =
-    if asks_read at operation then lacking names agent (length agent + 9)
-    else if asks_compare at operation then lacking names agent (length agent + 12)
-    else Err NotYet
-request_of names (at ∷ agent ∷ operation ∷ object ∷ []) =
-    if asks_read at operation then read_of names agent object None
-    else if asks_compare at operation then lacking_value names agent object
-    else Err NotYet
-request_of names (at ∷ agent ∷ operation ∷ object ∷ last ∷ []) =
-    if lists_types at operation last then read_of names agent object (Some (drop 6 last))
-    else if asks_compare at operation then compare_of names agent object last
-    else Err NotYet
-request_of names words = Err NotYet
+abbrev pub command_of : List Text → Left → Result Command LineFault
+command_of names left = do
+  w ← next left
+  command_by names w.0 w.1

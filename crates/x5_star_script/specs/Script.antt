@@ -1,11 +1,11 @@
 -- A script: its commands line by line, or its first line that isn't taken (docs/FORMATS.md, script).
 use Rattle.std.specs.Prelude.{ℕ, ◌+◌, Bool, ◌||◌, ◌==◌, not, nat_lt, nat_eq, if◌then◌else◌, List, [], ◌∷◌, length, codes, Result, Ok, Err}
 use Rattle.std.specs.List.{slice_split, starts_with}
-use Rattle.std.specs.Str.{is_utf8}
 use Rattle.x5_model.specs.Words.{is_empty}
 use Rattle.x5_model.specs.Values.{Text}
 use Rattle.x5_model_run.specs.Run.{Command, Blank}
-use Rattle.x5_star_script.specs.Lines.{LineFault, Long, NotYet, is_space, request_of}
+use Rattle.x5_star_script.specs.Words.{words_of}
+use Rattle.x5_star_script.specs.Lines.{LineFault, Long, command_of}
 
 abbrev pub most_lines : ℕ
 most_lines = 100000
@@ -32,7 +32,7 @@ is_silent line = is_empty line || starts_with nat_eq line (codes "#")
 
 -- what the words of a line ask for
 abbrev pub asked_by : List Text → Text → Result Command LineFault
-asked_by names line = if is_utf8 line then request_of names (slice_split is_space line) else Err NotYet
+asked_by names line = command_of names (words_of line)
 
 -- a line after so many others, given the agents' names
 abbrev pub line_of : List Text → ℕ → Text → Result Command LineFault

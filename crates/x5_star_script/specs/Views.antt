@@ -1,10 +1,11 @@
--- What commands and faults stand for, and what the reader's answer says of the script.
-use Rattle.std.specs.Prelude.{◌≡◌, ℕ, ◌<◌, List, Vec, map, Result, Ok, Err}
+-- What words, commands and faults stand for, and what the reader's answer says of the script.
+use Rattle.std.specs.Prelude.{◌≡◌, ℕ, ◌<◌, List, Vec, map, drop, Result, Ok, Err}
 use Rattle.std.specs.declared.alloc.Global.{Global}
 use Rattle.x5_model.specs.Values.{Text}
 use Rattle.x5_model_run.specs.Run as model
 use Rattle.x5_model_star.specs.Reads.{IsRead}
 use Rattle.x5_ops.specs.RequestViews.{request_view}
+use Rattle.x5_star_script.specs.Words as words
 use Rattle.x5_star_script.specs.Lines as lines
 use Rattle.x5_star_script.specs.Script.{script_of}
 use Rattle.x5_star_script.specs.declared.line.Command.{Command}
@@ -15,6 +16,18 @@ use Rattle.x5_star_script.specs.declared.line.Refused.{Refused}
 use Rattle.x5_star_script.specs.declared.line.Refused.TheVariants as refusals
 use Rattle.x5_star_script.specs.declared.script.ScriptFault.{ScriptFault}
 use Rattle.x5_star_script.specs.declared.script.ScriptFault.TheVariants.{Line, NoMemory}
+use Rattle.x5_star_script.specs.declared.tokens.Token.{Token}
+use Rattle.x5_star_script.specs.declared.tokens.Word.{Word}
+use Rattle.x5_star_script.specs.declared.tokens.Words.{Words}
+
+abbrev pub token_view : Token → words.Word
+token_view t = record { column = t.column; text = t.octets.now }
+
+abbrev pub word_view : Word → words.Word
+word_view w = record { column = w.column; text = w.text.now }
+
+abbrev pub left_view : Words → words.Left
+left_view w = record { words = map token_view (drop w.at w.tokens.now); end = w.end }
 
 abbrev pub command_view : Command → model.Command
 command_view Nothing = model.Blank
@@ -32,9 +45,14 @@ IsRefused (refusals.Line fault) read = read ≡ Err (fault_view fault)
 IsRefused refusals.NoMemory read = Unit {0}
 
 -- what a function returned of a line, seen by `view`, is this, unless memory ran out
-abbrev pub Takes : {X Y : Type 0} → (X → Y) → Result X Refused → Result Y lines.LineFault → Type 0
-Takes view (Ok x) read = read ≡ Ok (view x)
-Takes view (Err refused) read = IsRefused refused read
+abbrev pub Says : {X Y : Type 0} → (X → Y) → Result X Refused → Result Y lines.LineFault → Type 0
+Says view (Ok x) read = read ≡ Ok (view x)
+Says view (Err refused) read = IsRefused refused read
+
+-- and these words are left behind it
+abbrev pub Takes : {X Y : Type 0} → (X → Y) → Result X Refused → Words → Result (Y × words.Left) lines.LineFault → Type 0
+Takes view (Ok x) after read = read ≡ Ok (view x, left_view after)
+Takes view (Err refused) after read = IsRefused refused read
 
 -- a read or a compare that may be chained, to an agent of so many
 abbrev pub IsTaken : ℕ → Command → Type 0

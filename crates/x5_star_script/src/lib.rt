@@ -5,6 +5,8 @@ mod line;
 mod script;
 #[cfg(test)]
 mod tests;
+mod texts;
+mod tokens;
 mod words;
 
 pub use line::{Command, LineFault};

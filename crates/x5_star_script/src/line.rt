@@ -1,19 +1,21 @@
 //! A line of a script: what it asks for, or why it isn't taken.
-ghost use Rattle.std.specs.Prelude.{◌≡◌, ◌+◌, ◌≤◌, IfOk, length, map};
-ghost use Rattle.std.specs.Option.{option_map};
-ghost use Rattle.x5_ops.specs.RequestViews.{request_view, body_view};
+ghost use Rattle.std.specs.Prelude.{◌≡◌, ◌≤◌, ◌<◌, IfOk, IsTrue, length, map};
+ghost use Rattle.x5_model_star.specs.Reads.{is_read};
+ghost use Rattle.x5_ops.specs.RequestViews.{request_view, body_view, selection_view};
 ghost use Rattle.x5_star_script.specs.Lines as lines;
 ghost use Rattle.x5_star_script.specs.Script.{asked_by, line_of};
-ghost use Rattle.x5_star_script.specs.Views.{Takes, IsTaken, command_view};
+ghost use Rattle.x5_star_script.specs.Views.{Says, Takes, IsTaken, command_view, left_view};
 ghost use Rattle.x5_star_script.specs.declared.line.Refused.TheVariants.{NoMemory as NoMemoryRefusal};
-ghost use Rattle.x5_syntax.specs.Escapes.{span};
+ghost use Rattle.x5_syntax.specs.TypeView.{type_view};
 
-use crate::words::{
-    agent_of, asks_compare, asks_read, compare_body, listed_types, name_at, pieces, read_body,
-};
-use std::alloc::{AllocError, Global};
+use crate::texts::{agent_of, attrs, compare_body, name_at};
+use crate::tokens::Words;
+use crate::words::tokens_of;
+use std::alloc::Global;
 use x5_memory::NoMemory;
-use x5_ops::{AgentId, AgentSpec, Body, Controls, Request};
+use x5_names::Name;
+use x5_ops::{AgentId, AgentSpec, Body, Controls, Request, Selection, TypeList};
+use x5_syntax::TypeRef;
 
 /// Lines of a script at most.
 pub(crate) const MOST_LINES: usize = 100_000;
@@ -55,14 +57,6 @@ pub(crate) enum Refused {
     NoMemory,
 }
 
-impl From<AllocError> for Refused {
-    ghost from_gives = { λ _ refused. refused ≡ NoMemoryRefusal };
-
-    fn from(_: AllocError) -> Self {
-        Refused::NoMemory
-    }
-}
-
 impl From<NoMemory> for Refused {
     ghost from_gives = { λ _ refused. refused ≡ NoMemoryRefusal };
 
@@ -85,117 +79,112 @@ fn plain(body: Body) -> Request
     }
 }
 
-/// The line `at AGENT read NAME`, with the types behind `attrs=` where it has such a word.
-fn read(
-    alloc: Global,
-    agents: &[AgentSpec],
-    agent: &str,
-    object: &str,
-    types: Option<&str>,
-) -> Result<Command, Refused>
-    requires few { length agents.now ≤ 64 }
-    requires short { length agent.now + length object.now ≤ 4096 }
-    ensures reads { Takes command_view result (lines.read_of (map (λ a. a.name) agents.now) agent.now object.now (option_map (λ x. x.now) types.entry)) }
+/// The next word as an agent.
+fn next_agent(words: &mut Words<'_>, agents: &[AgentSpec]) -> Result<AgentId, Refused>
+    requires { length agents.now ≤ 64 }
+    ensures reads { Takes (λ to. to) result words.new (lines.agent (map (λ a. a.name) agents.now) (left_view words.old)) }
+    ensures inside { IfOk result (λ to. to < length agents.now) }
+{
+    let word = words.next()?;
+    let to = agent_of(agents, word.column, word.text)?;
+    Ok(to)
+}
+
+/// The next word as a name.
+fn next_name(alloc: Global, words: &mut Words<'_>) -> Result<Name, Refused>
+    ensures { Takes (λ name. name) result words.new (lines.name (left_view words.old)) }
+{
+    let word = words.next()?;
+    let name = name_at(alloc, word.column, word.text)?;
+    Ok(name)
+}
+
+/// The next word as the types that it lists.
+fn next_types(alloc: Global, words: &mut Words<'_>) -> Result<Vec<TypeRef>, Refused>
+    ensures { Takes (λ v. map type_view v.items) result words.new (lines.types (left_view words.old)) }
+{
+    let word = words.next()?;
+    let kinds = attrs(alloc, word.column, word.text)?;
+    Ok(kinds)
+}
+
+/// The types to be shown, if a word is left; else all.
+fn selection(alloc: Global, words: &mut Words<'_>) -> Result<Selection, Refused>
+    ensures { Takes selection_view result words.new (lines.selection (left_view words.old)) }
+{
+    if !words.has_more() {
+        return Ok(Selection::All);
+    }
+    let kinds = next_types(alloc, words)?;
+    Ok(Selection::Only(TypeList::from_vec(kinds)))
+}
+
+/// What stands behind `read`.
+fn read(alloc: Global, words: &mut Words<'_>) -> Result<Body, Refused>
+    ensures reads { Takes body_view result words.new (lines.read (left_view words.old)) }
+    ensures taken { IfOk result (λ body. IsTrue (is_read (body_view body))) }
+{
+    let object = next_name(alloc, words)?;
+    let selection = selection(alloc, words)?;
+    Ok(Body::Read { object, selection })
+}
+
+/// What stands behind `compare`.
+fn compare(alloc: Global, words: &mut Words<'_>) -> Result<Body, Refused>
+    ensures reads { Takes body_view result words.new (lines.compare (left_view words.old)) }
+    ensures taken { IfOk result (λ body. IsTrue (is_read (body_view body))) }
+{
+    let object = next_name(alloc, words)?;
+    let word = words.next()?;
+    let body = compare_body(alloc, word.column, object, word.text)?;
+    Ok(body)
+}
+
+/// The operation, with its arguments.
+fn operation(alloc: Global, words: &mut Words<'_>) -> Result<Body, Refused>
+    ensures reads { Takes body_view result words.new (lines.operation (left_view words.old)) }
+    ensures taken { IfOk result (λ body. IsTrue (is_read (body_view body))) }
+{
+    let word = words.next()?;
+    if word.text == "read" {
+        read(alloc, words)
+    } else if word.text == "compare" {
+        compare(alloc, words)
+    } else {
+        Err(NOT_YET)
+    }
+}
+
+/// What stands behind `at`.
+fn request(alloc: Global, words: &mut Words<'_>, agents: &[AgentSpec]) -> Result<Command, Refused>
+    requires { length agents.now ≤ 64 }
+    ensures reads { Says command_view result (lines.request (map (λ a. a.name) agents.now) (left_view words.old)) }
     ensures taken { IfOk result (IsTaken (length agents.now)) }
 {
-    let to = agent_of(agents, agent)?;
-    // before the name stand `at `, the agent and ` read `
-    let name = name_at(alloc, agent.len() + 10, object)?;
-    let body = read_body(alloc, agent.len() + object.len() + 11, name, types)?;
+    let to = next_agent(words, agents)?;
+    let body = operation(alloc, words)?;
+    words.end()?;
     Ok(Command::Ask {
         to,
         request: plain(body),
     })
 }
 
-/// The line `at AGENT compare NAME T=value`.
-fn compare(
+/// The command that the words of a line give.
+fn command_of(
     alloc: Global,
+    words: &mut Words<'_>,
     agents: &[AgentSpec],
-    agent: &str,
-    object: &str,
-    asserted: &str,
 ) -> Result<Command, Refused>
-    requires few { length agents.now ≤ 64 }
-    requires short { length agent.now + length object.now ≤ 4096 }
-    ensures reads { Takes command_view result (lines.compare_of (map (λ a. a.name) agents.now) agent.now object.now asserted.now) }
+    requires { length agents.now ≤ 64 }
+    ensures reads { Says command_view result (lines.command_of (map (λ a. a.name) agents.now) (left_view words.old)) }
     ensures taken { IfOk result (IsTaken (length agents.now)) }
 {
-    let to = agent_of(agents, agent)?;
-    // before the name stand `at `, the agent and ` compare `
-    let name = name_at(alloc, agent.len() + 13, object)?;
-    let body = compare_body(alloc, agent.len() + object.len() + 14, name, asserted)?;
-    Ok(Command::Ask {
-        to,
-        request: plain(body),
-    })
-}
-
-/// A line that ends where a word is due, which is missing at the column.
-fn lacking(agents: &[AgentSpec], agent: &str, column: usize) -> Result<Command, Refused>
-    requires few { length agents.now ≤ 64 }
-    ensures reads { Takes command_view result (lines.lacking (map (λ a. a.name) agents.now) agent.now column) }
-    ensures taken { IfOk result (IsTaken (length agents.now)) }
-{
-    let _to = agent_of(agents, agent)?;
-    Err(Refused::Line(LineFault::BadWord(column)))
-}
-
-/// The line `at AGENT compare NAME` without a value.
-fn lacking_value(
-    alloc: Global,
-    agents: &[AgentSpec],
-    agent: &str,
-    object: &str,
-) -> Result<Command, Refused>
-    requires few { length agents.now ≤ 64 }
-    requires short { length agent.now + length object.now ≤ 4096 }
-    ensures reads { Takes command_view result (lines.lacking_value (map (λ a. a.name) agents.now) agent.now object.now) }
-    ensures taken { IfOk result (IsTaken (length agents.now)) }
-{
-    let _to = agent_of(agents, agent)?;
-    let _name = name_at(alloc, agent.len() + 13, object)?;
-    let column = agent.len() + object.len() + 13;
-    Err(Refused::Line(LineFault::BadWord(column)))
-}
-
-/// The request that the words of a line ask for.
-fn request_of(alloc: Global, agents: &[AgentSpec], words: &[&str]) -> Result<Command, Refused>
-    requires few { length agents.now ≤ 64 }
-    requires short { span (map (λ x. x.now) words.now) ≤ 4097 }
-    ensures reads { Takes command_view result (lines.request_of (map (λ a. a.name) agents.now) (map (λ x. x.now) words.now)) }
-    ensures taken { IfOk result (IsTaken (length agents.now)) }
-{
-    match words {
-        [at, agent, operation] => {
-            if asks_read(at, operation) {
-                lacking(agents, agent, agent.len() + 9)
-            } else if asks_compare(at, operation) {
-                lacking(agents, agent, agent.len() + 12)
-            } else {
-                Err(NOT_YET)
-            }
-        }
-        [at, agent, operation, object] => {
-            if asks_read(at, operation) {
-                read(alloc, agents, agent, object, None)
-            } else if asks_compare(at, operation) {
-                lacking_value(alloc, agents, agent, object)
-            } else {
-                Err(NOT_YET)
-            }
-        }
-        [at, agent, operation, object, last] => match listed_types(at, operation, last) {
-            Some(types) => read(alloc, agents, agent, object, Some(types)),
-            None => {
-                if asks_compare(at, operation) {
-                    compare(alloc, agents, agent, object, last)
-                } else {
-                    Err(NOT_YET)
-                }
-            }
-        },
-        _ => Err(NOT_YET),
+    let word = words.next()?;
+    if word.text == "at" {
+        request(alloc, words, agents)
+    } else {
+        Err(NOT_YET)
     }
 }
 
@@ -203,16 +192,12 @@ fn request_of(alloc: Global, agents: &[AgentSpec], words: &[&str]) -> Result<Com
 fn read_words(alloc: Global, agents: &[AgentSpec], line: &[u8]) -> Result<Command, Refused>
     requires few { length agents.now ≤ 64 }
     requires short { length line.now ≤ 4096 }
-    ensures reads { Takes command_view result (asked_by (map (λ a. a.name) agents.now) line.now) }
+    ensures reads { Says command_view result (asked_by (map (λ a. a.name) agents.now) line.now) }
     ensures taken { IfOk result (IsTaken (length agents.now)) }
 {
-    match std::str::from_utf8(line) {
-        Ok(text) => {
-            let words = pieces(alloc, text, ' ')?;
-            request_of(alloc, agents, &words)
-        }
-        Err(_) => Err(NOT_YET),
-    }
+    let tokens = tokens_of(alloc, line)?;
+    let mut words = Words::new(&tokens, line.len());
+    command_of(alloc, &mut words, agents)
 }
 
 /// The command of a line that stands behind so many others.
@@ -223,7 +208,7 @@ pub(crate) fn read_line(
     line: &[u8],
 ) -> Result<Command, Refused>
     requires { length agents.now ≤ 64 }
-    ensures reads { Takes command_view result (line_of (map (λ a. a.name) agents.now) before line.now) }
+    ensures reads { Says command_view result (line_of (map (λ a. a.name) agents.now) before line.now) }
     ensures taken { IfOk result (IsTaken (length agents.now)) }
 {
     if line.len() > MOST_OCTETS || before >= MOST_LINES {

@@ -135,9 +135,9 @@ fn the_first_line_that_is_not_taken_is_told(rt: HostRuntime) -> Result<(), Fail>
         ("at Beta compare /C=NL L", 1, LineFault::BadWord(23)),
         ("at Beta compare /C=NL L=", 1, LineFault::BadWord(23)),
         ("at Beta compare /C=NL x=a", 1, LineFault::BadWord(23)),
-        ("at Beta read /C=NL ", 1, LineFault::NotYet),
-        (" at Beta read /C=NL", 1, LineFault::NotYet),
-        ("at  Beta read /C=NL", 1, LineFault::NotYet),
+        ("at Beta read /C=NL ", 1, LineFault::BadWord(20)),
+        (" at Beta read /C=NL", 1, LineFault::BadWord(1)),
+        ("at  Beta read /C=NL", 1, LineFault::BadWord(4)),
         ("at Beta list /C=NL", 1, LineFault::NotYet),
         ("at Beta compare /C=NL", 1, LineFault::BadWord(22)),
         ("at Beta compare ", 1, LineFault::BadWord(17)),
@@ -145,7 +145,11 @@ fn the_first_line_that_is_not_taken_is_told(rt: HostRuntime) -> Result<(), Fail>
         ("at Nobody read", 1, LineFault::BadName(4)),
         ("at Beta read ", 1, LineFault::BadWord(14)),
         ("at  read /C=NL", 1, LineFault::BadWord(4)),
-        ("at Beta read / attrs=CN attrs=CN", 1, LineFault::NotYet),
+        (
+            "at Beta read / attrs=CN attrs=CN",
+            1,
+            LineFault::BadWord(25),
+        ),
         ("\r\n", 1, LineFault::NotYet),
         (
             "#\n\nat Beta read x\nat Beta list /",
@@ -160,7 +164,7 @@ fn the_first_line_that_is_not_taken_is_told(rt: HostRuntime) -> Result<(), Fail>
         );
     }
     let not_utf8 = fault_of(alloc, b"at Beta read /O=\xff")?;
-    assert_eq!(rt; not_utf8, at(1, LineFault::NotYet));
+    assert_eq!(rt; not_utf8, at(1, LineFault::BadWord(17)));
     Ok(())
 }
 
