@@ -9,7 +9,7 @@ use Rattle.x5_model.specs.Words.{has, is_empty, first_of, in_option, when}
 use Rattle.x5_model.specs.Members.{In, here}
 use Rattle.x5_model.specs.Keys.{Key, same_key, is_prefix, parent}
 use Rattle.x5_model.specs.Values.{TypeRef, Known, Unknown, Name, Offered, StoredValue, Rdn, key_of, last_rdn, name_above}
-use Rattle.x5_model.specs.Attributes.{is_present, has_value, doubled, added_entry, stored_value, has_rdn, entry_with, stored_values}
+use Rattle.x5_model.specs.Attributes.{is_present, has_value, doubled, added_entry, stored_value, has_rdn, entry_with}
 use Rattle.x5_model.specs.Changes.{Changed, and_then, each_value, put_new, drop_old, on_known, changed, changed_by, single_valued, keeps_rdn, modified, renamed}
 use Rattle.x5_model.specs.Entries.{Entry, Named}
 use Rattle.x5_model.specs.Selections.{selection_fault}
@@ -151,8 +151,8 @@ known_fine change f (Unknown arcs) e = tt
 
 changed_fine : (c : Change) (e : Entry) → IsFine (changed c e)
 changed_fine (AddAttribute a) e =
-    known_fine (λ kind f. if is_present f kind then Err (AttributeProblem attribute_or_value_already_exists (Known kind)) else Ok (entry_with kind (stored_values a.values) f))
-    (λ k f. fine_if (is_present f k) (Err (AttributeProblem attribute_or_value_already_exists (Known k))) (Ok (entry_with k (stored_values a.values) f)) false_true tt) a.kind e
+    known_fine (λ kind f. if is_present f kind then Err (AttributeProblem attribute_or_value_already_exists (Known kind)) else each_value (put_new kind) a.values f)
+    (λ k f. fine_if (is_present f k) (Err (AttributeProblem attribute_or_value_already_exists (Known k))) (each_value (put_new k) a.values f) false_true (values_fine (put_new k) (λ v g. fine_if (has_value g k v.normal) _ _ false_true tt) a.values f)) a.kind e
 changed_fine (RemoveAttribute type) e =
     known_fine (λ kind f. if is_present f kind then Ok (entry_with kind [] f) else Err (AttributeProblem no_such_attribute_or_value (Known kind)))
     (λ k f. fine_if (is_present f k) (Ok (entry_with k [] f)) (Err (AttributeProblem no_such_attribute_or_value (Known k))) tt false_true) type e
