@@ -20,3 +20,4 @@ pub mod Further
 pub mod Moving
 pub mod Starred
 pub mod Outputs
+pub mod Serving
