@@ -12,6 +12,7 @@ use Rattle.x5_model_run.specs.History.{Point, holdings_at}
 use Rattle.x5_model_run.specs.Chain.{Scene}
 use Rattle.x5_model_theory.proofs.Stages.{key_length}
 use Rattle.x5_model_updates.proofs.Judges.{probes_new_name}
+use Rattle.x5_model_updates.proofs.Probes.{Probe, probe_is}
 use Rattle.x5_model_serve.specs.Serving.{Hand, holds_now}
 use Rattle.x5_model_serve.specs.Claims.{Setting, AtMaster}
 use Rattle.x5_model_verdicts.proofs.At.{holds_is}
@@ -53,8 +54,11 @@ new_apart (ModifyDn n rdn drops) name q full e = by (same_name (name_above n ++ 
 -- ---- what a probe asks for
 
 module _ (p : Point) (s : Scene) (k : Hand) (i : Journal) (set : Setting p s) (at : AtMaster p s k i) (r : Reference) (due : due_probes (holds_now s i k) k.message ≡ r ∷ []) where
-  due_in : In r (due_probes (holdings_at p k.receiver) k.message)
+  pub due_in : In r (due_probes (holdings_at p k.receiver) k.message)
   due_in = subst (λ (rs : List Reference). In r rs) (sym (ap (λ (y : Holdings). due_probes y k.message) (sym (holds_is p s k i set at)) ∙ due)) here
+
+  pub probe : Probe (holdings_at p k.receiver) k.message r
+  probe = probe_is (holdings_at p k.receiver) k.message r due_in
 
   pub new_is : (name : Name) × (new_name k.message.request.body ≡ Some name) × (key_of r.target ≡ key_of name) × (length r.target ≡ length name)
   new_is = probes_new_name p k.receiver k.message r due_in

@@ -248,7 +248,7 @@ module _ (p : Point) (s : Scene) (k : Hand) (i : Journal) (set : Setting p s) (a
                 ∙ knows_taken (key_of name) (taken_name (ground_at k.message.request (holdings_at p k.receiver)) k.message.request.body name (refusal e) q) t))
           ]
 
-  is_told_by : (lines : List Line) → In at.at_hand.line lines → (x : DirError) → hears_taken p s (serving_of i k at.at_hand.line.number) lines x ≡ true → is_told p s (serving_of i k at.at_hand.line.number) lines x ≡ true
+  pub is_told_by : (lines : List Line) → In at.at_hand.line lines → (x : DirError) → hears_taken p s (serving_of i k at.at_hand.line.number) lines x ≡ true → is_told p s (serving_of i k at.at_hand.line.number) lines x ≡ true
   is_told_by lines stands x t =
       or_right (is_some (fault_of k.message.request.body)) _
       (and_true (hears_master p (serving_of i k at.at_hand.line.number) lines (lowest (tree_at p).entries (key_of k.message.target))) _ (told_master lines stands)

@@ -3,7 +3,7 @@
 #![tactic(auto)]
 
 ghost use Rattle.x5_model_verdicts.specs.Committing.{CommittedIsAfter, RunsAreStamped};
-ghost use Rattle.x5_model_verdicts.specs.Verdicts.{NoneAccepted, RefusalIsRight, ProbesAcceptNone};
+ghost use Rattle.x5_model_verdicts.specs.Verdicts.{NoneAccepted, RefusalIsRight, AloneIsRight, ProbedIsRight, MissedIsRight, TakenIsRight, BreakIsRight, ProbesAcceptNone};
 ghost use Rattle.x5_model_verdicts.specs.Growth.{LinesGrow, NoErrorAfter, AcceptedMeanwhile, TriedInVain};
 ghost use Rattle.x5_model_run.specs.Right.{AnswersRight};
 
@@ -14,11 +14,18 @@ pub fn committing()
     ensures stamped { RunsAreStamped AnswersRight }
 {}
 
-/// Where an update comes to its master nothing was accepted before. What the master's own ground refuses is refused rightly,
-/// and nothing is accepted while probes are sent (X.511, section 11; X.518, section 19.1).
+/// Where an update comes to its master nothing was accepted before, and nothing is while probes are sent. What the master
+/// answers is right: where its own ground refuses; where it accepts, without probes or after them, and then what was accepted
+/// is right too; and where probes weren't heard, found the new name, or brought another error (X.511, section 11; X.518,
+/// section 19.1).
 pub fn verdicts()
     ensures none { NoneAccepted }
     ensures refusal { RefusalIsRight }
+    ensures alone { AloneIsRight }
+    ensures probed { ProbedIsRight }
+    ensures missed { MissedIsRight }
+    ensures taken { TakenIsRight }
+    ensures breaking { BreakIsRight }
     ensures silence { ProbesAcceptNone }
 {}
 

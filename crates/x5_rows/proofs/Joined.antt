@@ -1,15 +1,9 @@
 -- The parts of a search of the base world, and of one near it: what is evaluated on the spot, which references are needed for
 -- the rest, and what each looks into. The theorems on parts hold of these, so they aren't empty.
-use Rattle.std.specs.Prelude.{◌≡◌, ◌≤◌, nat_le, ◌∷◌, [], map, true, length}
-use Rattle.std.specs.List.{list_all}
-use Rattle.std.proofs.Common.{refl, inl, inr, false, sym, ◌∙◌}
-use Rattle.std.proofs.lemmas.Bool.Decides.{leb_tells}
-use Rattle.x5_model.specs.Keys.{Key}
+use Rattle.std.specs.Prelude.{◌≡◌, ◌∷◌, [], map, true}
+use Rattle.std.proofs.Common.{refl, inr, false}
 use Rattle.x5_model.specs.Values.{key_of}
-use Rattle.x5_model.specs.Members.{In, Once}
-use Rattle.x5_model.proofs.Lists.{of_all}
-use Rattle.x5_model_tree.specs.World.{World}
-use Rattle.x5_model_tree.specs.Masters.{pins}
+use Rattle.x5_model.specs.Members.{Once}
 use Rattle.x5_model_run.specs.Covers.{covers, are_apart}
 use Rattle.x5_model_run.specs.History.{Point, knowledge_at}
 use Rattle.x5_model_parts.specs.Standing.{Stands, CopiesStand}

@@ -21,3 +21,4 @@ pub mod Moving
 pub mod Starred
 pub mod Outputs
 pub mod Descriptions
+pub mod Serving
