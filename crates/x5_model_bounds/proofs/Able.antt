@@ -9,7 +9,7 @@ use Rattle.x5_model.specs.Words.{has, is_empty, first_of, in_option, when}
 use Rattle.x5_model.specs.Members.{In, here}
 use Rattle.x5_model.specs.Keys.{Key, same_key, is_prefix, parent}
 use Rattle.x5_model.specs.Values.{TypeRef, Known, Unknown, Name, Offered, StoredValue, Rdn, key_of, last_rdn, name_above}
-use Rattle.x5_model.specs.Attributes.{is_present, has_value, doubled, added_entry, stored_value, has_rdn, entry_with, stored_values}
+use Rattle.x5_model.specs.Attributes.{is_present, has_value, doubled, added_entry, stored_value, has_rdn, entry_with}
 use Rattle.x5_model.specs.Changes.{Changed, and_then, each_value, put_new, drop_old, on_known, changed, changed_by, single_valued, keeps_rdn, modified, renamed}
 use Rattle.x5_model.specs.Entries.{Entry, Named}
 use Rattle.x5_model.specs.Selections.{selection_fault}
@@ -149,14 +149,17 @@ known_fine : (change : ℕ → Entry → Changed) → ((k : ℕ) (e : Entry) →
 known_fine change f (Known kind) e = f kind e
 known_fine change f (Unknown arcs) e = tt
 
+new_fine : (kind : ℕ) (os : List Offered) (e : Entry) → IsFine (each_value (put_new kind) os e)
+new_fine kind os e = values_fine (put_new kind) (λ v g. fine_if (has_value g kind v.normal) _ _ false_true tt) os e
+
 changed_fine : (c : Change) (e : Entry) → IsFine (changed c e)
 changed_fine (AddAttribute a) e =
-    known_fine (λ kind f. if is_present f kind then Err (AttributeProblem attribute_or_value_already_exists (Known kind)) else Ok (entry_with kind (stored_values a.values) f))
-    (λ k f. fine_if (is_present f k) (Err (AttributeProblem attribute_or_value_already_exists (Known k))) (Ok (entry_with k (stored_values a.values) f)) false_true tt) a.kind e
+    known_fine (λ kind f. if is_present f kind then Err (AttributeProblem attribute_or_value_already_exists (Known kind)) else each_value (put_new kind) a.values f)
+    (λ k f. fine_if (is_present f k) (Err (AttributeProblem attribute_or_value_already_exists (Known k))) (each_value (put_new k) a.values f) false_true (new_fine k a.values f)) a.kind e
 changed_fine (RemoveAttribute type) e =
     known_fine (λ kind f. if is_present f kind then Ok (entry_with kind [] f) else Err (AttributeProblem no_such_attribute_or_value (Known kind)))
     (λ k f. fine_if (is_present f k) (Ok (entry_with k [] f)) (Err (AttributeProblem no_such_attribute_or_value (Known k))) tt false_true) type e
-changed_fine (AddValues a) e = known_fine (λ kind f. each_value (put_new kind) a.values f) (λ k f. values_fine (put_new k) (λ v g. fine_if (has_value g k v.normal) _ _ false_true tt) a.values f) a.kind e
+changed_fine (AddValues a) e = known_fine (λ kind f. each_value (put_new kind) a.values f) (λ k f. new_fine k a.values f) a.kind e
 changed_fine (RemoveValues a) e = known_fine (λ kind f. each_value (drop_old kind) a.values f) (λ k f. values_fine (drop_old k) (λ v g. fine_if (has_value g k v.normal) _ _ tt false_true) a.values f) a.kind e
 
 changes_fine : (cs : List Change) (e : Entry) → IsFine (changed_by cs e)

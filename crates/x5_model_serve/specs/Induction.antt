@@ -22,12 +22,11 @@ use Rattle.x5_model_run.specs.Blocked.{Asked}
 use Rattle.x5_model_run.specs.Right.{master_at, heard_whole, AnswersRight}
 use Rattle.x5_model_run.specs.Placed.{Placed, RightReply}
 use Rattle.x5_model_run.specs.Thorough.{is_served, Thorough}
-use Rattle.x5_model_parts.specs.Standing as parts
 use Rattle.x5_model_updates.specs.Standing as updates
 use Rattle.x5_model_serve.specs.Finding.{Here, Onward, IsLooked, find}
 use Rattle.x5_model_serve.specs.Answering.{to_follow}
 use Rattle.x5_model_serve.specs.Serving.{Hand, hand_of, line_for, Heard, Act, Serves, Follows, Sends, Tries, Takes, Spreads, Casts, Gathers, Probes, Updates, Does, IsRequest, holds_now, is_idle, is_final, is_spent}
-use Rattle.x5_model_serve.specs.Claims.{Setting, serving_of, asked_line, LiesWithin, is_settled_line, is_served_itself, depth_at, AtHand, Keeps, MayTake, Apart, AskedSoFar, NotedSoFar, OnlyBy, HeardRight, TakenRight, IsSpentReply, TakesRight, GathersRight, AtMaster}
+use Rattle.x5_model_serve.specs.Claims.{Setting, serving_of, asked_line, LiesWithin, is_settled_line, is_served_itself, depth_at, AtHand, Keeps, MayTake, AskedSoFar, NotedSoFar, OnlyBy, HeardRight, TakenRight, IsSpentReply, TakesRight, GathersRight, AtMaster}
 
 -- the line of the message at hand
 abbrev pub IsLineOf : Hand → Journal → Line → Type 0
@@ -128,11 +127,6 @@ RequestIsRight =
     → AnswersRight p first r j reply × Thorough (scene_at p first r) j
 
 -- ---- what it still rests on, beside the lemmas that are proved
--- No two references that an agent needs ask the same of one agent, and none stands twice.
-abbrev pub NeedsApart : Type 0
-NeedsApart =
-    (p : Point) (o : ℕ) (m : Chained) → parts.Stands p → parts.CopiesStand p → Apart (needs (holdings_at p o) m)
-
 -- What is right for a message that was passed on is right for the message for which it was sent.
 abbrev pub PassesBack : Type 0
 PassesBack =
