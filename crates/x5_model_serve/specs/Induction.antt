@@ -138,15 +138,6 @@ PassesBack =
     → (length j.accepted ≡ stood ⊎ (reply ≡ Answered Changed ⊎ heard_whole j.lines ≡ false))
     → RightReply p s (asked_line l stood) j (is_spent most j) reply
 
--- A placed update that resolves its name at the master of a present target is found there.
-abbrev pub JudgeIsHere : Type 0
-JudgeIsHere =
-    (p : Point) (o : ℕ) (m : Chained)
-    → updates.Stands p → IsLooked m → is_update m.request.body ≡ true → Placed p m o
-    → resolves (holdings_at p o) m ≡ true → master_at p (key_of m.target) ≡ Some o
-    → is_there (tree_at p).entries (key_of m.target) ≡ true
-    → (c : Held) × (find (holdings_at p o) m ≡ Here c)
-
 -- What is right stays right where a line is added.
 abbrev pub RightStays : Type 0
 RightStays =
