@@ -88,7 +88,7 @@ one_less n (x ∷ xs) o = go (x == n) refl (one_less n xs o.1) (all_but n xs)
     go true e h f = (let same : x ≡ n = (Decides-eqb x n).0 e in let l : length (filter (λ y. not (y == n)) xs) ≡ length xs = f (λ i. o.0 (subst (λ (y : ℕ). In y xs) (sym same) i)) in omega arith)
     go false e h f = omega arith
 
-once_kept : (test : ℕ → Bool) (xs : List ℕ) → Once xs → Once (filter test xs)
+pub once_kept : (test : ℕ → Bool) (xs : List ℕ) → Once xs → Once (filter test xs)
 once_kept test [] o = tt
 once_kept test (x ∷ xs) o = go (test x) (once_kept test xs o.1)
   where

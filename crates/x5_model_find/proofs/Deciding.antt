@@ -236,10 +236,10 @@ module _ (h : Holdings) (m : Chained) (looked : IsLooked m) where
   passing_is : passing_needs h m ≡ resolution_needs h m ++ part_needs h m ++ copied_needs h m
   passing_is = ap passes looked.0
 
-  probes_are : due_probes h m ≡ probe_needs h m
+  pub probes_are : due_probes h m ≡ probe_needs h m
   probes_are = ap (λ (o : Option DirError). cond (is_some o) [] (probe_needs h m)) looked.0
 
-  needs_are : (rs ps cs ds : List Reference) → resolution_needs h m ≡ rs → part_needs h m ≡ ps → copied_needs h m ≡ cs → probe_needs h m ≡ ds → needs h m ≡ (rs ++ ps ++ cs) ++ ds
+  pub needs_are : (rs ps cs ds : List Reference) → resolution_needs h m ≡ rs → part_needs h m ≡ ps → copied_needs h m ≡ cs → probe_needs h m ≡ ds → needs h m ≡ (rs ++ ps ++ cs) ++ ds
   needs_are rs ps cs ds r q c d =
       ap (λ (xs : List Reference). xs ++ due_probes h m) passing_is
       ∙ ap (λ (xs : List Reference). (xs ++ part_needs h m ++ copied_needs h m) ++ due_probes h m) r

@@ -9,13 +9,13 @@ use Rattle.x5_model.specs.Entries.{Named}
 use Rattle.x5_model.specs.References.{Next, Reference, Chained}
 use Rattle.x5_model.specs.Answers.{NoSuchObject}
 use Rattle.x5_model_tree.specs.World.{World}
-use Rattle.x5_model_tree.specs.Tree.{key_at, tree_of, lowest}
+use Rattle.x5_model_tree.specs.Tree.{key_at, tree_of, lowest, is_there}
 use Rattle.x5_model_tree.specs.Consistent.{IsConsistent}
 use Rattle.x5_model_tree.specs.Described.{IsDescribed}
 use Rattle.x5_model_tree.specs.Ask.{Refuses, is_update, ask_marked}
 use Rattle.x5_model_run.specs.Journal.{is_wide}
 use Rattle.x5_model_run.specs.Holdings.{Held, Copy, Holdings, may_copy, holds_within}
-use Rattle.x5_model_run.specs.Needs.{subset_of, needs, due_probes, part_needs}
+use Rattle.x5_model_run.specs.Needs.{resolves, subset_of, needs, due_probes, part_needs}
 use Rattle.x5_model_run.specs.History.{Did, Point, knowledge_at, tree_at, holdings_at}
 use Rattle.x5_model_run.specs.Chain.{Scene}
 use Rattle.x5_model_run.specs.Covers.{touched, mixed, is_copied, told}
@@ -142,3 +142,12 @@ HereIsJudge =
     (p : Point) (o : ℕ) (m : Chained) (c : Held)
     → updates.Stands p → IsLooked m → is_update m.request.body ≡ true → find (holdings_at p o) m ≡ Here c
     → IsJudge p o m
+
+-- And an update that still resolves its name at the master of a present target is found there.
+abbrev pub JudgeIsHere : Type 0
+JudgeIsHere =
+    (p : Point) (o : ℕ) (m : Chained)
+    → updates.Stands p → IsLooked m → is_update m.request.body ≡ true
+    → resolves (holdings_at p o) m ≡ true → master_at p (key_of m.target) ≡ Some o
+    → is_there (tree_at p).entries (key_of m.target) ≡ true
+    → (c : Held) × (find (holdings_at p o) m ≡ Here c)

@@ -1,5 +1,5 @@
 -- No context is evaluated twice, and no two needed references meet.
-use Rattle.std.proofs.Common.{◌≡◌, ◌≢◌, ℕ, zero, suc, ◌+◌, ◌<◌, ◌≤◌, ◌==◌, Bool, true, false, cond, not, ◌&&◌, inl, inr, List, [], ◌∷◌, ◌++◌, length, map, refl, sym, ap, subst, ◌∙◌, arith, Option, Some, None, if◌then◌else◌}
+use Rattle.std.proofs.Common.{◌≡◌, ◌≢◌, ℕ, zero, suc, ◌+◌, ◌<◌, ◌≤◌, ◌==◌, Bool, true, false, cond, not, ◌&&◌, ◌⊎◌, inl, inr, List, [], ◌∷◌, ◌++◌, length, map, refl, sym, ap, subst, ◌∙◌, arith, Option, Some, None, if◌then◌else◌}
 use Rattle.std.specs.List.{filter, list_any, flat_map}
 use Rattle.std.specs.Option.{is_none}
 use Rattle.x5_model.specs.Words.{in_option}
@@ -9,7 +9,7 @@ use Rattle.x5_model.specs.Values.{key_of}
 use Rattle.x5_model.specs.Entries.{Named}
 use Rattle.x5_model.specs.References.{Done, Reference, Subordinate, Chained}
 use Rattle.x5_model.proofs.KeyLaws.{key_decides}
-use Rattle.x5_model.proofs.Lists.{in_either, in_left, in_right, in_map, of_map, of_flat, of_find, of_filter}
+use Rattle.x5_model.proofs.Lists.{in_first, in_either, in_left, in_right, in_map, of_map, of_flat, of_find, of_filter}
 use Rattle.x5_model.proofs.Prefixes.{prefix_length, prefix_chain, parent_is_prefix, parent_length}
 use Rattle.x5_model_tree.specs.World.{Specific, Nssr, World}
 use Rattle.x5_model_tree.specs.Tree.{Tree, key_at, is_there, entry_at}
@@ -20,13 +20,14 @@ use Rattle.x5_model_run.specs.Covers.{meet, are_apart}
 use Rattle.x5_model_theory.specs.Knowledge.{Knowledge, Area, Spot}
 use Rattle.x5_model_theory.specs.Described.{spot_of}
 use Rattle.x5_model_theory.specs.Scopes.{IsInScope, Look, IsEvaluated}
+use Rattle.x5_model_theory.proofs.Cohering.{one_master}
 use Rattle.x5_model_theory.proofs.Scoping.{is_context, one_context, below_start}
-use Rattle.x5_model_parts.proofs.Asking.{scope_decides}
-use Rattle.x5_model_parts.proofs.Seeing.{Like, Sees}
-use Rattle.x5_model_parts.proofs.Spots.{evaluated_is, next_is, further_spot, below_spots, parent_in, spot_is}
+use Rattle.x5_model_parts.proofs.Asking.{false_true, scope_decides}
+use Rattle.x5_model_parts.proofs.Seeing.{is_held, Like, Sees}
+use Rattle.x5_model_parts.proofs.Spots.{held_in, spot_of_evaluated, evaluated_is, next_is, further_spot, below_spots, parent_in, spot_is}
 use Rattle.x5_model_parts.proofs.Needing.{IsTo, IsAmong, ask, wide_made, among, ask_among, rest, needs_are, root_view, specific_view, wide_view}
 use Rattle.x5_model_parts.proofs.Covering.{meets_same, not_it}
-use Rattle.x5_model_parts.proofs.Lone.{once_filter, once_append, Lone, lone_apart, lone_append, lone_flat, lone_map}
+use Rattle.x5_model_parts.proofs.Lone.{Other, once_filter, once_append, Lone, lone_apart, lone_append, lone_flat, lone_map}
 
 module _ (w : World) (t : Tree) (k : Knowledge) (o : ℕ) (h : Holdings) (m : Chained) (l : Look) (s : Sees w t k o h m l) where
   abbrev all : List Held
@@ -151,17 +152,60 @@ module _ (w : World) (t : Tree) (k : Knowledge) (o : ℕ) (h : Holdings) (m : Ch
   abbrev Among : Reference → Spot → ℕ → Type 0
   Among r n a = IsAmong w t k o h m l s r n a
 
-  two_pins : (r q : Reference) (p u : Area) → To r p → To q u → (p ≡ u → ⊥) → meet w r q ≡ false
-  two_pins r q p u v x other = not_it (meet w r q) (λ e. other (meets_same w t k o h m l s r q (inl (p, v)) (inl (u, x)) e))
+  -- the entry of a needed NSSR is in an evaluated context, so a needed pin isn't it
+  pin_off_spot : (r q : Reference) (p : Area) (n : Spot) (a : ℕ) → To r p → Among q n a → key_of r.target ≡ key_of q.target → ⊥
+  pin_off_spot r q p n a v x e =
+      let at : p.prefix ≡ n.at = sym v.target ∙ e ∙ x.target in
+      let d : Area = x.needs.above in
+      let id = is_context l s.may d x.needs.evaluated in
+      let up : In n.at d.entries = s.may.laid.nssr_at d n id x.needs.nssr in
+      let head : In n.at p.entries = subst (λ (y : Key). In y p.entries) at (s.good.headed p v.area) in
+      let one : p ≡ d = one_context l s.may p d n.at (s.inside p v.area) id head up in
+      let c = spot_of_evaluated w t k o h m l s p (subst (λ (y : Area). IsEvaluated l y) (sym one) x.needs.evaluated) (s.good.filled p v.area) in
+      let ic : In c.0 all = (spot_is w t k o h m l s c.0 c.1).0 in
+      false_true (sym v.needs.not_held ∙ s.holds p.prefix ∙ ap (is_held all) c.2.prefix ∙ held_in all c.0 ic)
 
-  pin_and_spot : (r q : Reference) (p : Area) (n : Spot) (a : ℕ) → To r p → Among q n a → meet w r q ≡ false
-  pin_and_spot r q p n a v x = not_it (meet w r q) (λ e. meets_same w t k o h m l s r q (inl (p, v)) (inr (n, a, x)) e)
+  same_spot : (r q : Reference) (n i : Spot) (a b : ℕ) → Among r n a → Among q i b → key_of r.target ≡ key_of q.target → n ≡ i
+  same_spot r q n i a b v x e =
+      let at : n.at ≡ i.at = sym v.target ∙ e ∙ x.target in
+      let d : Area = v.needs.above in
+      let f : Area = x.needs.above in
+      let id = is_context l s.may d v.needs.evaluated in
+      let jf = is_context l s.may f x.needs.evaluated in
+      let up : In i.at d.entries = subst (λ (y : Key). In y d.entries) at (s.may.laid.nssr_at d n id v.needs.nssr) in
+      let one : d ≡ f = one_context l s.may d f i.at id jf up (s.may.laid.nssr_at f i jf x.needs.nssr) in
+      s.may.laid.one_nssr f n i jf (subst (λ (y : Area). In n y.nssrs) one v.needs.nssr) x.needs.nssr at
 
-  spot_and_pin : (r q : Reference) (p : Area) (n : Spot) (a : ℕ) → Among r n a → To q p → meet w r q ≡ false
-  spot_and_pin r q p n a v x = not_it (meet w r q) (λ e. meets_same w t k o h m l s r q (inr (n, a, v)) (inl (p, x)) e)
+  same_agent : (r q : Reference) (a b : ℕ) → r.agents ≡ a ∷ [] → q.agents ≡ b ∷ [] → (r.agents ≡ q.agents) ⊎ ((c : ℕ) × In c r.agents × In c q.agents) → a ≡ b
+  same_agent r q a b e f (inl same) = (let g : a ∷ [] ≡ b ∷ [] = sym e ∙ same ∙ f in cc)
+  same_agent r q a b e f (inr g) = sym (only g.0 a (subst (λ (xs : List ℕ). In g.0 xs) e g.1)) ∙ only g.0 b (subst (λ (xs : List ℕ). In g.0 xs) f g.2)
+    where
+      only : (c x : ℕ) → In c (x ∷ []) → c ≡ x
+      only c x i = elim (in_first c x [] i) [ inl j ↦ j | inr j ↦ elim j [ ] ]
 
-  two_spots : (r q : Reference) (n i : Spot) (a b : ℕ) → Among r n a → Among q i b → ((n ≡ i) → (a ≡ b) → ⊥) → meet w r q ≡ false
-  two_spots r q n i a b v x other = not_it (meet w r q) (λ e. (let g = meets_same w t k o h m l s r q (inr (n, a, v)) (inr (i, b, x)) e in other g.0 g.1))
+  two_pins : (r q : Reference) (p u : Area) → To r p → To q u → (p ≡ u → ⊥) → Other w r q
+  two_pins r q p u v x other = record {
+    apart = not_it (meet w r q) (λ e. other (meets_same w t k o h m l s r q (inl (p, v)) (inl (u, x)) e));
+    unlike = λ e i. other (one_master k p u s.good v.area x.area (sym v.target ∙ e ∙ x.target));
+  }
+
+  pin_and_spot : (r q : Reference) (p : Area) (n : Spot) (a : ℕ) → To r p → Among q n a → Other w r q
+  pin_and_spot r q p n a v x = record {
+    apart = not_it (meet w r q) (λ e. meets_same w t k o h m l s r q (inl (p, v)) (inr (n, a, x)) e);
+    unlike = λ e i. pin_off_spot r q p n a v x e;
+  }
+
+  spot_and_pin : (r q : Reference) (p : Area) (n : Spot) (a : ℕ) → Among r n a → To q p → Other w r q
+  spot_and_pin r q p n a v x = record {
+    apart = not_it (meet w r q) (λ e. meets_same w t k o h m l s r q (inr (n, a, v)) (inl (p, x)) e);
+    unlike = λ e i. pin_off_spot q r p n a x v (sym e);
+  }
+
+  two_spots : (r q : Reference) (n i : Spot) (a b : ℕ) → Among r n a → Among q i b → ((n ≡ i) → (a ≡ b) → ⊥) → Other w r q
+  two_spots r q n i a b v x other = record {
+    apart = not_it (meet w r q) (λ e. (let g = meets_same w t k o h m l s r q (inr (n, a, v)) (inr (i, b, x)) e in other g.0 g.1));
+    unlike = λ e c. other (same_spot r q n i a b v x e) (same_agent r q a b v.agents x.agents c);
+  }
 
   abbrev made : Specific → Reference
   made x = reference x.pin Done Subordinate (usable_agents m.request x.access)
@@ -242,7 +286,7 @@ module _ (w : World) (t : Tree) (k : Knowledge) (o : ℕ) (h : Holdings) (m : Ch
 
   -- references from two contexts
   two_contexts : (c d : Held) → In c (evaluated h m) → In d (evaluated h m) → pin c ≢ pin d → (r q : Reference) → In r (below_needs h m l.subset c.subordinate ++ wide_needs h m l.subset c)
-      → In q (below_needs h m l.subset d.subordinate ++ wide_needs h m l.subset d) → meet w r q ≡ false
+      → In q (below_needs h m l.subset d.subordinate ++ wide_needs h m l.subset d) → Other w r q
   two_contexts c d ic id other r q ir iq =
       elim (in_either r (below_needs h m l.subset c.subordinate) (wide_needs h m l.subset c) ir) [
         | inl i ↦
@@ -280,7 +324,7 @@ module _ (w : World) (t : Tree) (k : Knowledge) (o : ℕ) (h : Holdings) (m : Ch
       at_spots x y e i j = at_one (key_of x.at) (key_of y.at) (ap (λ (z : Spot). z.at) e) (nssr_entry_at c vc x i) (nssr_entry_at d vd y j)
 
   -- and from the root
-  root_contexts : answers_root h m ≡ true → (d : Held) → In d (evaluated h m) → (r q : Reference) → In r (below_needs h m l.subset h.root) → In q (below_needs h m l.subset d.subordinate ++ wide_needs h m l.subset d) → meet w r q ≡ false
+  root_contexts : answers_root h m ≡ true → (d : Held) → In d (evaluated h m) → (r q : Reference) → In r (below_needs h m l.subset h.root) → In q (below_needs h m l.subset d.subordinate ++ wide_needs h m l.subset d) → Other w r q
   root_contexts yes_root d id r q ir iq =
       let x = root_view w t k o h m l s yes_root r ir in
       elim (in_either q (below_needs h m l.subset d.subordinate) (wide_needs h m l.subset d) iq) [
@@ -317,9 +361,12 @@ module _ (w : World) (t : Tree) (k : Knowledge) (o : ℕ) (h : Holdings) (m : Ch
       at_root false e = tt
       at_root true e = lone_below h.root s.root_once (root_view w t k o h m l s e)
 
-      at_both : (b : Bool) → answers_root h m ≡ b → (r q : Reference) (d : Held) → In d (evaluated h m) → In r (if b then below_needs h m l.subset h.root else []) → In q (below_needs h m l.subset d.subordinate ++ wide_needs h m l.subset d) → meet w r q ≡ false
+      at_both : (b : Bool) → answers_root h m ≡ b → (r q : Reference) (d : Held) → In d (evaluated h m) → In r (if b then below_needs h m l.subset h.root else []) → In q (below_needs h m l.subset d.subordinate ++ wide_needs h m l.subset d) → Other w r q
       at_both false e r q d id i j = elim i [ ]
       at_both true e r q d id i j = root_contexts e d id r q i j
 
+  pub needs_lone : Lone w (part_needs h m)
+  needs_lone = subst (λ (xs : List Reference). Lone w xs) (sym (needs_are w t k o h m l s)) lone_needs
+
   pub needs_apart : are_apart w (part_needs h m) ≡ true
-  needs_apart = lone_apart w (part_needs h m) (subst (λ (xs : List Reference). Lone w xs) (sym (needs_are w t k o h m l s)) lone_needs)
+  needs_apart = lone_apart w (part_needs h m) needs_lone

@@ -1,5 +1,5 @@
 -- While no update was accepted and no context moved, a line finds what consistent knowledge gives.
-use Rattle.std.proofs.Common.{◌≡◌, ◌≤◌, inl, inr, ◌↔◌, true, List, [], ◌∷◌, length, map, refl, sym, subst, ◌∙◌, ℕ, zero, suc, ◌-◌, drop}
+use Rattle.std.proofs.Common.{◌≡◌, inl, inr, ◌↔◌, true, List, [], ◌∷◌, length, map, refl, sym, subst, ◌∙◌, ℕ, zero, suc, ◌-◌, drop}
 use Rattle.x5_model.specs.Words.{distinct}
 use Rattle.x5_model.specs.Members.{In, Once}
 use Rattle.x5_model.specs.Keys.{Key, same_key, parent}

@@ -36,7 +36,8 @@ use Rattle.x5_model_parts.proofs.Seeing.{Sees}
 use Rattle.x5_model_parts.proofs.Spots.{spot_is}
 use Rattle.x5_model_parts.proofs.Needing.{IsTo, IsAmong, view_of}
 use Rattle.x5_model_parts.proofs.Covering.{not_it, InScope, scope_covered, covered_scope, scope_touched, spot_touched, spot_apart, all_parts}
-use Rattle.x5_model_parts.proofs.Apart.{spots_once, needs_apart}
+use Rattle.x5_model_parts.proofs.Apart.{spots_once, needs_lone, needs_apart}
+use Rattle.x5_model_parts.proofs.Lone.{Lone}
 use Rattle.x5_model_parts.proofs.Owning.{filled_in, area_of_mastered, mastered_of_area, own_area_is}
 use Rattle.x5_model_parts.proofs.Copying.{Serving, own_serving, all_serving, usable_sent}
 use Rattle.x5_model_parts.proofs.Touching.{IsLow, looks_from_base, start_areas, of_start, in_starts, looks_from_pins}
@@ -139,6 +140,10 @@ spots_are_right p l c b i =
           refreshed = x.5;
           entries = subst (λ (y : Held). y.entries ≡ part (tree_of_moment p x.1) (key_of y.prefix)) (sym x.8) refl;
         }
+
+-- no two needed references ask the same of one agent
+pub parts_are_lone : (p : Point) (l : Line) → BeginsHere p l → Lone (knowledge_at p) (rest_needs p l)
+parts_are_lone p l b = (let v = sight p l b in needs_lone (knowledge_at p) (tree_at p) (knowledge_now p) l.receiver (holdings_at p l.receiver) l.message v.look v.sees_it)
 
 pub spots_are_once : SpotsAreOnce
 spots_are_once p l b = (let v = sight p l b in spots_once (knowledge_at p) (tree_at p) (knowledge_now p) l.receiver (holdings_at p l.receiver) l.message v.look v.sees_it)

@@ -1,5 +1,5 @@
 -- What a line of a run over consistent knowledge finds: the contexts with the entries that the tree has of them by then.
-use Rattle.std.specs.Prelude.{◌≡◌, ◌≤◌, ◌↔◌, List, [], ◌∷◌, length, ⊤, Some, ℕ}
+use Rattle.std.specs.Prelude.{◌≡◌, ◌↔◌, List, [], ◌∷◌, ⊤, Some, ℕ}
 use Rattle.x5_model.specs.Members.{In}
 use Rattle.x5_model.specs.Keys.{Key}
 use Rattle.x5_model_tree.specs.World.{Agreement, World}

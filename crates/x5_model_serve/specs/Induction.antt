@@ -22,12 +22,11 @@ use Rattle.x5_model_run.specs.Blocked.{Asked}
 use Rattle.x5_model_run.specs.Right.{master_at, heard_whole, AnswersRight}
 use Rattle.x5_model_run.specs.Placed.{Placed, RightReply}
 use Rattle.x5_model_run.specs.Thorough.{is_served, Thorough}
-use Rattle.x5_model_parts.specs.Standing as parts
 use Rattle.x5_model_updates.specs.Standing as updates
 use Rattle.x5_model_serve.specs.Finding.{Here, Onward, IsLooked, find}
 use Rattle.x5_model_serve.specs.Answering.{to_follow}
 use Rattle.x5_model_serve.specs.Serving.{Hand, hand_of, line_for, Heard, Act, Serves, Follows, Sends, Tries, Takes, Spreads, Casts, Gathers, Probes, Updates, Does, IsRequest, holds_now, is_idle, is_final, is_spent}
-use Rattle.x5_model_serve.specs.Claims.{Setting, serving_of, asked_line, LiesWithin, is_settled_line, is_served_itself, depth_at, AtHand, Keeps, MayTake, Apart, AskedSoFar, NotedSoFar, OnlyBy, HeardRight, TakenRight, IsSpentReply, TakesRight, GathersRight, AtMaster}
+use Rattle.x5_model_serve.specs.Claims.{Setting, serving_of, asked_line, LiesWithin, is_settled_line, is_served_itself, depth_at, AtHand, Keeps, MayTake, AskedSoFar, NotedSoFar, OnlyBy, HeardRight, TakenRight, IsSpentReply, TakesRight, GathersRight, AtMaster}
 
 -- the line of the message at hand
 abbrev pub IsLineOf : Hand → Journal → Line → Type 0
@@ -128,11 +127,6 @@ RequestIsRight =
     → AnswersRight p first r j reply × Thorough (scene_at p first r) j
 
 -- ---- what it still rests on, beside the lemmas that are proved
--- No two references that an agent needs ask the same of one agent, and none stands twice.
-abbrev pub NeedsApart : Type 0
-NeedsApart =
-    (p : Point) (o : ℕ) (m : Chained) → parts.Stands p → parts.CopiesStand p → Apart (needs (holdings_at p o) m)
-
 -- What is right for a message that was passed on is right for the message for which it was sent.
 abbrev pub PassesBack : Type 0
 PassesBack =
@@ -143,15 +137,6 @@ PassesBack =
     → HeardRight p s most (asked_line l stood) j k reply
     → (length j.accepted ≡ stood ⊎ (reply ≡ Answered Changed ⊎ heard_whole j.lines ≡ false))
     → RightReply p s (asked_line l stood) j (is_spent most j) reply
-
--- A placed update that resolves its name at the master of a present target is found there.
-abbrev pub JudgeIsHere : Type 0
-JudgeIsHere =
-    (p : Point) (o : ℕ) (m : Chained)
-    → updates.Stands p → IsLooked m → is_update m.request.body ≡ true → Placed p m o
-    → resolves (holdings_at p o) m ≡ true → master_at p (key_of m.target) ≡ Some o
-    → is_there (tree_at p).entries (key_of m.target) ≡ true
-    → (c : Held) × (find (holdings_at p o) m ≡ Here c)
 
 -- What is right stays right where a line is added.
 abbrev pub RightStays : Type 0

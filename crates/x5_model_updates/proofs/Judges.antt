@@ -105,7 +105,7 @@ module _ (p : Point) (o : ℕ) (m : Chained) (j : IsJudge p o m) (seat : Seat p 
   held_here = held_of p s m.request o seat.seat seat.there seat.mine
 
   -- the longest pin that it knows of the target is the context's
-  known_is : known_pin m.request (holdings_at p o) (key_of m.target) ≡ Some (pin_of seat.seat)
+  pub known_is : known_pin m.request (holdings_at p o) (key_of m.target) ≡ Some (pin_of seat.seat)
   known_is =
       longest_is (map key_of (known_pins m.request (holdings_at p o))) (key_of m.target) (pin_of seat.seat) (
         known_own p s m.request o (own_context (tree_at p) held_here.0 seat.seat.context) held_here.2,
@@ -117,7 +117,7 @@ module _ (p : Point) (o : ℕ) (m : Chained) (j : IsJudge p o m) (seat : Seat p 
       )
 
   -- it finds the context's part by its pin
-  held_found : (a : Agent) × (held_at (holdings_at p o).own (pin_of seat.seat) ≡ Some (own_context (tree_at p) a seat.seat.context))
+  pub held_found : (a : Agent) × (held_at (holdings_at p o).own (pin_of seat.seat) ≡ Some (own_context (tree_at p) a seat.seat.context))
   held_found =
       elim (none_or_some (held_at (holdings_at p o).own (pin_of seat.seat))) [
         | inl none ↦
