@@ -3,8 +3,6 @@
 
 mod line;
 mod script;
-#[cfg(test)]
-mod tests;
 mod texts;
 mod tokens;
 mod words;
