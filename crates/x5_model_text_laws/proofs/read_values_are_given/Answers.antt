@@ -1,0 +1,5 @@
+use Rattle.x5_model_text_laws.proofs.Values.{value_given}
+use Rattle.x5_model_text_laws.proofs.read_values_are_given.Goals as goal
+
+pub returns : goal.returns
+returns c = value_given

@@ -1,5 +1,0 @@
-use Rattle.x5_text_laws.proofs.Values.{value_given}
-use Rattle.x5_text_laws.proofs.read_values_are_given.Goals as goal
-
-pub returns : goal.returns
-returns c = value_given

@@ -1,8 +1,0 @@
-use Rattle.x5_text_laws.proofs.Values.{value_back, value_again}
-use Rattle.x5_text_laws.proofs.values_read_back.Goals as goal
-
-pub returns-clause-values : goal.returns-clause-values
-returns-clause-values c = value_back
-
-pub returns-clause-again : goal.returns-clause-again
-returns-clause-again c = value_again
