@@ -7,13 +7,16 @@ use Rattle.x5_model_star.specs.Runs.{RightAndWhole}
 use Rattle.x5_know.specs.Moments.{Start, moment_text}
 use Rattle.x5_port.specs.Outside.{File, content_of, IsContent, IsLonger, Rose, with_octets, TookPrefix}
 use Rattle.x5_show.specs.Show.{ShowsValues, ShowsFault}
+use Rattle.x5_gen.specs.World as generated
+use Rattle.x5_gen.specs.Script as drawn
 use Rattle.x5_star.specs.WorldFile.{DescribesStar, DescribesNone, IsNoJson}
 use Rattle.x5_star_script.specs.Lines.{LineFault}
 use Rattle.x5_star_script.specs.Script.{script_of}
 use Rattle.xdir.specs.declared.top.Status.{Status}
 use Rattle.xdir.specs.declared.top.Status.TheVariants.{Done, Refused, Usage, ReadFault, WriteFault, NoMemory, Inconsistent, TooLong}
 use Rattle.xdir.specs.Text.{not_json_text, no_star_text, refused_line_text}
-use Rattle.xdir.specs.Words.{FileNames, Form, Run, Show}
+use Rattle.x5_words.specs.Forms.{FileNames}
+use Rattle.xdir.specs.Words.{Form, Run, GenWorld, GenScript, Show}
 
 -- the most octets of a file
 abbrev pub most_octets : ℕ
@@ -257,12 +260,31 @@ WritesShown TooLong told name old new before after = new ≡ old
 WritesShown Usage told name old new before after = ⊥
 WritesShown Inconsistent told name old new before after = ⊥
 
+-- ---- files that are made of a number
+
+-- what is written of a text, by how that ends: all of it, a first part, or nothing
+abbrev pub WritesText : Status → List ℕ → Option (List ℕ) → Option (List ℕ) → ℕ → ℕ → Type 0
+WritesText Done text old new before after = new ≡ with_octets text old
+WritesText WriteFault text old new before after = Rose before after × TookPrefix text old new
+WritesText NoMemory text old new before after = new ≡ old
+WritesText Refused text old new before after = ⊥
+WritesText Usage text old new before after = ⊥
+WritesText ReadFault text old new before after = ⊥
+WritesText TooLong text old new before after = ⊥
+WritesText Inconsistent text old new before after = ⊥
+
+-- ---- by the form of words
+
 -- what is known of the files, by the form of words and how it ends
 abbrev pub ReadsForm : Form → Status → Option (List File) → ℕ → ℕ → Option (List ℕ) → Option (List ℕ) → Option (List ℕ) → Type 0
 ReadsForm (Run names) status told before after failed old new = Reads status names told before after failed old new
+ReadsForm (GenWorld number) status told before after failed old new = after ≡ before
+ReadsForm (GenScript number) status told before after failed old new = after ≡ before
 ReadsForm (Show name) status told before after failed old new = ReadsFile status name told before after failed
 
 -- what is written, by the form of words and how it ends
 abbrev pub WritesForm : Form → Status → Option (List File) → Option (List ℕ) → Option (List ℕ) → ℕ → ℕ → Type 0
 WritesForm (Run names) status told old new before after = Writes status told names old new before after
+WritesForm (GenWorld number) status told old new before after = WritesText status (generated.world_text number) old new before after
+WritesForm (GenScript number) status told old new before after = WritesText status (drawn.script_text number) old new before after
 WritesForm (Show name) status told old new before after = WritesShown status told name old new before after
