@@ -1,7 +1,7 @@
 // The files that are made of a number.
 ghost use Rattle.x5_gen.specs.Script.{script_text};
 ghost use Rattle.x5_gen.specs.World.{world_text};
-ghost use Rattle.xdir.specs.Run.{WritesText};
+ghost use Rattle.xdir.specs.Made.{WritesText};
 
 use crate::top::Status;
 use std::alloc::Global;

@@ -4,7 +4,9 @@ ghost use Rattle.x5_model_tree.specs.Described.{IsDescribed};
 ghost use Rattle.x5_model_star.specs.Star.{IsStar};
 ghost use Rattle.x5_dispatch.specs.Star.{are_short};
 ghost use Rattle.x5_star.specs.Views.{star_world};
-ghost use Rattle.xdir.specs.Run.{IsWorldLine, Prints, Reads, ReadsFile, ReadsForm, StopsAtWorld, WritesForm, WritesScript, WritesScriptFile, Writes, WritesLine};
+ghost use Rattle.xdir.specs.Forms.{ReadsForm, WritesForm};
+ghost use Rattle.xdir.specs.Run.{IsWorldLine, Reads, StopsAtWorld, Writes};
+ghost use Rattle.xdir.specs.Steps.{Prints, ReadsFile, WritesScript, WritesScriptFile, WritesLine};
 ghost use Rattle.xdir.specs.Words.{form_in, is_made};
 
 use crate::made::{print_made_script, print_made_world};
