@@ -3,8 +3,6 @@
 
 mod draws;
 mod script;
-#[cfg(test)]
-mod tests;
 mod world;
 
 pub use script::script_of;

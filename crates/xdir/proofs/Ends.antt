@@ -5,7 +5,7 @@ use Rattle.x5_port.specs.Outside.{Rose, with_octets, TookPrefix}
 use Rattle.x5_port.proofs.Octets.{with_octets-with_octets}
 use Rattle.xdir.specs.declared.top.Status.{Status}
 use Rattle.xdir.specs.declared.top.Status.TheVariants.{Done, Refused, Usage, ReadFault, WriteFault, NoMemory, Inconsistent, TooLong}
-use Rattle.xdir.specs.Run.{Wrote, Broke, Ends}
+use Rattle.xdir.specs.Outcomes.{Wrote, Broke, Ends}
 
 -- a count that rose later
 pub rose_later : (before mid after : ℕ) → before ≤ mid → Rose mid after → Rose before after

@@ -14,8 +14,10 @@ use Rattle.x5_star_script.specs.Script.{script_of}
 use Rattle.xdir.specs.declared.top.Status.{Status}
 use Rattle.xdir.specs.declared.top.Status.TheVariants.{Done, Refused, Usage, ReadFault, WriteFault, NoMemory, Inconsistent, TooLong}
 use Rattle.xdir.specs.Text.{refused_line_text}
-use Rattle.xdir.specs.Words.{FileNames}
-use Rattle.xdir.specs.Run.{names_in, IsOutput, IsFirstOutput, Runs, RunsSoFar, RefusesContent, Refuses, Ends, WritesLine, WritesRun, IsScriptOutput, IsFirstScriptOutput, IsLineRefusal, WritesScript, OfScript, WritesScriptFile, Writes, IsReadable, TakesWorld, ReadsFile, Reads, most_octets}
+use Rattle.x5_words.specs.Forms.{FileNames}
+use Rattle.xdir.specs.Outcomes.{Ends, IsReadable, most_octets}
+use Rattle.xdir.specs.Run.{names_in, IsOutput, Runs, RunsSoFar, RefusesContent, Refuses, Writes, TakesWorld, Reads}
+use Rattle.xdir.specs.Steps.{IsFirstOutput, WritesLine, WritesRun, IsScriptOutput, IsFirstScriptOutput, IsLineRefusal, WritesScript, OfScript, WritesScriptFile, ReadsFile}
 use Rattle.x5_model_tree.specs.Described.{IsDescribed}
 use Rattle.x5_model_star.specs.Star.{IsStar}
 use Rattle.x5_ops.specs.KnowledgeViews.{agent_view, specific_view}

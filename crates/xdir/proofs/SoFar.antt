@@ -22,7 +22,9 @@ use Rattle.x5_star_script.specs.declared.line.Command.TheVariants.{Nothing, Ask}
 use Rattle.x5_star_script.specs.Views.{IsTaken, command_view}
 use Rattle.xdir.specs.declared.top.Status.{Status}
 use Rattle.xdir.specs.declared.top.Status.TheVariants.{Done, Refused, Usage, ReadFault, WriteFault, NoMemory, Inconsistent, TooLong}
-use Rattle.xdir.specs.Run.{IsOutput, IsFirstOutput, Prints, WritesRun, Wrote, start_so_far}
+use Rattle.xdir.specs.Outcomes.{Wrote}
+use Rattle.xdir.specs.Run.{IsOutput, start_so_far}
+use Rattle.xdir.specs.Steps.{IsFirstOutput, Prints, WritesRun}
 use Rattle.x5_know.specs.Moments.{moment_text}
 use Rattle.xdir.specs.Blocks.{IsReadBlock, IsBlock, WritesBlock}
 use Rattle.xdir.proofs.Ends.{rose_later, took_after}

@@ -11,7 +11,8 @@ use Rattle.x5_know.specs.Moments.{moment_text}
 use Rattle.x5_port.specs.Outside.{Rose}
 use Rattle.xdir.specs.declared.top.Status.{Status}
 use Rattle.xdir.specs.declared.top.Status.TheVariants.{Done, Refused, Usage, ReadFault, WriteFault, NoMemory, Inconsistent, TooLong}
-use Rattle.xdir.specs.Run.{Wrote, Broke, start_so_far}
+use Rattle.xdir.specs.Outcomes.{Wrote, Broke}
+use Rattle.xdir.specs.Run.{start_so_far}
 
 -- the text is the block of such a read, by the messages and the answer that the star gives after so many messages
 pub record IsReadBlock (star : World) (sent line to : ℕ) (r : Request) (text : List ℕ) : Type 0 where

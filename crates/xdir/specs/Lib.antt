@@ -1,4 +1,9 @@
 pub mod Words
 pub mod Text
+pub mod Outcomes
 pub mod Run
+pub mod Steps
+pub mod Shown
+pub mod Made
+pub mod Forms
 pub mod Blocks

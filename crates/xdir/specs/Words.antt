@@ -1,37 +1,32 @@
--- The words of the command line.
-use Rattle.std.specs.Prelude.{ℕ, Bool, not, ◌&&◌, if◌then◌else◌, List, [], ◌∷◌, Option, Some, None, codes, nat_eq}
-use Rattle.std.specs.List.{starts_with}
-use Rattle.std.specs.Str.{bytes_eq}
-use Rattle.xdir.specs.declared.words.RunWords.{RunWords}
-use Rattle.xdir.specs.declared.words.Words.{Words}
-use Rattle.xdir.specs.declared.words.Words.TheVariants as words
+-- What a command line asks for, of the forms that the program takes so far.
+use Rattle.std.specs.Prelude.{ℕ, Bool, true, false, List, Option, Some, None, option_and_then}
+use Rattle.x5_words.specs.Forms as forms
+use Rattle.x5_words.specs.Forms.{FileNames}
 
--- the names of the two files of a run
-pub record FileNames : Type 0 where
-  pub world : List ℕ
-  pub script : List ℕ
-
--- the name of a file is a word that doesn't begin with `-`
-abbrev pub is_file_name : List ℕ → Bool
-is_file_name word = not (starts_with nat_eq word (codes "-"))
-
--- what a command line asks for
+-- a run that prints its blocks, the world or the script of a number, the elements in a file
 pub data Form : Type 0 where
   Run : FileNames → Form
+  GenWorld : ℕ → Form
+  GenScript : ℕ → Form
   Show : List ℕ → Form
 
--- `run WORLD SCRIPT` and `show FILE`; there is no other form
+-- the other forms are still to be built, and ask for nothing
+abbrev pub form_so_far : forms.Form → Option Form
+form_so_far (forms.Run names false) = Some (Run names)
+form_so_far (forms.Run names true) = None
+form_so_far (forms.Check name) = None
+form_so_far (forms.Tree names) = None
+form_so_far (forms.GenRun number) = None
+form_so_far (forms.GenWorld number) = Some (GenWorld number)
+form_so_far (forms.GenScript number) = Some (GenScript number)
+form_so_far (forms.Show name) = Some (Show name)
+
 abbrev pub form_in : List (List ℕ) → Option Form
-form_in [] = None
-form_in (command ∷ []) = None
-form_in (command ∷ file ∷ []) = if bytes_eq command (codes "show") && is_file_name file then Some (Show file) else None
-form_in (command ∷ world ∷ script ∷ []) =
-    if bytes_eq command (codes "run") && (is_file_name world && is_file_name script) then Some (Run (record { world = world; script = script })) else None
-form_in (command ∷ world ∷ script ∷ more ∷ words) = None
+form_in words = option_and_then form_so_far (forms.form_in words)
 
-abbrev pub names_of : RunWords → FileNames
-names_of run = record { world = run.world.now; script = run.script.now }
-
-abbrev pub form_of : Words → Form
-form_of (words.Run run) = Run (names_of run)
-form_of (words.Show file) = Show file.now
+-- no file is read for it
+abbrev pub is_made : Form → Bool
+is_made (Run names) = false
+is_made (GenWorld number) = true
+is_made (GenScript number) = true
+is_made (Show name) = false

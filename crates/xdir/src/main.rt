@@ -2,13 +2,13 @@
 #![tactic(auto)]
 
 mod asked;
+mod made;
 mod refusals;
 mod run;
 mod show;
 #[cfg(test)]
 mod tests;
 mod top;
-mod words;
 
 use asked::AskedFiles;
 use std::io::{self, ErrorKind};
@@ -17,7 +17,13 @@ use std::{env, rt};
 use top::{MOST_OCTETS, Status, xdir};
 use x5_port::{RealFiles, RealSink};
 
-const USAGE: &str = "usage: xdir run WORLD SCRIPT | xdir show FILE";
+// The forms that are taken so far, one a line.
+const USAGE: &str = "usage:
+  xdir run WORLD SCRIPT
+  xdir gen N world
+  xdir gen N script
+  xdir show FILE
+WORLD, SCRIPT and FILE are names of files, N is a number below 2^32. README.md has an example of each.";
 
 fn main(rt: HostRuntime) -> ExitCode {
     let words = match words_of(&rt) {

@@ -7,7 +7,8 @@ ghost use Rattle.x5_ops.specs.RequestViews.{request_view};
 ghost use Rattle.x5_dispatch.specs.Star.{are_short};
 ghost use Rattle.x5_star.specs.Views.{star_world};
 ghost use Rattle.x5_star_script.specs.Views.{IsTaken, command_view};
-ghost use Rattle.xdir.specs.Run.{Prints, WritesRun, start_so_far};
+ghost use Rattle.xdir.specs.Run.{start_so_far};
+ghost use Rattle.xdir.specs.Steps.{Prints, WritesRun};
 ghost use Rattle.xdir.specs.Blocks.{IsReadBlock, WritesBlock};
 
 use crate::top::Status;

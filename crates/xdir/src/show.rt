@@ -1,6 +1,7 @@
 // What a file shows: the elements that its octets spell, or their first fault.
 ghost use Rattle.std.specs.Prelude.{string_bytes};
-ghost use Rattle.xdir.specs.Run.{Prints, ReadsFile, ShowsOctets, WritesShown};
+ghost use Rattle.xdir.specs.Shown.{ShowsOctets, WritesShown};
+ghost use Rattle.xdir.specs.Steps.{Prints, ReadsFile};
 
 use crate::top::{MOST_OCTETS, Status};
 use std::alloc::Global;

@@ -1,21 +1,24 @@
-//! The top call: a run of a script over a world, or what a file shows, from files to a sink.
-ghost use Rattle.std.specs.Prelude.{◌≡◌, ◌↔◌, None, IfSome, IsTrue, ◌≤◌, length, map, string_bytes};
+//! The top call: a run of a script over a world, a file that is made of a number, or what a file shows, from files to a sink.
+ghost use Rattle.std.specs.Prelude.{◌≡◌, ◌↔◌, None, IfSome, IsTrue, true, ◌≤◌, length, map, string_bytes};
 ghost use Rattle.x5_model_tree.specs.Described.{IsDescribed};
 ghost use Rattle.x5_model_star.specs.Star.{IsStar};
 ghost use Rattle.x5_dispatch.specs.Star.{are_short};
 ghost use Rattle.x5_star.specs.Views.{star_world};
-ghost use Rattle.xdir.specs.Run.{IsWorldLine, Prints, Reads, ReadsFile, ReadsForm, StopsAtWorld, WritesForm, WritesScript, WritesScriptFile, Writes, WritesLine};
-ghost use Rattle.xdir.specs.Words.{form_in};
+ghost use Rattle.xdir.specs.Forms.{ReadsForm, WritesForm};
+ghost use Rattle.xdir.specs.Run.{IsWorldLine, Reads, StopsAtWorld, Writes};
+ghost use Rattle.xdir.specs.Steps.{Prints, ReadsFile, WritesScript, WritesScriptFile, WritesLine};
+ghost use Rattle.xdir.specs.Words.{form_in, is_made};
 
+use crate::made::{print_made_script, print_made_world};
 use crate::refusals::{NO_STAR, NOT_JSON, refused_line};
 use crate::run::print_run;
 use crate::show::show_file;
-use crate::words::{Words, read_words};
 use std::alloc::Global;
 use x5_ops::AgentSpecs;
 use x5_port::{Failed, FileFault, Files, Sink, put_all};
 use x5_star::{WorldFault, read_star};
 use x5_star_script::{LineFault, ScriptFault, read_script};
+use x5_words::{Words, read_words};
 
 /// The most octets of a file: 16 MiB.
 pub const MOST_OCTETS: usize = 16_777_216;
@@ -54,15 +57,24 @@ pub fn xdir<F: Files, K: Sink>(
 
     // Other words touch neither the files nor the sink.
     ensures untouched { result ≡ Status.Usage → (files.new ≡ files.old) × (out.new ≡ out.old) }
+
+    // A form that makes its file reads none.
+    ensures made { IfSome (form_in (map string_bytes words.now)) (λ form. is_made form ≡ true → files.new ≡ files.old) }
     ensures reads { IfSome (form_in (map string_bytes words.now)) (λ form.
         ReadsForm form result (F.contents files.old) (F.fault_count files.old) (F.fault_count files.new) (F.last_failed files.new) (K.octets out.old) (K.octets out.new)) }
     ensures writes { IfSome (form_in (map string_bytes words.now)) (λ form.
         WritesForm form result (F.contents files.old) (K.octets out.old) (K.octets out.new) (K.fault_count out.old) (K.fault_count out.new)) }
 {
     match read_words(words) {
-        None => Status::Usage,
-        Some(Words::Run(run)) => run_files(alloc, run.world, run.script, files, out),
+        Some(Words::Run(names, false)) => {
+            run_files(alloc, names.world, names.script, files, out)
+        }
+        Some(Words::GenWorld(number)) => print_made_world(alloc, number, out),
+        Some(Words::GenScript(number)) => print_made_script(alloc, number, out),
         Some(Words::Show(name)) => show_file(alloc, name, files, out),
+        Some(Words::Run(_, true) | Words::Check(_) | Words::Tree(_) | Words::GenRun(_)) | None => {
+            Status::Usage
+        }
     }
 }
 

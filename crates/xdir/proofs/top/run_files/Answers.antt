@@ -5,7 +5,8 @@ use Rattle.x5_star.specs.WorldFile.{IsNoJson, DescribesNone}
 use Rattle.x5_star.specs.declared.fault.WorldFault.{WorldFault}
 use Rattle.x5_star.specs.declared.fault.WorldFault.TheVariants.{NotJson, NotYet}
 use Rattle.xdir.specs.Text.{not_json_text, no_star_text}
-use Rattle.xdir.specs.Run.{no_json, no_star, ReadsFile, WritesScriptFile}
+use Rattle.xdir.specs.Run.{no_json, no_star}
+use Rattle.xdir.specs.Steps.{ReadsFile, WritesScriptFile}
 use Rattle.xdir.proofs.Files.{of_files, refuses_world, reads_both, readable, is_described, is_star, is_short, are_few}
 use Rattle.xdir.proofs.top.run_files.Goals as goal
 
