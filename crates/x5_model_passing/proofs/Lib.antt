@@ -1,0 +1,4 @@
+pub mod Same
+pub mod Results
+pub mod Errors
+pub mod Back

@@ -1,0 +1,17 @@
+//! What is right for a message that was passed on is right for the message for which it was sent. Each function here does
+//! nothing; its clauses are the theorems.
+#![tactic(auto)]
+
+ghost use Rattle.x5_model_passing.specs.Passing.{SameIsAsked, ResultPassesBack, ErrorPassesBack, LossPassesBack, WithinPassesBack, PassesBack};
+
+/// A name that goes on elsewhere is asked for there in the same way. So a result, the tree's error and what was lost are
+/// the same for whoever passed the message on, and a right reply to it is a right reply to the message before (X.518,
+/// sections 18 and 20).
+pub fn passing_back()
+    ensures same { SameIsAsked }
+    ensures results { ResultPassesBack }
+    ensures errors { ErrorPassesBack }
+    ensures losses { LossPassesBack }
+    ensures within { WithinPassesBack }
+    ensures back { PassesBack }
+{}
