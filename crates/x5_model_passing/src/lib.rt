@@ -3,6 +3,7 @@
 #![tactic(auto)]
 
 ghost use Rattle.x5_model_passing.specs.Passing.{SameIsAsked, ResultPassesBack, ErrorPassesBack, LossPassesBack, WithinPassesBack, PassesBack};
+ghost use Rattle.x5_model_passing.specs.Acceptance.{QueriesAcceptNone, OffIsSilent};
 
 /// A name that goes on elsewhere is asked for there in the same way. So a result, the tree's error and what was lost are
 /// the same for whoever passed the message on, and a right reply to it is a right reply to the message before (X.518,
@@ -14,4 +15,11 @@ pub fn passing_back()
     ensures losses { LossPassesBack }
     ensures within { WithinPassesBack }
     ensures back { PassesBack }
+{}
+
+/// While a query is served nothing is accepted; and where it is answered that somebody wasn't heard, or that nobody could go
+/// on, nothing was, or a reply was lost: by what is done alone, over any knowledge.
+pub fn accepting()
+    ensures queries { QueriesAcceptNone }
+    ensures off { OffIsSilent }
 {}
