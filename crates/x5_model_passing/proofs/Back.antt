@@ -17,7 +17,7 @@ use Rattle.x5_model_tree.specs.Ask.{Refuses, is_update}
 use Rattle.x5_model_run.specs.Journal.{Line, Journal, depth, is_done, is_wide}
 use Rattle.x5_model_run.specs.Needs.{falls_short, is_unable}
 use Rattle.x5_model_run.specs.History.{Point, tree_at, knowledge_at}
-use Rattle.x5_model_run.specs.Chain.{Scene}
+use Rattle.x5_model_run.specs.Chain.{Scene, AllLicensed}
 use Rattle.x5_model_run.specs.Covers.{covered_roots, told}
 use Rattle.x5_model_run.specs.Accepting.{carries_update}
 use Rattle.x5_model_run.specs.Blocked.{Asked}
@@ -25,9 +25,10 @@ use Rattle.x5_model_run.specs.Right as right
 use Rattle.x5_model_run.specs.Right.{Right, result, changed, accepts_none, heard_whole}
 use Rattle.x5_model_run.specs.Placed as placed
 use Rattle.x5_model_run.specs.Placed.{RightReply, usual, is_query_below}
+use Rattle.x5_model_serve.specs.Finding.{IsLooked}
 use Rattle.x5_model_serve.specs.Answering.{is_service}
 use Rattle.x5_model_serve.specs.Serving.{is_final, is_spent}
-use Rattle.x5_model_serve.specs.Claims.{HeardRight, LiesWithin, asked_line}
+use Rattle.x5_model_serve.specs.Claims.{Setting, HeardRight, LiesWithin, asked_line}
 use Rattle.x5_model_find.proofs.Needing.{false_true}
 use Rattle.x5_model_joins.proofs.Backs.{own_answered}
 use Rattle.x5_model_verdicts.proofs.At.{is_read, fit_key, each_of_update, each_off}
@@ -82,34 +83,35 @@ third_true a b c d e = (both_true c d (both_true b (c && d) (both_true a (b && (
 long_too : (k : Line) (lines : List Line) → In k lines → ((length k.message.trace == 128) || list_any (λ l. depth l == 128) lines) ≡ true → list_any (λ l. depth l == 128) lines ≡ true
 long_too k lines i h = elim (either_true (length k.message.trace == 128) (list_any (λ l. depth l == 128) lines) h) [ inl e ↦ any_in (λ (l : Line). depth l == 128) k lines i e | inr e ↦ e ]
 
-module _ (p : Point) (s : Scene) (l k : Line) (from : Option ℕ) (r : Reference) (j : Journal) (stood at : ℕ) (x : PassedOn p s l k from r j.lines) (back : IsBack l k stood j.lines) where
-  same : IsSame p l k
-  same = (asked_same p s l k from r j.lines x).0
-
+module _ (p : Point) (s : Scene) (l : Line) (j : Journal) (stood : ℕ) (reply : Reply) (setting : Setting p s) (licensed : AllLicensed s j.lines) (stands : In l j.lines) (looked : IsLooked l.message) where
   body_is : is_update l.message.request.body ≡ true → l.message.request.body ≡ s.message.request.body
   body_is u =
       elim (true_or_false (is_update s.message.request.body)) [
-        | inr off ↦ absurd (false_true (sym (each_off s off j.lines x.licensed l x.stands) ∙ u))
-        | inl on ↦ elim (each_of_update s on (fit_key s.message x.setting.first.fit) j.lines x.licensed l x.stands) [
+        | inr off ↦ absurd (false_true (sym (each_off s off j.lines licensed l stands) ∙ u))
+        | inl on ↦ elim (each_of_update s on (fit_key s.message setting.first.fit) j.lines licensed l stands) [
           | inl read ↦ absurd (update_no_read l.message.request.body u read)
           | inr w ↦ w.0
         ]
       ]
 
   unfinished : is_update l.message.request.body ≡ true → is_done l.message.progress ≡ false
-  unfinished u = not_completed (is_done l.message.progress) (is_query_below l.message.request.body) (both_true _ (not (is_done l.message.progress) || is_query_below l.message.request.body) x.looked.1).1 (update_above l.message.request.body u)
+  unfinished u = not_completed (is_done l.message.progress) (is_query_below l.message.request.body) (both_true _ (not (is_done l.message.progress) || is_query_below l.message.request.body) looked.1).1 (update_above l.message.request.body u)
+
+  -- where the tree refuses nothing was accepted
+  pub none_by_error : Meanwhile p s l stood j reply → (e : DirError) → told (λ key. false) (tree_at p) l.message ≡ Refuses e → length j.accepted ≡ stood
+  none_by_error m e h = elim (true_or_false (is_update l.message.request.body)) [ inr off ↦ m.reads off | inl on ↦ by j.accepted refl on ]
+    where
+      by : (xs : List ℕ) → j.accepted ≡ xs → is_update l.message.request.body ≡ true → length j.accepted ≡ stood
+      by [] f on = ap length f ∙ sym (m.only_more f)
+      by (a ∷ xs) f on = absurd (no_error_after p s (asked_line l stood) j e m.accepted (ap is_empty f) (body_is on) (unfinished on) h)
+
+module _ (p : Point) (s : Scene) (l k : Line) (from : Option ℕ) (r : Reference) (j : Journal) (stood at : ℕ) (x : PassedOn p s l k from r j.lines) (back : IsBack l k stood j.lines) where
+  same : IsSame p l k
+  same = (asked_same p s l k from r j.lines x).0
 
   module _ (reply : Reply) (m : Meanwhile p s l stood j reply) where
     none_new : length j.accepted ≡ stood → accepts_none (asked_line l stood) j ≡ true
     none_new e = (Decides-eqb (length j.accepted) stood).1 e
-
-    -- after an error nothing was accepted
-    none_by_error : (e : DirError) → told (λ key. false) (tree_at p) l.message ≡ Refuses e → length j.accepted ≡ stood
-    none_by_error e h = elim (true_or_false (is_update l.message.request.body)) [ inr off ↦ m.reads off | inl on ↦ by j.accepted refl on ]
-      where
-        by : (xs : List ℕ) → j.accepted ≡ xs → is_update l.message.request.body ≡ true → length j.accepted ≡ stood
-        by [] f on = ap length f ∙ sym (m.only_more f)
-        by (a ∷ xs) f on = absurd (no_error_after p s (asked_line l stood) j e m.accepted (ap is_empty f) (body_is on) (unfinished on) h)
 
     right_too : (y : Reply) → y ≡ reply → is_final y ≡ true → Right p s (asked_line k at) j y → Right p s (asked_line l stood) j y
     right_too _ is done (result {a} b res n c) =
@@ -127,7 +129,7 @@ module _ (p : Point) (s : Scene) (l k : Line) (from : Option ℕ) (r : Reference
         (heard_too p s l k from r j.lines stood at x back (λ y. has ◌==◌ j.accepted y.receiver && carries_update s y) h)
     right_too _ is done (right.error {x = e} b t o c) =
         let t : told (λ key. false) (tree_at p) l.message ≡ Refuses e = sym (same.tells (λ key. false) (tree_at p)) ∙ t in
-        right.error (own_answered l stood j.lines x.stands) t (told_too p s l k from r j.lines stood at x back e o) (none_new (none_by_error e t))
+        right.error (own_answered l stood j.lines x.stands) t (told_too p s l k from r j.lines stood at x back e o) (none_new (none_by_error p s l j stood reply x.setting x.licensed x.stands x.looked m e t))
     right_too _ is done (right.referral u f c) = absurd (false_true done)
     right_too _ is done (right.unheard {r = u} h f c) =
         right.unheard (lost_too p s l k from r j.lines stood at x back u h)

@@ -4,3 +4,6 @@ pub mod Errors
 pub mod Back
 pub mod Queries
 pub mod Silence
+pub mod Taking
+pub mod Nobody
+pub mod Unsure

@@ -154,7 +154,7 @@ module _ (s : Scene) (most : ℕ) where
   heard_off i j other Unheard o k r t e = t
   heard_off i j other (Hears y) o k r t e = t e
 
-  quiet : (x : Act) (i j : Journal) → Does s most x i j → SilentWhereOff x i j
+  pub quiet : (x : Act) (i j : Journal) → Does s most x i j → SilentWhereOff x i j
   quiet _ _ _ (loops e) = (λ f. inl refl, λ a q f. never_left refl f)
   quiet _ _ _ (is_long e f) = (λ g. inl refl, λ a q g. never_left refl g)
   quiet _ _ _ (done_before e f g) = (λ h. inl refl, λ a q h. never_left refl h)

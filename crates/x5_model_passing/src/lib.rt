@@ -4,6 +4,7 @@
 
 ghost use Rattle.x5_model_passing.specs.Passing.{SameIsAsked, ResultPassesBack, ErrorPassesBack, LossPassesBack, WithinPassesBack, PassesBack};
 ghost use Rattle.x5_model_passing.specs.Acceptance.{QueriesAcceptNone, OffIsSilent};
+ghost use Rattle.x5_model_passing.specs.Taking.{TakingIsRight, CastingIsRight, NobodyIsRight, SilenceIsRight};
 
 /// A name that goes on elsewhere is asked for there in the same way. So a result, the tree's error and what was lost are
 /// the same for whoever passed the message on, and a right reply to it is a right reply to the message before (X.518,
@@ -22,4 +23,14 @@ pub fn passing_back()
 pub fn accepting()
     ensures queries { QueriesAcceptNone }
     ensures off { OffIsSilent }
+{}
+
+/// Where a name goes on elsewhere, what is heard by the reference is a right reply to the message at hand, and so is
+/// `unavailable` where nobody was. Of an NSSR, it is what an agent replies that could go on; noSuchObject, where each of them
+/// was heard and holds nothing that goes as far; or `unavailable`, where some weren't heard (X.518, section 20).
+pub fn going_on()
+    ensures taking { TakingIsRight }
+    ensures casting { CastingIsRight }
+    ensures nobody { NobodyIsRight }
+    ensures silence { SilenceIsRight }
 {}
