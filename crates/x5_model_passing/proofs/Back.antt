@@ -1,5 +1,5 @@
 -- A right reply is passed back, by the cases of what is right.
-use Rattle.std.proofs.Common.{◌≡◌, ℕ, nat_lt, ◌==◌, Bool, true, false, not, ◌&&◌, ◌||◌, ◌⊎◌, inl, inr, List, [], ◌∷◌, length, refl, sym, ap, subst, ◌∙◌, Option, Some, None, if◌then◌else◌}
+use Rattle.std.proofs.Common.{◌≡◌, ℕ, nat_lt, ◌==◌, Bool, true, false, not, ◌&&◌, ◌||◌, inl, inr, List, [], ◌∷◌, length, refl, sym, ap, subst, ◌∙◌, Option, Some, if◌then◌else◌}
 use Rattle.std.proofs.lemmas.Bool.Decides.{Decides-eqb}
 use Rattle.std.specs.List.{list_any}
 use Rattle.std.specs.Option.{is_none}
@@ -7,20 +7,19 @@ use Rattle.x5_model.specs.Words.{is_empty, has}
 use Rattle.x5_model.specs.Members.{In}
 use Rattle.x5_model.specs.Keys.{Key}
 use Rattle.x5_model.specs.Values.{key_of}
-use Rattle.x5_model.specs.References.{Reference, Chained}
+use Rattle.x5_model.specs.References.{Reference}
 use Rattle.x5_model.specs.Requests.{Body, Read, Compare, ListBelow, Search, AddEntry, RemoveEntry, ModifyEntry, ModifyDn, Request}
-use Rattle.x5_model.specs.Answers.{Answer, EntryFound, Matched, Listed, Found, Changed, DirError, ServiceProblem, Reply, Answered, Failed, Referred}
+use Rattle.x5_model.specs.Answers.{DirError, ServiceProblem, Reply, Answered, Failed}
 use Rattle.x5_model.specs.Statics.{fault_of}
 use Rattle.x5_model.specs.Problems.{unavailable, unable_to_proceed}
 use Rattle.x5_model.proofs.Lists.{both_true, either_true, or_left, or_right, true_or_false, any_in}
 use Rattle.x5_model_tree.specs.Ask.{Refuses, is_update}
 use Rattle.x5_model_run.specs.Journal.{Line, Journal, depth, is_done, is_wide}
-use Rattle.x5_model_run.specs.Needs.{falls_short, is_unable}
-use Rattle.x5_model_run.specs.History.{Point, tree_at, knowledge_at}
+use Rattle.x5_model_run.specs.Needs.{falls_short}
+use Rattle.x5_model_run.specs.History.{Point, tree_at}
 use Rattle.x5_model_run.specs.Chain.{Scene, AllLicensed}
-use Rattle.x5_model_run.specs.Covers.{covered_roots, told}
+use Rattle.x5_model_run.specs.Covers.{told}
 use Rattle.x5_model_run.specs.Accepting.{carries_update}
-use Rattle.x5_model_run.specs.Blocked.{Asked}
 use Rattle.x5_model_run.specs.Right as right
 use Rattle.x5_model_run.specs.Right.{Right, result, changed, accepts_none, heard_whole}
 use Rattle.x5_model_run.specs.Placed as placed
@@ -28,7 +27,7 @@ use Rattle.x5_model_run.specs.Placed.{RightReply, usual, is_query_below}
 use Rattle.x5_model_serve.specs.Finding.{IsLooked}
 use Rattle.x5_model_serve.specs.Answering.{is_service}
 use Rattle.x5_model_serve.specs.Serving.{is_final, is_spent}
-use Rattle.x5_model_serve.specs.Claims.{Setting, HeardRight, LiesWithin, asked_line}
+use Rattle.x5_model_serve.specs.Claims.{Setting, LiesWithin, asked_line}
 use Rattle.x5_model_find.proofs.Needing.{false_true}
 use Rattle.x5_model_joins.proofs.Backs.{own_answered}
 use Rattle.x5_model_verdicts.proofs.At.{is_read, fit_key, each_of_update, each_off}
@@ -80,10 +79,16 @@ not_completed false q e f = refl
 third_true : (a b c d : Bool) → (a && (b && (c && d))) ≡ true → c ≡ true
 third_true a b c d e = (both_true c d (both_true b (c && d) (both_true a (b && (c && d)) e).1).1).0
 
-long_too : (k : Line) (lines : List Line) → In k lines → ((length k.message.trace == 128) || list_any (λ l. depth l == 128) lines) ≡ true → list_any (λ l. depth l == 128) lines ≡ true
-long_too k lines i h = elim (either_true (length k.message.trace == 128) (list_any (λ l. depth l == 128) lines) h) [ inl e ↦ any_in (λ (l : Line). depth l == 128) k lines i e | inr e ↦ e ]
+long_too : (k : Line) (lines : List Line) → In k lines
+    → ((length k.message.trace == 128) || list_any (λ l. depth l == 128) lines) ≡ true → list_any (λ l. depth l == 128) lines ≡ true
+long_too k lines i h = elim (either_true (length k.message.trace == 128) (list_any (λ l. depth l == 128) lines) h) [
+  | inl e ↦ any_in
+      (λ (l : Line). depth l == 128) k lines i e
+  | inr e ↦ e
+]
 
-module _ (p : Point) (s : Scene) (l : Line) (j : Journal) (stood : ℕ) (reply : Reply) (setting : Setting p s) (licensed : AllLicensed s j.lines) (stands : In l j.lines) (looked : IsLooked l.message) where
+module _ (p : Point) (s : Scene) (l : Line) (j : Journal) (stood : ℕ) (reply : Reply) (setting : Setting p s)
+    (licensed : AllLicensed s j.lines) (stands : In l j.lines) (looked : IsLooked l.message) where
   body_is : is_update l.message.request.body ≡ true → l.message.request.body ≡ s.message.request.body
   body_is u =
       elim (true_or_false (is_update s.message.request.body)) [
@@ -95,17 +100,21 @@ module _ (p : Point) (s : Scene) (l : Line) (j : Journal) (stood : ℕ) (reply :
       ]
 
   unfinished : is_update l.message.request.body ≡ true → is_done l.message.progress ≡ false
-  unfinished u = not_completed (is_done l.message.progress) (is_query_below l.message.request.body) (both_true _ (not (is_done l.message.progress) || is_query_below l.message.request.body) looked.1).1 (update_above l.message.request.body u)
+  unfinished u = not_completed (is_done l.message.progress) (is_query_below l.message.request.body)
+      (both_true _ (not (is_done l.message.progress) || is_query_below l.message.request.body) looked.1).1
+      (update_above l.message.request.body u)
 
   -- where the tree refuses nothing was accepted
-  pub none_by_error : Meanwhile p s l stood j reply → (e : DirError) → told (λ key. false) (tree_at p) l.message ≡ Refuses e → length j.accepted ≡ stood
+  pub none_by_error : Meanwhile p s l stood j reply → (e : DirError) → told (λ key. false) (tree_at p) l.message ≡ Refuses e
+      → length j.accepted ≡ stood
   none_by_error m e h = elim (true_or_false (is_update l.message.request.body)) [ inr off ↦ m.reads off | inl on ↦ by j.accepted refl on ]
     where
       by : (xs : List ℕ) → j.accepted ≡ xs → is_update l.message.request.body ≡ true → length j.accepted ≡ stood
       by [] f on = ap length f ∙ sym (m.only_more f)
       by (a ∷ xs) f on = absurd (no_error_after p s (asked_line l stood) j e m.accepted (ap is_empty f) (body_is on) (unfinished on) h)
 
-module _ (p : Point) (s : Scene) (l k : Line) (from : Option ℕ) (r : Reference) (j : Journal) (stood at : ℕ) (x : PassedOn p s l k from r j.lines) (back : IsBack l k stood j.lines) where
+module _ (p : Point) (s : Scene) (l k : Line) (from : Option ℕ) (r : Reference) (j : Journal) (stood at : ℕ)
+    (x : PassedOn p s l k from r j.lines) (back : IsBack l k stood j.lines) where
   same : IsSame p l k
   same = (asked_same p s l k from r j.lines x).0
 
@@ -116,7 +125,8 @@ module _ (p : Point) (s : Scene) (l k : Line) (from : Option ℕ) (r : Reference
     right_too : (y : Reply) → y ≡ reply → is_final y ≡ true → Right p s (asked_line k at) j y → Right p s (asked_line l stood) j y
     right_too _ is done (result {a} b res n c) =
         let off : not (is_update l.message.request.body) ≡ true = ap (λ (z : Request). not (is_update z.body)) (sym same.request) ∙ n in
-        result (own_answered l stood j.lines x.stands) (result_too p s l k from r j.lines stood at x back a done res) off (none_new (m.reads (not_it off)))
+        result (own_answered l stood j.lines x.stands) (result_too p s l k from r j.lines stood at x back a done res) off
+        (none_new (m.reads (not_it off)))
       where
         not_it : not (is_update l.message.request.body) ≡ true → is_update l.message.request.body ≡ false
         not_it e = by (is_update l.message.request.body) e
@@ -129,7 +139,8 @@ module _ (p : Point) (s : Scene) (l k : Line) (from : Option ℕ) (r : Reference
         (heard_too p s l k from r j.lines stood at x back (λ y. has ◌==◌ j.accepted y.receiver && carries_update s y) h)
     right_too _ is done (right.error {x = e} b t o c) =
         let t : told (λ key. false) (tree_at p) l.message ≡ Refuses e = sym (same.tells (λ key. false) (tree_at p)) ∙ t in
-        right.error (own_answered l stood j.lines x.stands) t (told_too p s l k from r j.lines stood at x back e o) (none_new (none_by_error p s l j stood reply x.setting x.licensed x.stands x.looked m e t))
+        right.error (own_answered l stood j.lines x.stands) t (told_too p s l k from r j.lines stood at x back e o)
+        (none_new (none_by_error p s l j stood reply x.setting x.licensed x.stands x.looked m e t))
     right_too _ is done (right.referral u f c) = absurd (false_true done)
     right_too _ is done (right.unheard {r = u} h f c) =
         right.unheard (lost_too p s l k from r j.lines stood at x back u h)
@@ -139,11 +150,14 @@ module _ (p : Point) (s : Scene) (l k : Line) (from : Option ℕ) (r : Reference
           | inr e ↦ or_right (accepts_none (asked_line l stood) j) _ (ap not e)
         ])
 
-    reply_too : (over : Bool) → In k j.lines → (y : Reply) → y ≡ reply → is_final y ≡ true → (is_wide r.kind ≡ true → is_service unable_to_proceed y ≡ false) → RightReply p s (asked_line k at) j over y → RightReply p s (asked_line l stood) j over y
+    reply_too : (over : Bool) → In k j.lines → (y : Reply) → y ≡ reply → is_final y ≡ true
+        → (is_wide r.kind ≡ true → is_service unable_to_proceed y ≡ false) → RightReply p s (asked_line k at) j over y → RightReply p s
+        (asked_line l stood) j over y
     reply_too over i y is done able (usual n h) = usual (ap not (asked_same p s l k from r j.lines x).1) (right_too y is done h)
     reply_too over i _ is done able (placed.unable u) =
         let wide : is_wide k.message.kind ≡ true =
-        third_true (nat_lt (length k.message.trace) 128) (is_none (fault_of k.message.request.body)) (is_wide k.message.kind) (falls_short (s.holdings k.receiver) (key_of k.message.target) k.message.progress) u in
+        third_true (nat_lt (length k.message.trace) 128) (is_none (fault_of k.message.request.body)) (is_wide k.message.kind)
+        (falls_short (s.holdings k.receiver) (key_of k.message.target) k.message.progress) u in
         absurd (false_true (sym (able (sym (ap is_wide x.carried.kind_is) ∙ wide))))
     reply_too over i _ is done able (placed.limit e) =
         placed.limit (elim (either_true over _ e) [

@@ -22,7 +22,8 @@ part_off wide t (RemoveEntry name) u = cc
 part_off wide t (ModifyEntry name changes) u = cc
 part_off wide t (ModifyDn name rdn drops) u = cc
 
-request_off : (user : Bool) (asked : Request) (t : Name) (r : Reference) → is_update asked.body ≡ false → is_update (request_for user asked t r).body ≡ false
+request_off : (user : Bool) (asked : Request) (t : Name) (r : Reference) → is_update asked.body ≡ false → is_update
+    (request_for user asked t r).body ≡ false
 request_off user asked t r u = by (is_probe asked.body t) (asks_part r)
   where
     by : (b c : Bool) → is_update (form asked user t r b c).body ≡ false
@@ -31,7 +32,8 @@ request_off user asked t r u = by (is_probe asked.body t) (asks_part r)
     by false false = u
 
 pub carries : (from : Option ℕ) (o : Hand) → is_update o.message.request.body ≡ false → {r : Reference} → CarriesNone from o r
-carries from o h {r} m c = subst (λ (x : Request). is_update x.body ≡ false) (sym c.request_is) (request_off (is_user from) o.message.request m.target r h)
+carries from o h {r} m c = subst (λ (x : Request). is_update x.body ≡ false) (sym c.request_is)
+    (request_off (is_user from) o.message.request m.target r h)
 
 module _ (s : Scene) (most : ℕ) where
   pub still : (x : Act) (i j : Journal) → Does s most x i j → IsQuery x → j.accepted ≡ i.accepted
@@ -63,7 +65,8 @@ module _ (s : Scene) (most : ℕ) where
   still _ _ _ (spent a e) ho = refl
   still _ _ _ (lost a e f) ho = refl
   still _ _ _ (dropped {from} {o} {r} a y e f d) ho = still _ _ _ d (ho (carried_for from o r) (is_carried from (line_for o) r))
-  still _ _ _ (sends {from} {o} {r} a y z e f d u) ho = still _ _ _ u (ho (carried_for from o r) (is_carried from (line_for o) r)) ∙ still _ _ _ d (ho (carried_for from o r) (is_carried from (line_for o) r))
+  still _ _ _ (sends {from} {o} {r} a y z e f d u) ho = still _ _ _ u (ho (carried_for from o r) (is_carried from (line_for o) r))
+      ∙ still _ _ _ d (ho (carried_for from o r) (is_carried from (line_for o) r))
   still _ _ _ (final y e) ho = refl
   still _ _ _ (referral r h e d) ho = still _ _ _ d (carries _ _ ho)
   still _ _ _ (wide_referral r y e d) ho = still _ _ _ d (carries _ _ ho)

@@ -1,6 +1,6 @@
 -- What was passed on asks the same as the message for which it was sent: a reference of name resolution has no completed
 -- name, and the supplier of a copy is asked for the same completed one.
-use Rattle.std.proofs.Common.{◌≡◌, ℕ, ◌+◌, Bool, true, false, not, ◌&&◌, inl, inr, List, [], ◌∷◌, ◌++◌, length, refl, sym, ap, subst, ◌∙◌, Option, Some, None, if◌then◌else◌}
+use Rattle.std.proofs.Common.{◌≡◌, ℕ, ◌+◌, Bool, true, false, not, ◌&&◌, inl, inr, List, [], ◌∷◌, length, refl, sym, ap, subst, ◌∙◌, Option, Some, None, if◌then◌else◌}
 use Rattle.std.specs.Option.{is_some, is_none}
 use Rattle.x5_model.specs.Words.{in_option, when, is_empty}
 use Rattle.x5_model.specs.Members.{In, here}
@@ -19,7 +19,7 @@ use Rattle.x5_model_run.specs.Needs.{others, reference, proceeding, copy_answers
 use Rattle.x5_model_run.specs.History.{Point, knowledge_at, tree_at, holdings_at}
 use Rattle.x5_model_run.specs.Chain.{Scene, IsCarried}
 use Rattle.x5_model_run.specs.Covers.{touched, answer_at_pin, told}
-use Rattle.x5_model_tree.specs.Ask.{Told, ask_marked}
+use Rattle.x5_model_tree.specs.Ask.{ask_marked}
 use Rattle.x5_model_theory.specs.Leading.{IsSound}
 use Rattle.x5_model_theory.proofs.Stages.{same_progress_is}
 use Rattle.x5_model_theory.proofs.Rows.{resolution_leads}
@@ -47,13 +47,15 @@ maybe : (P : Reference → Type 0) (b : Bool) (q : Reference) → P q → Each P
 maybe P true q e = one P q e
 maybe P false q e = none P
 
-option : (P : Reference → Type 0) {X : Type 0} (ys : List Reference) (f : X → List Reference) (o : Option X) → Each P ys → ((x : X) → Each P (f x)) → Each P (in_option ys f o)
+option : (P : Reference → Type 0) {X : Type 0} (ys : List Reference) (f : X → List Reference) (o : Option X) → Each P ys
+    → ((x : X) → Each P (f x)) → Each P (in_option ys f o)
 option P ys f None g h = g
 option P ys f (Some x) g h = h x
 
 -- it is early, and a nonSpecific one goes on below an entry
 abbrev pub IsEarly : Chained → Reference → Type 0
-IsEarly m r = (is_done r.progress ≡ false) × (is_wide r.kind ≡ true → (x : Name) × (agents : List ℕ) × (r ≡ proceeding (length x + 1) x m.target NonSpecific agents))
+IsEarly m r = (is_done r.progress ≡ false)
+    × (is_wide r.kind ≡ true → (x : Name) × (agents : List ℕ) × (r ≡ proceeding (length x + 1) x m.target NonSpecific agents))
 
 -- one to the supplier of a copy is by a completed name
 abbrev pub IsLate : Chained → Reference → Type 0
@@ -71,17 +73,27 @@ module _ (h : Holdings) (m : Chained) where
   pin_early : Each (IsEarly m) (pin_needs h m (known_pin m.request h (key_of m.target)))
   pin_early =
       option (IsEarly m) (superior_needs h m) (known_needs h m) (known_pin m.request h (key_of m.target))
-      (option (IsEarly m) [] (to_superior m.target) h.superior (none (IsEarly m)) (λ s. one (IsEarly m) (reference m.target Start Superior (s ∷ [])) (narrow_one (reference m.target Start Superior (s ∷ [])) refl refl)))
+      (option (IsEarly m) [] (to_superior m.target) h.superior (none (IsEarly m))
+      (λ s. one (IsEarly m) (reference m.target Start Superior (s ∷ []))
+      (narrow_one (reference m.target Start Superior (s ∷ [])) refl refl)))
       (λ p. option (IsEarly m) (foreign_needs h m p) (multicast_needs h m) (held_at h.own p)
       (option (IsEarly m) (specific_needs h m p) (supplier_needs h m) (copy_at h p)
-      (option (IsEarly m) (in_option [] (to_specific m Cross) (specific_at h.cross p)) (to_specific m Subordinate) (specific_at (subordinates m.request h) p)
-      (option (IsEarly m) [] (to_specific m Cross) (specific_at h.cross p) (none (IsEarly m)) (λ k. specific Cross refl k)) (λ k. specific Subordinate refl k))
-      (λ c. maybe (IsEarly m) (not (copy_answers h m c)) (proceeding (length c.held.prefix) c.held.prefix m.target Supplier (c.supplier ∷ [])) (narrow_one (proceeding (length c.held.prefix) c.held.prefix m.target Supplier (c.supplier ∷ [])) refl refl)))
-      (λ c. option (IsEarly m) [] (from_lowest h m c) (lowest c.entries (key_of m.target)) (none (IsEarly m)) (λ e. option (IsEarly m) [] (to_nssr h m e) (nssr_at c.nssrs (key_of e.name)) (none (IsEarly m)) (λ n.
-      maybe (IsEarly m) (not (same_name e.name m.target) && not (is_empty (others h.me n.agents))) (proceeding (length e.name + 1) e.name m.target NonSpecific (others h.me n.agents)) (refl, λ w. (e.name, others h.me n.agents, refl))))))
+      (option (IsEarly m) (in_option [] (to_specific m Cross) (specific_at h.cross p)) (to_specific m Subordinate)
+      (specific_at (subordinates m.request h) p)
+      (option (IsEarly m) [] (to_specific m Cross) (specific_at h.cross p) (none (IsEarly m)) (λ k. specific Cross refl k))
+      (λ k. specific Subordinate refl k))
+      (λ c. maybe (IsEarly m) (not (copy_answers h m c))
+      (proceeding (length c.held.prefix) c.held.prefix m.target Supplier (c.supplier ∷ []))
+      (narrow_one (proceeding (length c.held.prefix) c.held.prefix m.target Supplier (c.supplier ∷ [])) refl refl)))
+      (λ c. option (IsEarly m) [] (from_lowest h m c) (lowest c.entries (key_of m.target)) (none (IsEarly m))
+      (λ e. option (IsEarly m) [] (to_nssr h m e) (nssr_at c.nssrs (key_of e.name)) (none (IsEarly m)) (λ n.
+      maybe (IsEarly m) (not (same_name e.name m.target) && not (is_empty (others h.me n.agents)))
+      (proceeding (length e.name + 1) e.name m.target NonSpecific (others h.me n.agents))
+      (refl, λ w. (e.name, others h.me n.agents, refl))))))
     where
       specific : (kind : RefType) → is_wide kind ≡ false → (k : Specific) → Each (IsEarly m) (to_specific m kind k)
-      specific kind f k = one (IsEarly m) (proceeding (length k.pin) k.pin m.target kind (usable_agents m.request k.access)) (narrow_one (proceeding (length k.pin) k.pin m.target kind (usable_agents m.request k.access)) refl f)
+      specific kind f k = one (IsEarly m) (proceeding (length k.pin) k.pin m.target kind (usable_agents m.request k.access))
+          (narrow_one (proceeding (length k.pin) k.pin m.target kind (usable_agents m.request k.access)) refl f)
 
   of_resolution : (r : Reference) → In r (resolution_needs h m) → Ways h m r
   of_resolution r i = go (resolves h m) refl i
@@ -99,15 +111,21 @@ module _ (h : Holdings) (m : Chained) where
     where
       at : (x : Option Copy) → In r (in_option [] (to_supplier h m) x) → IsLate m r
       at None j = elim j [ ]
-      at (Some c) j = (c.supplier, made (is_none (held_at (served m.request h) (key_of m.target))) (reference m.target Done Supplier (c.supplier ∷ [])) r j)
+      at (Some c) j = (
+        c.supplier,
+        made (is_none (held_at (served m.request h) (key_of m.target)))
+            (reference m.target Done Supplier (c.supplier ∷ [])) r j,
+      )
 
-      go : (b : Bool) → (by_pin m && is_some (subset_of m)) ≡ b → In r (if b then in_option [] (to_supplier h m) (copy_at h (key_of m.target)) else []) → Ways h m r
+      go : (b : Bool) → (by_pin m && is_some (subset_of m)) ≡ b
+          → In r (if b then in_option [] (to_supplier h m) (copy_at h (key_of m.target)) else []) → Ways h m r
       go true e j = late i (both_true (by_pin m) (is_some (subset_of m)) e).0 (at (copy_at h (key_of m.target)) j)
       go false e j = elim j [ ]
 
   pub the_way : (r : Reference) → find h m ≡ Onward r → Ways h m r
   the_way r e =
-      elim (in_either r (resolution_needs h m) (copied_needs h m) (subst (λ (rs : List Reference). In r rs) (sym (onward_resolution h m r e)) here)) [
+      elim (in_either r (resolution_needs h m) (copied_needs h m)
+      (subst (λ (rs : List Reference). In r rs) (sym (onward_resolution h m r e)) here)) [
         | inl i ↦ of_resolution r i
         | inr i ↦ of_copied r i
       ]
@@ -117,7 +135,8 @@ module _ (h : Holdings) (m : Chained) where
 going : (copies : Key → Bool) (t : Tree) (m : Chained) → is_done m.progress ≡ false → told copies t m ≡ ask_marked copies t m.request
 going copies t m e = rw e refl
 
-pinned : (copies : Key → Bool) (t : Tree) (m : Chained) → is_done m.progress ≡ true → is_wide m.kind ≡ false → told copies t m ≡ answer_at_pin copies t m.request m.request.body
+pinned : (copies : Key → Bool) (t : Tree) (m : Chained) → is_done m.progress ≡ true → is_wide m.kind ≡ false
+    → told copies t m ≡ answer_at_pin copies t m.request m.request.body
 pinned copies t m e f = rw (e, f) refl
 
 goes_far : (h : Holdings) (n : Key) (x : Progress) → resolves_by h n x ≡ true → falls_short h n x ≡ false
@@ -132,22 +151,28 @@ able_by h m e = last_false _ (is_none (fault_of m.request.body)) (is_wide m.kind
 -- to the supplier of its copy.
 pub way_able : (h : Holdings) (m : Chained) (r : Reference) → Ways h m r → is_unable h m ≡ false
 way_able h m r (early i e f) = able_by h m (goes_far h (key_of m.target) m.progress e)
-way_able h m r (late i pin f) = able_by h m (ap (falls_short h (key_of m.target)) (same_progress_is m.progress Done (both_true (is_done m.progress) (not (is_wide m.kind)) pin).0))
+way_able h m r (late i pin f) =
+    able_by h m (ap (falls_short h (key_of m.target))
+    (same_progress_is m.progress Done (both_true (is_done m.progress) (not (is_wide m.kind)) pin).0))
 
 pub way_phase : (h : Holdings) (m : Chained) (r : Reference) → Ways h m r → is_done r.progress ≡ is_done m.progress
 way_phase h m r (early i e f) = f.0 ∙ sym (not_done h m e)
-way_phase h m r (late i pin f) = ap (λ (y : Reference). is_done y.progress) f.1 ∙ sym (both_true (is_done m.progress) (not (is_wide m.kind)) pin).0
+way_phase h m r (late i pin f) = ap (λ (y : Reference). is_done y.progress) f.1
+    ∙ sym (both_true (is_done m.progress) (not (is_wide m.kind)) pin).0
 
-pub way_done : (h : Holdings) (m : Chained) (r : Reference) → Ways h m r → is_done m.progress ≡ true → (is_wide m.kind ≡ false) × IsLate m r
+pub way_done : (h : Holdings) (m : Chained) (r : Reference) → Ways h m r → is_done m.progress ≡ true → (is_wide m.kind ≡ false)
+    × IsLate m r
 way_done h m r (early i e f) d = absurd (false_true (sym (not_done h m e) ∙ d))
 way_done h m r (late i pin f) d = (not_true (is_wide m.kind) (both_true (is_done m.progress) (not (is_wide m.kind)) pin).1, f)
 
-pub way_wide : (h : Holdings) (m : Chained) (r : Reference) → Ways h m r → is_wide r.kind ≡ true → (x : Name) × (agents : List ℕ) × (r ≡ proceeding (length x + 1) x m.target NonSpecific agents)
+pub way_wide : (h : Holdings) (m : Chained) (r : Reference) → Ways h m r → is_wide r.kind ≡ true → (x : Name) × (agents : List ℕ)
+    × (r ≡ proceeding (length x + 1) x m.target NonSpecific agents)
 way_wide h m r (early i e f) w = f.1 w
 way_wide h m r (late i pin f) w = absurd (false_true (sym (ap (λ (y : Reference). is_wide y.kind) f.1) ∙ w))
 
 -- its target is the message's
-pub way_kept : (p : Point) (o : ℕ) (m : Chained) (r : Reference) (a : ℕ) → IsSound p → Ways (holdings_at p o) m r → In a r.agents → key_of r.target ≡ key_of m.target
+pub way_kept : (p : Point) (o : ℕ) (m : Chained) (r : Reference) (a : ℕ) → IsSound p → Ways (holdings_at p o) m r → In a r.agents
+    → key_of r.target ≡ key_of m.target
 way_kept p o m r a sound (late i pin f) ia = ap (λ (y : Reference). key_of y.target) f.1
 way_kept p o m r a sound (early i e f) ia = elim (resolution_leads p o m r a sound i ia).keeps [
   | inl y ↦ absurd (false_true (sym (and_left (is_done r.progress) _ f.0) ∙ y))
@@ -166,7 +191,8 @@ on_line from l r m c = record {
 
 -- ---- the same question
 
-module _ (p : Point) (s : Scene) (l k : Line) (from : Option ℕ) (r : Reference) (lines : List Line) (x : PassedOn p s l k from r lines) where
+module _ (p : Point) (s : Scene) (l k : Line) (from : Option ℕ) (r : Reference) (lines : List Line)
+    (x : PassedOn p s l k from r lines) where
   abbrev h : Holdings
   h = holdings_at p l.receiver
 
@@ -177,10 +203,12 @@ module _ (p : Point) (s : Scene) (l k : Line) (from : Option ℕ) (r : Reference
   way = the_way (holdings_at p l.receiver) l.message r x.found
 
   on : (k.message.request ≡ l.message.request)
-      × ((touched (knowledge_at p) (tree_at p) k.receiver k.message ≡ touched (knowledge_at p) (tree_at p) l.receiver l.message) × ((e : Key) → asks_for k.message e ≡ asks_for l.message e))
+      × ((touched (knowledge_at p) (tree_at p) k.receiver k.message ≡ touched (knowledge_at p) (tree_at p) l.receiver l.message)
+      × ((e : Key) → asks_for k.message e ≡ asks_for l.message e))
   on =
       same_is_passed_on p l from r k.message k.receiver sound x.looked.1
-      (subst (λ (rs : List Reference). In r rs) (sym (onward_resolution (holdings_at p l.receiver) l.message r x.found)) here) x.agent (on_line from l r k.message x.carried)
+      (subst (λ (rs : List Reference). In r rs) (sym (onward_resolution (holdings_at p l.receiver) l.message r x.found)) here) x.agent
+      (on_line from l r k.message x.carried)
 
   phase : is_done k.message.progress ≡ is_done l.message.progress
   phase = ap is_done x.carried.progress_is ∙ way_phase (holdings_at p l.receiver) l.message r way
@@ -204,7 +232,8 @@ module _ (p : Point) (s : Scene) (l k : Line) (from : Option ℕ) (r : Reference
   asked_same = (
     record {
       request = on.0;
-      target = sym ((key_decides (key_of r.target) (key_of k.message.target)).0 x.carried.target_is) ∙ way_kept p l.receiver l.message r k.receiver sound way x.agent;
+      target = sym ((key_decides (key_of r.target) (key_of k.message.target)).0 x.carried.target_is)
+          ∙ way_kept p l.receiver l.message r k.receiver sound way x.agent;
       phase = phase;
       narrow = old;
       looks = on.1.0;

@@ -1,24 +1,22 @@
 -- Where it is answered that somebody wasn't heard, or that nobody could go on, nothing was accepted meanwhile, or a reply
 -- was lost: by one induction over all that is done. Who leaves something to be followed sent nothing, and a list or search
 -- accepts nothing.
-use Rattle.std.proofs.Common.{◌≡◌, ℕ, Bool, true, false, not, ◌&&◌, ◌||◌, ◌⊎◌, cond, inl, inr, List, [], ◌∷◌, ◌++◌, refl, sym, ap, subst, ◌∙◌, Option, Some, None}
+use Rattle.std.proofs.Common.{◌≡◌, ℕ, Bool, true, false, not, ◌||◌, ◌⊎◌, cond, inl, inr, List, [], ◌∷◌, refl, sym, ap, subst, ◌∙◌, Option, Some, None}
 use Rattle.std.specs.List.{list_any}
 use Rattle.std.specs.Option.{is_some, is_none}
-use Rattle.x5_model.specs.Words.{is_empty}
 use Rattle.x5_model.specs.Members.{In, here}
 use Rattle.x5_model.specs.Keys.{Key, is_root}
 use Rattle.x5_model.specs.Values.{key_of}
 use Rattle.x5_model.specs.Entries.{Named}
 use Rattle.x5_model.specs.Requests.{Subset}
 use Rattle.x5_model.specs.References.{Progress, Start, Next, Done, Reference, Chained}
-use Rattle.x5_model.specs.Answers.{Answer, Changed, DirError, NoSuchObject, UpdateProblem, ServiceProblem, Reply, Answered, Failed, Referred}
+use Rattle.x5_model.specs.Answers.{Answer, Reply, Answered, Failed}
 use Rattle.x5_model.specs.Problems.{unavailable, unable_to_proceed}
-use Rattle.x5_model.proofs.Lists.{both_true, either_true, or_left, or_right, true_or_false, not_false, in_right, any_in, of_any}
+use Rattle.x5_model.proofs.Lists.{both_true, or_left, or_right, not_false, in_right, any_in, of_any}
 use Rattle.x5_model_tree.specs.Tree.{lowest}
 use Rattle.x5_model_tree.specs.Ask.{is_update, Told, Shows, Compares, Lists, Finds, Changes, Refuses}
 use Rattle.x5_model.specs.Answers.{Source}
-use Rattle.x5_model_run.specs.Network.{NoReply}
-use Rattle.x5_model_run.specs.Journal.{Line, Journal, same_name, is_done, is_wide}
+use Rattle.x5_model_run.specs.Journal.{Line, Journal, same_name, is_done}
 use Rattle.x5_model_run.specs.Holdings.{Held, Copy, Holdings, held_at, copy_at, known_pin, holds_within}
 use Rattle.x5_model_run.specs.Needs.{subset_of, superior_needs, multicast_needs, supplier_needs, specific_needs, copy_answers}
 use Rattle.x5_model_run.specs.Chain.{Scene}
@@ -27,9 +25,9 @@ use Rattle.x5_model_run.specs.Placed.{fits, is_query_below}
 use Rattle.x5_model_theory.proofs.Following.{query_of}
 use Rattle.x5_model_serve.specs.Finding as finding
 use Rattle.x5_model_serve.specs.Finding.{Found, by_first, in_own, in_copy, at_pin, resolved, found_by, find}
-use Rattle.x5_model_serve.specs.Answering.{is_service, reply_from, reply_in_copy, is_unavailable, in_vain, own_source, copy_source}
+use Rattle.x5_model_serve.specs.Answering.{is_service, reply_from, reply_in_copy, is_unavailable, in_vain, copy_source}
 use Rattle.x5_model_serve.specs.Claims.{Grows}
-use Rattle.x5_model_serve.specs.Serving.{Hand, Heard, Unheard, Hears, Gathered, Whole, Broken, Act, Takes, Does, Arrives, found_at, holds_now, begins_parts, gathered_reply, heard_or, is_final, is_idle, with_line, next_line, carried_for, loops, is_long, done_before, refused, unfit, stuck, nowhere, refers, goes, casts, reads, reads_copy, gives_parts, asks_parts, updates, not_done, does, probes_all, misses, taken, breaks, no_probe, clear, unsure, silent, spent, lost, dropped, sends, final, referral, wide_referral, unexplored, none_yet, in_vain_too, heard, unheard, none_asked, unable_too, silent_too, answered, nobody_has, some_silent, no_part, part_unheard, part_unavailable, part_answered, part_breaks}
+use Rattle.x5_model_serve.specs.Serving.{Hand, Heard, Unheard, Hears, Act, Takes, Does, holds_now, begins_parts, heard_or, is_final, with_line, next_line, carried_for, loops, is_long, done_before, refused, unfit, stuck, nowhere, refers, goes, casts, reads, reads_copy, gives_parts, asks_parts, updates, not_done, does, probes_all, misses, taken, breaks, no_probe, clear, unsure, silent, spent, lost, dropped, sends, final, referral, wide_referral, unexplored, none_yet, in_vain_too, heard, unheard, none_asked, unable_too, silent_too, answered, nobody_has, some_silent, no_part, part_unheard, part_unavailable, part_answered, part_breaks}
 use Rattle.x5_model_serve.proofs.Finals.{idle_is_followed}
 use Rattle.x5_model_find.proofs.Needing.{false_true}
 use Rattle.x5_model_joins.proofs.Following.{no_update_below}
@@ -42,7 +40,8 @@ use Rattle.x5_model_passing.proofs.Queries.{still}
 loss_stays : (i j : Journal) → Grows i j → heard_whole i.lines ≡ false → heard_whole j.lines ≡ false
 loss_stays i j g h =
     let w = of_any (λ (l : Line). is_noreply l.fate) i.lines (not_false (list_any (λ (l : Line). is_noreply l.fate) i.lines) h) in
-    ap not (any_in (λ (l : Line). is_noreply l.fate) w.0 j.lines (subst (λ (xs : List Line). In w.0 xs) (sym g.1) (in_right w.0 g.0 i.lines w.1)) w.2)
+    ap not (any_in (λ (l : Line). is_noreply l.fate) w.0 j.lines
+    (subst (λ (xs : List Line). In w.0 xs) (sym g.1) (in_right w.0 g.0 i.lines w.1)) w.2)
 
 both : (i j l : Journal) → Grows j l → IsSilent i j → IsSilent j l → IsSilent i l
 both i j l g a (inr f) = inr f
@@ -74,13 +73,17 @@ module _ (h : Holdings) (m : Chained) where
     where
       by : (o : Option Named) → lowest c.entries (key_of m.target) ≡ o → is_below (in_own h m c) ≡ false
       by None e = rw e refl
-      by (Some x) e = rw e (cond_above (same_name x.name m.target) (finding.Here c) (by_first (multicast_needs h m c) (finding.Nowhere x.name)) refl (first_above (multicast_needs h m c) (finding.Nowhere x.name) refl))
+      by (Some x) e = rw e (cond_above (same_name x.name m.target) (finding.Here c)
+          (by_first (multicast_needs h m c) (finding.Nowhere x.name)) refl
+          (first_above (multicast_needs h m c) (finding.Nowhere x.name) refl))
 
   copy_above : (c : Copy) → is_below (in_copy h m c) ≡ false
-  copy_above c = cond_above (copy_answers h m c) (finding.CopyHere c) (by_first (supplier_needs h m c) finding.Stuck) refl (first_above (supplier_needs h m c) finding.Stuck refl)
+  copy_above c = cond_above (copy_answers h m c) (finding.CopyHere c) (by_first (supplier_needs h m c) finding.Stuck) refl
+      (first_above (supplier_needs h m c) finding.Stuck refl)
 
   pin_above : (o : Option Key) → is_below (at_pin h m o) ≡ false
-  pin_above None = first_above (superior_needs h m) (cond (is_root (key_of m.target)) finding.Root (finding.Nowhere [])) (cond_above (is_root (key_of m.target)) finding.Root (finding.Nowhere []) refl refl)
+  pin_above None = first_above (superior_needs h m) (cond (is_root (key_of m.target)) finding.Root (finding.Nowhere []))
+      (cond_above (is_root (key_of m.target)) finding.Root (finding.Nowhere []) refl refl)
   pin_above (Some q) = by_own (held_at h.own q) refl
     where
       by_copy : held_at h.own q ≡ None → (o : Option Copy) → copy_at h q ≡ o → is_below (at_pin h m (Some q)) ≡ false
@@ -106,7 +109,8 @@ module _ (h : Holdings) (m : Chained) where
       by (Next n) q = next n q (holds_within h (key_of m.target) n) refl
       by Done q = ap is_done q
 
-begun_query : (k : Hand) (h : Holdings) → fits k.message ≡ true → begins_parts k (find h k.message) ≡ true → is_update k.message.request.body ≡ false
+begun_query : (k : Hand) (h : Holdings) → fits k.message ≡ true → begins_parts k (find h k.message) ≡ true
+    → is_update k.message.request.body ≡ false
 begun_query k h fit e = no_update_below k.message.request.body (by (find h k.message) refl e)
   where
     some : not (is_none (subset_of k.message)) ≡ true → is_query_below k.message.request.body ≡ true
@@ -124,7 +128,9 @@ begun_query k h fit e = no_update_below k.message.request.body (by (find h k.mes
     by (finding.Here c) q g = some g
     by (finding.CopyHere c) q g = some g
     by finding.Root q g = some g
-    by finding.Below q g = below (is_done k.message.progress) (is_query_below k.message.request.body) (both_true _ (not (is_done k.message.progress) || is_query_below k.message.request.body) fit).1 (below_done h k.message (ap is_below q))
+    by finding.Below q g = below (is_done k.message.progress) (is_query_below k.message.request.body)
+        (both_true _ (not (is_done k.message.progress) || is_query_below k.message.request.body) fit).1
+        (below_done h k.message (ap is_below q))
     by (finding.Onward r) q g = absurd (false_true g)
     by (finding.Nowhere n) q g = absurd (false_true g)
     by finding.Stuck q g = absurd (false_true g)
@@ -150,7 +156,8 @@ left_idle (inl e) f = e
 left_idle (inr w) f = absurd (false_true (sym f ∙ w.0))
 
 module _ (s : Scene) (most : ℕ) where
-  heard_off : (i j : Journal) (other : Reply) (h : Heard) → (o : Option ℕ) (k : Hand) (r : Reference) → SilentWhereOff (Takes o k r h) i j → is_off (heard_or other h) ≡ true → IsSilent i j
+  heard_off : (i j : Journal) (other : Reply) (h : Heard) (o : Option ℕ) (k : Hand) (r : Reference)
+      → SilentWhereOff (Takes o k r h) i j → is_off (heard_or other h) ≡ true → IsSilent i j
   heard_off i j other Unheard o k r t e = t
   heard_off i j other (Hears y) o k r t e = t e
 
@@ -172,7 +179,11 @@ module _ (s : Scene) (most : ℕ) where
     λ b q u. never_left (left_idle (idle_is_followed s most _ i j (casts r y a e f g d)) f) u,
   )
   quiet _ _ _ (reads c a e f g) = (λ u. inl refl, λ b q u. f)
-  quiet _ _ _ (reads_copy {k} c a e f) = (λ u. inl refl, λ b q u. (let z : is_final (reply_in_copy k.receiver k.message c) ≡ true = from_final (copy_source k.receiver c ∷ []) _ in never_left z u))
+  quiet _ _ _ (reads_copy {k} c a e f) = (
+    λ u. inl refl,
+    λ b q u. (let z : is_final (reply_in_copy k.receiver k.message c) ≡ true =
+        from_final (copy_source k.receiver c ∷ []) _ in never_left z u),
+  )
   quiet _ _ _ (gives_parts {k} {j} y a e f g) = (λ u. inl refl, λ b q u. begun_query k (holds_now s j k) a.fit e)
   quiet _ _ _ (asks_parts {k} {i} {j} y w a e f g d) = (
     λ u. inl (still s most _ i j d (begun_query k (holds_now s i k) a.fit e)),
@@ -184,25 +195,33 @@ module _ (s : Scene) (most : ℕ) where
   quiet _ _ _ (probes_all mine r e f d) = λ u. cc
   quiet _ _ _ (misses mine r a noted e f d) = λ u. quiet _ _ _ d
   quiet _ _ _ (taken mine r a b c n y e f g d u) = λ v. cc
-  quiet _ _ _ (breaks mine r a b c n y e f g p q d u) = λ v. absurd (false_true (sym (neither (is_service unavailable (Failed y)) (is_service unable_to_proceed (Failed y)) q p) ∙ v))
+  quiet _ _ _ (breaks mine r a b c n y e f g p q d u) =
+      λ v. absurd (false_true (sym (neither (is_service unavailable (Failed y)) (is_service unable_to_proceed (Failed y)) q p) ∙ v))
     where
       neither : (b c : Bool) → b ≡ false → c ≡ false → (b || c) ≡ false
       neither true c e f = e
       neither false c e f = f
   quiet _ _ _ no_probe = inl refl
-  quiet _ _ _ (clear {k} {r} {i} {j} {l} a y e d u) = both i j l (grown s most _ _ _ u) (quiet _ _ _ d) (quiet _ _ _ u (or_right (is_service unavailable y) _ e))
-  quiet _ _ _ (unsure {k} {r} {i} {j} {l} a y e d u) = both i j l (grown s most _ _ _ u) (quiet _ _ _ d) (quiet _ _ _ u (or_left (is_service unavailable y) _ e))
+  quiet _ _ _ (clear {k} {r} {i} {j} {l} a y e d u) = both i j l (grown s most _ _ _ u) (quiet _ _ _ d)
+      (quiet _ _ _ u (or_right (is_service unavailable y) _ e))
+  quiet _ _ _ (unsure {k} {r} {i} {j} {l} a y e d u) = both i j l (grown s most _ _ _ u) (quiet _ _ _ d)
+      (quiet _ _ _ u (or_left (is_service unavailable y) _ e))
   quiet _ _ _ (silent {k} {r} {i} {j} {l} a d u) = both i j l (grown s most _ _ _ u) (quiet _ _ _ d) (quiet _ _ _ u)
   quiet _ _ _ (spent a e) = λ u. inl refl
   quiet _ _ _ (lost a e f) = inl refl
   quiet _ _ _ (dropped {from} {o} {r} {i} {j} a y e f d) =
       let g = grown s most _ _ _ d in
-      inr (ap not (any_in (λ (l : Line). is_noreply l.fate) (next_line s i from o r a) j.lines (subst (λ (xs : List Line). In (next_line s i from o r a) xs) (sym g.1) (in_right (next_line s i from o r a) g.0 (next_line s i from o r a ∷ i.lines) here)) (ap is_noreply f)))
+      inr (ap not (any_in (λ (l : Line). is_noreply l.fate) (next_line s i from o r a) j.lines
+      (subst (λ (xs : List Line). In (next_line s i from o r a) xs) (sym g.1)
+      (in_right (next_line s i from o r a) g.0 (next_line s i from o r a ∷ i.lines) here)) (ap is_noreply f)))
   quiet _ _ _ (sends {from} {o} {r} {i} {j} {l} a y z e f d u) = by (is_final y) refl (quiet _ _ _ d) (quiet _ _ _ u)
     where
       by : (b : Bool) → is_final y ≡ b
-          → (is_off y ≡ true → IsSilent (with_line (next_line s i from o r a) i) j) × ((c : Answer) → y ≡ Answered c → is_final y ≡ false → is_update (carried_for from o r).request.body ≡ false)
-          → (is_final y ≡ true → (z ≡ y) × (l ≡ j)) × (((c : Answer) → y ≡ Answered c → is_final y ≡ false → is_update (carried_for from o r).request.body ≡ false) → is_off z ≡ true → IsSilent j l)
+          → (is_off y ≡ true → IsSilent (with_line (next_line s i from o r a) i) j)
+          × ((c : Answer) → y ≡ Answered c → is_final y ≡ false → is_update (carried_for from o r).request.body ≡ false)
+          → (is_final y ≡ true → (z ≡ y) × (l ≡ j))
+          × (((c : Answer) → y ≡ Answered c → is_final y ≡ false → is_update (carried_for from o r).request.body ≡ false)
+          → is_off z ≡ true → IsSilent j l)
           → is_off z ≡ true → IsSilent i l
       by true q v w g =
           let same = w.0 q in
@@ -216,17 +235,21 @@ module _ (s : Scene) (most : ℕ) where
             ]
           ]
   quiet _ _ _ (final y e) = (λ f. (refl, refl), λ left f. inl refl)
-  quiet _ _ _ (referral {from} {k} {i} {j} r h e d) = (λ f. absurd (false_true f), λ left f. heard_off i j (is_unavailable (in_vain r)) h from k r (quiet _ _ _ d) f)
+  quiet _ _ _ (referral {from} {k} {i} {j} r h e d) =
+      (λ f. absurd (false_true f), λ left f. heard_off i j (is_unavailable (in_vain r)) h from k r (quiet _ _ _ d) f)
   quiet _ _ _ (wide_referral r y e d) = (λ f. absurd (false_true f), λ left f. quiet _ _ _ d f)
-  quiet _ _ _ (unexplored {from} {k} {i} {j} a w e d) = (λ f. absurd (false_true (sym e ∙ f)), λ left f. inl (still s most _ i j d (left a refl e)))
+  quiet _ _ _ (unexplored {from} {k} {i} {j} a w e d) =
+      (λ f. absurd (false_true (sym e ∙ f)), λ left f. inl (still s most _ i j d (left a refl e)))
   quiet _ _ _ none_yet = inl refl
   quiet _ _ _ (in_vain_too {from} {o} {r} {i} {j} {l} a d u) = both i j l (grown s most _ _ _ u) (quiet _ _ _ d) (quiet _ _ _ u)
   quiet _ _ _ (heard {from} {o} {r} {i} {j} {l} b c a y e d u) = λ f. both i j l (grown s most _ _ _ u) (quiet _ _ _ d) (quiet _ _ _ u f)
   quiet _ _ _ (unheard d) = quiet _ _ _ d
   quiet _ _ _ none_asked = inl refl
-  quiet _ _ _ (unable_too {from} {o} {r} {i} {j} {l} a y e d u) = both i j l (grown s most _ _ _ u) (quiet _ _ _ d) (quiet _ _ _ u (or_right (is_service unavailable y) _ e))
+  quiet _ _ _ (unable_too {from} {o} {r} {i} {j} {l} a y e d u) = both i j l (grown s most _ _ _ u) (quiet _ _ _ d)
+      (quiet _ _ _ u (or_right (is_service unavailable y) _ e))
   quiet _ _ _ (silent_too {from} {o} {r} {i} {j} {l} a d u) = both i j l (grown s most _ _ _ u) (quiet _ _ _ d) (quiet _ _ _ u)
-  quiet _ _ _ (answered {from} {o} {r} {i} {j} {l} b c n a y e f d u) = λ g. both i j l (grown s most _ _ _ u) (quiet _ _ _ d) (quiet _ _ _ u g)
+  quiet _ _ _ (answered {from} {o} {r} {i} {j} {l} b c n a y e f d u) = λ g. both i j l (grown s most _ _ _ u) (quiet _ _ _ d)
+      (quiet _ _ _ u g)
   quiet _ _ _ (nobody_has d) = λ f. quiet _ _ _ d
   quiet _ _ _ (some_silent n e d) = λ f. quiet _ _ _ d
   quiet _ _ _ no_part = tt

@@ -10,7 +10,7 @@ use Rattle.x5_model.specs.Members.{In, Once, here, there}
 use Rattle.x5_model.specs.References.{Reference}
 use Rattle.x5_model.proofs.Lists.{and_true, or_right, true_or_false, not_true, in_first, in_left, in_right, in_either, all_in, of_filter, has_in, of_has}
 use Rattle.x5_model.proofs.Decide.{nat_same_decides}
-use Rattle.x5_model_run.specs.Journal.{Line, Journal, is_done, is_wide}
+use Rattle.x5_model_run.specs.Journal.{Line, Journal, is_wide}
 use Rattle.x5_model_run.specs.Holdings.{Holdings}
 use Rattle.x5_model_run.specs.Needs.{needs}
 use Rattle.x5_model_run.specs.History.{Point, holdings_at}
@@ -29,8 +29,8 @@ use Rattle.x5_model_find.proofs.Needing.{false_true}
 use Rattle.x5_model_joins.proofs.Backs.{own_back}
 use Rattle.x5_model_verdicts.proofs.Alone.{filter_same}
 use Rattle.x5_model_verdicts.proofs.Missed.{Picked}
-use Rattle.x5_model_passing.specs.Taking.{GoesOn, IsRightFor, SilenceIsRight}
-use Rattle.x5_model_passing.proofs.Same.{Ways, the_way, way_done}
+use Rattle.x5_model_passing.specs.Taking.{IsRightFor, SilenceIsRight}
+use Rattle.x5_model_passing.proofs.Same.{the_way, way_done}
 use Rattle.x5_model_passing.proofs.Taking.{OnLine, able_here, same_phase_here, nothing_or_lost, hand_is, line_on}
 use Rattle.x5_model_passing.proofs.Silence.{quiet}
 
@@ -81,21 +81,30 @@ noted_too before noted a w = (
       (λ x i. has_same (noted ++ a ∷ []) noted x
       (λ j. elim (in_either x noted (a ∷ []) j) [
         | inl l ↦ l
-        | inr l ↦ elim (in_first x a [] l) [ inl e ↦ absurd (once_end before a once (subst (λ (z : ℕ). In z before) e i)) | inr n ↦ elim n [ ] ]
+        | inr l ↦ elim (in_first x a [] l) [
+          | inl e ↦ absurd
+              (once_end before a once (subst (λ (z : ℕ). In z before) e i))
+          | inr n ↦ elim n [ ]
+        ]
       ])
       (λ j. in_left x noted (a ∷ []) j))
       ∙ w.1 (once_front before (a ∷ []) once))
-      ∙ ap (λ (xs : List ℕ). noted ++ xs) (one_left (has ◌==◌ (noted ++ a ∷ [])) a true (has_in ◌==◌ nat_same_decides a (noted ++ a ∷ []) (in_right a noted (a ∷ []) here))),
+      ∙ ap (λ (xs : List ℕ). noted ++ xs)
+      (one_left (has ◌==◌ (noted ++ a ∷ [])) a true
+      (has_in ◌==◌ nat_same_decides a (noted ++ a ∷ []) (in_right a noted (a ∷ []) here))),
 )
 
-picked : (s : Scene) (most : ℕ) (from : Option ℕ) (k : Hand) (r : Reference) (agents noted : List ℕ) (i j : Journal) → Does s most (Spreads from k r agents noted) i j → Picked agents noted
+picked : (s : Scene) (most : ℕ) (from : Option ℕ) (k : Hand) (r : Reference) (agents noted : List ℕ) (i j : Journal) → Does s most
+    (Spreads from k r agents noted) i j → Picked agents noted
 picked s most _ _ _ _ _ _ _ none_asked = ((λ x i. i), λ once. refl)
-picked s most _ _ _ _ _ _ _ (unable_too {before = before} {noted = noted} a y e d u) = passed before noted a (picked s most _ _ _ _ _ _ _ d)
+picked s most _ _ _ _ _ _ _ (unable_too {before = before} {noted = noted} a y e d u) =
+    passed before noted a (picked s most _ _ _ _ _ _ _ d)
 picked s most _ _ _ _ _ _ _ (silent_too {before = before} {noted = noted} a d u) = noted_too before noted a (picked s most _ _ _ _ _ _ _ d)
 
 -- ---- the reference to these
 
-listed_of : (r : Reference) (noted : List ℕ) → is_wide r.kind ≡ true → is_empty noted ≡ false → filter (has ◌==◌ noted) r.agents ≡ noted → lists_of (is_wide r.kind) noted r.agents ≡ true
+listed_of : (r : Reference) (noted : List ℕ) → is_wide r.kind ≡ true → is_empty noted ≡ false
+    → filter (has ◌==◌ noted) r.agents ≡ noted → lists_of (is_wide r.kind) noted r.agents ≡ true
 listed_of r noted wide some e =
     ap (λ (b : Bool). lists_of b noted r.agents) wide
     ∙ and_true (not (is_empty noted)) _ (ap not some) ((bytes_decides noted (filter (has ◌==◌ noted) r.agents)).1 (sym e))
@@ -105,7 +114,8 @@ contains_of [] x i = elim i [ ]
 contains_of (x ∷ xs) _ here = (0, omega arith, refl)
 contains_of (y ∷ xs) x (there i) = contains_more xs y x (contains_of xs x i)
 
-module _ (p : Point) (s : Scene) (most : ℕ) (l : Line) (r : Reference) (i j : Journal) (on : OnLine p s most l r i j) (from : Option ℕ) (noted : List ℕ) (wide : is_wide r.kind ≡ true) (once : Once r.agents)
+module _ (p : Point) (s : Scene) (most : ℕ) (l : Line) (r : Reference) (i j : Journal) (on : OnLine p s most l r i j) (from : Option ℕ)
+    (noted : List ℕ) (wide : is_wide r.kind ≡ true) (once : Once r.agents)
     (did : Does s most (Spreads from (hand_of l) r r.agents noted) i j) (some : is_empty noted ≡ false)
     (silent : (a : ℕ) → In a noted → is_in_vain s j.lines l r a ≡ true)
     (cleared : (a : ℕ) → In a r.agents → (In a noted → ⊥) → is_cleared s j.lines l.number r a ≡ true) where
@@ -122,7 +132,8 @@ module _ (p : Point) (s : Scene) (most : ℕ) (l : Line) (r : Reference) (i j : 
     line = l;
     full = r;
     stands = contains_of j.lines l on.stands;
-    back = own_back (λ (y : Line). y.number == l.number) l (length i.accepted) j.lines on.stands ((nat_same_decides l.number l.number).1 refl);
+    back = own_back (λ (y : Line). y.number == l.number) l (length i.accepted) j.lines on.stands
+        ((nat_same_decides l.number l.number).1 refl);
     needed = contains_of (needs (s.holdings l.receiver) l.message) r (subst (λ (rs : List Reference). In r rs) (sym needed) here);
     same = refl;
     listed = listed_of r noted wide some ((picked s most from (hand_of l) r r.agents noted i j did).1 once);
@@ -135,7 +146,9 @@ module _ (p : Point) (s : Scene) (most : ℕ) (l : Line) (r : Reference) (i j : 
 
   pub unsure_here : IsRightFor p s most (hand_of l) l.number i j (is_unavailable (of_these noted r))
   unsure_here = (
-    usual (ap not (able_here p s most l r i j on)) (right.unheard (asked tried) (same_phase_here p s most l r i j on (of_these noted r) refl) (nothing_or_lost p s most l r i j on (quiet s most _ i j did))),
+    usual (ap not (able_here p s most l r i j on))
+        (right.unheard (asked tried) (same_phase_here p s most l r i j on (of_these noted r) refl)
+        (nothing_or_lost p s most l r i j on (quiet s most _ i j did))),
     λ d. (let w = way_done (holdings_at p l.receiver) l.message r (the_way (holdings_at p l.receiver) l.message r on.found) d in
         absurd (false_true (sym (ap (λ (y : Reference). is_wide y.kind) w.1.1) ∙ wide))),
   )
