@@ -1,8 +1,7 @@
 -- An update is due at the master of its target, which the tree has, since it accepts; and who brought it there goes on to
 -- resolve its name: else the agent would be unable to proceed, or the message not be placed. So the target is found.
-use Rattle.std.proofs.Common.{◌≡◌, ℕ, ◌≤◌, ◌<◌, nat_lt, nat_le, ◌==◌, Bool, true, false, not, ◌&&◌, ◌||◌, inl, inr, List, [], ◌∷◌, ◌++◌, length, refl, sym, ap, subst, ◌∙◌, arith, Option, Some, None, Ok, Err}
+use Rattle.std.proofs.Common.{◌≡◌, ℕ, nat_lt, nat_le, ◌==◌, Bool, true, false, not, ◌&&◌, ◌||◌, inl, inr, List, length, refl, sym, ap, subst, ◌∙◌, arith, Option, Some, None, Ok}
 use Rattle.std.proofs.lemmas.Bool.Decides.{leb_tells}
-use Rattle.std.specs.List.{list_any}
 use Rattle.std.specs.Option.{is_none}
 use Rattle.std.specs.Result.{is_ok}
 use Rattle.x5_model.specs.Words.{some_and, is_empty}
@@ -11,12 +10,12 @@ use Rattle.x5_model.specs.Keys.{Key, same_key, parent}
 use Rattle.x5_model.specs.Values.{key_of}
 use Rattle.x5_model.specs.Entries.{Named}
 use Rattle.x5_model.specs.Requests.{Body, Read, Compare, ListBelow, Search, AddEntry, RemoveEntry, ModifyEntry, ModifyDn}
-use Rattle.x5_model.specs.References.{Progress, Start, Next, Done, Reference, Chained}
+use Rattle.x5_model.specs.References.{Progress, Start, Next, Done, Reference}
 use Rattle.x5_model.specs.Answers.{DirError}
 use Rattle.x5_model.specs.Statics.{fault_of}
 use Rattle.x5_model.proofs.Decide.{nat_same_decides, less_decides}
 use Rattle.x5_model.proofs.KeyLaws.{key_decides}
-use Rattle.x5_model.proofs.Lists.{both_true, and_true, or_left, or_right, not_true, true_or_false, any_in}
+use Rattle.x5_model.proofs.Lists.{both_true, and_true, or_left, not_true, true_or_false, any_in}
 use Rattle.x5_model_tree.specs.Tree.{key_at, entry_at, is_there}
 use Rattle.x5_model_tree.specs.Ask.{is_update}
 use Rattle.x5_model_tree.specs.Apply.{Applied, Ground, ground_of, update, apply}
@@ -24,7 +23,7 @@ use Rattle.x5_model_tree.proofs.Grown.{above_key}
 use Rattle.x5_model_run.specs.Network.{arrives}
 use Rattle.x5_model_run.specs.Journal.{Line, Journal, operation_of, is_done, is_wide}
 use Rattle.x5_model_run.specs.Holdings.{Held, Holdings, holds_within}
-use Rattle.x5_model_run.specs.Needs.{target_of, resolves, is_unable, resolution_needs, copied_needs}
+use Rattle.x5_model_run.specs.Needs.{target_of, resolves, is_unable}
 use Rattle.x5_model_run.specs.History.{Point, tree_at, holdings_at}
 use Rattle.x5_model_run.specs.Chain.{Scene}
 use Rattle.x5_model_run.specs.Accepting.{carries_update, may_accept}
@@ -35,14 +34,14 @@ use Rattle.x5_model_theory.specs.Leading.{IsSound}
 use Rattle.x5_model_updates.proofs.Lookups.{entry_found}
 use Rattle.x5_model_updates.proofs.Outcomes.{ok_or_err, accepted_over, tree_made, added, removed, changed_so, renamed_so}
 use Rattle.x5_model_parts.proofs.Onward.{same_is_passed_on}
-use Rattle.x5_model_serve.specs.Finding.{Here, Stuck, find}
-use Rattle.x5_model_serve.specs.Serving.{Hand, line_for, carried_for}
+use Rattle.x5_model_serve.specs.Finding.{Here, find}
+use Rattle.x5_model_serve.specs.Serving.{line_for, carried_for}
 use Rattle.x5_model_serve.specs.Claims.{is_due_line}
 use Rattle.x5_model_serve.proofs.Needing.{onward_resolution}
 use Rattle.x5_model_find.proofs.Goes.{placed_goes_on}
 use Rattle.x5_model_find.proofs.Judge.{judge_is_here}
 use Rattle.x5_model_find.proofs.Needing.{false_true}
-use Rattle.x5_model_verdicts.proofs.At.{is_read, fit_key, each_of_update}
+use Rattle.x5_model_verdicts.proofs.At.{fit_key, each_of_update}
 use Rattle.x5_model_passing.specs.Due.{IsLookedAt, DueIsHere, OthersAreSettled, CarriedIsSame}
 use Rattle.x5_model_passing.proofs.Back.{update_no_read, update_above, not_completed}
 

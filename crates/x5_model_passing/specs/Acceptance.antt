@@ -42,6 +42,7 @@ IsSilent i j = (j.accepted ≡ i.accepted) ⊎ (heard_whole j.lines ≡ false)
 abbrev pub is_off : Reply → Bool
 is_off reply = is_service unavailable reply || is_service unable_to_proceed reply
 
+-- what is claimed of each thing that is done: of one that is answered, where it is answered so
 abbrev pub SilentWhereOff : Act → Journal → Journal → Type 0
 SilentWhereOff (Serves k reply) i j =
     (is_off reply ≡ true → IsSilent i j)

@@ -97,12 +97,11 @@ pub record Meanwhile (p : Point) (s : Scene) (l : Line) (stood : ℕ) (j : Journ
   pub silent :
       is_service unavailable reply ≡ true → (length j.accepted ≡ stood) ⊎ (heard_whole j.lines ≡ false)
 
--- 4. So a right reply is passed back. Three premises are needed beside that it is right and came back. That lines are
--- licensed: were there two of one number, what came back to one might not come back to the other. That no nonSpecific
--- reference brings `unableToProceed` (the next agent is asked then): who passed the message on isn't unable, so it
--- would be no right reply of that one. And what is known of acceptances: the reply counts those since k was sent, and l
--- was sent before; where a reply was lost, `changed` alone is right whatever was accepted between them, so a query has
--- to accept nothing, and for an error the tree has to refuse, which after an acceptance it doesn't.
+-- 4. So a right reply is passed back. Beside that it is right and came back, three things are needed. The lines are
+-- licensed: of two lines with one number, what came back to one need not have come back to the other. No nonSpecific
+-- reference brings `unableToProceed`: whoever passed the message on could proceed, so that is no reply of its own. And
+-- what is known of acceptances, as the reply is judged by those since k was sent, and l was sent before k: were an update
+-- accepted between them by an agent whose reply was lost, a result or an error would be right for k, and not for l.
 abbrev pub PassesBack : Type 0
 PassesBack =
     (p : Point) (s : Scene) (most : ℕ) (l k : Line) (from : Option ℕ) (r : Reference) (j : Journal) (stood : ℕ)
