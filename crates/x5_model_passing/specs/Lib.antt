@@ -1,0 +1,4 @@
+pub mod Passing
+pub mod Acceptance
+pub mod Taking
+pub mod Due
