@@ -1,0 +1,11 @@
+mod Comparing
+mod Places
+mod Slots
+mod Parents
+mod Putting
+mod Kept
+mod Removing
+mod Subtrees
+mod Ends
+mod Walks
+mod Growing
