@@ -66,9 +66,6 @@ one_kept e = record {
   linked = record { filled = refl; in_order = refl; above = and_true (same_key (key_at e) (key_at e) || is_there (e ∷ []) (parent (key_at e))) true (or_left (same_key (key_at e) (key_at e)) (is_there (e ∷ []) (parent (key_at e))) ((key_decides (key_at e) (key_at e)).1 refl)) refl };
 }
   where
-    first : NodeId
-    first = record { 0 = 0 }
-
     forth : (m : NodeId) → In m (record { 0 = 0 } ∷ []) → is_used (Some e ∷ []) m ≡ true
     forth m i = elim (in_first m (record { 0 = 0 }) [] i) [
       | inl p ↦ subst (λ (k : NodeId). is_used (Some e ∷ []) k ≡ true) (sym p) refl

@@ -9,9 +9,10 @@ use Rattle.x5_model.proofs.Lists.{in_first, in_either, in_left, in_right}
 use Rattle.x5_model_tree.specs.Tree.{key_at, is_there, sorted_entries}
 use Rattle.x5_dse.specs.declared.node.NodeId.{NodeId}
 use Rattle.x5_dse.specs.Linked.{Node, entries_of, node_below, node_at, IsLinked}
+use Rattle.x5_dse.specs.Changes.{Inserted}
 use Rattle.x5_dse.specs.Inside.{slot_at, is_used, held, node_of, nodes_of, IsPlace, IsKept}
 use Rattle.x5_dse.proofs.Places.{missing, there_by_node}
-use Rattle.x5_dse.proofs.Slots.{Slots, same_id, same_or_other, used_within, slot_same, slot_other, same_nodes}
+use Rattle.x5_dse.proofs.Slots.{Slots, same_id, same_or_other, used_within, slot_same, slot_other, same_nodes, not_live}
 use Rattle.x5_dse.proofs.Putting.{insert_at, nodes_insert, put_linked, put_entries}
 
 -- ---- lists with one member more
@@ -54,11 +55,13 @@ module _ {A : Type 0} (x : A) where
 
   pub once_push : (xs : List A) → Once xs → (In x xs → ⊥) → Once (xs ++ x ∷ [])
   once_push [] h f = ((λ i. elim i [ ]), tt)
-  once_push (y ∷ ys) h f =
-      ((λ i. elim (in_either y ys (x ∷ []) i) [
-        | inl j ↦ h.0 j
-        | inr j ↦ elim (in_first y x [] j) [ inl p ↦ f (subst (λ (w : A). In x (w ∷ ys)) (sym p) here) | inr k ↦ elim k [ ] ]
-      ]), once_push ys h.1 (λ i. f (there i)))
+  once_push (y ∷ ys) h f = (
+    (λ i. elim (in_either y ys (x ∷ []) i) [
+      | inl j ↦ h.0 j
+      | inr j ↦ elim (in_first y x [] j) [ inl p ↦ f (subst (λ (w : A). In x (w ∷ ys)) (sym p) here) | inr k ↦ elim k [ ] ]
+    ]),
+    once_push ys h.1 (λ i. f (there i)),
+  )
 
 -- ---- an entry is put into a free slot
 
@@ -140,3 +143,18 @@ module _ (slots : Slots) (order free rest : List NodeId) (id : NodeId) (new : Na
 
     pub put_entries_are : entries_of (nodes_of (set slots id.0 (Some new)) (take place order ++ id ∷ drop place order)) ≡ sorted_entries (entries_of (nodes_of slots order) ++ new ∷ [])
     put_entries_are = ap entries_of put_nodes ∙ put_entries (record { id = id; named = new }) (nodes_of slots order) kept.linked absent below
+
+    -- the whole change, where the order and what is spare are given otherwise
+    module _ (ms : List NodeId) (now : ms ≡ take place order ++ id ∷ drop place order) where
+      pub put_kept_now : IsKept (set slots id.0 (Some new)) ms rest
+      put_kept_now = subst (λ (ns : List NodeId). IsKept (set slots id.0 (Some new)) ns rest) (sym now) put_keeps
+
+      pub put_inserted : (s t : ℕ) → t + 1 ≡ s → Inserted (record { nodes = nodes_of slots order; spare = s }) new id (record { nodes = nodes_of (set slots id.0 (Some new)) ms; spare = t })
+      put_inserted s t less = record {
+        absent = absent;
+        below = below;
+        fresh = not_live slots order id not_ordered;
+        nodes = ap (nodes_of (set slots id.0 (Some new))) now ∙ put_nodes;
+        entries = ap (λ (ns : List NodeId). entries_of (nodes_of (set slots id.0 (Some new)) ns)) now ∙ put_entries_are;
+        spare = less;
+      }

@@ -4,8 +4,4 @@ mod Slots
 mod Parents
 mod Putting
 mod Kept
-mod Removing
-mod Subtrees
-mod Ends
-mod Walks
 mod Growing

@@ -1,17 +1,21 @@
 -- The place of a key among nodes in order: what a binary search keeps, and what the place says of the list.
-use Rattle.std.proofs.Common.{◌≡◌, ℕ, zero, suc, ◌+◌, ◌<◌, ◌≤◌, Bool, true, false, cond, inl, inr, List, [], ◌∷◌, ◌++◌, length, get_or, take, drop, refl, sym, ap, subst, ◌∙◌, arith, Option, Some, None}
+use Rattle.std.proofs.Common.{◌≡◌, ℕ, zero, suc, ◌+◌, ◌<◌, ◌≤◌, Bool, true, false, cond, ◌||◌, ◌⊎◌, inl, inr, List, [], ◌∷◌, ◌++◌, length, get_or, take, drop, refl, sym, ap, subst, ◌∙◌, arith, Option, Some, None, Ok, Err}
 use Rattle.std.specs.List.{find, list_any}
-use Rattle.std.specs.Option.{is_some}
+use Rattle.std.proofs.lemmas.List.{get_or-map, length-map}
+use Rattle.std.specs.Option.{is_some, option_map}
 use Rattle.std.specs.Ordering.{is_lt, ordering_reverse}
 use Rattle.std.specs.declared.cmp.Ordering.TheVariants.{Less, Equal, Greater}
 use Rattle.x5_model.specs.Words.{ascending, insert_sorted}
 use Rattle.x5_model.specs.Members.{In, here, there}
+use Rattle.x5_model.specs.Entries.{Named}
 use Rattle.x5_model.specs.Keys.{Key, same_key, key_below, key_cmp}
 use Rattle.x5_model.proofs.KeyLaws.{key_decides, key_cmp_total, never_below, below_chain}
 use Rattle.x5_model.proofs.Lists.{true_or_false}
 use Rattle.x5_model.proofs.Ascending.{rest_ascending, first_below}
 use Rattle.x5_model_tree.specs.Tree.{is_there, key_at}
-use Rattle.x5_dse.specs.Linked.{Node, node_key, node_below, node_at, entries_of}
+use Rattle.x5_dse.specs.Linked.{Node, id_of, node_key, node_below, node_at, entries_of}
+use Rattle.x5_dse.specs.declared.node.NodeId.{NodeId}
+use Rattle.x5_dse.specs.Inside.{node_of, nodes_of, IsPlace}
 
 pub in_get : {A : Type 0} (xs : List A) (i : ℕ) (d : A) → i < length xs → In (get_or xs i d) xs
 in_get [] i d l = absurd (omega arith)
@@ -34,6 +38,14 @@ rising (x ∷ xs) d (suc i) (suc j) h l m = rising xs d i j (rest_ascending node
 
 -- ---- the steps of a search
 
+pub lt_or_le : (k n : ℕ) → (k < n) ⊎ (n ≤ k)
+lt_or_le k zero = inr (omega arith)
+lt_or_le zero (suc n) = inl (omega arith)
+lt_or_le (suc k) (suc n) = elim (lt_or_le k n) [ inl l ↦ inl (omega arith) | inr l ↦ inr (omega arith) ]
+
+pub lt_or_eq : (k n : ℕ) → k < n + 1 → (k < n) ⊎ (k ≡ n)
+lt_or_eq k n h = elim (lt_or_le k n) [ inl l ↦ inl l | inr l ↦ inr (omega arith) ]
+
 abbrev pub BelowAll : List Node → Key → ℕ → Type 0
 BelowAll nodes key low = (k : ℕ) (d : Node) → k < low → key_below (node_key (get_or nodes k d)) key ≡ true
 
@@ -43,27 +55,21 @@ AboveAll nodes key high = (k : ℕ) (d : Node) → high ≤ k → k < length nod
 pub go_up : (nodes : List Node) (key : Key) (middle : ℕ) → ascending node_below nodes ≡ true → middle < length nodes
     → ((d : Node) → key_cmp (node_key (get_or nodes middle d)) key ≡ Less) → BelowAll nodes key (middle + 1)
 go_up nodes key middle h l e k d m =
-    elim (cases k middle m) [
+    elim (lt_or_eq k middle m) [
       | inl p ↦ below_chain (node_key (get_or nodes k d)) (node_key (get_or nodes middle d)) key (rising nodes d k middle h p l) (ap is_lt (e d))
       | inr p ↦ subst (λ (n : ℕ). key_below (node_key (get_or nodes n d)) key ≡ true) (sym p) (ap is_lt (e d))
     ]
-  where
-    cases : (k n : ℕ) → k < n + 1 → (k < n) ⊎ (k ≡ n)
-    cases k n m = omega arith
 
 pub go_down : (nodes : List Node) (key : Key) (middle : ℕ) → ascending node_below nodes ≡ true
     → ((d : Node) → key_cmp (node_key (get_or nodes middle d)) key ≡ Greater) → AboveAll nodes key middle
 go_down nodes key middle h e k d l m =
-    elim (cases k middle l) [
+    elim (lt_or_eq middle k (omega arith)) [
       | inl p ↦ below_chain key (node_key (get_or nodes middle d)) (node_key (get_or nodes k d)) under (rising nodes d middle k h p m)
       | inr p ↦ subst (λ (n : ℕ). key_below key (node_key (get_or nodes n d)) ≡ true) p under
     ]
   where
     under : key_below key (node_key (get_or nodes middle d)) ≡ true
     under = ap is_lt (key_cmp_total.antisymm key (node_key (get_or nodes middle d)) ∙ ap ordering_reverse (e d))
-
-    cases : (k n : ℕ) → n ≤ k → (n < k) ⊎ (n ≡ k)
-    cases k n m = omega arith
 
 -- ---- what a place says
 
@@ -102,11 +108,8 @@ above_differs a b less = elim (true_or_false (same_key a b)) [
 pub missing : (nodes : List Node) (key : Key) (i : ℕ) → BelowAll nodes key i → AboveAll nodes key i → node_at nodes key ≡ None
 missing nodes key i f g = none_at nodes key at
   where
-    cases : (k n : ℕ) → (k < n) ⊎ (n ≤ k)
-    cases k n = omega arith
-
     at : (k : ℕ) (d : Node) → k < length nodes → same_key (node_key (get_or nodes k d)) key ≡ false
-    at k d l = elim (cases k i) [
+    at k d l = elim (lt_or_le k i) [
       | inl p ↦ below_differs (node_key (get_or nodes k d)) key (f k d p)
       | inr p ↦ above_differs (node_key (get_or nodes k d)) key (g k d p l)
     ]
@@ -114,8 +117,25 @@ missing nodes key i f g = none_at nodes key at
 -- the entry is there exactly where a node has its key
 pub there_by_node : (nodes : List Node) (key : Key) → is_there (entries_of nodes) key ≡ is_some (node_at nodes key)
 there_by_node [] key = refl
-there_by_node (x ∷ xs) key = by (same_key (node_key x) key) refl
+there_by_node (x ∷ xs) key = by (same_key (node_key x) key) (there_by_node xs key)
   where
-    by : (b : Bool) → same_key (node_key x) key ≡ b → is_there (entries_of (x ∷ xs)) key ≡ is_some (node_at (x ∷ xs) key)
-    by true e = rw e refl
-    by false e = rw e (there_by_node xs key)
+    by : (b : Bool) → is_there (entries_of xs) key ≡ is_some (node_at xs key) → (b || is_there (entries_of xs) key) ≡ is_some (cond b (Some x) (node_at xs key))
+    by true h = refl
+    by false h = h
+
+-- ---- what a place says of the nodes that are kept
+
+pub found_is : (nodes : List Node) (key : Key) (i : ℕ) (d : Node) → ascending node_below nodes ≡ true → IsPlace nodes key (Ok i) → node_at nodes key ≡ Some (get_or nodes i d)
+found_is nodes key i d h w = found_at nodes key i d h w.0 (w.1 d)
+
+pub found_node : (slots : List (Option Named)) (order : List NodeId) (key : Key) (i : ℕ) (n : NodeId) → ascending node_below (nodes_of slots order) ≡ true → IsPlace (nodes_of slots order) key (Ok i) → option_map id_of (node_at (nodes_of slots order) key) ≡ Some (get_or order i n)
+found_node slots order key i n h w = ap (option_map id_of) (found_is (nodes_of slots order) key i (node_of slots n) h w) ∙ ap (λ (m : Node). Some m.id) (get_or-map (node_of slots) order i n (node_of slots n) (omega (arith, w.0, length-map order (node_of slots))))
+
+pub missing_node : (nodes : List Node) (key : Key) (i : ℕ) → IsPlace nodes key (Err i) → option_map id_of (node_at nodes key) ≡ None
+missing_node nodes key i w = ap (option_map id_of) (missing nodes key i w.1 w.2)
+
+pub there_if : (nodes : List Node) (key : Key) (i : ℕ) → ascending node_below nodes ≡ true → IsPlace nodes key (Ok i) → is_there (entries_of nodes) key ≡ true
+there_if nodes key i h w = there_by_node nodes key ∙ ap is_some (found_is nodes key i (node_of [] (record { 0 = 0 })) h w)
+
+pub absent_if : (nodes : List Node) (key : Key) (i : ℕ) → IsPlace nodes key (Err i) → is_there (entries_of nodes) key ≡ false
+absent_if nodes key i w = there_by_node nodes key ∙ ap is_some (missing nodes key i w.1 w.2)

@@ -15,7 +15,7 @@ use Rattle.x5_dse.specs.Linked.{Node, named_of, entries_of, node_key, node_below
 use Rattle.x5_dse.specs.Inside.{node_of, nodes_of}
 use Rattle.x5_dse.proofs.Places.{node_chain, node_never}
 use Rattle.x5_dse.proofs.Slots.{Slots}
-use Rattle.x5_dse.proofs.Parents.{parent_below}
+use Rattle.x5_dse.proofs.Parents.{short_parent, parent_below}
 
 -- ---- where it goes
 
@@ -44,13 +44,13 @@ nodes_insert slots (m ∷ order) (suc i) id = ap (λ (zs : List Node). node_of s
 
 entries_insert : (x : Node) (xs : List Node) → entries_of (insert_sorted node_below x xs) ≡ insert_sorted named_below x.named (entries_of xs)
 entries_insert x [] = refl
-entries_insert x (y ∷ ys) = by (node_below y x) refl
+entries_insert x (y ∷ ys) = by (node_below y x) refl (entries_insert x ys)
   where
-    by : (b : Bool) → node_below y x ≡ b → entries_of (insert_sorted node_below x (y ∷ ys)) ≡ insert_sorted named_below x.named (entries_of (y ∷ ys))
-    by true e =
-        ap (λ (b : Bool). entries_of (step x y ys b)) e ∙ ap (λ (zs : List Named). y.named ∷ zs) (entries_insert x ys)
+    by : (b : Bool) → node_below y x ≡ b → entries_of (insert_sorted node_below x ys) ≡ insert_sorted named_below x.named (entries_of ys) → entries_of (insert_sorted node_below x (y ∷ ys)) ≡ insert_sorted named_below x.named (entries_of (y ∷ ys))
+    by true e rest =
+        ap (λ (b : Bool). entries_of (step x y ys b)) e ∙ ap (λ (zs : List Named). y.named ∷ zs) rest
         ∙ sym (ap (λ (b : Bool). cond b (y.named ∷ insert_sorted named_below x.named (entries_of ys)) (x.named ∷ y.named ∷ entries_of ys)) e)
-    by false e =
+    by false e rest =
         ap (λ (b : Bool). entries_of (step x y ys b)) e
         ∙ sym (ap (λ (b : Bool). cond b (y.named ∷ insert_sorted named_below x.named (entries_of ys)) (x.named ∷ y.named ∷ entries_of ys)) e)
 
@@ -63,11 +63,13 @@ flipped a b (inr p) = inl p
 
 apart_push : (e : Named) (es : List Named) → ascending named_below es ≡ true → ((z : Named) → In z es → Apart e z) → AllApart named_below (es ++ e ∷ [])
 apart_push e [] h f = ((λ z i. elim i [ ]), tt)
-apart_push e (x ∷ xs) h f =
-    ((λ z i. elim (in_either z xs (e ∷ []) i) [
-      | inl j ↦ inl (first_below named_below named_chain x z xs h j)
-      | inr j ↦ (let p : z ≡ e = one z j in subst (λ (w : Named). Apart x w) (sym p) (flipped e x (f x here)))
-    ]), apart_push e xs (rest_ascending named_below named_chain x xs h) (λ z i. f z (there i)))
+apart_push e (x ∷ xs) h f = (
+  (λ z i. elim (in_either z xs (e ∷ []) i) [
+    | inl j ↦ inl (first_below named_below named_chain x z xs h j)
+    | inr j ↦ (let p : z ≡ e = one z j in subst (λ (w : Named). Apart x w) (sym p) (flipped e x (f x here)))
+  ]),
+  apart_push e xs (rest_ascending named_below named_chain x xs h) (λ z i. f z (there i)),
+)
   where
     one : (z : Named) → In z (e ∷ []) → z ≡ e
     one z i = elim (in_first z e [] i) [ inl p ↦ p | inr j ↦ elim j [ ] ]
@@ -121,11 +123,7 @@ module _ (x : Node) (xs : List Node) (linked : IsLinked xs) (absent : is_there (
 
   -- its name has RDNs, and so its parent stands before it
   long : (n : ℕ) → length (node_key x) ≡ n → 0 < n
-  long zero e = absurd (let p : is_there (entries_of xs) (node_key x) ≡ true = subst (λ (k : Key). is_there (entries_of xs) k ≡ true) (short (node_key x) e) below in cc)
-    where
-      short : (k : Key) → length k ≡ 0 → parent k ≡ k
-      short [] e = refl
-      short (r ∷ k) e = absurd (omega arith)
+  long zero e = absurd (let p : is_there (entries_of xs) (node_key x) ≡ true = subst (λ (k : Key). is_there (entries_of xs) k ≡ true) (short_parent (node_key x) e) below in cc)
   long (suc n) e = omega arith
 
   parent_first : key_below (parent (node_key x)) (node_key x) ≡ true

@@ -6,10 +6,10 @@ use Rattle.std.specs.List.{list_any, filter}
 use Rattle.std.specs.Option.{is_some}
 use Rattle.x5_model.specs.Members.{In, here, there}
 use Rattle.x5_model.specs.Entries.{Named}
-use Rattle.x5_model.proofs.Lists.{of_any, of_map, any_in, in_map, true_or_false}
+use Rattle.x5_model.proofs.Lists.{in_first, of_any, of_map, any_in, in_map, true_or_false}
 use Rattle.x5_dse.specs.declared.node.NodeId.{NodeId}
 use Rattle.x5_dse.specs.Linked.{Node, has_id, node_with, is_live}
-use Rattle.x5_dse.specs.Inside.{slot_at, is_used, held, node_of, nodes_of}
+use Rattle.x5_dse.specs.Inside.{slot_at, is_used, held, node_of, nodes_of, IsKept}
 
 abbrev pub Slots : Type 0
 Slots = List (Option Named)
@@ -73,16 +73,21 @@ not_live slots order id f = elim (true_or_false (is_live (nodes_of slots order) 
 
 pub with_is : (slots : Slots) (order : List NodeId) (id : NodeId) → In id order → node_with (nodes_of slots order) id ≡ Some (node_of slots id)
 with_is slots [] id i = elim i [ ]
-with_is slots (m ∷ order) id i = by (m.0 == id.0) refl
+with_is slots (m ∷ order) id i = by (m.0 == id.0) refl (λ j. with_is slots order id j)
   where
     after : In id (m ∷ order) → (m ≡ id → ⊥) → In id order
-    after here f = absurd (f refl)
-    after (there j) f = j
+    after j f = elim (in_first id m order j) [ inl p ↦ absurd (f (sym p)) | inr k ↦ k ]
 
-    by : (b : Bool) → (m.0 == id.0) ≡ b → node_with (nodes_of slots (m ∷ order)) id ≡ Some (node_of slots id)
-    by true e =
+    by : (b : Bool) → (m.0 == id.0) ≡ b → (In id order → node_with (nodes_of slots order) id ≡ Some (node_of slots id)) → node_with (nodes_of slots (m ∷ order)) id ≡ Some (node_of slots id)
+    by true e rest =
         let p : m ≡ id = (id_decides m id).0 e in
         ap (λ (b : Bool). cond b (Some (node_of slots m)) (node_with (nodes_of slots order) id)) e ∙ ap (λ (k : NodeId). Some (node_of slots k)) p
-    by false e =
+    by false e rest =
         let f : m ≡ id → ⊥ = λ p. let q : (m.0 == id.0) ≡ true = (id_decides m id).1 p in cc in
-        ap (λ (b : Bool). cond b (Some (node_of slots m)) (node_with (nodes_of slots order) id)) e ∙ with_is slots order id (after i f)
+        ap (λ (b : Bool). cond b (Some (node_of slots m)) (node_with (nodes_of slots order) id)) e ∙ rest (after i f)
+
+pub live_used : (slots : Slots) (order free : List NodeId) (id : NodeId) → IsKept slots order free → is_live (nodes_of slots order) id ≡ true → is_used slots id ≡ true
+live_used slots order free id kept e = (kept.used id).0 (live_in slots order id e)
+
+pub live_node : (slots : Slots) (order : List NodeId) (id : NodeId) → is_live (nodes_of slots order) id ≡ true → node_with (nodes_of slots order) id ≡ Some (node_of slots id)
+live_node slots order id e = with_is slots order id (live_in slots order id e)

@@ -5,9 +5,6 @@
 mod node;
 mod order;
 mod place;
-mod subtree;
-#[cfg(test)]
-mod tests;
 mod tree;
 
 pub use node::{DseFault, NodeId};

@@ -40,7 +40,7 @@ fn compare_rdns(a: &[Pair], b: &[Pair]) -> Ordering
 }
 
 /// The order of the names of these RDNs: RDN by RDN, a prefix first (X.501, section 9: names; the order is this project's own).
-pub fn compare(a: &[Rdn], b: &[Rdn]) -> Ordering
+pub(crate) fn compare(a: &[Rdn], b: &[Rdn]) -> Ordering
     ensures { result ≡ key_cmp (key_of a.now) (key_of b.now) }
 {
     for (i, rdn) in a.iter().enumerate() {

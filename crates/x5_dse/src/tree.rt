@@ -1,29 +1,26 @@
 //! The tree of an agent's entries of one naming context.
 
-ghost use Rattle.std.specs.Prelude.{◌≡◌, ◌+◌, ◌<◌, ◌≤◌, ◌∷◌, [], true, length, IfOk, IfErr, OnOk, OnErr, IsTrue, Some, Err, false, map, slice_index_or};
-ghost use Rattle.std.specs.List.{filter};
+ghost use Rattle.std.specs.Prelude.{◌≡◌, ◌+◌, ◌<◌, ◌≤◌, ◌∷◌, [], true, length, IfOk, IfErr, OnOk, OnErr, IsTrue, Some, Err};
 ghost use Rattle.std.specs.Option.{option_map};
-ghost use Rattle.x5_model.specs.Keys.{parent, is_prefix};
+ghost use Rattle.x5_model.specs.Keys.{parent};
 ghost use Rattle.x5_model.specs.Values.{key_of};
-ghost use Rattle.x5_model_tree.specs.Tree.{key_at, is_there, has_below};
-ghost use Rattle.x5_dse.specs.Linked.{IsLinked, entries_of, id_of, entry_in, name_in, node_at, node_with, is_live, is_first, Node, node_key};
-ghost use Rattle.x5_dse.specs.Changes.{Inserted, NotInserted, Removed, NotRemoved, Replaced, key_with};
+ghost use Rattle.x5_model_tree.specs.Tree.{key_at, is_there};
+ghost use Rattle.x5_dse.specs.Linked.{IsLinked, entries_of, id_of, entry_in, name_in, node_at, node_with, is_live};
+ghost use Rattle.x5_dse.specs.Changes.{Inserted, NotInserted};
 ghost use Rattle.x5_dse.specs.Inside.{IsPlace};
 
-use crate::node::{DseFault, NodeId};
-use crate::place::{named_at, place_of, rdns_above};
-use crate::subtree::{end_of, is_above};
+use crate::node::{Dse, DseFault, NodeId};
+use crate::place::{has_name, named_at, node_of, place_of, rdns_above};
 use std::alloc::Global;
 use std::marker::Model;
-use std::mem;
+use x5_match::Entry;
 use x5_memory::NoMemory;
 use x5_names::{Name, Rdn};
-use x5_ops::{Entry, Named};
 
 /// The entries of one naming context, whose prefix is the first of them.
 #[derive(Debug, Drop)]
 pub struct DseTree {
-    slots: Vec<Option<Named>>,
+    slots: Vec<Option<Dse>>,
     order: Vec<NodeId>,
     free: Vec<NodeId>,
 }
@@ -48,7 +45,7 @@ impl DseTree {
         let mut slots = Vec::with_capacity(alloc, 1)?;
         let mut order = Vec::with_capacity(alloc, 1)?;
         let free = Vec::with_capacity(alloc, 1)?;
-        slots.push(Some(Named {
+        slots.push(Some(Dse {
             name: prefix,
             entry,
         }))?;
@@ -73,7 +70,8 @@ impl DseTree {
 
     /// The place of the name of these RDNs among the nodes, or where it would go.
     fn place(&self, rdns: &[Rdn]) -> Result<usize, usize>
-        ensures { IsPlace self.now.nodes (key_of rdns.now) result }
+        ensures place { IsPlace self.now.nodes (key_of rdns.now) result }
+        ensures linked { IsLinked self.now.nodes }
     {
         place_of(&self.slots, &self.order, rdns)
     }
@@ -82,17 +80,14 @@ impl DseTree {
     fn has(&self, rdns: &[Rdn]) -> bool
         ensures { result ≡ is_there (entries_of self.now.nodes) (key_of rdns.now) }
     {
-        self.place(rdns).is_ok()
+        has_name(&self.slots, &self.order, rdns)
     }
 
     /// The node of the name, whatever its spelling. No memory.
     pub fn find(&self, name: &Name) -> Option<NodeId>
         ensures { result ≡ option_map id_of (node_at self.now.nodes (key_of name.now)) }
     {
-        match place_of(&self.slots, &self.order, name.rdns()) {
-            Ok(at) => Some(self.order[at]),
-            Err(_) => None,
-        }
+        node_of(&self.slots, &self.order, name.rdns())
     }
 
     /// The entry of the node. No memory.
@@ -140,7 +135,7 @@ impl DseTree {
     }
 
     /// Puts the entry at its place, with a spare node.
-    fn put(&mut self, place: usize, new: Named) -> NodeId
+    fn put(&mut self, place: usize, new: Dse) -> NodeId
         requires room { 0 < self.old.spare }
         requires place { IsPlace self.old.nodes (key_at new) (Err place) }
         requires below { is_there (entries_of self.old.nodes) (parent (key_at new)) ≡ true }
@@ -170,104 +165,6 @@ impl DseTree {
         if !self.has(rdns_above(&name)) {
             return Err(DseFault::NoParent);
         }
-        Ok(self.put(place, Named { name, entry }))
-    }
-
-    /// Whether the node is there. No memory.
-    pub fn is_live(&self, node: NodeId) -> bool
-        ensures { result ≡ is_live self.now.nodes node }
-    {
-        node.0 < self.slots.len() && self.slots[node.0].is_some()
-    }
-
-    /// Whether the node is that of the context's prefix. No memory.
-    pub fn is_first(&self, node: NodeId) -> bool
-        ensures { result ≡ is_first self.now.nodes node }
-    {
-        match self.order.first() {
-            Some(first) => first.0 == node.0,
-            None => false,
-        }
-    }
-
-    /// The place of the node.
-    fn place_with(&self, node: NodeId) -> usize
-        requires { IsTrue (is_live self.now.nodes node) }
-        ensures within { result < length self.now.nodes }
-        ensures at { (d : Node) → node_with self.now.nodes node ≡ Some (slice_index_or self.now.nodes result d) }
-    {
-        match place_of(&self.slots, &self.order, named_at(&self.slots, node).name.rdns()) {
-            Ok(place) => place,
-            Err(_) => unreachable!(),
-        }
-    }
-
-    /// Whether something stands below the node at the place.
-    fn is_above(&self, place: usize) -> bool
-        requires { place < length self.now.nodes }
-        ensures { (d : Node) → result ≡ has_below (entries_of self.now.nodes) (node_key (slice_index_or self.now.nodes place d)) }
-    {
-        is_above(&self.slots, &self.order, place)
-    }
-
-    /// Takes the leaf at the place out.
-    fn take(&mut self, place: usize, node: NodeId) -> Entry
-        requires within { place < length self.old.nodes }
-        requires at { (d : Node) → node_with self.old.nodes node ≡ Some (slice_index_or self.old.nodes place d) }
-        requires lower { is_first self.old.nodes node ≡ false }
-        requires leaf { has_below (entries_of self.old.nodes) (key_with self.old.nodes node) ≡ false }
-        ensures { Removed self.old node result self.new }
-    {
-        let _node = self.order.remove(place);
-        if self.free.push(node).is_err() {
-            unreachable!();
-        }
-        match mem::replace(&mut self.slots[node.0], None) {
-            Some(named) => named.entry,
-            None => unreachable!(),
-        }
-    }
-
-    /// Removes the entry of a leaf other than the prefix, and its node (X.511, section 11.2). No memory.
-    pub fn remove(&mut self, node: NodeId) -> Result<Entry, DseFault>
-        requires live { IsTrue (is_live self.old.nodes node) }
-        requires lower { is_first self.old.nodes node ≡ false }
-        ensures ok { IfOk result (λ entry. Removed self.old node entry self.new) }
-        ensures fault { IfErr result (λ fault. NotRemoved self.old.nodes node fault) }
-        ensures err { OnErr result (self.new ≡ self.old) }
-    {
-        let place = self.place_with(node);
-        if self.is_above(place) {
-            return Err(DseFault::NotLeaf);
-        }
-        Ok(self.take(place, node))
-    }
-
-    /// Replaces the entry of the node, and answers the one before (X.511, section 11.3). No memory.
-    pub fn replace(&mut self, node: NodeId, entry: Entry) -> Entry
-        requires { IsTrue (is_live self.old.nodes node) }
-        ensures { Replaced self.old node entry result self.new }
-    {
-        match mem::replace(&mut self.slots[node.0], None) {
-            Some(named) => {
-                let Named {
-                    name,
-                    entry: before,
-                } = named;
-                self.slots[node.0] = Some(Named { name, entry });
-                before
-            }
-            None => unreachable!(),
-        }
-    }
-
-    /// The nodes at and below the node, in the order of their keys. No memory.
-    pub fn walk(&self, node: NodeId) -> &[NodeId]
-        requires { IsTrue (is_live self.now.nodes node) }
-        ensures { result.now ≡ map id_of (filter (λ n. is_prefix (key_with self.now.nodes node) (node_key n)) self.now.nodes) }
-    {
-        let place = self.place_with(node);
-        let end = end_of(&self.slots, &self.order, place);
-        &self.order[place..end]
+        Ok(self.put(place, Dse { name, entry }))
     }
 }

@@ -1,3 +1,4 @@
+-- So far both RDNs are the same: the rest decides.
 use Rattle.std.proofs.Common.{◌≡◌, ◌≤◌, length, map, drop}
 use Rattle.std.specs.Cmp.Lexicographic.{slice_cmp}
 use Rattle.x5_model.specs.Keys.{pair_cmp}

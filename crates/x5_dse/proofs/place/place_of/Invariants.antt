@@ -1,3 +1,4 @@
+-- All nodes before `low` are below the key, and all from `high` on are above it; the part between them shrinks.
 use Rattle.std.proofs.Common.{◌-◌, ◌≤◌, length}
 use Rattle.x5_model.specs.Values.{key_of}
 use Rattle.x5_dse.specs.Inside.{nodes_of}
