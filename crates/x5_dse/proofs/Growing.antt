@@ -1,15 +1,15 @@
 -- A tree of one entry is kept, and so is a tree with one free slot more.
-use Rattle.std.proofs.Common.{◌≡◌, ◌≢◌, ◌↔◌, ℕ, zero, suc, ◌+◌, ◌<◌, ◌≤◌, Bool, true, false, not, ◌||◌, ◌⊎◌, inl, inr, List, [], ◌∷◌, ◌++◌, length, get_or, refl, sym, ap, subst, ◌∙◌, arith, Option, Some, None, length-append}
+use Rattle.std.proofs.Common.{◌≡◌, ℕ, zero, suc, ◌+◌, ◌<◌, Bool, true, false, ◌||◌, inl, inr, List, [], ◌∷◌, ◌++◌, length, get_or, refl, sym, ap, subst, ◌∙◌, arith, Option, Some, None, length-append}
 use Rattle.std.specs.Option.{is_some}
-use Rattle.x5_model.specs.Members.{In, Once, here, there}
-use Rattle.x5_model.specs.Keys.{Key, same_key, parent}
+use Rattle.x5_model.specs.Members.{In, here}
+use Rattle.x5_model.specs.Keys.{same_key, parent}
 use Rattle.x5_model.specs.Entries.{Named}
 use Rattle.x5_model.proofs.KeyLaws.{key_decides}
 use Rattle.x5_model.proofs.Lists.{in_first, in_either, in_left, in_right, and_true, or_left}
 use Rattle.x5_model_tree.specs.Tree.{key_at, is_there}
 use Rattle.x5_dse.specs.declared.node.NodeId.{NodeId}
-use Rattle.x5_dse.specs.Linked.{Node, entries_of, node_key, IsLinked}
-use Rattle.x5_dse.specs.Inside.{slot_at, is_used, node_of, nodes_of, IsKept}
+use Rattle.x5_dse.specs.Linked.{Node, IsLinked}
+use Rattle.x5_dse.specs.Inside.{is_used, nodes_of, IsKept}
 use Rattle.x5_dse.proofs.Slots.{Slots, same_id, same_or_other, used_within, same_nodes}
 use Rattle.x5_dse.proofs.Kept.{once_push}
 

@@ -1,18 +1,18 @@
 -- What is kept of a tree when an entry is put: which slots are used, which numbers are free, and the nodes in order.
-use Rattle.std.proofs.Common.{◌≡◌, ◌≢◌, ◌↔◌, ℕ, zero, suc, ◌+◌, ◌<◌, ◌≤◌, Bool, true, false, not, ◌⊎◌, inl, inr, List, [], ◌∷◌, ◌++◌, length, get_or, set, map, take, drop, refl, sym, ap, subst, ◌∙◌, arith, Option, Some, None, length-set, Result, Ok, Err}
+use Rattle.std.proofs.Common.{◌≡◌, ◌≢◌, ℕ, zero, suc, ◌+◌, ◌<◌, true, false, ◌⊎◌, inl, inr, List, [], ◌∷◌, ◌++◌, length, set, take, drop, sym, ap, subst, ◌∙◌, Some, length-set, Err}
 use Rattle.std.specs.Option.{is_some}
 use Rattle.x5_model.specs.Words.{insert_sorted}
 use Rattle.x5_model.specs.Members.{In, Once, here, there}
-use Rattle.x5_model.specs.Keys.{Key, parent}
+use Rattle.x5_model.specs.Keys.{parent}
 use Rattle.x5_model.specs.Entries.{Named}
 use Rattle.x5_model.proofs.Lists.{in_first, in_either, in_left, in_right}
 use Rattle.x5_model_tree.specs.Tree.{key_at, is_there, sorted_entries}
 use Rattle.x5_dse.specs.declared.node.NodeId.{NodeId}
-use Rattle.x5_dse.specs.Linked.{Node, entries_of, node_below, node_at, IsLinked}
+use Rattle.x5_dse.specs.Linked.{Node, entries_of, node_below, IsLinked}
 use Rattle.x5_dse.specs.Changes.{Inserted}
-use Rattle.x5_dse.specs.Inside.{slot_at, is_used, held, node_of, nodes_of, IsPlace, IsKept}
+use Rattle.x5_dse.specs.Inside.{slot_at, is_used, held, nodes_of, IsPlace, IsKept}
 use Rattle.x5_dse.proofs.Places.{missing, there_by_node}
-use Rattle.x5_dse.proofs.Slots.{Slots, same_id, same_or_other, used_within, slot_same, slot_other, same_nodes, not_live}
+use Rattle.x5_dse.proofs.Slots.{Slots, same_id, same_or_other, slot_same, slot_other, same_nodes, not_live}
 use Rattle.x5_dse.proofs.Putting.{insert_at, nodes_insert, put_linked, put_entries}
 
 -- ---- lists with one member more

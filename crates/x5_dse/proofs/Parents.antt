@@ -1,11 +1,11 @@
 -- The order of keys and parents: a prefix stands first, so an entry stands behind the one just above it.
-use Rattle.std.proofs.Common.{◌≡◌, ℕ, zero, suc, ◌+◌, ◌-◌, ◌<◌, ◌≤◌, Bool, true, false, List, [], ◌∷◌, length, take, refl, sym, ap, subst, ◌∙◌, arith}
+use Rattle.std.proofs.Common.{◌≡◌, ℕ, zero, suc, ◌-◌, ◌<◌, true, [], ◌∷◌, length, take, refl, sym, ap, ◌∙◌, arith}
 use Rattle.std.proofs.lemmas.List.{take-map, length-map}
 use Rattle.std.specs.Cmp.{tied_itself}
 use Rattle.std.specs.Ordering.{is_lt, ordering_then}
 use Rattle.std.specs.declared.cmp.Ordering.{Ordering}
-use Rattle.std.specs.declared.cmp.Ordering.TheVariants.{Less, Equal}
-use Rattle.x5_model.specs.Keys.{KeyRdn, Key, rdn_cmp, key_cmp, key_below, parent}
+use Rattle.std.specs.declared.cmp.Ordering.TheVariants.{Less}
+use Rattle.x5_model.specs.Keys.{Key, key_cmp, key_below, parent}
 use Rattle.x5_model.specs.Values.{Name, key_of_rdn, key_of}
 use Rattle.x5_model.proofs.KeyLaws.{rdn_cmp_total}
 

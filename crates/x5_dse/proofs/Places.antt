@@ -1,18 +1,17 @@
 -- The place of a key among nodes in order: what a binary search keeps, and what the place says of the list.
-use Rattle.std.proofs.Common.{◌≡◌, ℕ, zero, suc, ◌+◌, ◌<◌, ◌≤◌, Bool, true, false, cond, ◌||◌, ◌⊎◌, inl, inr, List, [], ◌∷◌, ◌++◌, length, get_or, take, drop, refl, sym, ap, subst, ◌∙◌, arith, Option, Some, None, Ok, Err}
-use Rattle.std.specs.List.{find, list_any}
+use Rattle.std.proofs.Common.{◌≡◌, ℕ, zero, suc, ◌+◌, ◌<◌, ◌≤◌, Bool, true, false, cond, ◌||◌, ◌⊎◌, inl, inr, List, [], ◌∷◌, length, get_or, refl, sym, ap, subst, ◌∙◌, arith, Option, Some, None, Ok, Err}
 use Rattle.std.proofs.lemmas.List.{get_or-map, length-map}
 use Rattle.std.specs.Option.{is_some, option_map}
 use Rattle.std.specs.Ordering.{is_lt, ordering_reverse}
-use Rattle.std.specs.declared.cmp.Ordering.TheVariants.{Less, Equal, Greater}
-use Rattle.x5_model.specs.Words.{ascending, insert_sorted}
+use Rattle.std.specs.declared.cmp.Ordering.TheVariants.{Less, Greater}
+use Rattle.x5_model.specs.Words.{ascending}
 use Rattle.x5_model.specs.Members.{In, here, there}
 use Rattle.x5_model.specs.Entries.{Named}
 use Rattle.x5_model.specs.Keys.{Key, same_key, key_below, key_cmp}
 use Rattle.x5_model.proofs.KeyLaws.{key_decides, key_cmp_total, never_below, below_chain}
 use Rattle.x5_model.proofs.Lists.{true_or_false}
 use Rattle.x5_model.proofs.Ascending.{rest_ascending, first_below}
-use Rattle.x5_model_tree.specs.Tree.{is_there, key_at}
+use Rattle.x5_model_tree.specs.Tree.{is_there}
 use Rattle.x5_dse.specs.Linked.{Node, id_of, node_key, node_below, node_at, entries_of}
 use Rattle.x5_dse.specs.declared.node.NodeId.{NodeId}
 use Rattle.x5_dse.specs.Inside.{node_of, nodes_of, IsPlace}

@@ -1,12 +1,11 @@
 -- What one more node makes of nodes in order: where it goes, which entries there are then, and that they stay linked.
-use Rattle.std.proofs.Common.{◌≡◌, ℕ, zero, suc, ◌+◌, ◌<◌, ◌≤◌, Bool, true, false, cond, not, ◌&&◌, ◌||◌, ◌⊎◌, inl, inr, List, [], ◌∷◌, ◌++◌, length, get_or, map, take, drop, refl, sym, ap, subst, ◌∙◌, arith}
-use Rattle.std.specs.List.{list_any, list_all}
+use Rattle.std.proofs.Common.{◌≡◌, ℕ, zero, suc, ◌<◌, ◌≤◌, Bool, true, false, cond, not, ◌&&◌, ◌⊎◌, inl, inr, List, [], ◌∷◌, ◌++◌, length, get_or, take, drop, refl, sym, ap, subst, ◌∙◌, arith}
 use Rattle.x5_model.specs.Words.{is_empty, ascending, insert_sorted}
 use Rattle.x5_model.specs.Members.{In, here, there}
 use Rattle.x5_model.specs.Keys.{Key, same_key, key_below, parent}
 use Rattle.x5_model.specs.Entries.{Named}
-use Rattle.x5_model.proofs.KeyLaws.{key_decides, never_below, below_chain}
-use Rattle.x5_model.proofs.Lists.{true_or_false, either_true, or_left, or_right, in_first, in_either, in_left, in_right, in_map, of_map, any_in, of_any, none_of, of_all, all_in}
+use Rattle.x5_model.proofs.KeyLaws.{key_decides}
+use Rattle.x5_model.proofs.Lists.{either_true, or_left, or_right, in_first, in_either, in_left, in_right, in_map, of_map, any_in, of_any, none_of, of_all, all_in}
 use Rattle.x5_model.proofs.Ascending.{AllApart, rest_ascending, first_below, of_insert, new_in_insert, old_in_insert, insert_ascending, sorted_ascending, of_sorted, in_sorted, keys_apart}
 use Rattle.x5_model_tree.specs.Tree.{key_at, named_below, sorted_entries, is_there}
 use Rattle.x5_model_tree.proofs.Order.{named_chain, one_list_of_entries}

@@ -7,7 +7,7 @@ use Rattle.std.specs.declared.option.Option.TheVariants.{None, Some}
 use Rattle.std.specs.declared.result.Result.{Result}
 use Rattle.std.specs.declared.result.Result.TheVariants.{Ok, Err}
 use Rattle.x5_model.specs.Members.{In, Once}
-use Rattle.x5_model.specs.Keys.{Key, is_prefix, key_below}
+use Rattle.x5_model.specs.Keys.{Key, key_below}
 use Rattle.x5_model.specs.Entries.{Named}
 use Rattle.x5_dse.specs.declared.node.NodeId.{NodeId}
 use Rattle.x5_dse.specs.declared.tree.DseTree.TheInside.{Inside}
@@ -37,12 +37,6 @@ IsPlace nodes key (Ok i) = (i < length nodes) × ((d : Node) → node_key (slice
 IsPlace nodes key (Err i) = (i ≤ length nodes)
     × ((k : ℕ) (d : Node) → k < i → key_below (node_key (slice_index_or nodes k d)) key ≡ true)
     × ((k : ℕ) (d : Node) → i ≤ k → k < length nodes → key_below key (node_key (slice_index_or nodes k d)) ≡ true)
-
--- those at and below the node at a place stand from there on before the end
-abbrev pub IsEnd : List Node → Key → ℕ → ℕ → Type 0
-IsEnd nodes key place end = (place < end) × (end ≤ length nodes)
-    × ((k : ℕ) (d : Node) → place ≤ k → k < end → is_prefix key (node_key (slice_index_or nodes k d)) ≡ true)
-    × ((k : ℕ) (d : Node) → end ≤ k → k < length nodes → is_prefix key (node_key (slice_index_or nodes k d)) ≡ false)
 
 -- the order lists exactly the used slots, and what is free exactly the others
 pub record IsKept (slots : List (Option Named)) (order free : List NodeId) : Type 0 where

@@ -1,5 +1,4 @@
 -- The front of the RDNs gives the front of the key, since a key is made RDN by RDN.
-use Rattle.std.proofs.Common.{sym}
 use Rattle.x5_dse.proofs.Parents.{parent_of}
 use Rattle.x5_dse.proofs.place.rdns_above.Goals as goal
 

@@ -1,5 +1,5 @@
 -- The free slot takes the entry, and its number goes to the entry's place: what is kept of slots and numbers is kept.
-use Rattle.std.proofs.Common.{◌≡◌, ◌+◌, ◌<◌, ◌++◌, Bool, true, not, [], ◌∷◌, length, take, drop, sym, ap, subst, ◌∙◌, arith, if◌then◌else◌, Some, Err, is_ok, slice_set}
+use Rattle.std.proofs.Common.{◌≡◌, ◌+◌, ◌<◌, ◌++◌, Bool, true, not, ◌∷◌, length, take, drop, sym, ap, subst, ◌∙◌, arith, if◌then◌else◌, Some, Err, is_ok, slice_set}
 use Rattle.std.specs.Vec.{vec_len}
 use Rattle.x5_model.specs.Keys.{parent}
 use Rattle.x5_model_tree.specs.Tree.{key_at, is_there}
