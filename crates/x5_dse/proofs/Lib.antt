@@ -1,0 +1,7 @@
+mod Comparing
+mod Places
+mod Slots
+mod Parents
+mod Putting
+mod Kept
+mod Growing

@@ -1,0 +1,75 @@
+-- The entries of one naming context as a list, and what makes such a list (X.501, section 7: the directory information tree).
+-- The number of a node, by which an entry is known while it's there, is this project's own.
+use Rattle.std.specs.Prelude.{ℕ, Bool, false, not, ◌||◌, ◌==◌, IsTrue, List, map}
+use Rattle.std.specs.List.{find, list_all, list_any}
+use Rattle.std.specs.declared.option.Option.{Option}
+use Rattle.x5_model.specs.Words.{is_empty, first_of, in_option, ascending}
+use Rattle.x5_model.specs.Keys.{Key, root, same_key, parent}
+use Rattle.x5_model.specs.Values.{Name}
+use Rattle.x5_model.specs.Entries.{Entry, Named}
+use Rattle.x5_model_tree.specs.Tree.{key_at, named_below, is_there}
+use Rattle.x5_dse.specs.declared.node.NodeId.{NodeId}
+
+-- an entry with its name, and the number of its node
+pub record Node : Type 0 where
+  pub id : NodeId
+  pub named : Named
+
+-- what contracts see: the nodes in the order of their keys, and how many more can be added without memory
+pub record Nodes : Type 0 where
+  pub nodes : List Node
+  pub spare : ℕ
+
+abbrev pub named_of : Node → Named
+named_of n = n.named
+
+abbrev pub id_of : Node → NodeId
+id_of n = n.id
+
+abbrev pub entry_in : Node → Entry
+entry_in n = n.named.entry
+
+abbrev pub name_in : Node → Name
+name_in n = n.named.name
+
+-- the entries, in the order of their keys
+abbrev pub entries_of : List Node → List Named
+entries_of nodes = map named_of nodes
+
+abbrev pub node_key : Node → Key
+node_key n = key_at n.named
+
+abbrev pub node_below : Node → Node → Bool
+node_below a b = named_below a.named b.named
+
+-- the node whose entry has the key
+abbrev pub node_at : List Node → Key → Option Node
+node_at nodes key = find (λ n. same_key (node_key n) key) nodes
+
+-- the node of the number
+abbrev pub has_id : NodeId → Node → Bool
+has_id id n = n.id.0 == id.0
+
+abbrev pub node_with : List Node → NodeId → Option Node
+node_with nodes id = find (has_id id) nodes
+
+abbrev pub is_live : List Node → NodeId → Bool
+is_live nodes id = list_any (has_id id) nodes
+
+-- the first of the nodes, which holds the prefix of the context
+abbrev pub prefix_of : List Node → Key
+prefix_of nodes = in_option root node_key (first_of nodes)
+
+abbrev pub is_first : List Node → NodeId → Bool
+is_first nodes id = in_option false (has_id id) (first_of nodes)
+
+-- The nodes are linked as the entries of a naming context: there is a first one, its prefix; the keys ascend, so each entry
+-- is there once, stands before those below it, and those below one entry stand in the order of their keys; and of each other
+-- entry the one just above is there.
+abbrev pub is_placed : List Node → Node → Bool
+is_placed nodes n = same_key (node_key n) (prefix_of nodes) || is_there (entries_of nodes) (parent (node_key n))
+
+pub record IsLinked (nodes : List Node) : Type 0 where
+  pub filled : IsTrue (not (is_empty nodes))
+  pub in_order : IsTrue (ascending node_below nodes)
+  pub above : IsTrue (list_all (is_placed nodes) nodes)

@@ -1,0 +1,11 @@
+//! The entries that an agent has of one naming context, found by name and kept in the order of their keys (X.501, section 7:
+//! the directory information tree; section 8: entries).
+#![tactic(auto)]
+
+mod node;
+mod order;
+mod place;
+mod tree;
+
+pub use node::{DseFault, NodeId};
+pub use tree::DseTree;
