@@ -1,8 +1,9 @@
 -- What is finished stays so: an accepting line is the first that may accept, and more lines can only hinder others;
 -- what was taken is taken; and lines that are added have higher numbers.
-use Rattle.std.proofs.Common.{◌≡◌, ℕ, ◌+◌, ◌-◌, ◌≤◌, Bool, true, false, cond, not, ◌&&◌, ◌||◌, ◌==◌, nat_le, ◌⊎◌, inl, inr, List, [], ◌∷◌, ◌++◌, length, reverse, refl, sym, ap, subst, ◌∙◌, arith, length-append, Option, Some, None}
+use Rattle.std.proofs.Common.{◌≡◌, ℕ, ◌+◌, ◌-◌, ◌≤◌, Bool, true, false, cond, not, ◌&&◌, ◌||◌, ◌==◌, nat_le, nat_lt, ◌⊎◌, inl, inr, List, [], ◌∷◌, ◌++◌, length, reverse, refl, sym, ap, subst, ◌∙◌, arith, length-append, Option, Some, None}
 use Rattle.std.specs.List.{list_any, list_all, find}
 use Rattle.std.proofs.lemmas.List.{reverse-append}
+use Rattle.std.proofs.lemmas.Bool.{ltb-true}
 use Rattle.std.proofs.lemmas.Bool.Decides.{leb_tells}
 use Rattle.x5_model.specs.Words.{is_empty, some_and}
 use Rattle.x5_model.specs.Members.{In, here, there}
@@ -21,7 +22,7 @@ use Rattle.x5_model_run.specs.Thorough.{is_served, is_taken, taken_needs, sends_
 use Rattle.x5_model_run.proofs.Growing.{all_grow}
 use Rattle.x5_model_serve.specs.Serving.{with_line}
 use Rattle.x5_model_serve.specs.Claims.{Grows, Accepted, last_number, is_due_line, is_settled_line, is_finished, takes_itself, is_served_itself}
-use Rattle.x5_model_lasting.specs.Lasting.{AcceptingStays, SameLines, LineLeavesThem, Lasts, AcceptedStays, DoneStays, ServedStays, ServedItselfStays, SettledStays, FinishedStays}
+use Rattle.x5_model_lasting.specs.Lasting.{AcceptingStays, SameLines, LineLeavesThem, Lasts, AcceptedStays, DoneStays, NotDoneStays, ServedStays, ServedItselfStays, SettledStays, FinishedStays}
 use Rattle.x5_model_lasting.proofs.Lines.{grown, taken_stays}
 
 pub at_most : (a b : ℕ) → a ≤ b → nat_le a b ≡ true
@@ -153,6 +154,23 @@ done_stays s l i j b h =
     let w = of_any (λ a. some_and (is_later s a l) (accepting s i.lines a)) i.accepted h in
     any_in (λ a. some_and (is_later s a l) (accepting s j.lines a)) w.0 j.accepted (b.only_more w.0 w.1) (ap (some_and (is_later s w.0 l)) (b.same_line w.0 w.1) ∙ w.2)
 
+pub not_done_stays : NotDoneStays
+not_done_stays s l i j same later h = by (is_done_before s j l) refl
+  where
+    by : (b : Bool) → is_done_before s j l ≡ b → b ≡ false
+    by false e = refl
+    by true e =
+        let w = of_any (λ a. some_and (is_later s a l) (accepting s j.lines a)) j.accepted e in
+        elim (later w.0 w.1) [
+          | inl k ↦ (let t : is_done_before s i l ≡ true = any_in (λ a. some_and (is_later s a l) (accepting s i.lines a)) w.0 i.accepted k
+              (sym (ap (some_and (is_later s w.0 l)) (same w.0 k)) ∙ w.2) in cc)
+          | inr x ↦ (let t : is_later s w.0 l x.0 ≡ true = sym (ap (some_and (is_later s w.0 l)) x.1) ∙ w.2 in
+              let less : nat_lt x.0.number l.number ≡ true = (both_true (nat_lt x.0.number l.number) (carries_update s l) (both_true (l.receiver == w.0) _ t).1).0 in
+              let below = ltb-true _ _ less in
+              let above = x.2 in
+              absurd (omega (arith, below, above)))
+        ]
+
 pub served_stays : ServedStays
 served_stays s l i j b h = elim (either_true (not (arrives l.fate)) _ h) [
   | inl a ↦ or_left (not (arrives l.fate)) (is_done_before s j l || list_all (is_taken s j.lines l) (taken_needs s l)) a
@@ -211,10 +229,10 @@ settled_stays p s l i j g more h = elim (either_true (not (is_due_line p s i l))
 -- ---- what is finished
 
 module _ (p : Point) (s : Scene) (i j : Journal) (b : Lasts s i j) where
-  abbrev fine : Journal → Line → Bool
+  abbrev pub fine : Journal → Line → Bool
   fine k l = is_served s k l && is_settled_line p s k l
 
-  abbrev since : ℕ → Journal → Line → Bool
+  abbrev pub since : ℕ → Journal → Line → Bool
   since n k l = nat_le l.number n || fine k l
 
   one_stays : (n : ℕ) (l : Line) → since n i l ≡ true → since n j l ≡ true
@@ -226,7 +244,7 @@ module _ (p : Point) (s : Scene) (i j : Journal) (b : Lasts s i j) where
   ]
 
   -- the new lines have higher numbers
-  both_stay : (n : ℕ) (new : List Line) → AllLicensed s (new ++ i.lines) → list_all (since n j) i.lines ≡ true
+  pub both_stay : (n : ℕ) (new : List Line) → AllLicensed s (new ++ i.lines) → list_all (since n j) i.lines ≡ true
       → list_all (since (last_number s i) j) (new ++ i.lines) ≡ true → list_all (since n j) (new ++ i.lines) ≡ true
   both_stay n [] h old new = old
   both_stay n (x ∷ xs) h old new =

@@ -14,7 +14,7 @@ use Rattle.x5_model_run.specs.Blocked.{Asked, hears_by, IsUntried, IsLost, Block
 use Rattle.x5_model_run.specs.Thorough.{is_taken, is_sent_by, sends_itself, sender_follows}
 use Rattle.x5_model_run.proofs.Growing.{vain_grows, lost_grows, untried_grows, blocked_grows}
 use Rattle.x5_model_serve.specs.Claims.{Grows}
-use Rattle.x5_model_lasting.specs.Lasting.{HeardStays, InVainStays, ClearedStays, PassedStays, TakenStays, UntriedStays, LostStays, BlockedStays}
+use Rattle.x5_model_lasting.specs.Lasting.{HeardStays, SomeLineStays, InVainStays, ClearedStays, PassedStays, TakenStays, UntriedStays, LostStays, BlockedStays}
 
 -- ---- from one line to more
 
@@ -38,6 +38,9 @@ some_more f g h (l ∷ lines) e = elim (either_true (f l lines) (some_line f lin
 
 pub heard_stays : HeardStays
 heard_stays test q = grown (λ lines. hears_by test q lines ≡ true) (λ l lines e. or_right _ _ e)
+
+pub some_line_stays : SomeLineStays
+some_line_stays test = grown (λ lines. some_line test lines ≡ true) (λ l lines e. or_right _ _ e)
 
 -- ---- who was asked
 

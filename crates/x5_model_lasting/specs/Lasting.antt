@@ -1,6 +1,6 @@
 -- What is said of messages and replies stays said where lines are added to a journal (X.518, sections 10 and 17 to 20):
 -- who was heard, asked in vain or passed; what is lost; which reply is right; which line is served and settled.
-use Rattle.std.specs.Prelude.{◌≡◌, ℕ, ◌⊎◌, Bool, true, false, IsTrue, List, [], ◌∷◌, length}
+use Rattle.std.specs.Prelude.{◌≡◌, ℕ, ◌≤◌, ◌⊎◌, Bool, true, false, IsTrue, List, [], ◌∷◌, length}
 use Rattle.std.specs.declared.option.Option.{Option}
 use Rattle.std.specs.declared.option.Option.TheVariants.{Some}
 use Rattle.x5_model.specs.Members.{In}
@@ -27,6 +27,12 @@ abbrev pub HeardStays : Type 0
 HeardStays =
     (test : Line → Bool) (q : Asked) (i j : Journal)
     → Grows i j → hears_by test q i.lines ≡ true → hears_by test q j.lines ≡ true
+
+-- So is a line of whose kind there was one, as who was asked by a reference, or sent for a line.
+abbrev pub SomeLineStays : Type 0
+SomeLineStays =
+    (test : Line → List Line → Bool) (i j : Journal)
+    → Grows i j → some_line test i.lines ≡ true → some_line test j.lines ≡ true
 
 -- Who was asked in vain, heard and cleared, or passed stays so, for the same opener: a probe that was broken is broken
 -- by more lines too.
@@ -140,6 +146,15 @@ ServedStays = (s : Scene) (l : Line) (i j : Journal) → Lasts s i j → is_serv
 abbrev pub ServedItselfStays : Type 0
 ServedItselfStays =
     (s : Scene) (l : Line) (i j : Journal) → Lasts s i j → is_served_itself s i l ≡ true → is_served_itself s j l ≡ true
+
+-- Whose update wasn't done before is so still, if who accepts meanwhile does it by a line that is no earlier.
+abbrev pub NotDoneStays : Type 0
+NotDoneStays =
+    (s : Scene) (l : Line) (i j : Journal)
+    → SameLines s i j
+    → ((a : ℕ) → In a j.accepted
+    → In a i.accepted ⊎ ((e : Line) × (accepting s j.lines a ≡ Some e) × (l.number ≤ e.number)))
+    → is_done_before s i l ≡ false → is_done_before s j l ≡ false
 
 -- A settled line is settled still: more lines only hinder it to accept. Which lines accept is nothing to it.
 abbrev pub SettledStays : Type 0

@@ -3,12 +3,14 @@
 #![tactic(auto)]
 
 ghost use Rattle.x5_model_serve.specs.Induction.{RightStays};
-ghost use Rattle.x5_model_lasting.specs.Lasting.{HeardStays, InVainStays, ClearedStays, PassedStays, TakenStays, UntriedStays, LostStays, BlockedStays, ResultStays, TellerStays, RightLasts, AcceptingStays, LineLeavesThem, AcceptedStays, DoneStays, ServedStays, ServedItselfStays, SettledStays, FinishedStays};
+ghost use Rattle.x5_model_lasting.specs.Lasting.{HeardStays, SomeLineStays, InVainStays, ClearedStays, PassedStays, TakenStays, UntriedStays, LostStays, BlockedStays, ResultStays, TellerStays, RightLasts, AcceptingStays, LineLeavesThem, AcceptedStays, DoneStays, NotDoneStays, ServedStays, ServedItselfStays, SettledStays, FinishedStays};
+ghost use Rattle.x5_model_lasting.specs.Keeping.{KeepsLasts, SpentStays, AtHandStays, AtMasterStays, MayTakeStays, AskedStays, AskedApart, NotedStays, ReplyStays, CalmStays, KeepsItself, KeepsBoth, KeepsLost, KeepsSent, KeepsAccepting, AskedSent, OnlyOneSent, OnlyByBoth};
 
 /// Who was heard, asked in vain, cleared or passed is so still, what was taken is taken, and what blocks a reference blocks it
 /// still, whichever lines are added (X.518, section 20).
 pub fn messages()
     ensures heard { HeardStays }
+    ensures line { SomeLineStays }
     ensures vain { InVainStays }
     ensures cleared { ClearedStays }
     ensures passed { PassedStays }
@@ -33,8 +35,41 @@ pub fn completing()
     ensures line { LineLeavesThem }
     ensures accepted { AcceptedStays }
     ensures done { DoneStays }
+    ensures not_done { NotDoneStays }
     ensures served { ServedStays }
     ensures itself { ServedItselfStays }
     ensures settled { SettledStays }
     ensures finished { FinishedStays }
+{}
+
+/// What holds of the message at hand before something is done for it holds after it: that it is at hand, who may send for it,
+/// who was asked and heard by a reference, and which reply is right (X.518, sections 18 to 20).
+pub fn holding()
+    ensures lasts { KeepsLasts }
+    ensures spent { SpentStays }
+    ensures at_hand { AtHandStays }
+    ensures at_master { AtMasterStays }
+    ensures may_take { MayTakeStays }
+    ensures asked { AskedStays }
+    ensures apart { AskedApart }
+    ensures noted { NotedStays }
+    ensures reply { ReplyStays }
+    ensures calm { CalmStays }
+{}
+
+/// What is kept where nothing is done, by two things that are done one after the other, by a message that is lost, by one
+/// that is served, and by an update that is accepted in the end (X.518, sections 19 and 20).
+pub fn composing()
+    ensures itself { KeepsItself }
+    ensures both { KeepsBoth }
+    ensures lost { KeepsLost }
+    ensures sent { KeepsSent }
+    ensures accepting { KeepsAccepting }
+{}
+
+/// Who was asked for an opener, once a message by a reference was sent for it (X.518, section 20).
+pub fn sending()
+    ensures asked { AskedSent }
+    ensures one { OnlyOneSent }
+    ensures both { OnlyByBoth }
 {}

@@ -1,4 +1,4 @@
-use Rattle.x5_model_lasting.proofs.Lines.{heard_stays, vain_stays, cleared_stays, passed_stays, taken_stays, untried_stays, lost_stays, blocked_stays}
+use Rattle.x5_model_lasting.proofs.Lines.{heard_stays, some_line_stays, vain_stays, cleared_stays, passed_stays, taken_stays, untried_stays, lost_stays, blocked_stays}
 use Rattle.x5_model_lasting.proofs.messages.Goals as goal
 
 pub returns-clause-heard : goal.returns-clause-heard
@@ -24,3 +24,6 @@ returns-clause-lost c = lost_stays
 
 pub returns-clause-blocked : goal.returns-clause-blocked
 returns-clause-blocked c = blocked_stays
+
+pub returns-clause-line : goal.returns-clause-line
+returns-clause-line c = some_line_stays
