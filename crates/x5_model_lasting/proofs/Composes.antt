@@ -2,23 +2,22 @@
 -- number of those since, and what was finished is finished.
 use Rattle.std.proofs.Common.{◌≡◌, ℕ, ◌+◌, ◌≤◌, Bool, true, false, not, ◌&&◌, ◌||◌, ◌==◌, nat_le, ◌⊎◌, inl, inr, if◌then◌else◌, List, [], ◌∷◌, ◌++◌, append_assoc, length, refl, sym, ap, subst, ◌∙◌, arith, Option}
 use Rattle.std.specs.List.{list_all}
-use Rattle.x5_model.specs.Members.{In, there}
+use Rattle.x5_model.specs.Members.{there}
 use Rattle.x5_model.specs.Values.{Name}
-use Rattle.x5_model.specs.Requests.{Body, Read, Compare, ListBelow, Search, AddEntry, RemoveEntry, ModifyEntry, ModifyDn, Request}
+use Rattle.x5_model.specs.Requests.{Body, Read, Compare, ListBelow, Search, AddEntry, RemoveEntry, ModifyEntry, ModifyDn}
 use Rattle.x5_model.specs.References.{Reference}
-use Rattle.x5_model.proofs.Lists.{both_true, and_true, or_left, or_right}
+use Rattle.x5_model.proofs.Lists.{and_true, or_left, or_right}
 use Rattle.x5_model_tree.specs.Ask.{is_update}
-use Rattle.x5_model_run.specs.Network.{Fate, Lost, arrives}
-use Rattle.x5_model_run.specs.Journal.{Line, Journal, depth, settled, is_wide}
+use Rattle.x5_model_run.specs.Network.{arrives}
+use Rattle.x5_model_run.specs.Journal.{Line, Journal, is_wide}
 use Rattle.x5_model_run.specs.History.{Point}
-use Rattle.x5_model_run.specs.Chain.{Scene, AllLicensed, is_user, is_probe, asks_part, part_body, part_request, probe_request, request_for}
-use Rattle.x5_model_run.specs.Accepting.{may_accept}
+use Rattle.x5_model_run.specs.Chain.{Scene, AllLicensed, is_user, is_probe, asks_part, part_body, part_request, probe_request}
 use Rattle.x5_model_run.specs.Thorough.{is_served}
 use Rattle.x5_model_run.proofs.Journals.{settled_past, settled_above}
 use Rattle.x5_model_serve.specs.Serving.{Hand, hand, carried_for, next_line, with_line, with_accepted, is_spent}
-use Rattle.x5_model_serve.specs.Claims.{Grows, last_number, is_due_line, is_settled_line, is_finished, depth_at, Keeps}
+use Rattle.x5_model_serve.specs.Claims.{Grows, last_number, is_due_line, is_settled_line, is_finished}
 use Rattle.x5_model_serve.proofs.Frame.{deeper}
-use Rattle.x5_model_lasting.specs.Lasting.{SameLines, Lasts}
+use Rattle.x5_model_lasting.specs.Lasting.{Lasts}
 use Rattle.x5_model_lasting.specs.Keeping.{KeepsItself, KeepsBoth, KeepsLost, KeepsSent, KeepsAccepting}
 use Rattle.x5_model_lasting.proofs.Finishing.{at_most, since, both_stay, accepted_stays, finished_stays}
 use Rattle.x5_model_lasting.proofs.Holds.{keeps_lasts, spent_stays}

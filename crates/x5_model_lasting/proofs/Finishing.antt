@@ -1,15 +1,14 @@
 -- What is finished stays so: an accepting line is the first that may accept, and more lines can only hinder others;
 -- what was taken is taken; and lines that are added have higher numbers.
-use Rattle.std.proofs.Common.{◌≡◌, ℕ, ◌+◌, ◌-◌, ◌≤◌, Bool, true, false, cond, not, ◌&&◌, ◌||◌, ◌==◌, nat_le, nat_lt, ◌⊎◌, inl, inr, List, [], ◌∷◌, ◌++◌, length, reverse, refl, sym, ap, subst, ◌∙◌, arith, length-append, Option, Some, None}
-use Rattle.std.specs.List.{list_any, list_all, find}
+use Rattle.std.proofs.Common.{◌≡◌, ℕ, ◌+◌, ◌-◌, ◌≤◌, Bool, true, false, cond, not, ◌&&◌, ◌||◌, ◌==◌, nat_le, nat_lt, inl, inr, List, [], ◌∷◌, ◌++◌, length, reverse, refl, sym, ap, subst, ◌∙◌, arith, length-append, Option, Some, None}
+use Rattle.std.specs.List.{list_all, find}
 use Rattle.std.proofs.lemmas.List.{reverse-append}
 use Rattle.std.proofs.lemmas.Bool.{ltb-true}
 use Rattle.std.proofs.lemmas.Bool.Decides.{leb_tells}
 use Rattle.x5_model.specs.Words.{is_empty, some_and}
-use Rattle.x5_model.specs.Members.{In, here, there}
-use Rattle.x5_model.specs.Values.{key_of}
+use Rattle.x5_model.specs.Members.{In, here}
 use Rattle.x5_model.specs.References.{Reference}
-use Rattle.x5_model.proofs.Lists.{both_true, and_true, either_true, not_true, true_or_false, or_left, or_right, of_find, of_any, any_in, of_all, all_in}
+use Rattle.x5_model.proofs.Lists.{both_true, and_true, either_true, not_true, or_left, or_right, of_find, of_any, any_in, of_all, all_in}
 use Rattle.x5_model_tree.specs.Ask.{is_update}
 use Rattle.x5_model_run.specs.Network.{arrives, is_unheard, is_sent}
 use Rattle.x5_model_run.specs.Journal.{Line, Journal, depth, some_line, leads_up, is_reached}
@@ -17,12 +16,11 @@ use Rattle.x5_model_run.specs.Needs.{is_unable, due_probes}
 use Rattle.x5_model_run.specs.History.{Point}
 use Rattle.x5_model_run.specs.Chain.{Scene, AllLicensed, is_asked, is_probe_line}
 use Rattle.x5_model_run.specs.Accepting.{carries_update, lacks_probe, may_accept, accepting, is_probed, is_later, is_done_before}
-use Rattle.x5_model_run.specs.Right.{is_master_at, is_accepted_right}
+use Rattle.x5_model_run.specs.Right.{is_accepted_right}
 use Rattle.x5_model_run.specs.Thorough.{is_served, is_taken, taken_needs, sends_itself}
 use Rattle.x5_model_run.proofs.Growing.{all_grow}
-use Rattle.x5_model_serve.specs.Serving.{with_line}
-use Rattle.x5_model_serve.specs.Claims.{Grows, Accepted, last_number, is_due_line, is_settled_line, is_finished, takes_itself, is_served_itself}
-use Rattle.x5_model_lasting.specs.Lasting.{AcceptingStays, SameLines, LineLeavesThem, Lasts, AcceptedStays, DoneStays, NotDoneStays, ServedStays, ServedItselfStays, SettledStays, FinishedStays}
+use Rattle.x5_model_serve.specs.Claims.{Grows, Accepted, last_number, is_due_line, is_settled_line, takes_itself}
+use Rattle.x5_model_lasting.specs.Lasting.{AcceptingStays, LineLeavesThem, Lasts, AcceptedStays, DoneStays, NotDoneStays, ServedStays, ServedItselfStays, SettledStays, FinishedStays}
 use Rattle.x5_model_lasting.proofs.Lines.{grown, taken_stays}
 
 pub at_most : (a b : ℕ) → a ≤ b → nat_le a b ≡ true

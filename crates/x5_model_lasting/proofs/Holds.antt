@@ -1,29 +1,22 @@
 -- What holds of the message at hand holds after something was done for it: what stands above it is the same, and the
 -- rest is said of lines that are added.
-use Rattle.std.proofs.Common.{◌≡◌, ℕ, ◌+◌, ◌≤◌, Bool, true, false, not, ◌&&◌, ◌||◌, ◌==◌, nat_le, ◌⊎◌, inl, inr, List, [], ◌∷◌, ◌++◌, length, refl, sym, ap, subst, ◌∙◌, arith, length-append, Option}
+use Rattle.std.proofs.Common.{◌≡◌, ℕ, ◌+◌, ◌≤◌, true, ◌&&◌, ◌||◌, ◌==◌, nat_le, ◌⊎◌, inl, inr, List, [], ◌∷◌, ◌++◌, length, refl, sym, ap, subst, ◌∙◌, arith, length-append}
 use Rattle.std.specs.List.{list_all}
 use Rattle.std.proofs.lemmas.Bool.Decides.{Decides-eqb}
-use Rattle.x5_model.specs.Words.{has, first_of}
-use Rattle.x5_model.specs.Members.{In, here}
-use Rattle.x5_model.specs.Keys.{Key}
+use Rattle.x5_model.specs.Words.{first_of}
+use Rattle.x5_model.specs.Members.{In}
 use Rattle.x5_model.specs.Values.{key_of}
-use Rattle.x5_model.specs.Requests.{Request}
 use Rattle.x5_model.specs.References.{Progress, Start, Next, Done, Reference}
 use Rattle.x5_model.proofs.KeyLaws.{key_decides}
 use Rattle.x5_model.proofs.Lists.{both_true, and_true, either_true, in_right, of_all, all_in}
-use Rattle.x5_model_tree.specs.Ask.{is_update}
-use Rattle.x5_model_run.specs.Journal.{Line, Journal, same_progress, settled, siblings}
-use Rattle.x5_model_run.specs.Needs.{needs, resolves}
+use Rattle.x5_model_run.specs.Journal.{Line, Journal, same_progress}
+use Rattle.x5_model_run.specs.Needs.{needs}
 use Rattle.x5_model_run.specs.History.{Point}
 use Rattle.x5_model_run.specs.Chain.{Scene, AllLicensed, IsCarried}
 use Rattle.x5_model_run.specs.Thorough.{is_served}
-use Rattle.x5_model_serve.specs.Finding as finding
-use Rattle.x5_model_serve.specs.Finding.{find}
-use Rattle.x5_model_serve.specs.Committed.{committed}
-use Rattle.x5_model_serve.specs.Serving.{Hand, line_for, is_spent, holds_now, is_done_here, found_at, Arrives}
-use Rattle.x5_model_serve.specs.Claims.{Grows, asked_line, last_number, is_settled_line, is_finished, depth_at, AtHand, Keeps, MayTake, Apart, AskedSoFar, NotedSoFar, OnlyBy, AtMaster}
-use Rattle.x5_model_lasting.specs.Lasting.{Lasts}
-use Rattle.x5_model_lasting.specs.Keeping.{SameAbove, KeepsLasts, SpentStays, AtHandStays, AtMasterStays, MayTakeStays, AskedStays, AskedApart, NotedStays, ReplyStays, CalmStays}
+use Rattle.x5_model_serve.specs.Serving.{Hand, line_for, is_spent, holds_now, is_done_here, found_at}
+use Rattle.x5_model_serve.specs.Claims.{asked_line, last_number, is_settled_line, is_finished, AtHand, Keeps}
+use Rattle.x5_model_lasting.specs.Keeping.{KeepsLasts, SpentStays, AtHandStays, AtMasterStays, MayTakeStays, AskedStays, AskedApart, NotedStays, ReplyStays, CalmStays}
 use Rattle.x5_model_lasting.proofs.Lines.{heard_stays, vain_stays, cleared_stays, passed_stays}
 use Rattle.x5_model_lasting.proofs.Replies.{right_lasts}
 use Rattle.x5_model_lasting.proofs.Finishing.{at_most, is_at_most, settled_stays}
@@ -59,19 +52,22 @@ held_same : (s : Scene) (k : Hand) (i j : Journal) → j.accepted ≡ i.accepted
 held_same s k i j e = ap (λ (xs : List ℕ). holds_now s (record i { accepted = xs }) k) e
 
 pub at_master_stays : AtMasterStays
-at_master_stays p s most k i j m b same = (record {
-  at_hand = at_hand_later p s most k i j m.at_hand b;
-  arrives = record {
-    unlooped = m.arrives.unlooped;
-    short = m.arrives.short;
-    fresh = ap (λ (xs : List ℕ). is_done_here s k (record i { accepted = xs })) same ∙ m.arrives.fresh;
-    unrefused = m.arrives.unrefused;
-    fit = m.arrives.fit;
-  };
-  update = m.update;
-  context = m.context;
-  found = ap (λ (xs : List ℕ). found_at s (record i { accepted = xs }) k) same ∙ m.found;
-}, refl)
+at_master_stays p s most k i j m b same = (
+  record {
+    at_hand = at_hand_later p s most k i j m.at_hand b;
+    arrives = record {
+      unlooped = m.arrives.unlooped;
+      short = m.arrives.short;
+      fresh = ap (λ (xs : List ℕ). is_done_here s k (record i { accepted = xs })) same ∙ m.arrives.fresh;
+      unrefused = m.arrives.unrefused;
+      fit = m.arrives.fit;
+    };
+    update = m.update;
+    context = m.context;
+    found = ap (λ (xs : List ℕ). found_at s (record i { accepted = xs }) k) same ∙ m.found;
+  },
+  refl,
+)
 
 pub may_take_stays : MayTakeStays
 may_take_stays s from o r i j above m = record {

@@ -1,7 +1,6 @@
 -- What tests say of lines they say of more lines: each is shown for one line in front, and then for as many as there
 -- are, by recursion.
-use Rattle.std.proofs.Common.{◌≡◌, ℕ, Bool, true, false, not, ◌&&◌, ◌||◌, ◌==◌, if◌then◌else◌, inl, inr, List, [], ◌∷◌, ◌++◌, refl, sym, subst, Option, Some, None}
-use Rattle.std.specs.List.{list_any}
+use Rattle.std.proofs.Common.{◌≡◌, ℕ, Bool, true, false, not, ◌&&◌, ◌||◌, if◌then◌else◌, inl, inr, List, [], ◌∷◌, ◌++◌, refl, sym, subst, Option, Some, None}
 use Rattle.x5_model.specs.Words.{in_option, first_of}
 use Rattle.x5_model.specs.Values.{key_of}
 use Rattle.x5_model.specs.References.{Reference}
@@ -10,7 +9,7 @@ use Rattle.x5_model_run.specs.Network.{is_sent}
 use Rattle.x5_model_run.specs.Journal.{Line, Journal, is_wide, same_sender, some_line, opened_by}
 use Rattle.x5_model_run.specs.Needs.{falls_short}
 use Rattle.x5_model_run.specs.Chain.{Scene, asks_by, is_asked, is_in_vain, is_cleared, is_passed}
-use Rattle.x5_model_run.specs.Blocked.{Asked, hears_by, IsUntried, IsLost, Blocked}
+use Rattle.x5_model_run.specs.Blocked.{hears_by, IsUntried, IsLost, Blocked}
 use Rattle.x5_model_run.specs.Thorough.{is_taken, is_sent_by, sends_itself, sender_follows}
 use Rattle.x5_model_run.proofs.Growing.{vain_grows, lost_grows, untried_grows, blocked_grows}
 use Rattle.x5_model_serve.specs.Claims.{Grows}

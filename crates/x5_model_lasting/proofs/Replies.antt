@@ -1,7 +1,7 @@
 -- A right reply stays right, by its cases: who was heard is heard still, what is blocked is blocked, and what it says of
 -- acceptance is said by the premise.
-use Rattle.std.proofs.Common.{◌≡◌, ℕ, ◌+◌, Bool, true, false, not, ◌&&◌, ◌||◌, ◌==◌, inl, inr, List, [], ◌∷◌, ◌++◌, length, refl, sym, ap, subst, ◌∙◌, Option, Some, None}
-use Rattle.std.specs.List.{list_any, list_all, AllByRecursion}
+use Rattle.std.proofs.Common.{◌≡◌, ℕ, ◌+◌, Bool, true, false, not, ◌&&◌, ◌||◌, ◌==◌, inl, inr, List, [], ◌∷◌, length, refl, ap, ◌∙◌, Option, Some, None}
+use Rattle.std.specs.List.{list_any, AllByRecursion}
 use Rattle.std.specs.Option.{is_some}
 use Rattle.std.proofs.lemmas.Bool.Decides.{Decides-eqb}
 use Rattle.x5_model.specs.Words.{has, in_option, some_and}
@@ -9,26 +9,26 @@ use Rattle.x5_model.specs.Members.{In}
 use Rattle.x5_model.specs.Values.{Name, key_of}
 use Rattle.x5_model.specs.Entries.{Named}
 use Rattle.x5_model.specs.References.{Next, Reference}
-use Rattle.x5_model.specs.Answers.{Source, Changed, DirError, NoSuchObject, AttributeProblem, UpdateProblem, ServiceProblem, Reply, Answered, Failed}
+use Rattle.x5_model.specs.Answers.{Source, Changed, DirError, NoSuchObject, AttributeProblem, UpdateProblem, ServiceProblem, Reply, Answered}
 use Rattle.x5_model.specs.Problems.{entry_already_exists, unavailable}
 use Rattle.x5_model.specs.Statics.{fault_of}
 use Rattle.x5_model.proofs.Lists.{both_true, and_true, either_true, not_true, or_left, or_right, has_in, of_has}
 use Rattle.x5_model_tree.specs.Tree.{lowest}
 use Rattle.x5_model_tree.specs.Masters.{master_of}
 use Rattle.x5_model_tree.specs.Ask.{Refuses, sources_of, unexplored_of, is_update}
-use Rattle.x5_model_run.specs.Journal.{Line, Journal, depth, same_name, same_progress, is_done, some_line}
+use Rattle.x5_model_run.specs.Journal.{Line, Journal, depth, same_name, same_progress, is_done}
 use Rattle.x5_model_run.specs.Needs.{new_name, ends_here}
 use Rattle.x5_model_run.specs.History.{Point, knowledge_at, tree_at}
 use Rattle.x5_model_run.specs.Chain.{Scene}
 use Rattle.x5_model_run.specs.Accepting.{carries_update}
 use Rattle.x5_model_run.specs.Covers.{told}
-use Rattle.x5_model_run.specs.Blocked.{Asked, came_back, is_answered_line, is_answered, hears_by, hears, Blocked}
+use Rattle.x5_model_run.specs.Blocked.{Asked, came_back, is_answered, hears_by, hears, Blocked}
 use Rattle.x5_model_run.specs.Right as right
 use Rattle.x5_model_run.specs.Right.{master_at, is_holder, is_source, is_found, IsResult, is_for, first_level_at, hears_of, hears_master, nssr_agents, hears_below, hears_nssr, is_pin, knows, hears_pin, hears_taken, is_told, accepts_none, is_noreply, heard_whole, hears_accepted, Right}
 use Rattle.x5_model_run.specs.Placed as placed
 use Rattle.x5_model_run.specs.Placed.{is_long, RightReply}
 use Rattle.x5_model_run.proofs.Growing.{all_grow}
-use Rattle.x5_model_serve.specs.Answering.{is_service, is_unavailable}
+use Rattle.x5_model_serve.specs.Answering.{is_service}
 use Rattle.x5_model_serve.specs.Claims.{Grows}
 use Rattle.x5_model_serve.specs.Induction.{RightStays}
 use Rattle.x5_model_lasting.specs.Lasting.{ResultStays, TellerStays, Unaltered, RightLasts}

@@ -1,6 +1,6 @@
 -- What was sent for an opener, once a message by a reference was: the new sibling is its line, since all that was done
 -- for it is deeper.
-use Rattle.std.proofs.Common.{◌≡◌, ℕ, ◌+◌, true, inl, inr, List, [], ◌∷◌, ◌++◌, length, refl, sym, ap, subst, ◌∙◌, arith, Option, Some}
+use Rattle.std.proofs.Common.{◌≡◌, ℕ, true, inl, inr, List, [], ◌∷◌, ◌++◌, length, refl, sym, ap, subst, ◌∙◌, arith, Option}
 use Rattle.x5_model.specs.Words.{first_of}
 use Rattle.x5_model.specs.Members.{In, here}
 use Rattle.x5_model.specs.References.{Reference}
@@ -10,7 +10,7 @@ use Rattle.x5_model_run.specs.Chain.{Scene, IsCarried, is_passed}
 use Rattle.x5_model_run.proofs.Carrying.{is_carried}
 use Rattle.x5_model_run.proofs.Journals.{settled_above, siblings_under}
 use Rattle.x5_model_serve.specs.Serving.{Hand, hand, line_for, carried_for, next_line, with_line}
-use Rattle.x5_model_serve.specs.Claims.{depth_at, AskedSoFar, OnlyBy}
+use Rattle.x5_model_serve.specs.Claims.{depth_at}
 use Rattle.x5_model_serve.proofs.Frame.{deeper}
 use Rattle.x5_model_lasting.specs.Keeping.{SameAbove, AskedSent, OnlyOneSent, OnlyByBoth}
 use Rattle.x5_model_lasting.proofs.Lines.{passed_stays}
@@ -46,8 +46,12 @@ asked_sent s from o r a before i j g above last h = record {
 pub only_one_sent : OnlyOneSent
 only_one_sent s from o r a i j agent above x k =
     elim (in_first x (next_line s i from o r a) (siblings (depth_at o) i.lines) (subst (λ (xs : List Line). In x xs) (sibling s from o r a i j above) k)) [
-      | inl same ↦ inr (r, here, subst (λ y. In y r.agents) (sym (ap (λ (y : Line). y.receiver) same)) agent,
-          subst (λ (y : Line). IsCarried y.sender (line_for o) r y.message) (sym same) (is_carried from (line_for o) r))
+      | inl same ↦ inr (
+        r,
+        here,
+        subst (λ y. In y r.agents) (sym (ap (λ (y : Line). y.receiver) same)) agent,
+        subst (λ (y : Line). IsCarried y.sender (line_for o) r y.message) (sym same) (is_carried from (line_for o) r),
+      )
       | inr old ↦ inl old
     ]
 

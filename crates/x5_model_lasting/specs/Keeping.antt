@@ -1,6 +1,6 @@
 -- What an induction over all that is done carries from one act to the next, each where something was done between
 -- them (X.518, sections 17 to 21).
-use Rattle.std.specs.Prelude.{◌≡◌, ℕ, ◌⊎◌, true, false, IsTrue, List, [], ◌∷◌, ◌++◌}
+use Rattle.std.specs.Prelude.{◌≡◌, ℕ, ◌⊎◌, true, IsTrue, List, [], ◌∷◌, ◌++◌}
 use Rattle.std.specs.List.{list_all}
 use Rattle.std.specs.declared.option.Option.{Option}
 use Rattle.x5_model.specs.Members.{In}
@@ -8,7 +8,7 @@ use Rattle.x5_model.specs.References.{Reference}
 use Rattle.x5_model.specs.Answers.{Reply}
 use Rattle.x5_model_tree.specs.Ask.{is_update}
 use Rattle.x5_model_run.specs.Network.{Lost}
-use Rattle.x5_model_run.specs.Journal.{Line, Journal, depth, settled, siblings}
+use Rattle.x5_model_run.specs.Journal.{Line, Journal, settled, siblings}
 use Rattle.x5_model_run.specs.Needs.{needs}
 use Rattle.x5_model_run.specs.History.{Point}
 use Rattle.x5_model_run.specs.Chain.{Scene, AllLicensed, IsCarried, is_passed}

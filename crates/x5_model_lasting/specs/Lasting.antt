@@ -1,7 +1,6 @@
 -- What is said of messages and replies stays said where lines are added to a journal (X.518, sections 10 and 17 to 20):
 -- who was heard, asked in vain or passed; what is lost; which reply is right; which line is served and settled.
-use Rattle.std.specs.Prelude.{◌≡◌, ℕ, ◌≤◌, ◌⊎◌, Bool, true, false, IsTrue, List, [], ◌∷◌, length}
-use Rattle.std.specs.declared.option.Option.{Option}
+use Rattle.std.specs.Prelude.{◌≡◌, ℕ, ◌≤◌, ◌⊎◌, Bool, true, false, IsTrue, List, [], length}
 use Rattle.std.specs.declared.option.Option.TheVariants.{Some}
 use Rattle.x5_model.specs.Members.{In}
 use Rattle.x5_model.specs.References.{Reference}
