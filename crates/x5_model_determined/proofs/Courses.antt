@@ -1,6 +1,6 @@
 -- The course that the serving of a message takes: what arrives, what is found and what may be chained decide it. So each
 -- way to serve it says which course that is, and no two say so of one message.
-use Rattle.std.proofs.Common.{◌≡◌, ℕ, Bool, true, false, not, ◌⊎◌, List, [], ◌∷◌, refl, sym, ap, subst, ◌∙◌, Option, Some, None}
+use Rattle.std.proofs.Common.{◌≡◌, ℕ, Bool, true, false, not, refl, sym, ap, subst, ◌∙◌, Option, Some, None}
 use Rattle.std.specs.Option.{is_none}
 use Rattle.x5_model.specs.Values.{Name}
 use Rattle.x5_model.specs.Requests.{Subset, Body, Read, Compare, ListBelow, Search, AddEntry, RemoveEntry, ModifyEntry, ModifyDn}
@@ -82,15 +82,18 @@ arrive k false false false None true found = found
 
 abbrev pub course : Scene → Hand → Journal → Course
 course s k i =
-    arrive k (is_looped k) (is_too_long k) (is_done_here s k i) (fault_of k.message.request.body) (fits k.message) (by_found s k i (found_at s i k))
+    arrive k (is_looped k) (is_too_long k) (is_done_here s k i) (fault_of k.message.request.body) (fits k.message)
+    (by_found s k i (found_at s i k))
 
 -- ---- which course each is
 
-pub at_loop : (k : Hand) (a b c : Bool) (d : Option DirError) (e : Bool) (f : Course) → a ≡ true → arrive k a b c d e f ≡ Says (loop_reply k)
+pub at_loop : (k : Hand) (a b c : Bool) (d : Option DirError) (e : Bool) (f : Course) → a ≡ true
+    → arrive k a b c d e f ≡ Says (loop_reply k)
 at_loop k true b c d e f p = refl
 at_loop k false b c d e f p = cc
 
-pub at_long : (k : Hand) (a b c : Bool) (d : Option DirError) (e : Bool) (f : Course) → a ≡ false → b ≡ true → arrive k a b c d e f ≡ Says limit_reply
+pub at_long : (k : Hand) (a b c : Bool) (d : Option DirError) (e : Bool) (f : Course) → a ≡ false → b ≡ true
+    → arrive k a b c d e f ≡ Says limit_reply
 at_long k true b c d e f p q = cc
 at_long k false true c d e f p q = refl
 at_long k false false c d e f p q = cc
@@ -106,7 +109,8 @@ abbrev pub fault_says : DirError → Option DirError → DirError
 fault_says x None = x
 fault_says x (Some y) = y
 
-pub at_fault : (k : Hand) (a b c : Bool) (d : Option DirError) (e : Bool) (f : Course) (x : DirError) → a ≡ false → b ≡ false → c ≡ false → d ≡ Some x
+pub at_fault : (k : Hand) (a b c : Bool) (d : Option DirError) (e : Bool) (f : Course) (x : DirError) → a ≡ false → b ≡ false → c ≡ false
+    → d ≡ Some x
     → arrive k a b c d e f ≡ Says (Failed x)
 at_fault k true b c d e f x p q r u = cc
 at_fault k false true c d e f x p q r u = cc
@@ -114,7 +118,8 @@ at_fault k false false true d e f x p q r u = cc
 at_fault k false false false None e f x p q r u = cc
 at_fault k false false false (Some y) e f x p q r u = ap (λ (o : Option DirError). Says (Failed (fault_says x o))) u
 
-pub at_unfit : (k : Hand) (a b c : Bool) (d : Option DirError) (e : Bool) (f : Course) → a ≡ false → b ≡ false → c ≡ false → d ≡ None → e ≡ false
+pub at_unfit : (k : Hand) (a b c : Bool) (d : Option DirError) (e : Bool) (f : Course) → a ≡ false → b ≡ false → c ≡ false → d ≡ None
+    → e ≡ false
     → arrive k a b c d e f ≡ Says (unfit_reply k)
 at_unfit k true b c d e f p q r u v = cc
 at_unfit k false true c d e f p q r u v = cc
@@ -123,7 +128,8 @@ at_unfit k false false false (Some x) e f p q r u v = cc
 at_unfit k false false false None true f p q r u v = cc
 at_unfit k false false false None false f p q r u v = refl
 
-pub at_found : (k : Hand) (a b c : Bool) (d : Option DirError) (e : Bool) (f : Course) → a ≡ false → b ≡ false → c ≡ false → d ≡ None → e ≡ true
+pub at_found : (k : Hand) (a b c : Bool) (d : Option DirError) (e : Bool) (f : Course) → a ≡ false → b ≡ false → c ≡ false → d ≡ None
+    → e ≡ true
     → arrive k a b c d e f ≡ f
 at_found k true b c d e f p q r u v = cc
 at_found k false true c d e f p q r u v = cc
@@ -133,9 +139,11 @@ at_found k false false false None true f p q r u v = refl
 at_found k false false false None false f p q r u v = cc
 
 -- where it arrives, what is found decides
-pub arrived : (s : Scene) (k : Hand) (i : Journal) (f : finding.Found) → Arrives s k i → found_at s i k ≡ f → course s k i ≡ by_found s k i f
+pub arrived : (s : Scene) (k : Hand) (i : Journal) (f : finding.Found) → Arrives s k i → found_at s i k ≡ f
+    → course s k i ≡ by_found s k i f
 arrived s k i f a e =
-    at_found k (is_looped k) (is_too_long k) (is_done_here s k i) (fault_of k.message.request.body) (fits k.message) (by_found s k i (found_at s i k))
+    at_found k (is_looped k) (is_too_long k) (is_done_here s k i) (fault_of k.message.request.body) (fits k.message)
+    (by_found s k i (found_at s i k))
     a.unlooped a.short a.fresh a.unrefused a.fit
     ∙ ap (by_found s k i) e
 
@@ -159,7 +167,8 @@ begin s k i (finding.Here c) e = own (is_update k.message.request.body) refl
   where
     own : (b : Bool) → is_update k.message.request.body ≡ b
         → in_own (Says (reply_in_own k.receiver k.message c)) (parts s k i) b (subset_of k.message) ≡ parts s k i
-    own true u = (let n : not (is_none (subset_of k.message)) ≡ false = ap (λ (o : Option Subset). not (is_none o)) (no_subset (by_pin k.message) k.message.request.body u) in
+    own true u = (let n : not (is_none (subset_of k.message)) ≡ false = ap (λ (o : Option Subset). not (is_none o))
+        (no_subset (by_pin k.message) k.message.request.body u) in
         let g : true ≡ false = sym e ∙ n in cc)
     own false u = some_subset (subset_of k.message) (Says (reply_in_own k.receiver k.message c)) (parts s k i) e
 begin s k i (finding.CopyHere c) e = some_subset (subset_of k.message) (Says (reply_in_copy k.receiver k.message c)) (parts s k i) e

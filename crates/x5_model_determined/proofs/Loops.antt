@@ -53,14 +53,14 @@ SendOnce A Send x h m j = (g : Heard) (l : Journal) → Send x g m l → (g ≡ 
 module _ (A S : Type 0) (start : S) (next : Heard → A → S → S) (passes : Heard → Bool) (i : Journal) (Loop : List A → S → Journal → Type 0)
     (Send : A → Heard → Journal → Journal → Type 0)
     (view : (xs : List A) (state : S) (l : Journal) → Loop xs state l → LoopView A S start next passes i Loop Send xs state l) where
-
   pub loop_none : LoopOnce A S passes Loop Send [] start i
   loop_none = (first, second)
     where
       first : (other : S) (l : Journal) → Loop [] other l → (other ≡ start) × (l ≡ i)
       first other l d = elim (view [] other l d) [ inl x ↦ (x.1, x.2) | inr st ↦ absurd (no_snoc st.before st.latest [] (sym st.items)) ]
 
-      second : (before more : List A) (x : A) (old : S) (h : Heard) (m l : Journal) → [] ≡ before ++ x ∷ more → Loop before old m → Send x h m l → passes h ≡ true
+      second : (before more : List A) (x : A) (old : S) (h : Heard) (m l : Journal) → [] ≡ before ++ x ∷ more → Loop before old m
+          → Send x h m l → passes h ≡ true
       second before more x old h m l e d u = absurd (no_snoc before x more (sym e))
 
   -- the same one is asked after the same ones
@@ -83,7 +83,8 @@ module _ (A S : Type 0) (start : S) (next : Heard → A → S → S) (passes : H
             (st.becomes ∙ (λ t. next (w.1 t) (c.1 t) (w.0 t)), w.2))
       ]
 
-      second : (b more : List A) (y : A) (o : S) (g : Heard) (n l : Journal) → before ++ x ∷ [] ≡ b ++ y ∷ more → Loop b o n → Send y g n l → passes g ≡ true
+      second : (b more : List A) (y : A) (o : S) (g : Heard) (n l : Journal) → before ++ x ∷ [] ≡ b ++ y ∷ more → Loop b o n
+          → Send y g n l → passes g ≡ true
       second b more y o g n l e d u = elim (split_snoc before b more x y e) [
         | inl c ↦ (let w = meets before b x y old o h g m n j l so one c.0 c.1 d u in ap passes w.1 ∙ passed)
         | inr r ↦ so.1 b r.0 y o g n l r.1 d u
@@ -93,21 +94,33 @@ module _ (A S : Type 0) (start : S) (next : Heard → A → S → S) (passes : H
   abbrev Asked : List A → A → Type 0
   Asked before x = (old : S) × (h : Heard) × (m : Journal) × (l : Journal) × (passes h ≡ true) × Loop before old m × Send x h m l
 
-  asked : (n : ℕ) (xs : List A) (state : S) (l : Journal) → length xs ≤ n → Loop xs state l → (before more : List A) (x : A) → xs ≡ before ++ x ∷ more → Asked before x
+  asked : (n : ℕ) (xs : List A) (state : S) (l : Journal) → length xs ≤ n → Loop xs state l → (before more : List A) (x : A)
+      → xs ≡ before ++ x ∷ more → Asked before x
   asked zero xs state l less d before more x e =
       let many : length xs ≡ length before + length (x ∷ more) = ap length e ∙ length-append before (x ∷ more) in
       absurd (omega (arith, less, many))
   asked (suc n) xs state l less d before more x e = elim (view xs state l d) [
     | inl none ↦ absurd (no_snoc before x more (sym e ∙ none.0))
     | inr st ↦ elim (split_snoc st.before before more st.latest x (sym st.items ∙ e)) [
-      | inl c ↦ (st.old, st.what, st.mid, l, st.passed, subst (λ (zs : List A). Loop zs st.old st.mid) (sym c.0) st.loop, subst (λ (z : A). Send z st.what st.mid l) (sym c.1) st.sent)
-      | inr r ↦ (let many : length xs ≡ length st.before + length (st.latest ∷ []) = ap length st.items ∙ length-append st.before (st.latest ∷ []) in
+      | inl c ↦ (
+        st.old,
+        st.what,
+        st.mid,
+        l,
+        st.passed,
+        subst (λ (zs : List A). Loop zs st.old st.mid) (sym c.0) st.loop,
+        subst
+            (λ (z : A). Send z st.what st.mid l) (sym c.1) st.sent,
+      )
+      | inr r ↦ (let many : length xs ≡ length st.before + length (st.latest ∷ []) = ap length st.items
+          ∙ length-append st.before (st.latest ∷ []) in
           asked n st.before st.old st.mid (omega (arith, less, many)) st.loop before r.0 x r.1)
     ]
   ]
 
   -- a loop that goes through doesn't stop
-  pub not_stopped : (xs : List A) (state : S) (j l : Journal) → LoopOnce A S passes Loop Send xs state j → Stop A S passes Loop Send xs l → ⊥
+  pub not_stopped : (xs : List A) (state : S) (j l : Journal) → LoopOnce A S passes Loop Send xs state j → Stop A S passes Loop Send xs l
+      → ⊥
   not_stopped xs state j l so st =
       true_false (passes st.what) (so.1 st.before st.after st.latest st.old st.what st.mid l st.items st.loop st.sent) st.stops
 

@@ -1,5 +1,5 @@
 -- How a list is split in two ways: at the same place, or one place comes first.
-use Rattle.std.proofs.Common.{◌≡◌, true, false, Bool, ◌⊎◌, inl, inr, List, [], ◌∷◌, ◌++◌, refl, sym, ap, ◌∙◌}
+use Rattle.std.proofs.Common.{◌≡◌, true, false, Bool, ◌⊎◌, inl, inr, List, [], ◌∷◌, ◌++◌, refl, sym, ◌∙◌}
 
 pub true_false : {X : Type 0} (b : Bool) → b ≡ true → b ≡ false → X
 true_false b e f = (let g : true ≡ false = sym e ∙ f in cc)

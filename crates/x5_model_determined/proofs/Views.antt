@@ -1,6 +1,6 @@
 -- What each thing that is done was done by, from its outcome: a loop by its last step, a message by its fate, a reply by
 -- what it leaves, an update by what its agent makes of it.
-use Rattle.std.proofs.Common.{◌≡◌, ℕ, ◌+◌, Bool, true, false, not, ◌&&◌, ◌||◌, ◌==◌, if◌then◌else◌, ◌⊎◌, inl, inr, List, [], ◌∷◌, ◌++◌, refl, sym, ap, subst, ◌∙◌, Option, Some, None, Ok, Err}
+use Rattle.std.proofs.Common.{◌≡◌, ℕ, Bool, true, false, ◌||◌, ◌==◌, if◌then◌else◌, ◌⊎◌, inl, inr, List, [], ◌∷◌, ◌++◌, refl, sym, ap, subst, ◌∙◌, Option, Some, None, Ok, Err}
 use Rattle.std.proofs.lemmas.Bool.Decides.{Decides-eqb}
 use Rattle.x5_model.specs.Words.{is_empty}
 use Rattle.x5_model.specs.Entries.{Named}
@@ -14,7 +14,7 @@ use Rattle.x5_model_run.specs.Needs.{due_probes}
 use Rattle.x5_model_run.specs.Chain.{Scene}
 use Rattle.x5_model_serve.specs.Answering.{merged, with_unexplored, only_unexplored, to_follow, passed_by, is_service, in_vain, of_these, is_unavailable, above_next}
 use Rattle.x5_model_serve.specs.Serving.{Hand, hand, Heard, Unheard, Hears, Gathered, Whole, Broken, Does, Serves, Follows, Sends, Tries, Takes, Spreads, Casts, Gathers, Probes, Updates, carried_for, next_line, with_line, with_accepted, is_spent, holds_now, gathered_reply, limit_reply, heard_or, judged, is_final, not_done, does, probes_all, misses, taken, breaks, no_probe, clear, unsure, silent, spent, lost, dropped, sends, final, referral, wide_referral, unexplored, none_yet, in_vain_too, heard, unheard, none_asked, unable_too, silent_too, answered, nobody_has, some_silent, no_part, part_unheard, part_unavailable, part_answered, part_breaks}
-use Rattle.x5_model_determined.proofs.Loops.{Step, Stop, LoopView}
+use Rattle.x5_model_determined.proofs.Loops.{Stop, LoopView}
 
 -- ---- what is heard, and whether a loop goes on
 
@@ -89,55 +89,140 @@ module _ (s : Scene) (most : ℕ) where
   GathersLoop from o a i rs b l = Does s most (Gathers from o rs a (Whole b)) i l
 
   tries_by : (from : Option ℕ) (o : Hand) (r : Reference) (agents : List ℕ) (i l : Journal) → Does s most (Tries from o r agents) i l
-      → ((agents ≡ []) × (l ≡ i)) ⊎ ((before : List ℕ) × (a : ℕ) × (m : Journal) × (agents ≡ before ++ a ∷ []) × Does s most (Tries from o r before) i m × Does s most (Sends from o r a Unheard) m l)
+      → ((agents ≡ []) × (l ≡ i)) ⊎ ((before : List ℕ) × (a : ℕ) × (m : Journal) × (agents ≡ before ++ a ∷ [])
+      × Does s most (Tries from o r before) i m × Does s most (Sends from o r a Unheard) m l)
   tries_by _ _ _ _ _ _ none_yet = inl (refl, refl)
   tries_by _ _ _ _ _ _ (in_vain_too {from} {o} {r} {i} {j} {l} {before} a d u) = inr (before, a, j, refl, d, u)
 
-  pub tries_view : (from : Option ℕ) (o : Hand) (r : Reference) (i : Journal) (agents noted : List ℕ) (l : Journal) → TriesLoop from o r i agents noted l
+  pub tries_view : (from : Option ℕ) (o : Hand) (r : Reference) (i : Journal) (agents noted : List ℕ) (l : Journal)
+      → TriesLoop from o r i agents noted l
       → LoopView ℕ (List ℕ) [] none_noted passes_tried i (TriesLoop from o r i) (SendsOne from o r) agents noted l
   tries_view from o r i agents noted l d = elim (tries_by from o r agents i l d.1) [
     | inl x ↦ inl (x.0, d.0, x.1)
-    | inr w ↦ inr (record { before = w.0; latest = w.1; old = []; what = Unheard; mid = w.2; items = w.3; becomes = d.0; passed = refl; loop = (refl, w.4); sent = w.5 })
+    | inr w ↦ inr (record {
+      before = w.0;
+      latest = w.1;
+      old = [];
+      what = Unheard;
+      mid = w.2;
+      items = w.3;
+      becomes = d.0;
+      passed = refl;
+      loop = (refl, w.4);
+      sent = w.5;
+    })
   ]
 
-  pub spreads_view : (from : Option ℕ) (o : Hand) (r : Reference) (i : Journal) (agents noted : List ℕ) (l : Journal) → SpreadsLoop from o r i agents noted l
+  pub spreads_view : (from : Option ℕ) (o : Hand) (r : Reference) (i : Journal) (agents noted : List ℕ) (l : Journal)
+      → SpreadsLoop from o r i agents noted l
       → LoopView ℕ (List ℕ) [] noting passes_cast i (SpreadsLoop from o r i) (SendsOne from o r) agents noted l
   spreads_view _ _ _ _ _ _ _ none_asked = inl (refl, refl, refl)
   spreads_view _ _ _ _ _ _ _ (unable_too {from} {o} {r} {i} {j} {l} {before} {noted} a y e d u) = inr (record {
-    before = before; latest = a; old = noted; what = Hears y; mid = j; items = refl;
-    becomes = ap (λ (b : Bool). if b then noted else (noted ++ a ∷ [])) (sym e); passed = e; loop = d; sent = u;
+    before = before;
+    latest = a;
+    old = noted;
+    what = Hears y;
+    mid = j;
+    items = refl;
+    becomes = ap (λ (b : Bool). if b then noted else (noted ++ a ∷ [])) (sym e);
+    passed = e;
+    loop = d;
+    sent = u;
   })
   spreads_view _ _ _ _ _ _ _ (silent_too {from} {o} {r} {i} {j} {l} {before} {noted} a d u) = inr (record {
-    before = before; latest = a; old = noted; what = Unheard; mid = j; items = refl; becomes = refl; passed = refl; loop = d; sent = u;
+    before = before;
+    latest = a;
+    old = noted;
+    what = Unheard;
+    mid = j;
+    items = refl;
+    becomes = refl;
+    passed = refl;
+    loop = d;
+    sent = u;
   })
 
   pub probes_view : (k : Hand) (r : Reference) (i : Journal) (agents noted : List ℕ) (l : Journal) → ProbesLoop k r i agents noted l
       → LoopView ℕ (List ℕ) [] noting passes_probe i (ProbesLoop k r i) (SendsOne (Some k.receiver) k r) agents noted l
   probes_view _ _ _ _ _ _ no_probe = inl (refl, refl, refl)
   probes_view _ _ _ _ _ _ (clear {k} {r} {i} {j} {l} {before} {noted} a y e d u) = inr (record {
-    before = before; latest = a; old = noted; what = Hears y; mid = j; items = refl;
-    becomes = ap (λ (b : Bool). if b then noted else (noted ++ a ∷ [])) (sym e); passed = ap (λ (b : Bool). b || is_service unavailable y) e; loop = d; sent = u;
+    before = before;
+    latest = a;
+    old = noted;
+    what = Hears y;
+    mid = j;
+    items = refl;
+    becomes = ap (λ (b : Bool). if b then noted else (noted ++ a ∷ [])) (sym e);
+    passed = ap
+        (λ (b : Bool). b || is_service unavailable y) e;
+    loop = d;
+    sent = u;
   })
   probes_view _ _ _ _ _ _ (unsure {k} {r} {i} {j} {l} {before} {noted} a y e d u) = inr (record {
-    before = before; latest = a; old = noted; what = Hears y; mid = j; items = refl;
+    before = before;
+    latest = a;
+    old = noted;
+    what = Hears y;
+    mid = j;
+    items = refl;
     becomes = ap (λ (b : Bool). if b then noted else (noted ++ a ∷ [])) (sym (apart_problems y e));
-    passed = ap (λ (b : Bool). b || is_service unavailable y) (apart_problems y e) ∙ e; loop = d; sent = u;
+    passed = ap (λ (b : Bool). b || is_service unavailable y) (apart_problems y e) ∙ e;
+    loop = d;
+    sent = u;
   })
   probes_view _ _ _ _ _ _ (silent {k} {r} {i} {j} {l} {before} {noted} a d u) = inr (record {
-    before = before; latest = a; old = noted; what = Unheard; mid = j; items = refl; becomes = refl; passed = refl; loop = d; sent = u;
+    before = before;
+    latest = a;
+    old = noted;
+    what = Unheard;
+    mid = j;
+    items = refl;
+    becomes = refl;
+    passed = refl;
+    loop = d;
+    sent = u;
   })
 
-  pub gathers_view : (from : Option ℕ) (o : Hand) (a : Answer) (i : Journal) (rs : List Reference) (b : Answer) (l : Journal) → GathersLoop from o a i rs b l
+  pub gathers_view : (from : Option ℕ) (o : Hand) (a : Answer) (i : Journal) (rs : List Reference) (b : Answer) (l : Journal)
+      → GathersLoop from o a i rs b l
       → LoopView Reference Answer a gathering passes_part i (GathersLoop from o a i) (TakesOne from o) rs b l
   gathers_view _ _ _ _ _ _ _ no_part = inl (refl, refl, refl)
   gathers_view _ _ _ _ _ _ _ (part_unheard {from} {o} {i} {j} {l} {rs} {a} {b} r d u) = inr (record {
-    before = rs; latest = r; old = b; what = Unheard; mid = j; items = refl; becomes = refl; passed = refl; loop = d; sent = u;
+    before = rs;
+    latest = r;
+    old = b;
+    what = Unheard;
+    mid = j;
+    items = refl;
+    becomes = refl;
+    passed = refl;
+    loop = d;
+    sent = u;
   })
   gathers_view _ _ _ _ _ _ _ (part_unavailable {from} {o} {i} {j} {l} {rs} {a} {b} r v d u) = inr (record {
-    before = rs; latest = r; old = b; what = Hears (is_unavailable v); mid = j; items = refl; becomes = refl; passed = refl; loop = d; sent = u;
+    before = rs;
+    latest = r;
+    old = b;
+    what = Hears
+        (is_unavailable v);
+    mid = j;
+    items = refl;
+    becomes = refl;
+    passed = refl;
+    loop = d;
+    sent = u;
   })
   gathers_view _ _ _ _ _ _ _ (part_answered {from} {o} {i} {j} {l} {rs} {a} {b} r c d u) = inr (record {
-    before = rs; latest = r; old = b; what = Hears (Answered c); mid = j; items = refl; becomes = refl; passed = refl; loop = d; sent = u;
+    before = rs;
+    latest = r;
+    old = b;
+    what = Hears (Answered c);
+    mid = j;
+    items = refl;
+    becomes = refl;
+    passed = refl;
+    loop = d;
+    sent = u;
   })
 
   -- ---- where a loop ends
@@ -158,10 +243,23 @@ module _ (s : Scene) (most : ℕ) where
   Took from o r g i l =
       ((g ≡ Unheard) × TriesLoop from o r i r.agents [] l) ⊎ ((st : StopsTrying from o r i l) × (g ≡ st.what))
 
-  pub took : (from : Option ℕ) (o : Hand) (r : Reference) (g : Heard) (i l : Journal) → Does s most (Takes from o r g) i l → Took from o r g i l
-  took _ _ _ _ _ _ (heard {from} {o} {r} {i} {j} {l} before after a y e d u) = inr (record {
-    before = before; latest = a; after = after; old = []; what = Hears y; mid = j; items = e; stops = refl; loop = (refl, d); sent = u;
-  }, refl)
+  pub took : (from : Option ℕ) (o : Hand) (r : Reference) (g : Heard) (i l : Journal) → Does s most (Takes from o r g) i l
+      → Took from o r g i l
+  took _ _ _ _ _ _ (heard {from} {o} {r} {i} {j} {l} before after a y e d u) = inr (
+    record {
+      before = before;
+      latest = a;
+      after = after;
+      old = [];
+      what = Hears y;
+      mid = j;
+      items = e;
+      stops = refl;
+      loop = (refl, d);
+      sent = u;
+    },
+    refl,
+  )
   took _ _ _ _ _ _ (unheard d) = inl (refl, (refl, d))
 
   abbrev pub cast_reply : Reference → List ℕ → Reply
@@ -177,10 +275,23 @@ module _ (s : Scene) (most : ℕ) where
       ((noted : List ℕ) × SpreadsLoop from o r i r.agents noted l × (y ≡ cast_reply r noted))
       ⊎ ((st : StopsCasting from o r i l) × (Hears y ≡ st.what))
 
-  pub cast : (from : Option ℕ) (o : Hand) (r : Reference) (y : Reply) (i l : Journal) → Does s most (Casts from o r y) i l → Cast from o r y i l
-  cast _ _ _ _ _ _ (answered {from} {o} {r} {i} {j} {l} before after noted a y e f d u) = inr (record {
-    before = before; latest = a; after = after; old = noted; what = Hears y; mid = j; items = e; stops = f; loop = d; sent = u;
-  }, refl)
+  pub cast : (from : Option ℕ) (o : Hand) (r : Reference) (y : Reply) (i l : Journal) → Does s most (Casts from o r y) i l
+      → Cast from o r y i l
+  cast _ _ _ _ _ _ (answered {from} {o} {r} {i} {j} {l} before after noted a y e f d u) = inr (
+    record {
+      before = before;
+      latest = a;
+      after = after;
+      old = noted;
+      what = Hears y;
+      mid = j;
+      items = e;
+      stops = f;
+      loop = d;
+      sent = u;
+    },
+    refl,
+  )
   cast _ _ _ _ _ _ (nobody_has d) = inl ([], d, refl)
   cast _ _ _ _ _ _ (some_silent {from} {o} {r} {i} {j} noted e d) = inl (noted, d, sym (noted_reply r noted e))
 
@@ -192,7 +303,8 @@ module _ (s : Scene) (most : ℕ) where
   probed_journal k [] m = with_accepted k.receiver m
   probed_journal k (x ∷ xs) m = m
 
-  pub missed_reply : (r : Reference) (noted : List ℕ) (a : ℕ) → probed_reply r (noted ++ a ∷ []) ≡ is_unavailable (of_these (noted ++ a ∷ []) r)
+  pub missed_reply : (r : Reference) (noted : List ℕ) (a : ℕ)
+      → probed_reply r (noted ++ a ∷ []) ≡ is_unavailable (of_these (noted ++ a ∷ []) r)
   missed_reply r [] a = refl
   missed_reply r (x ∷ xs) a = refl
 
@@ -231,37 +343,79 @@ module _ (s : Scene) (most : ℕ) where
   updates_at _ _ _ _ (not_done {k} {j} x e) =
       subst (λ (z : Outcome). UpdatesAs k (Failed x) j j z (due_probes (holds_now s j k) k.message)) (sym e) (refl, refl)
   updates_at _ _ _ _ (does {k} {j} mine e f) =
-      subst (λ (z : Outcome). UpdatesAs k (Answered Changed) j (with_accepted k.receiver j) z (due_probes (holds_now s j k) k.message)) (sym e)
+      subst (λ (z : Outcome). UpdatesAs k (Answered Changed) j (with_accepted k.receiver j) z (due_probes (holds_now s j k) k.message))
+      (sym e)
       (subst (λ (z : List Reference). UpdatesAs k (Answered Changed) j (with_accepted k.receiver j) (Ok mine) z) (sym f) (refl, refl))
   updates_at _ _ _ _ (probes_all {k} {i} {j} mine r e f d) =
-      probing k (Answered Changed) i (with_accepted k.receiver j) (judged s i k) (due_probes (holds_now s i k) k.message) mine r e f (inl ([], j, d, refl, refl))
+      probing k (Answered Changed) i (with_accepted k.receiver j) (judged s i k) (due_probes (holds_now s i k) k.message) mine r e f
+      (inl ([], j, d, refl, refl))
   updates_at _ _ _ _ (misses {k} {i} {j} mine r a noted e f d) =
       probing k (is_unavailable (of_these (noted ++ a ∷ []) r)) i j (judged s i k) (due_probes (holds_now s i k) k.message) mine r e f
       (inl (noted ++ a ∷ [], j, d, sym (missed_reply r noted a), sym (missed_journal k noted a j)))
   updates_at _ _ _ _ (taken {k} {i} {j} {l} mine r a before after noted found e f g d u) =
-      probing k (Failed (UpdateProblem entry_already_exists)) i l (judged s i k) (due_probes (holds_now s i k) k.message) mine r e f (inr (record {
-        before = before; latest = a; after = after; old = noted; what = Hears (Answered found); mid = j; items = g; stops = refl; loop = d; sent = u;
-      }, refl))
+      probing k (Failed (UpdateProblem entry_already_exists)) i l (judged s i k) (due_probes (holds_now s i k) k.message) mine r e f
+      (inr (
+        record {
+          before = before;
+          latest = a;
+          after = after;
+          old = noted;
+          what = Hears
+              (Answered found);
+          mid = j;
+          items = g;
+          stops = refl;
+          loop = d;
+          sent = u;
+        },
+        refl,
+      ))
   updates_at _ _ _ _ (breaks {k} {i} {j} {l} mine r a before after noted x e f g able there_too d u) =
-      probing k (Failed x) i l (judged s i k) (due_probes (holds_now s i k) k.message) mine r e f (inr (record {
-        before = before; latest = a; after = after; old = noted; what = Hears (Failed x); mid = j; items = g;
-        stops = ap (λ (b : Bool). b || is_service unavailable (Failed x)) able ∙ there_too; loop = d; sent = u;
-      }, refl))
+      probing k (Failed x) i l (judged s i k) (due_probes (holds_now s i k) k.message) mine r e f (inr (
+        record {
+          before = before;
+          latest = a;
+          after = after;
+          old = noted;
+          what = Hears (Failed x);
+          mid = j;
+          items = g;
+          stops = ap (λ (b : Bool). b || is_service unavailable (Failed x)) able ∙ there_too;
+          loop = d;
+          sent = u;
+        },
+        refl,
+      ))
 
   abbrev pub GatheredBy : Option ℕ → Hand → List Reference → Answer → Gathered → Journal → Journal → Type 0
   GatheredBy from o rs a whole i l =
       ((b : Answer) × GathersLoop from o a i rs b l × (whole ≡ Whole b))
       ⊎ ((st : StopsGathering from o rs a i l) × (x : DirError) × (st.what ≡ Hears (Failed x)) × (whole ≡ Broken (Failed x)))
 
-  pub gathered_by : (from : Option ℕ) (o : Hand) (rs : List Reference) (a : Answer) (whole : Gathered) (i l : Journal) → Does s most (Gathers from o rs a whole) i l
+  pub gathered_by : (from : Option ℕ) (o : Hand) (rs : List Reference) (a : Answer) (whole : Gathered) (i l : Journal)
+      → Does s most (Gathers from o rs a whole) i l
       → GatheredBy from o rs a whole i l
   gathered_by _ _ _ _ _ _ _ (no_part {from} {o} {a} {j}) = inl (a, no_part, refl)
   gathered_by _ _ _ _ _ _ _ (part_unheard {b = b} r d u) = inl (with_unexplored (in_vain r ∷ []) b, part_unheard r d u, refl)
   gathered_by _ _ _ _ _ _ _ (part_unavailable {b = b} r v d u) = inl (with_unexplored (in_vain v ∷ []) b, part_unavailable r v d u, refl)
   gathered_by _ _ _ _ _ _ _ (part_answered {b = b} r c d u) = inl (merged b c, part_answered r c d u, refl)
-  gathered_by _ _ _ _ _ _ _ (part_breaks {from} {o} {i} {j} {l} {a} {b} before after r x e d u) = inr (record {
-    before = before; latest = r; after = after; old = b; what = Hears (Failed x); mid = j; items = refl; stops = e; loop = d; sent = u;
-  }, x, refl, refl)
+  gathered_by _ _ _ _ _ _ _ (part_breaks {from} {o} {i} {j} {l} {a} {b} before after r x e d u) = inr (
+    record {
+      before = before;
+      latest = r;
+      after = after;
+      old = b;
+      what = Hears (Failed x);
+      mid = j;
+      items = refl;
+      stops = e;
+      loop = d;
+      sent = u;
+    },
+    x,
+    refl,
+    refl,
+  )
 
   -- ---- a message, and a reply
 
@@ -269,9 +423,11 @@ module _ (s : Scene) (most : ℕ) where
   SentAs from o r a g i l true fate = (g ≡ Hears limit_reply) × (l ≡ i)
   SentAs from o r a g i l false Lost = (g ≡ Unheard) × (l ≡ with_line (next_line s i from o r a) i)
   SentAs from o r a g i l false NoReply =
-      (reply : Reply) × Does s most (Serves (hand a (carried_for from o r)) reply) (with_line (next_line s i from o r a) i) l × (g ≡ Unheard)
+      (reply : Reply) × Does s most (Serves (hand a (carried_for from o r)) reply) (with_line (next_line s i from o r a) i) l
+      × (g ≡ Unheard)
   SentAs from o r a g i l false Sent =
-      (reply : Reply) × (last : Reply) × (m : Journal) × Does s most (Serves (hand a (carried_for from o r)) reply) (with_line (next_line s i from o r a) i) m
+      (reply : Reply) × (last : Reply) × (m : Journal) × Does s most (Serves (hand a (carried_for from o r)) reply) (with_line
+      (next_line s i from o r a) i) m
       × Does s most (Follows from (hand a (carried_for from o r)) reply last) m l × (g ≡ Hears last)
 
   abbrev pub SentAt : Option ℕ → Hand → Reference → ℕ → Heard → Journal → Journal → Type 0
@@ -282,11 +438,13 @@ module _ (s : Scene) (most : ℕ) where
   at_fate from o r a g i l b c f h e q w =
       subst (λ (z : Fate). SentAs from o r a g i l c z) q (subst (λ (z : Bool). SentAs from o r a g i l z f) e w)
 
-  pub sent_at : (from : Option ℕ) (o : Hand) (r : Reference) (a : ℕ) (g : Heard) (i l : Journal) → Does s most (Sends from o r a g) i l → SentAt from o r a g i l
+  pub sent_at : (from : Option ℕ) (o : Hand) (r : Reference) (a : ℕ) (g : Heard) (i l : Journal) → Does s most (Sends from o r a g) i l
+      → SentAt from o r a g i l
   sent_at _ _ _ _ _ _ _ (spent {from} {o} {r} {j} a e) =
       subst (λ (z : Bool). SentAs from o r a (Hears limit_reply) j j z (next_line s j from o r a).fate) (sym e) (refl, refl)
   sent_at _ _ _ _ _ _ _ (lost {from} {o} {r} {j} a e f) =
-      at_fate from o r a Unheard j (with_line (next_line s j from o r a) j) false (is_spent most j) Lost (next_line s j from o r a).fate (sym e) (sym f) (refl, refl)
+      at_fate from o r a Unheard j (with_line (next_line s j from o r a) j) false (is_spent most j) Lost (next_line s j from o r a).fate
+      (sym e) (sym f) (refl, refl)
   sent_at _ _ _ _ _ _ _ (dropped {from} {o} {r} {i} {j} a y e f d) =
       at_fate from o r a Unheard i j false (is_spent most i) NoReply (next_line s i from o r a).fate (sym e) (sym f) (y, d, refl)
   sent_at _ _ _ _ _ _ _ (sends {from} {o} {r} {i} {j} {l} a y z e f d u) =
@@ -299,14 +457,16 @@ module _ (s : Scene) (most : ℕ) where
   abbrev pub AnsweredAs : Option ℕ → Hand → Answer → Reply → Journal → Journal → Bool → Type 0
   AnsweredAs from k a y i l true = (y ≡ Answered a) × (l ≡ i)
   AnsweredAs from k a y i l false =
-      (whole : Gathered) × Does s most (Gathers from k (to_follow a) (only_unexplored (passed_by a) a) whole) i l × (y ≡ gathered_reply k whole)
+      (whole : Gathered) × Does s most (Gathers from k (to_follow a) (only_unexplored (passed_by a) a) whole) i l
+      × (y ≡ gathered_reply k whole)
 
   abbrev pub FollowedAs : Option ℕ → Hand → Reply → Reply → Journal → Journal → Type 0
   FollowedAs from k (Answered a) y i l = AnsweredAs from k a y i l (is_final (Answered a))
   FollowedAs from k (Failed x) y i l = (y ≡ Failed x) × (l ≡ i)
   FollowedAs from k (Referred r) y i l = ReferredAs from k r y i l (is_wide r.kind)
 
-  pub followed_as : (from : Option ℕ) (k : Hand) (reply y : Reply) (i l : Journal) → Does s most (Follows from k reply y) i l → FollowedAs from k reply y i l
+  pub followed_as : (from : Option ℕ) (k : Hand) (reply y : Reply) (i l : Journal) → Does s most (Follows from k reply y) i l
+      → FollowedAs from k reply y i l
   followed_as _ _ _ _ _ _ (final {from} {k} {j} reply e) = by reply e
     where
       by : (z : Reply) → is_final z ≡ true → FollowedAs from k z z j j
