@@ -58,7 +58,8 @@ keeps_both p s most k i j l a b = record {
   reads = λ e. b.reads e ∙ a.reads e;
 }
   where
-    by : (is_spent most j ≡ true) ⊎ (is_finished p s j (last_number s i) ≡ true) → (is_spent most l ≡ true) ⊎ (is_finished p s l (last_number s j) ≡ true)
+    by : (is_spent most j ≡ true) ⊎ (is_finished p s j (last_number s i) ≡ true)
+        → (is_spent most l ≡ true) ⊎ (is_finished p s l (last_number s j) ≡ true)
         → (is_spent most l ≡ true) ⊎ (is_finished p s l (last_number s i) ≡ true)
     by (inl x) y = inl (spent_stays most j l b.grows x)
     by (inr x) (inl y) = inl y
@@ -77,18 +78,22 @@ part_query wide t (RemoveEntry name) u = cc
 part_query wide t (ModifyEntry name changes) u = cc
 part_query wide t (ModifyDn name rdn drops) u = cc
 
-pub query_carried : (from : Option ℕ) (o : Hand) (r : Reference) → is_update o.message.request.body ≡ false → is_update (carried_for from o r).request.body ≡ false
+pub query_carried : (from : Option ℕ) (o : Hand) (r : Reference) → is_update o.message.request.body ≡ false
+    → is_update (carried_for from o r).request.body ≡ false
 query_carried from o r u = by (is_probe o.message.request.body r.target) (asks_part r)
   where
-    by : (b c : Bool) → is_update (if b then probe_request r.target else (if c then part_request (is_user from) (is_wide r.kind) r.target o.message.request else o.message.request)).body ≡ false
+    by : (b c : Bool) → is_update (if b then probe_request r.target else
+        (if c then part_request (is_user from) (is_wide r.kind) r.target o.message.request else o.message.request)).body ≡ false
     by true c = refl
     by false true = part_query (is_wide r.kind) r.target o.message.request.body u
     by false false = u
 
 -- a line that doesn't arrive is finished
-not_arrived : (p : Point) (s : Scene) (j : Journal) (l : Line) → arrives l.fate ≡ false → (is_served s j l && is_settled_line p s j l) ≡ true
+not_arrived : (p : Point) (s : Scene) (j : Journal) (l : Line) → arrives l.fate ≡ false
+    → (is_served s j l && is_settled_line p s j l) ≡ true
 not_arrived p s j l off =
-    and_true (is_served s j l) (is_settled_line p s j l) (or_left (not (arrives l.fate)) _ (ap not off)) (or_left (not (is_due_line p s j l)) _ (ap not due))
+    and_true (is_served s j l) (is_settled_line p s j l) (or_left (not (arrives l.fate)) _ (ap not off))
+    (or_left (not (is_due_line p s j l)) _ (ap not due))
   where
     three : (a b c d : Bool) → b ≡ false → ((a && (b && c)) && d) ≡ false
     three true b c d e = ap (λ x. (x && c) && d) e
@@ -105,9 +110,11 @@ keeps_lost p s most from o r a i lost licensed accepted lines = record {
   only_more = λ x k. k;
   same_line = lines;
   accepted = accepted_stays p s i (with_line l i) (l ∷ [], refl) refl lines accepted;
-  finished = inr (and_true (nat_le l.number (last_number s i) || (is_served s (with_line l i) l && is_settled_line p s (with_line l i) l)) _
+  finished = inr (and_true (nat_le l.number (last_number s i) ||
+      (is_served s (with_line l i) l && is_settled_line p s (with_line l i) l)) _
       (or_right (nat_le l.number (last_number s i)) _ (not_arrived p s (with_line l i) l (ap arrives lost)))
-      (none_since s (λ x. is_served s (with_line l i) x && is_settled_line p s (with_line l i) x) i.lines (last_number s i) licensed.1 (omega arith)));
+      (none_since s (λ x. is_served s (with_line l i) x && is_settled_line p s (with_line l i) x) i.lines (last_number s i) licensed.1
+      (omega arith)));
   reads = λ e. refl;
 }
   where
@@ -139,17 +146,20 @@ keeps_sent p s most from o r a i j lines b own = record {
     lasts : Lasts s (with_line l i) j
     lasts = keeps_lasts p s most (hand a (carried_for from o r)) (with_line l i) j b
 
-    done : is_served s j l ≡ true → is_settled_line p s j l ≡ true → is_finished p s j (last_number s (with_line l i)) ≡ true → is_finished p s j (last_number s i) ≡ true
+    done : is_served s j l ≡ true → is_settled_line p s j l ≡ true → is_finished p s j (last_number s (with_line l i)) ≡ true
+        → is_finished p s j (last_number s i) ≡ true
     done served settle h =
         subst (λ (xs : List Line). list_all (since p s (with_line l i) j lasts (last_number s i) j) xs ≡ true) (sym b.grows.1)
         (both_stay p s (with_line l i) j lasts (last_number s i) b.grows.0 licensed
         (and_true (since p s (with_line l i) j lasts (last_number s i) j l) _
         (or_right (nat_le l.number (last_number s i)) _ (and_true (is_served s j l) (is_settled_line p s j l) served settle))
-        (none_since s (λ x. is_served s j x && is_settled_line p s j x) i.lines (last_number s i) (licensed_before s b.grows.0 (l ∷ i.lines) licensed).1 (omega arith)))
+        (none_since s (λ x. is_served s j x && is_settled_line p s j x) i.lines (last_number s i)
+        (licensed_before s b.grows.0 (l ∷ i.lines) licensed).1 (omega arith)))
         (subst (λ (xs : List Line). list_all (since p s (with_line l i) j lasts (last_number s (with_line l i)) j) xs ≡ true) b.grows.1 h))
 
     by : (is_spent most j ≡ true) ⊎ ((is_served s j l ≡ true) × (is_settled_line p s j l ≡ true))
-        → (is_spent most j ≡ true) ⊎ (is_finished p s j (last_number s (with_line l i)) ≡ true) → (is_spent most j ≡ true) ⊎ (is_finished p s j (last_number s i) ≡ true)
+        → (is_spent most j ≡ true) ⊎ (is_finished p s j (last_number s (with_line l i)) ≡ true)
+        → (is_spent most j ≡ true) ⊎ (is_finished p s j (last_number s i) ≡ true)
     by (inl x) y = inl x
     by (inr x) (inl y) = inl y
     by (inr x) (inr y) = inr (done x.0 x.1 y)
@@ -175,4 +185,5 @@ keeps_accepting p s most k a i j update accepted b = record {
         → (is_spent most j ≡ true) ⊎ (is_finished p s (with_accepted a j) (last_number s i) ≡ true)
     by (inl x) = inl x
     by (inr x) = inr (finished_stays p s (last_number s i) j (with_accepted a j) lasts b.licensed x
-        (none_since s (λ l. is_served s (with_accepted a j) l && is_settled_line p s (with_accepted a j) l) j.lines (last_number s j) b.licensed (omega arith)))
+        (none_since s (λ l. is_served s (with_accepted a j) l && is_settled_line p s (with_accepted a j) l) j.lines
+        (last_number s j) b.licensed (omega arith)))

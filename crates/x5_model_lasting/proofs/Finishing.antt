@@ -45,7 +45,8 @@ find_harder f g harder e (x ∷ xs) ys h passes = by (f x) (g x) refl refl h (λ
     by false false p q k rest = rest k
 
 -- a line that may accept by more lines may by fewer
-pub may_before : (s : Scene) (l : Line) (lines : List Line) (a : ℕ) (e : Line) → may_accept s (l ∷ lines) a e ≡ true → may_accept s lines a e ≡ true
+pub may_before : (s : Scene) (l : Line) (lines : List Line) (a : ℕ) (e : Line) → may_accept s (l ∷ lines) a e ≡ true
+    → may_accept s lines a e ≡ true
 may_before s l lines a e h =
     let b = both_true (e.receiver == a) _ h in
     let c = both_true (arrives e.fate) _ b.1 in
@@ -60,7 +61,8 @@ may_before s l lines a e h =
     by false y k = k
 
 -- and one that may by fewer does by more, if no unheard probe came below it
-may_after : (s : Scene) (l : Line) (lines : List Line) (a : ℕ) (e : Line) → may_accept s lines a e ≡ true → lacks_probe s e.number l lines ≡ false → may_accept s (l ∷ lines) a e ≡ true
+may_after : (s : Scene) (l : Line) (lines : List Line) (a : ℕ) (e : Line) → may_accept s lines a e ≡ true
+    → lacks_probe s e.number l lines ≡ false → may_accept s (l ∷ lines) a e ≡ true
 may_after s l lines a e h fine =
     let b = both_true (e.receiver == a) _ h in
     let c = both_true (arrives e.fate) _ b.1 in
@@ -74,7 +76,8 @@ may_after s l lines a e h fine =
     by true y k m = cc
     by false y k m = m
 
-one_accepting : (s : Scene) (a : ℕ) (e l : Line) (lines : List Line) → accepting s lines a ≡ Some e → lacks_probe s e.number l lines ≡ false
+one_accepting : (s : Scene) (a : ℕ) (e l : Line) (lines : List Line) → accepting s lines a ≡ Some e
+    → lacks_probe s e.number l lines ≡ false
     → accepting s (l ∷ lines) a ≡ Some e
 one_accepting s a e l lines h fine =
     ap (λ (xs : List Line). find (may_accept s (l ∷ lines) a) xs) (reverse-append (l ∷ []) lines)
@@ -103,13 +106,15 @@ there_is (Some e) test h = (e, refl, h)
 pub accepted_by : (p : Point) (s : Scene) (i : Journal) → Accepted p s i → (a : ℕ) → In a i.accepted
     → (e : Line) × (accepting s i.lines a ≡ Some e) × (is_probed s i.lines e ≡ true)
 accepted_by p s i acc a k =
-    there_is (accepting s i.lines a) (is_probed s i.lines) (of_all (λ a. some_and (is_probed s i.lines) (accepting s i.lines a)) a i.accepted acc.probed k)
+    there_is (accepting s i.lines a) (is_probed s i.lines) (of_all
+    (λ a. some_and (is_probed s i.lines) (accepting s i.lines a)) a i.accepted acc.probed k)
 
 pub line_leaves_them : LineLeavesThem
 line_leaves_them p s l i acc (inr none) a k = elim (subst (λ (xs : List ℕ). In a xs) none k) [ ]
 line_leaves_them p s l i acc (inl plain) a k =
     let w = accepted_by p s i acc a k in
-    one_accepting s a w.0 l i.lines w.1 (no (is_probe_line s l) (is_unheard l.fate && leads_up (λ x. x.number == w.0.number) (λ x. true) (depth l - 1) i.lines) plain) ∙ sym w.1
+    one_accepting s a w.0 l i.lines w.1 (no (is_probe_line s l)
+    (is_unheard l.fate && leads_up (λ x. x.number == w.0.number) (λ x. true) (depth l - 1) i.lines) plain) ∙ sym w.1
   where
     no : (b c : Bool) → b ≡ false → (b && c) ≡ false
     no true c e = cc
@@ -137,8 +142,10 @@ accepted_stays p s i j g same lines acc = record {
     asked number r a = grown (λ lines. is_asked is_sent lines number r a ≡ true) (λ l lines e. or_right _ _ e) i j g
 
     heard : (e : Line) → is_probed s i.lines e ≡ true → is_probed s j.lines e ≡ true
-    heard e = all_grow (λ r. list_all (is_asked is_sent i.lines e.number r) r.agents) (λ r. list_all (is_asked is_sent j.lines e.number r) r.agents)
-        (λ r. all_grow (is_asked is_sent i.lines e.number r) (is_asked is_sent j.lines e.number r) (asked e.number r) r.agents) (due_probes (s.holdings e.receiver) e.message)
+    heard e = all_grow (λ r. list_all (is_asked is_sent i.lines e.number r) r.agents)
+        (λ r. list_all (is_asked is_sent j.lines e.number r) r.agents)
+        (λ r. all_grow (is_asked is_sent i.lines e.number r) (is_asked is_sent j.lines e.number r) (asked e.number r) r.agents)
+        (due_probes (s.holdings e.receiver) e.message)
 
     probed : (a : ℕ) → In a i.accepted → some_and (is_probed s j.lines) (accepting s j.lines a) ≡ true
     probed a k =
@@ -150,7 +157,8 @@ accepted_stays p s i j g same lines acc = record {
 pub done_stays : DoneStays
 done_stays s l i j b h =
     let w = of_any (λ a. some_and (is_later s a l) (accepting s i.lines a)) i.accepted h in
-    any_in (λ a. some_and (is_later s a l) (accepting s j.lines a)) w.0 j.accepted (b.only_more w.0 w.1) (ap (some_and (is_later s w.0 l)) (b.same_line w.0 w.1) ∙ w.2)
+    any_in (λ a. some_and (is_later s a l) (accepting s j.lines a)) w.0 j.accepted (b.only_more w.0 w.1)
+    (ap (some_and (is_later s w.0 l)) (b.same_line w.0 w.1) ∙ w.2)
 
 pub not_done_stays : NotDoneStays
 not_done_stays s l i j same later h = by (is_done_before s j l) refl
@@ -163,7 +171,8 @@ not_done_stays s l i j same later h = by (is_done_before s j l) refl
           | inl k ↦ (let t : is_done_before s i l ≡ true = any_in (λ a. some_and (is_later s a l) (accepting s i.lines a)) w.0 i.accepted k
               (sym (ap (some_and (is_later s w.0 l)) (same w.0 k)) ∙ w.2) in cc)
           | inr x ↦ (let t : is_later s w.0 l x.0 ≡ true = sym (ap (some_and (is_later s w.0 l)) x.1) ∙ w.2 in
-              let less : nat_lt x.0.number l.number ≡ true = (both_true (nat_lt x.0.number l.number) (carries_update s l) (both_true (l.receiver == w.0) _ t).1).0 in
+              let less : nat_lt x.0.number l.number ≡ true =
+              (both_true (nat_lt x.0.number l.number) (carries_update s l) (both_true (l.receiver == w.0) _ t).1).0 in
               let below = ltb-true _ _ less in
               let above = x.2 in
               absurd (omega (arith, below, above)))
@@ -184,10 +193,12 @@ pub served_itself_stays : ServedItselfStays
 served_itself_stays s l i j b h = elim (either_true (is_done_before s i l) (takes_itself s i l) h) [
   | inl d ↦ or_left (is_done_before s j l) (takes_itself s j l) (done_stays s l i j b d)
   | inr t ↦ or_right (is_done_before s j l) (takes_itself s j l)
-      (all_grow (λ r. not (sends_itself s l r) || is_taken s i.lines l r) (λ r. not (sends_itself s l r) || is_taken s j.lines l r) one (taken_needs s l) t)
+      (all_grow (λ r. not (sends_itself s l r) || is_taken s i.lines l r) (λ r. not (sends_itself s l r) || is_taken s j.lines l r) one
+      (taken_needs s l) t)
 ]
   where
-    one : (r : Reference) → (not (sends_itself s l r) || is_taken s i.lines l r) ≡ true → (not (sends_itself s l r) || is_taken s j.lines l r) ≡ true
+    one : (r : Reference) → (not (sends_itself s l r) || is_taken s i.lines l r) ≡ true
+        → (not (sends_itself s l r) || is_taken s j.lines l r) ≡ true
     one r e = elim (either_true (not (sends_itself s l r)) (is_taken s i.lines l r) e) [
       | inl x ↦ or_left (not (sends_itself s l r)) (is_taken s j.lines l r) x
       | inr x ↦ or_right (not (sends_itself s l r)) (is_taken s j.lines l r) (taken_stays s l r i j b.grows x)
@@ -203,7 +214,8 @@ due_before p s l i j g h =
     fewer [] e = e
     fewer (x ∷ new) e = fewer new (may_before s x (new ++ i.lines) l.receiver l e)
 
-some_more_accepted : (i j : Journal) → ((a : ℕ) → In a i.accepted → In a j.accepted) → not (is_empty i.accepted) ≡ true → not (is_empty j.accepted) ≡ true
+some_more_accepted : (i j : Journal) → ((a : ℕ) → In a i.accepted → In a j.accepted) → not (is_empty i.accepted) ≡ true
+    → not (is_empty j.accepted) ≡ true
 some_more_accepted i j more e = to j.accepted (of i.accepted more e)
   where
     of : (xs : List ℕ) → ((a : ℕ) → In a xs → In a j.accepted) → not (is_empty xs) ≡ true → (a : ℕ) × In a j.accepted
@@ -216,7 +228,8 @@ some_more_accepted i j more e = to j.accepted (of i.accepted more e)
 
 pub settled_stays : SettledStays
 settled_stays p s l i j g more h = elim (either_true (not (is_due_line p s i l)) (not (is_empty i.accepted)) h) [
-  | inl a ↦ or_left (not (is_due_line p s j l)) (not (is_empty j.accepted)) (by (is_due_line p s j l) refl (not_true (is_due_line p s i l) a))
+  | inl a ↦ or_left (not (is_due_line p s j l)) (not (is_empty j.accepted))
+      (by (is_due_line p s j l) refl (not_true (is_due_line p s i l) a))
   | inr a ↦ or_right (not (is_due_line p s j l)) (not (is_empty j.accepted)) (some_more_accepted i j more a)
 ]
   where
@@ -238,7 +251,8 @@ module _ (p : Point) (s : Scene) (i j : Journal) (b : Lasts s i j) where
     | inl y ↦ or_left (nat_le l.number n) (fine j l) y
     | inr y ↦ (let c = both_true (is_served s i l) (is_settled_line p s i l) y in
         or_right (nat_le l.number n) (fine j l)
-        (and_true (is_served s j l) (is_settled_line p s j l) (served_stays s l i j b c.0) (settled_stays p s l i j b.grows b.only_more c.1)))
+        (and_true (is_served s j l) (is_settled_line p s j l) (served_stays s l i j b c.0)
+        (settled_stays p s l i j b.grows b.only_more c.1)))
   ]
 
   -- the new lines have higher numbers
@@ -250,7 +264,8 @@ module _ (p : Point) (s : Scene) (i j : Journal) (b : Lasts s i j) where
       let number : x.number ≡ s.sent + length (xs ++ i.lines) + 1 = h.0.number_is in
       let many : length (xs ++ i.lines) ≡ length xs + length i.lines = length-append xs i.lines in
       and_true (since n j x) _ (elim (either_true (nat_le x.number (last_number s i)) (fine j x) c.0) [
-        | inl y ↦ (let less : x.number ≤ s.sent + length i.lines = is_at_most x.number (last_number s i) y in absurd (omega (arith, less, number, many)))
+        | inl y ↦ (let less : x.number ≤ s.sent + length i.lines = is_at_most x.number (last_number s i) y in absurd
+            (omega (arith, less, number, many)))
         | inr y ↦ or_right (nat_le x.number n) (fine j x) y
       ]) (both_stay n xs h.1 old c.1)
 

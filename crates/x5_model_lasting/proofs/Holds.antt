@@ -32,7 +32,8 @@ spent_stays most i j g e =
 
 -- ---- at hand
 
-abbrev at_hand_later : (p : Point) (s : Scene) (most : ℕ) (o : Hand) (i j : Journal) → AtHand p s o i → Keeps p s most o i j → AtHand p s o j
+abbrev at_hand_later : (p : Point) (s : Scene) (most : ℕ) (o : Hand) (i j : Journal) → AtHand p s o i → Keeps p s most o i j
+    → AtHand p s o j
 at_hand_later p s most o i j h k = record {
   line = h.line;
   receiver_is = h.receiver_is;
@@ -93,16 +94,20 @@ pub asked_apart : AskedApart
 asked_apart s o r rs agents i j g above by apart needed all other h =
     asked_stays s o r agents i j g above (λ l k. elim (by l k) [
       | inl old ↦ inl old
-      | inr x ↦ inr (λ agent carried. absurd (other (subst (λ (q : Reference). In q rs) (one l x.0 (all x.0 x.1) x.2 x.3 agent carried) x.1)))
+      | inr x ↦ inr (λ agent carried. absurd (other (subst (λ (q : Reference). In q rs)
+          (one l x.0 (all x.0 x.1) x.2 x.3 agent carried) x.1)))
     ]) h
   where
-    one : (l : Line) (q : Reference) → In q (needs (s.holdings o.receiver) o.message) → In l.receiver q.agents → IsCarried l.sender (line_for o) q l.message
+    one : (l : Line) (q : Reference) → In q (needs (s.holdings o.receiver) o.message) → In l.receiver q.agents
+        → IsCarried l.sender (line_for o) q l.message
         → In l.receiver r.agents → IsCarried l.sender (line_for o) r l.message → q ≡ r
     one l q k qa qc ra rc =
         let names : key_of q.target ≡ key_of r.target =
-        (key_decides (key_of q.target) (key_of l.message.target)).0 qc.target_is ∙ sym ((key_decides (key_of r.target) (key_of l.message.target)).0 rc.target_is) in
+        (key_decides (key_of q.target) (key_of l.message.target)).0 qc.target_is
+        ∙ sym ((key_decides (key_of r.target) (key_of l.message.target)).0 rc.target_is) in
         let steps : same_progress q.progress r.progress ≡ true =
-        subst (λ x. same_progress x r.progress ≡ true) qc.progress_is (subst (λ x. same_progress l.message.progress x ≡ true) rc.progress_is (progress_itself l.message.progress)) in
+        subst (λ x. same_progress x r.progress ≡ true) qc.progress_is
+        (subst (λ x. same_progress l.message.progress x ≡ true) rc.progress_is (progress_itself l.message.progress)) in
         apart.unlike q r l.receiver k needed ((key_decides (key_of q.target) (key_of r.target)).1 names) steps qa ra
 
 pub noted_stays : NotedStays
@@ -119,7 +124,8 @@ reply_stays p s most q k reply i j g more h same = record {
   heard = h.heard;
   back = heard_stays (λ l. l.number == k.number) q i j g h.back;
   stood = h.stood;
-  right = right_lasts p s (asked_line k h.stood) reply (is_spent most i) (is_spent most j) i j g more (spent_stays most i j g) same h.right;
+  right = right_lasts p s (asked_line k h.stood) reply (is_spent most i) (is_spent most j) i j g more
+      (spent_stays most i j g) same h.right;
   followed = h.followed;
   within = h.within;
 }
@@ -138,19 +144,24 @@ calm_stays p s most k i j b before = by before b.finished
         let c = both_true (nat_le x.number (last_number s i) || (is_served s j x && is_settled_line p s j x)) _ f in
         let number : x.number ≡ s.sent + length (xs ++ i.lines) + 1 = h.0.number_is in
         let many : length (xs ++ i.lines) ≡ length xs + length i.lines = length-append xs i.lines in
-        and_true (is_settled_line p s j x) _ (elim (either_true (nat_le x.number (last_number s i)) (is_served s j x && is_settled_line p s j x) c.0) [
-          | inl y ↦ (let less : x.number ≤ s.sent + length i.lines = is_at_most x.number (last_number s i) y in absurd (omega (arith, less, number, many)))
+        and_true (is_settled_line p s j x) _ (elim (either_true (nat_le x.number (last_number s i))
+        (is_served s j x && is_settled_line p s j x) c.0) [
+          | inl y ↦ (let less : x.number ≤ s.sent + length i.lines = is_at_most x.number (last_number s i) y in absurd
+              (omega (arith, less, number, many)))
           | inr y ↦ (both_true (is_served s j x) (is_settled_line p s j x) y).1
         ]) (new xs h.1 c.1 old)
 
     old_too : list_all (is_settled_line p s i) i.lines ≡ true → list_all (is_settled_line p s j) i.lines ≡ true
-    old_too f = all_in (is_settled_line p s j) i.lines (λ l k. settled_stays p s l i j b.grows b.only_more (of_all (is_settled_line p s i) l i.lines f k))
+    old_too f = all_in (is_settled_line p s j) i.lines (λ l k. settled_stays p s l i j b.grows b.only_more
+        (of_all (is_settled_line p s i) l i.lines f k))
 
-    by : (is_spent most i ≡ true) ⊎ (list_all (is_settled_line p s i) i.lines ≡ true) → (is_spent most j ≡ true) ⊎ (is_finished p s j (last_number s i) ≡ true)
+    by : (is_spent most i ≡ true) ⊎ (list_all (is_settled_line p s i) i.lines ≡ true)
+        → (is_spent most j ≡ true) ⊎ (is_finished p s j (last_number s i) ≡ true)
         → (is_spent most j ≡ true) ⊎ (list_all (is_settled_line p s j) j.lines ≡ true)
     by (inl x) y = inl (spent_stays most i j b.grows x)
     by (inr x) (inl y) = inl y
     by (inr x) (inr y) = inr
         (subst (λ (xs : List Line). list_all (is_settled_line p s j) xs ≡ true) (sym b.grows.1)
         (new b.grows.0 (subst (λ (xs : List Line). AllLicensed s xs) b.grows.1 b.licensed)
-        (subst (λ (xs : List Line). list_all (λ l. nat_le l.number (last_number s i) || (is_served s j l && is_settled_line p s j l)) xs ≡ true) b.grows.1 y) (old_too x)))
+        (subst (λ (xs : List Line). list_all (λ l. nat_le l.number (last_number s i) ||
+        (is_served s j l && is_settled_line p s j l)) xs ≡ true) b.grows.1 y) (old_too x)))

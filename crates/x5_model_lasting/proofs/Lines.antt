@@ -58,7 +58,8 @@ cleared_stays s number r a = grown (λ lines. is_cleared s lines number r a ≡ 
 passed_more : (s : Scene) (o : Line) (r : Reference) (a : ℕ) (l : Line) (lines : List Line)
     → is_passed s lines o r a ≡ true → is_passed s (l ∷ lines) o r a ≡ true
 passed_more s o r a l lines e = elim (either_true (is_in_vain s lines o r a) (is_wide r.kind && is_cleared s lines o.number r a) e) [
-  | inl v ↦ or_left (is_in_vain s (l ∷ lines) o r a) (is_wide r.kind && is_cleared s (l ∷ lines) o.number r a) (vain_grows s lines l o r a v)
+  | inl v ↦ or_left (is_in_vain s (l ∷ lines) o r a) (is_wide r.kind && is_cleared s (l ∷ lines) o.number r a)
+      (vain_grows s lines l o r a v)
   | inr c ↦ (let b = both_true (is_wide r.kind) (is_cleared s lines o.number r a) c in
       or_right (is_in_vain s (l ∷ lines) o r a) (is_wide r.kind && is_cleared s (l ∷ lines) o.number r a)
       (and_true (is_wide r.kind) (is_cleared s (l ∷ lines) o.number r a) b.0 (cleared_more s o.number r a l lines b.1)))
@@ -74,16 +75,21 @@ sent_more : (l : Line) (sender : Option ℕ) (r : Reference) (x : Line) (lines :
 sent_more l sender r x lines e = by (first_of r.agents) e
   where
     by : (o : Option ℕ)
-        → in_option true (λ a. some_line (λ e before. asks_by r a e && (same_sender e.sender sender && opened_by l.number before e)) lines) o ≡ true
-        → in_option true (λ a. some_line (λ e before. asks_by r a e && (same_sender e.sender sender && opened_by l.number before e)) (x ∷ lines)) o ≡ true
+        → in_option true (λ a. some_line (λ e before. asks_by r a e &&
+        (same_sender e.sender sender && opened_by l.number before e)) lines) o ≡ true
+        → in_option true (λ a. some_line (λ e before. asks_by r a e && (same_sender e.sender sender && opened_by l.number before e))
+        (x ∷ lines)) o ≡ true
     by None f = refl
     by (Some a) f = or_right _ _ f
 
-taken_more : (s : Scene) (l : Line) (r : Reference) (x : Line) (lines : List Line) → is_taken s lines l r ≡ true → is_taken s (x ∷ lines) l r ≡ true
+taken_more : (s : Scene) (l : Line) (r : Reference) (x : Line) (lines : List Line) → is_taken s lines l r ≡ true
+    → is_taken s (x ∷ lines) l r ≡ true
 taken_more s l r x lines e = by (sends_itself s l r) e
   where
-    by : (b : Bool) → (if b then is_sent_by lines l (Some l.receiver) r else not (sender_follows s l) || is_sent_by lines l l.sender r) ≡ true
-        → (if b then is_sent_by (x ∷ lines) l (Some l.receiver) r else not (sender_follows s l) || is_sent_by (x ∷ lines) l l.sender r) ≡ true
+    by : (b : Bool) → (if b then is_sent_by lines l (Some l.receiver) r else not
+        (sender_follows s l) || is_sent_by lines l l.sender r) ≡ true
+        → (if b then is_sent_by (x ∷ lines) l (Some l.receiver) r else not (sender_follows s l) || is_sent_by
+        (x ∷ lines) l l.sender r) ≡ true
     by true f = sent_more l (Some l.receiver) r x lines f
     by false f = elim (either_true (not (sender_follows s l)) (is_sent_by lines l l.sender r) f) [
       | inl g ↦ or_left (not (sender_follows s l)) (is_sent_by (x ∷ lines) l l.sender r) g

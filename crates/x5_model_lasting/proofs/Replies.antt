@@ -83,14 +83,16 @@ module _ (p : Point) (s : Scene) (q : Asked) (i j : Journal) (grows : Grows i j)
   master_stays (Some x) e = some_stays q.message.target (master_at p (key_of x.name)) e
 
   below_stays : (k a : ℕ) → hears_below q i.lines k a ≡ true → hears_below q j.lines k a ≡ true
-  below_stays k a = heard_stays (λ l. (l.receiver == a) && (same_progress l.message.progress (Next k) && is_for q.message.target l)) q i j grows
+  below_stays k a = heard_stays (λ l. (l.receiver == a) && (same_progress l.message.progress
+      (Next k) && is_for q.message.target l)) q i j grows
 
   nssr_stays : (o : Option Named) → hears_nssr p s q i.lines o ≡ true → hears_nssr p s q j.lines o ≡ true
   nssr_stays None e = refl
   nssr_stays (Some x) e = elim (either_true (same_name x.name q.message.target) _ e) [
     | inl h ↦ or_left (same_name x.name q.message.target) _ h
     | inr h ↦ or_right (same_name x.name q.message.target) _
-        (all_grow (hears_below q i.lines (length x.name + 1)) (hears_below q j.lines (length x.name + 1)) (below_stays (length x.name + 1)) (nssr_agents p s x) h)
+        (all_grow (hears_below q i.lines (length x.name + 1)) (hears_below q j.lines (length x.name + 1))
+        (below_stays (length x.name + 1)) (nssr_agents p s x) h)
   ]
 
   pin_stays : (name : Name) → hears_pin p s q i.lines name ≡ true → hears_pin p s q j.lines name ≡ true
@@ -121,7 +123,8 @@ module _ (p : Point) (s : Scene) (q : Asked) (i j : Journal) (grows : Grows i j)
   told_stays x e = elim (either_true (is_some (fault_of q.message.request.body)) _ e) [
     | inl h ↦ or_left (is_some (fault_of q.message.request.body)) _ h
     | inr h ↦ (let b = both_true (hears_master p q i.lines (lowest (tree_at p).entries (key_of q.message.target))) _ h in
-        let c = both_true (hears_nssr p s q i.lines (lowest (tree_at p).entries (key_of q.message.target))) (hears_taken p s q i.lines x) b.1 in
+        let c = both_true (hears_nssr p s q i.lines (lowest (tree_at p).entries (key_of q.message.target)))
+        (hears_taken p s q i.lines x) b.1 in
         or_right (is_some (fault_of q.message.request.body)) _
         (and_true (hears_master p q j.lines (lowest (tree_at p).entries (key_of q.message.target))) _
         (master_stays (lowest (tree_at p).entries (key_of q.message.target)) b.0)
@@ -171,7 +174,8 @@ module _ (p : Point) (s : Scene) (q : Asked) (i j : Journal) (grows : Grows i j)
   none_stays same e = ap (λ n. n == q.stood) same ∙ e
 
   same_count : (reply : Reply) → length j.accepted ≡ length i.accepted → Right p s q i reply → Right p s q j reply
-  same_count _ same (right.result on res query none) = right.result (came on) (result_stays p s q _ i j grows res) query (none_stays same none)
+  same_count _ same (right.result on res query none) = right.result (came on) (result_stays p s q _ i j grows res) query
+      (none_stays same none)
   same_count _ same (right.changed on update some) = right.changed (came on) update (changed_stays some)
   same_count _ same (right.error {x} on t o none) = right.error (came on) t (teller_stays p s q x i j grows o) (none_stays same none)
   same_count _ same (right.referral {r} u phase none) = right.referral (untried_stays s q r i j grows u) phase (none_stays same none)
@@ -181,7 +185,8 @@ module _ (p : Point) (s : Scene) (q : Asked) (i j : Journal) (grows : Grows i j)
         | inr e ↦ or_right (accepts_none q j) (not (heard_whole j.lines)) (loss_stays e)
       ])
 
-  is_changed : (reply : Reply) → reply ≡ Answered Changed → is_update q.message.request.body ≡ true → Right p s q i reply → Right p s q j reply
+  is_changed : (reply : Reply) → reply ≡ Answered Changed → is_update q.message.request.body ≡ true → Right p s q i reply
+      → Right p s q j reply
   is_changed _ same update (right.result on res query none) = (let f = not_true (is_update q.message.request.body) query in cc)
   is_changed _ same update (right.changed on known some) = right.changed (came on) update (changed_stays some)
   is_changed _ same update (right.error {x} on t o none) = cc
@@ -221,4 +226,5 @@ right_lasts p s q reply spent later i j g more spend same r = by reply same r
     ])
 
 pub right_stays : RightStays
-right_stays p s q j l spent reply r = right_lasts p s q reply spent spent j (record j { lines = l ∷ j.lines }) (l ∷ [], refl) (λ a i. i) (λ e. e) (inl refl) r
+right_stays p s q j l spent reply r = right_lasts p s q reply spent spent j (record j { lines = l ∷ j.lines }) (l ∷ [], refl) (λ a i. i)
+    (λ e. e) (inl refl) r

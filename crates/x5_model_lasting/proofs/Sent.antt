@@ -37,15 +37,17 @@ asked_sent s from o r a before i j g above last h = record {
       | inr none ↦ elim none [ ]
     ]
   ];
-  only = λ x k agent carried. elim (in_first x (next_line s i from o r a) (siblings (depth_at o) i.lines) (subst (λ (xs : List Line). In x xs) (sibling s from o r a i j above) k)) [
-    | inl same ↦ subst (λ y. In y (before ++ a ∷ [])) (sym (ap (λ (y : Line). y.receiver) same)) (in_right a before (a ∷ []) here)
-    | inr old ↦ in_left x.receiver before (a ∷ []) (h.only x old agent carried)
-  ];
+  only = λ x k agent carried. elim (in_first x (next_line s i from o r a) (siblings (depth_at o) i.lines)
+      (subst (λ (xs : List Line). In x xs) (sibling s from o r a i j above) k)) [
+        | inl same ↦ subst (λ y. In y (before ++ a ∷ [])) (sym (ap (λ (y : Line). y.receiver) same)) (in_right a before (a ∷ []) here)
+        | inr old ↦ in_left x.receiver before (a ∷ []) (h.only x old agent carried)
+      ];
 }
 
 pub only_one_sent : OnlyOneSent
 only_one_sent s from o r a i j agent above x k =
-    elim (in_first x (next_line s i from o r a) (siblings (depth_at o) i.lines) (subst (λ (xs : List Line). In x xs) (sibling s from o r a i j above) k)) [
+    elim (in_first x (next_line s i from o r a) (siblings (depth_at o) i.lines)
+    (subst (λ (xs : List Line). In x xs) (sibling s from o r a i j above) k)) [
       | inl same ↦ inr (
         r,
         here,
