@@ -8,7 +8,7 @@ use Rattle.std.proofs.lemmas.Bool.Decides.{leb_tells}
 use Rattle.x5_model.specs.Words.{is_empty, some_and}
 use Rattle.x5_model.specs.Members.{In, here}
 use Rattle.x5_model.specs.References.{Reference}
-use Rattle.x5_model.proofs.Lists.{both_true, and_true, either_true, not_true, or_left, or_right, of_find, of_any, any_in, of_all, all_in}
+use Rattle.x5_model.proofs.Lists.{in_first, both_true, and_true, either_true, not_true, or_left, or_right, of_find, of_any, any_in, of_all, all_in}
 use Rattle.x5_model_tree.specs.Ask.{is_update}
 use Rattle.x5_model_run.specs.Network.{arrives, is_unheard, is_sent}
 use Rattle.x5_model_run.specs.Journal.{Line, Journal, depth, some_line, leads_up, is_reached}
@@ -20,7 +20,7 @@ use Rattle.x5_model_run.specs.Right.{is_accepted_right}
 use Rattle.x5_model_run.specs.Thorough.{is_served, is_taken, taken_needs, sends_itself}
 use Rattle.x5_model_run.proofs.Growing.{all_grow}
 use Rattle.x5_model_serve.specs.Claims.{Grows, Accepted, last_number, is_due_line, is_settled_line, takes_itself}
-use Rattle.x5_model_lasting.specs.Lasting.{AcceptingStays, LineLeavesThem, Lasts, AcceptedStays, DoneStays, NotDoneStays, ServedStays, ServedItselfStays, SettledStays, FinishedStays}
+use Rattle.x5_model_lasting.specs.Lasting.{AcceptingStays, LineLeavesThem, Lasts, AcceptedStays, DoneStays, NotDoneStays, ServedStays, ServedItselfStays, SettledStays, FinishedStays, ThoroughStays, FinishedIsThorough}
 use Rattle.x5_model_lasting.proofs.Lines.{grown, taken_stays}
 
 pub at_most : (a b : ℕ) → a ≤ b → nat_le a b ≡ true
@@ -275,3 +275,31 @@ finished_stays p s n i j b licensed old new =
     (both_stay p s i j b n b.grows.0 (subst (λ (xs : List Line). AllLicensed s xs) b.grows.1 licensed)
     (all_grow (since p s i j b n i) (since p s i j b n j) (one_stays p s i j b n) i.lines old)
     (subst (λ (xs : List Line). list_all (since p s i j b (last_number s i) j) xs ≡ true) b.grows.1 new))
+
+pub thorough_stays : ThoroughStays
+thorough_stays s i j b new h = all_in (is_served s j) j.lines (λ l k. elim (new l k) [
+  | inl old ↦ served_stays s l i j b (of_all (is_served s i) l i.lines h old)
+  | inr e ↦ e
+])
+
+pub finished_is_thorough : FinishedIsThorough
+finished_is_thorough p s j licensed h = (
+  all_in (is_served s j) j.lines (λ l k. (both_true (is_served s j l) (is_settled_line p s j l) (each l k)).0),
+  all_in (is_settled_line p s j) j.lines (λ l k. (both_true (is_served s j l) (is_settled_line p s j l) (each l k)).1),
+)
+  where
+    -- each line has a number above those that were sent before
+    above : (lines : List Line) → AllLicensed s lines → (l : Line) → In l lines → s.sent + 1 ≤ l.number
+    above [] a l k = elim k [ ]
+    above (x ∷ lines) a l k = elim (in_first l x lines k) [
+      | inl same ↦ subst (λ (y : Line). s.sent + 1 ≤ y.number) (sym same)
+          (let number : x.number ≡ s.sent + length lines + 1 = a.0.number_is in omega (arith, number))
+      | inr old ↦ above lines a.1 l old
+    ]
+
+    each : (l : Line) → In l j.lines → (is_served s j l && is_settled_line p s j l) ≡ true
+    each l k = elim (either_true (nat_le l.number s.sent) (is_served s j l && is_settled_line p s j l)
+        (of_all (λ x. nat_le x.number s.sent || (is_served s j x && is_settled_line p s j x)) l j.lines h k)) [
+          | inl e ↦ (let less = is_at_most l.number s.sent e in let more = above j.lines licensed l k in absurd (omega (arith, less, more)))
+          | inr e ↦ e
+        ]

@@ -1,6 +1,7 @@
 -- What is said of messages and replies stays said where lines are added to a journal (X.518, sections 10 and 17 to 20):
 -- who was heard, asked in vain or passed; what is lost; which reply is right; which line is served and settled.
 use Rattle.std.specs.Prelude.{◌≡◌, ℕ, ◌≤◌, ◌⊎◌, Bool, true, false, IsTrue, List, [], length}
+use Rattle.std.specs.List.{list_all}
 use Rattle.std.specs.declared.option.Option.TheVariants.{Some}
 use Rattle.x5_model.specs.Members.{In}
 use Rattle.x5_model.specs.References.{Reference}
@@ -15,7 +16,7 @@ use Rattle.x5_model_run.specs.Covers.{told}
 use Rattle.x5_model_run.specs.Blocked.{Asked, hears_by, IsUntried, IsLost, Blocked}
 use Rattle.x5_model_run.specs.Right.{IsResult, is_told, heard_whole}
 use Rattle.x5_model_run.specs.Placed.{RightReply}
-use Rattle.x5_model_run.specs.Thorough.{is_served, is_taken}
+use Rattle.x5_model_run.specs.Thorough.{is_served, is_taken, Thorough}
 use Rattle.x5_model_serve.specs.Answering.{is_service}
 use Rattle.x5_model_serve.specs.Serving.{with_line}
 use Rattle.x5_model_serve.specs.Claims.{Grows, Accepted, last_number, is_settled_line, is_served_itself, is_finished}
@@ -169,3 +170,16 @@ FinishedStays =
     (p : Point) (s : Scene) (n : ℕ) (i j : Journal)
     → Lasts s i j → AllLicensed s j.lines → IsTrue (is_finished p s i n) → IsTrue (is_finished p s j (last_number s i))
     → IsTrue (is_finished p s j n)
+
+-- So a journal that is thorough is so still, if each line that is added is served.
+abbrev pub ThoroughStays : Type 0
+ThoroughStays =
+    (s : Scene) (i j : Journal)
+    → Lasts s i j → ((l : Line) → In l j.lines → In l i.lines ⊎ (is_served s j l ≡ true)) → Thorough s i → Thorough s j
+
+-- Where all lines since the request began are finished, the journal is thorough, and each line is settled.
+abbrev pub FinishedIsThorough : Type 0
+FinishedIsThorough =
+    (p : Point) (s : Scene) (j : Journal)
+    → AllLicensed s j.lines → IsTrue (is_finished p s j s.sent)
+    → Thorough s j × IsTrue (list_all (is_settled_line p s j) j.lines)

@@ -3,7 +3,7 @@
 #![tactic(auto)]
 
 ghost use Rattle.x5_model_serve.specs.Induction.{RightStays};
-ghost use Rattle.x5_model_lasting.specs.Lasting.{HeardStays, SomeLineStays, InVainStays, ClearedStays, PassedStays, TakenStays, UntriedStays, LostStays, BlockedStays, ResultStays, TellerStays, RightLasts, AcceptingStays, LineLeavesThem, AcceptedStays, DoneStays, NotDoneStays, ServedStays, ServedItselfStays, SettledStays, FinishedStays};
+ghost use Rattle.x5_model_lasting.specs.Lasting.{HeardStays, SomeLineStays, InVainStays, ClearedStays, PassedStays, TakenStays, UntriedStays, LostStays, BlockedStays, ResultStays, TellerStays, RightLasts, AcceptingStays, LineLeavesThem, AcceptedStays, DoneStays, NotDoneStays, ServedStays, ServedItselfStays, SettledStays, FinishedStays, ThoroughStays, FinishedIsThorough};
 ghost use Rattle.x5_model_lasting.specs.Keeping.{KeepsLasts, SpentStays, AtHandStays, AtMasterStays, MayTakeStays, AskedStays, AskedApart, NotedStays, ReplyStays, CalmStays, KeepsItself, KeepsBoth, KeepsLost, KeepsSent, KeepsAccepting, AskedSent, OnlyOneSent, OnlyByBoth};
 
 /// Who was heard, asked in vain, cleared or passed is so still, what was taken is taken, and what blocks a reference blocks it
@@ -40,6 +40,8 @@ pub fn completing()
     ensures itself { ServedItselfStays }
     ensures settled { SettledStays }
     ensures finished { FinishedStays }
+    ensures thorough { ThoroughStays }
+    ensures all { FinishedIsThorough }
 {}
 
 /// What holds of the message at hand before something is done for it holds after it: that it is at hand, who may send for it,

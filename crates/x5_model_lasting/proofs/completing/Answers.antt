@@ -1,4 +1,4 @@
-use Rattle.x5_model_lasting.proofs.Finishing.{accepting_stays, line_leaves_them, accepted_stays, done_stays, not_done_stays, served_stays, served_itself_stays, settled_stays, finished_stays}
+use Rattle.x5_model_lasting.proofs.Finishing.{accepting_stays, line_leaves_them, accepted_stays, done_stays, not_done_stays, served_stays, served_itself_stays, settled_stays, finished_stays, thorough_stays, finished_is_thorough}
 use Rattle.x5_model_lasting.proofs.completing.Goals as goal
 
 pub returns-clause-accepting : goal.returns-clause-accepting
@@ -27,3 +27,9 @@ returns-clause-finished c = finished_stays
 
 pub returns-clause-not_done : goal.returns-clause-not_done
 returns-clause-not_done c = not_done_stays
+
+pub returns-clause-thorough : goal.returns-clause-thorough
+returns-clause-thorough c = thorough_stays
+
+pub returns-clause-all : goal.returns-clause-all
+returns-clause-all c = finished_is_thorough
