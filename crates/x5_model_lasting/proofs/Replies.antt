@@ -1,6 +1,6 @@
 -- A right reply stays right, by its cases: who was heard is heard still, what is blocked is blocked, and what it says of
 -- acceptance is said by the premise.
-use Rattle.std.proofs.Common.{◌≡◌, ℕ, ◌+◌, Bool, true, false, not, ◌&&◌, ◌||◌, ◌==◌, inl, inr, List, [], ◌∷◌, length, refl, ap, ◌∙◌, Option, Some, None}
+use Rattle.std.proofs.Common.{◌≡◌, ℕ, ◌+◌, Bool, true, false, not, ◌&&◌, ◌||◌, ◌==◌, inl, inr, List, [], ◌∷◌, length, refl, sym, ap, ◌∙◌, Option, Some, None}
 use Rattle.std.specs.List.{list_any, AllByRecursion}
 use Rattle.std.specs.Option.{is_some}
 use Rattle.std.proofs.lemmas.Bool.Decides.{Decides-eqb}
@@ -10,7 +10,7 @@ use Rattle.x5_model.specs.Values.{Name, key_of}
 use Rattle.x5_model.specs.Entries.{Named}
 use Rattle.x5_model.specs.References.{Next, Reference}
 use Rattle.x5_model.specs.Answers.{Source, Changed, DirError, NoSuchObject, AttributeProblem, UpdateProblem, ServiceProblem, Reply, Answered}
-use Rattle.x5_model.specs.Problems.{entry_already_exists, unavailable}
+use Rattle.x5_model.specs.Problems.{entry_already_exists, unavailable, unable_to_proceed, administrative_limit_exceeded}
 use Rattle.x5_model.specs.Statics.{fault_of}
 use Rattle.x5_model.proofs.Lists.{both_true, and_true, either_true, not_true, or_left, or_right, has_in, of_has}
 use Rattle.x5_model_tree.specs.Tree.{lowest}
@@ -28,10 +28,10 @@ use Rattle.x5_model_run.specs.Right.{master_at, is_holder, is_source, is_found, 
 use Rattle.x5_model_run.specs.Placed as placed
 use Rattle.x5_model_run.specs.Placed.{is_long, RightReply}
 use Rattle.x5_model_run.proofs.Growing.{all_grow}
-use Rattle.x5_model_serve.specs.Answering.{is_service}
+use Rattle.x5_model_serve.specs.Answering.{is_service, is_unavailable}
 use Rattle.x5_model_serve.specs.Claims.{Grows}
 use Rattle.x5_model_serve.specs.Induction.{RightStays}
-use Rattle.x5_model_lasting.specs.Lasting.{ResultStays, TellerStays, Unaltered, RightLasts}
+use Rattle.x5_model_lasting.specs.Lasting.{ResultStays, TellerStays, IsSilent, Unaltered, RightLasts}
 use Rattle.x5_model_lasting.proofs.Lines.{grown, some_more, heard_stays, untried_stays, lost_stays, blocked_stays}
 
 -- ---- results
@@ -137,6 +137,9 @@ teller_stays p s q x i j g = told_stays p s q i j g x
 
 -- ---- right replies
 
+true_false : {X : Type 0} (b : Bool) → b ≡ true → b ≡ false → X
+true_false b e f = (let g : true ≡ false = sym e ∙ f in cc)
+
 module _ (p : Point) (s : Scene) (q : Asked) (i j : Journal) (grows : Grows i j) (more : (a : ℕ) → In a i.accepted → In a j.accepted) where
   has_more : (a : ℕ) → has ◌==◌ i.accepted a ≡ true → has ◌==◌ j.accepted a ≡ true
   has_more a e = has_in ◌==◌ Decides-eqb a j.accepted (more a (of_has ◌==◌ Decides-eqb a i.accepted e))
@@ -193,19 +196,30 @@ module _ (p : Point) (s : Scene) (q : Asked) (i j : Journal) (grows : Grows i j)
   is_changed _ same update (right.referral {r} u phase none) = cc
   is_changed _ same update (right.unheard {r} l phase none) = cc
 
-  is_unavailable_still : (reply : Reply) → is_service unavailable reply ≡ true → heard_whole j.lines ≡ false
-      → ((x : DirError) → told (λ key. false) (tree_at p) q.message ≡ Refuses x → ⊥) → Right p s q i reply → Right p s q j reply
-  is_unavailable_still _ is loss no_error (right.result on res query none) = cc
-  is_unavailable_still _ is loss no_error (right.changed on update some) = right.changed (came on) update (changed_stays some)
-  is_unavailable_still _ is loss no_error (right.error {x} on t o none) = absurd (no_error x t)
-  is_unavailable_still _ is loss no_error (right.referral {r} u phase none) = cc
-  is_unavailable_still _ is loss no_error (right.unheard {r} l phase none) =
-      right.unheard (lost_stays s q r i j grows l) phase (or_right (accepts_none q j) (not (heard_whole j.lines)) (ap not loss))
+  is_silent_still : (reply : Reply) → IsSilent reply j → ((x : DirError) → told (λ key. false) (tree_at p) q.message ≡ Refuses x → ⊥)
+      → Right p s q i reply → Right p s q j reply
+  is_silent_still _ silent no_error (right.result on res query none) = absurd (elim silent [
+    | inl u ↦ true_false false u.0 refl
+    | inr u ↦ elim u [ inl e ↦ true_false false e refl | inr e ↦ true_false false e refl ]
+  ])
+  is_silent_still _ silent no_error (right.changed on update some) = right.changed (came on) update (changed_stays some)
+  is_silent_still _ silent no_error (right.error {x} on t o none) = absurd (no_error x t)
+  is_silent_still _ silent no_error (right.referral {r} u phase none) = absurd (elim silent [
+    | inl v ↦ true_false false v.0 refl
+    | inr v ↦ elim v [ inl e ↦ true_false false e refl | inr e ↦ true_false false e refl ]
+  ])
+  is_silent_still _ silent no_error (right.unheard {r} l phase none) = elim silent [
+    | inl v ↦ right.unheard (lost_stays s q r i j grows l) phase (or_right (accepts_none q j) (not (heard_whole j.lines)) (ap not v.1))
+    | inr v ↦ elim v [
+      | inl e ↦ true_false (is_service unable_to_proceed (is_unavailable r)) e refl
+      | inr e ↦ true_false (is_service administrative_limit_exceeded (is_unavailable r)) e refl
+    ]
+  ]
 
   pub right_lasts_by : (reply : Reply) → Unaltered p q reply i j → Right p s q i reply → Right p s q j reply
   right_lasts_by reply (inl same) r = same_count reply same r
   right_lasts_by reply (inr (inl e)) r = is_changed reply e.0 e.1 r
-  right_lasts_by reply (inr (inr x)) r = is_unavailable_still reply x.0 x.1 x.2 r
+  right_lasts_by reply (inr (inr x)) r = is_silent_still reply x.0 x.1 r
 
   long_stays : is_long q i.lines ≡ true → is_long q j.lines ≡ true
   long_stays e = elim (either_true (length q.message.trace == 128) (list_any (λ l. depth l == 128) i.lines) e) [

@@ -6,7 +6,7 @@ use Rattle.std.specs.declared.option.Option.TheVariants.{Some}
 use Rattle.x5_model.specs.Members.{In}
 use Rattle.x5_model.specs.References.{Reference}
 use Rattle.x5_model.specs.Answers.{Answer, Changed, DirError, Reply, Answered}
-use Rattle.x5_model.specs.Problems.{unavailable}
+use Rattle.x5_model.specs.Problems.{unavailable, unable_to_proceed, administrative_limit_exceeded}
 use Rattle.x5_model_tree.specs.Ask.{Refuses, is_update}
 use Rattle.x5_model_run.specs.Journal.{Line, Journal, some_line}
 use Rattle.x5_model_run.specs.History.{Point, tree_at}
@@ -83,15 +83,21 @@ TellerStays =
     → Grows i j → is_told p s q i.lines x ≡ true → is_told p s q j.lines x ≡ true
 
 -- ---- replies
+-- Replies that say nothing of acceptance once a reply was lost, or never: `unavailable`, or that the receiver is unable to
+-- proceed or at a limit.
+abbrev pub IsSilent : Reply → Journal → Type 0
+IsSilent reply j =
+    ((is_service unavailable reply ≡ true) × (heard_whole j.lines ≡ false))
+    ⊎ ((is_service unable_to_proceed reply ≡ true) ⊎ (is_service administrative_limit_exceeded reply ≡ true))
+
 -- What a right reply says of acceptance stays: as many accepted; or an update is answered `changed`, which says that
--- somebody did; or it is `unavailable`, some reply was lost, and the tree has no error for the message, as once an
--- update was accepted. Any other reply that was right is right no longer where one more accepts.
+-- somebody did; or the reply says nothing of it, and the tree has no error for the message, as once an update was
+-- accepted. A result, an error or a referral that was right is right no longer where one more accepts.
 abbrev pub Unaltered : Point → Asked → Reply → Journal → Journal → Type 0
 Unaltered p q reply i j =
     (length j.accepted ≡ length i.accepted)
     ⊎ (((reply ≡ Answered Changed) × (is_update q.message.request.body ≡ true))
-    ⊎ ((is_service unavailable reply ≡ true) × (heard_whole j.lines ≡ false)
-    × ((x : DirError) → told (λ key. false) (tree_at p) q.message ≡ Refuses x → ⊥)))
+    ⊎ (IsSilent reply j × ((x : DirError) → told (λ key. false) (tree_at p) q.message ≡ Refuses x → ⊥)))
 
 -- A right reply stays right where lines are added, and accepting agents, if what it says of these stays. With the same
 -- accepting agents no more is asked (`RightStays` of x5_model_serve is this for one line): that a reply was lost
