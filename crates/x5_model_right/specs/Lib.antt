@@ -1,3 +1,4 @@
+pub mod Journeys
 pub mod Kept
 pub mod Claim
 pub mod Served
