@@ -1,2 +1,4 @@
 pub mod Kept
+pub mod Journeys
+pub mod Adding
 pub mod Induction
