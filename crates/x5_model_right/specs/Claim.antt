@@ -31,7 +31,7 @@ use Rattle.x5_model_serve.specs.Finding.{Onward, IsLooked, find}
 use Rattle.x5_model_serve.specs.Serving.{Hand, line_for, Heard, Unheard, Hears, Gathered, Whole, Broken, Act, Serves, Follows, Sends, Tries, Takes, Spreads, Casts, Gathers, Probes, Updates, holds_now, is_idle, is_final, is_spent}
 use Rattle.x5_model_serve.specs.Claims.{asked_line, serving_of, line_at, LiesWithin, is_settled_line, is_served_itself, depth_at, AtHand, MayTake, AskedSoFar, NotedSoFar, OnlyBy, SoFar, HeardRight, TakenRight, IsSpentReply, MayGather, GatheredRight, AtMaster}
 use Rattle.x5_model_bounds.specs.Bounds.{IsLeft}
-use Rattle.x5_model_right.specs.Kept.{asks_update, KeepsAll, Rests, Comes, is_sent_to, Meanwhile}
+use Rattle.x5_model_right.specs.Kept.{AtOnce, asks_update, KeepsAll, Rests, Comes, is_sent_to, Meanwhile}
 
 -- ---- serving
 -- The serving of a message, brought by the line e: the reply is right for it; what the agent takes itself is taken, the
@@ -67,6 +67,7 @@ pub record MayFollow (p : Point) (s : Scene) (most stood : ℕ) (e : Line) (from
   pub sender_is : e.sender ≡ from
   pub right : RightReply p s (asked_line (line_at k e.number) stood) i (is_spent most i) reply
   pub within : LiesWithin p (asked_line (line_at k e.number) stood) reply
+  pub at_once : AtOnce s i
   pub own :
       is_spent most i ≡ true
       ⊎ (IsTrue (is_served_itself s i e) × (is_final reply ≡ true → IsTrue (is_served s i e)))
@@ -88,7 +89,7 @@ pub record FollowedRight (p : Point) (s : Scene) (most stood : ℕ) (e : Line) (
 abbrev pub FollowsRight : Point → Scene → ℕ → Option ℕ → Hand → Reply → Reply → Journal → Journal → Type 0
 FollowsRight p s most from k reply last i j =
     (stood : ℕ) (at : AtHand p s k i) → MayFollow p s most stood at.line from k reply i
-    → Rests p s most at.line (is_update k.message.request.body) i
+    → (is_final reply ≡ false → Rests p s most at.line (is_update k.message.request.body) i)
     → FollowedRight p s most stood at.line k last i j
 
 -- ---- one message
