@@ -1,0 +1,9 @@
+pub mod Same
+pub mod Results
+pub mod Errors
+pub mod Back
+pub mod Queries
+pub mod Silence
+pub mod Taking
+pub mod Nobody
+pub mod Unsure
