@@ -121,7 +121,7 @@ read_part wide t (RemoveEntry name) u = cc
 read_part wide t (ModifyEntry name changes) u = cc
 read_part wide t (ModifyDn name rdn drops) u = cc
 
-read_asks : (from : Option ℕ) (o : Hand) (r : Reference) → (operation_of o.message.request.body == 1) ≡ true → (operation_of (carried_for from o r).request.body == 1) ≡ true
+pub read_asks : (from : Option ℕ) (o : Hand) (r : Reference) → (operation_of o.message.request.body == 1) ≡ true → (operation_of (carried_for from o r).request.body == 1) ≡ true
 read_asks from o r u = by (is_probe o.message.request.body r.target) (asks_part r)
   where
     by : (b c : Bool) → (operation_of (form o.message.request (is_user from) r.target r b c).body == 1) ≡ true

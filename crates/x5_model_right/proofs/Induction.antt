@@ -19,7 +19,7 @@ module _ (c : Constructors) (p : Point) (s : Scene) (most : ℕ) (g : Ground p s
   claimed _ _ _ (nowhere {k} {j} n a e) = c.serving.is_nowhere p s most k j n g a e
   claimed _ _ _ (refers {k} {j} r a e f) = c.serving.refers p s most k j r g a e f
   claimed _ _ _ (goes {k} {i} {j} r h a e f w d) =
-      let q = claimed _ _ _ d in c.serving.goes c.passes_back p s most k i j r h g a e f w d q
+      let q = claimed _ _ _ d in c.serving.goes p s most k i j r h g a e f w d q
   claimed _ _ _ (casts {k} {i} {j} r y a e f w d) =
       let q = claimed _ _ _ d in c.serving.goes_wide p s most k i j r y g a e f w d q
   claimed _ _ _ (reads {k} {j} x a e f h) = c.serving.reads p s most k j x g a e f h
@@ -66,7 +66,7 @@ module _ (c : Constructors) (p : Point) (s : Scene) (most : ℕ) (g : Ground p s
       c.sending.is_heard p s most from o r i j l a y z g e f d q u t
   claimed _ _ _ (final {from} {k} {j} y e) = c.sending.is_final p s most from k j y g e
   claimed _ _ _ (referral {from} {k} {i} {j} r h e d) =
-      let q = claimed _ _ _ d in c.sending.referral c.passes_back p s most from k i j r h g e d q
+      let q = claimed _ _ _ d in c.sending.referral p s most from k i j r h g e d q
   claimed _ _ _ (wide_referral {from} {k} {i} {j} r y e d) =
       let q = claimed _ _ _ d in c.sending.wide_referral p s most from k i j r y g e d q
   claimed _ _ _ (unexplored {from} {k} {i} {j} a w e d) =
@@ -94,7 +94,7 @@ module _ (c : Constructors) (p : Point) (s : Scene) (most : ℕ) (g : Ground p s
   claimed _ _ _ (answered {from} {o} {r} {i} {j} {l} b v n a y e f d u) =
       let q = claimed _ _ _ d in
       let t = claimed _ _ _ u in
-      c.casting.is_answered c.passes_back p s most from o r i j l b v n a y g e f d q u t
+      c.casting.is_answered p s most from o r i j l b v n a y g e f d q u t
   claimed _ _ _ (nobody_has {from} {o} {r} {i} {j} d) =
       let q = claimed _ _ _ d in c.casting.nobody_has p s most from o r i j g d q
   claimed _ _ _ (some_silent {from} {o} {r} {i} {j} n e d) =

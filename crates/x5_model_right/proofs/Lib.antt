@@ -4,4 +4,6 @@ pub mod Adding
 pub mod Sending
 pub mod Messages
 pub mod Taking
+pub mod Finding
+pub mod Onward
 pub mod Induction

@@ -143,7 +143,7 @@ read_chains user asked t r before = by (is_probe asked.body t) (asks_part r)
     by false true e = both_off user asked.controls.nochain (before (unread_part (is_wide r.kind) t asked.body e))
     by false false e = before e
 
-read_kept : (user : Bool) (asked : Request) (t : Name) (r : Reference) → (operation_of asked.body == 1) ≡ true → (operation_of (request_for user asked t r).body == 1) ≡ true
+pub read_kept : (user : Bool) (asked : Request) (t : Name) (r : Reference) → (operation_of asked.body == 1) ≡ true → (operation_of (request_for user asked t r).body == 1) ≡ true
 read_kept user asked t r read = by (is_probe asked.body t) (asks_part r)
   where
     by : (b c : Bool) → (operation_of (form asked user t r b c).body == 1) ≡ true

@@ -12,7 +12,6 @@ use Rattle.x5_model.specs.Answers.{NoSuchObject, Reply, Failed}
 use Rattle.x5_model.specs.Problems.{unable_to_proceed}
 use Rattle.x5_model_serve.specs.Answering.{above_next, is_service, of_these, is_unavailable}
 use Rattle.x5_model_serve.specs.Serving.{Hand, Unheard, Hears, Sends, Spreads, Does}
-use Rattle.x5_model_serve.specs.Induction.{PassesBack}
 use Rattle.x5_model_right.specs.Claim.{SendsRight, SpreadsRight, CastsRight}
 
 -- none was asked yet
@@ -44,7 +43,6 @@ SilentToo =
 -- the next one replies anything else, and that is the reply
 abbrev pub IsAnswered : Type 0
 IsAnswered =
-    PassesBack →
     (p : Point) (s : Scene) (most : ℕ) (from : Option ℕ) (o : Hand) (r : Reference) (i j l : Journal)
     (before after noted : List ℕ) (a : ℕ) (reply : Reply)
     → Ground p s → r.agents ≡ before ++ a ∷ after → is_service unable_to_proceed reply ≡ false

@@ -14,7 +14,6 @@ use Rattle.x5_model_run.specs.Right.{AnswersRight}
 use Rattle.x5_model_run.specs.Thorough.{Thorough}
 use Rattle.x5_model_serve.specs.Serving.{Act, Does, IsRequest}
 use Rattle.x5_model_serve.specs.Claims.{Setting}
-use Rattle.x5_model_serve.specs.Induction.{PassesBack}
 use Rattle.x5_model_right.specs.Kept.{Ground}
 use Rattle.x5_model_right.specs.Claim.{Claim}
 use Rattle.x5_model_right.specs.Served.{ServingCases}
@@ -26,7 +25,6 @@ use Rattle.x5_model_right.specs.Gathered.{GatheringCases}
 
 -- the cases that are lemmas of their own
 pub record Constructors : Type 0 where
-  pub passes_back : PassesBack
   pub serving : ServingCases
   pub updating : UpdatingCases
   pub sending : SendingCases

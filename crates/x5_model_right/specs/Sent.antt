@@ -12,7 +12,6 @@ use Rattle.x5_model_run.specs.Network.{Lost, NoReply, Sent}
 use Rattle.x5_model_run.specs.Journal.{is_wide}
 use Rattle.x5_model_serve.specs.Answering.{only_unexplored, to_follow, passed_by, in_vain, is_unavailable}
 use Rattle.x5_model_serve.specs.Serving.{Hand, hand, Heard, Unheard, Hears, Gathered, Serves, Follows, Takes, Casts, Gathers, Does, carried_for, next_line, with_line, is_spent, is_final, gathered_reply, limit_reply, heard_or}
-use Rattle.x5_model_serve.specs.Induction.{PassesBack}
 use Rattle.x5_model_right.specs.Claim.{ServesRight, FollowsRight, SendsRight, TakesRight, CastsRight, GathersRight}
 
 -- no message is left
@@ -58,7 +57,6 @@ IsFinal =
 -- a referral is followed
 abbrev pub Referral : Type 0
 Referral =
-    PassesBack →
     (p : Point) (s : Scene) (most : ℕ) (from : Option ℕ) (k : Hand) (i j : Journal) (r : Reference) (h : Heard)
     → Ground p s → is_wide r.kind ≡ false
     → Does s most (Takes from k r h) i j → TakesRight p s most from k r h i j

@@ -19,7 +19,6 @@ use Rattle.x5_model_run.specs.Placed.{fits}
 use Rattle.x5_model_serve.specs.Finding.{Here, CopyHere, Onward, Nowhere, Stuck}
 use Rattle.x5_model_serve.specs.Answering.{reply_in_own, reply_in_copy, local_part, with_unexplored, in_vain, is_unavailable}
 use Rattle.x5_model_serve.specs.Serving.{Hand, Heard, Gathered, Takes, Casts, Gathers, Updates, Does, Arrives, holds_now, is_idle, is_looped, is_too_long, is_done_here, found_at, asked_by, begins_parts, stuck_problem, parts_refs, at_limit, gathered_reply, limit_reply, heard_or}
-use Rattle.x5_model_serve.specs.Induction.{PassesBack}
 use Rattle.x5_model_right.specs.Claim.{ServesRight, UpdatesRight, TakesRight, CastsRight, GathersRight}
 
 -- an agent finds its own item in the trace
@@ -83,7 +82,6 @@ Refers =
 -- any other asks the agents of the reference
 abbrev pub Goes : Type 0
 Goes =
-    PassesBack →
     (p : Point) (s : Scene) (most : ℕ) (k : Hand) (i j : Journal) (r : Reference) (h : Heard)
     → Ground p s → Arrives s k i → found_at s i k ≡ Onward r → is_idle s k ≡ false → is_wide r.kind ≡ false
     → Does s most (Takes (Some k.receiver) k r h) i j → TakesRight p s most (Some k.receiver) k r h i j
