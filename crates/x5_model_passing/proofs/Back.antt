@@ -52,7 +52,7 @@ within_passes_back p s l k from r lines stood at reply x = by reply
 
 -- ---- the update that l carries is the scene's
 
-update_no_read : (body : Body) → is_update body ≡ true → is_read body ≡ true → ⊥
+pub update_no_read : (body : Body) → is_update body ≡ true → is_read body ≡ true → ⊥
 update_no_read (Read name selection) u r = cc
 update_no_read (Compare name assertion) u r = cc
 update_no_read (ListBelow name) u r = cc
@@ -62,7 +62,7 @@ update_no_read (RemoveEntry name) u r = cc
 update_no_read (ModifyEntry name changes) u r = cc
 update_no_read (ModifyDn name rdn drops) u r = cc
 
-update_above : (body : Body) → is_update body ≡ true → is_query_below body ≡ false
+pub update_above : (body : Body) → is_update body ≡ true → is_query_below body ≡ false
 update_above (Read name selection) u = refl
 update_above (Compare name assertion) u = refl
 update_above (ListBelow name) u = cc
@@ -72,7 +72,7 @@ update_above (RemoveEntry name) u = refl
 update_above (ModifyEntry name changes) u = refl
 update_above (ModifyDn name rdn drops) u = refl
 
-not_completed : (d q : Bool) → (not d || q) ≡ true → q ≡ false → d ≡ false
+pub not_completed : (d q : Bool) → (not d || q) ≡ true → q ≡ false → d ≡ false
 not_completed true q e f = absurd (false_true (sym f ∙ e))
 not_completed false q e f = refl
 

@@ -7,3 +7,4 @@ pub mod Silence
 pub mod Taking
 pub mod Nobody
 pub mod Unsure
+pub mod Due

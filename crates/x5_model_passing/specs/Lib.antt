@@ -1,3 +1,4 @@
 pub mod Passing
 pub mod Acceptance
 pub mod Taking
+pub mod Due

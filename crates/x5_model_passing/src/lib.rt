@@ -5,6 +5,7 @@
 ghost use Rattle.x5_model_passing.specs.Passing.{SameIsAsked, ResultPassesBack, ErrorPassesBack, LossPassesBack, WithinPassesBack, PassesBack};
 ghost use Rattle.x5_model_passing.specs.Acceptance.{QueriesAcceptNone, OffIsSilent};
 ghost use Rattle.x5_model_passing.specs.Taking.{TakingIsRight, CastingIsRight, NobodyIsRight, SilenceIsRight};
+ghost use Rattle.x5_model_passing.specs.Due.{DueIsHere, OthersAreSettled, CarriedIsSame};
 
 /// A name that goes on elsewhere is asked for there in the same way. So a result, the tree's error and what was lost are
 /// the same for whoever passed the message on, and a right reply to it is a right reply to the message before (X.518,
@@ -33,4 +34,12 @@ pub fn going_on()
     ensures casting { CastingIsRight }
     ensures nobody { NobodyIsRight }
     ensures silence { SilenceIsRight }
+{}
+
+/// An update is due where its target is found, at its master; so a line that goes on elsewhere, or nowhere, is settled. And
+/// what is carried on is the same request (X.518, section 19.1).
+pub fn settling()
+    ensures here { DueIsHere }
+    ensures settled { OthersAreSettled }
+    ensures carried { CarriedIsSame }
 {}
