@@ -6,4 +6,7 @@ pub mod Messages
 pub mod Taking
 pub mod Finding
 pub mod Onward
+pub mod Able
+pub mod Casting
+pub mod Gathering
 pub mod Induction

@@ -38,7 +38,7 @@ use Rattle.x5_model_right.specs.Sent.{Spent, IsLost, Dropped, IsHeard}
 use Rattle.x5_model_right.proofs.Kept.{some_stays, passed_stays, settled_stays, spent_still, all_both, unchanged, at_hand_later, line_there}
 use Rattle.x5_model_right.proofs.Journeys.{by_causes, line_placed}
 use Rattle.x5_model_right.proofs.Adding.{update_no_read, deeper, licensed, accepting_same, accepted_still, at_once_still, prohibited_still, at_hand_now, comes_now}
-use Rattle.x5_model_right.proofs.Sending.{leads_at, sender_itself, number_itself, served_alone, stands, sent_there, vain_there, only_it, next_so_far, sent_keeps}
+use Rattle.x5_model_right.proofs.Sending.{leads_at, sender_itself, number_itself, served_alone, stands, sent_there, vain_there, heard_there, only_it, next_so_far, sent_keeps}
 
 -- ---- no message is left
 
@@ -374,6 +374,7 @@ heard_right known p s most from o r i j l a reply last g left fate d serves e fo
           within = fr.within;
         },
         sent_there known p s most g from o r i before after a at may rests split so_far l kept,
+        heard_there known p s most g from o r i before after a at may rests split so_far l kept (ap is_sent fate),
       );
       meanwhile = meanwhile_heard known p s most g from o r i before after a at may rests split so_far left fate l kept last fr.right;
     }

@@ -93,7 +93,7 @@ module _ (known : NeededAgents) (p : Point) (s : Scene) (g : Ground p s) (k : Ha
   found_here : find (holdings_at p k.receiver) k.message ≡ Onward r
   found_here = ap (λ (h : ℕ → Holdings). find (h k.receiver) k.message) (sym g.setting.holdings) ∙ found
 
-  abbrev on : GoesOn p s k r i
+  abbrev pub on : GoesOn p s k r i
   on = record { setting = g.setting; at_hand = at; looked = look; found = found_here }
 
   needs_it : needs (s.holdings k.receiver) k.message ≡ r ∷ []

@@ -131,6 +131,12 @@ module _ (known : NeededAgents) (p : Point) (s : Scene) (most : ℕ) (g : Ground
         subst (λ (xs : List Line). is_in_vain s xs at.line r a ≡ true) (sym kept.keeps.grows.1)
         (or_left _ _ (some_stays (λ l earlier. is_unheard l.fate && (asks_by r a l && opened_by at.line.number earlier l)) kept.keeps.grows.0 (next_line s i from o r a ∷ i.lines) now))
 
+    pub heard_there : is_sent (next_line s i from o r a).fate ≡ true → is_asked is_sent j.lines at.line.number r a ≡ true
+    heard_there u =
+        let now : is_asked is_sent (next_line s i from o r a ∷ i.lines) at.line.number r a ≡ true = or_left _ _ (and_true (is_sent (next_line s i from o r a).fate) _ u (and_true (asks_by r a (next_line s i from o r a)) _ asks_it opens_it)) in
+        subst (λ (xs : List Line). is_asked is_sent xs at.line.number r a ≡ true) (sym kept.keeps.grows.1)
+        (some_stays (λ l earlier. is_sent l.fate && (asks_by r a l && opened_by at.line.number earlier l)) kept.keeps.grows.0 (next_line s i from o r a ∷ i.lines) now)
+
     settled_same : settled (depth_at o) j.lines ≡ settled (depth_at o) i.lines
     settled_same = settled_above (depth_at o) (next_line s i from o r a) i.lines j.lines (let d = deep in omega (arith, d)) kept.keeps.settled_is
 

@@ -22,7 +22,7 @@ use Rattle.x5_model_run.specs.Network.{is_sent}
 use Rattle.x5_model_run.specs.Journal.{Line, Journal, is_wide, siblings}
 use Rattle.x5_model_run.specs.Needs.{due_probes}
 use Rattle.x5_model_run.specs.History.{Point}
-use Rattle.x5_model_run.specs.Chain.{Scene, IsCarried, may_send, may_chain, is_in_vain, is_passed}
+use Rattle.x5_model_run.specs.Chain.{Scene, IsCarried, is_asked, may_send, may_chain, is_in_vain, is_passed}
 use Rattle.x5_model_run.specs.Accepting.{is_done_before}
 use Rattle.x5_model_run.specs.Right.{heard_whole}
 use Rattle.x5_model_run.specs.Placed.{RightReply}
@@ -100,7 +100,8 @@ SentHeard p s most e from o r a Unheard i j =
     (is_in_vain s j.lines e r a ≡ true) × IsTrue (is_sent_to j.lines e.number from r a)
 SentHeard p s most e from o r a (Hears reply) i j =
     ((k : Line) × (k.receiver ≡ a) × IsCarried from (line_for o) r k.message
-    × HeardRight p s most (serving_of i o e.number) j k reply × IsTrue (is_sent_to j.lines e.number from r a))
+    × HeardRight p s most (serving_of i o e.number) j k reply × IsTrue (is_sent_to j.lines e.number from r a)
+    × IsTrue (is_asked is_sent j.lines e.number r a))
     ⊎ (IsSpentReply most j (Hears reply) × (j ≡ i))
 
 pub record SentRight (p : Point) (s : Scene) (most : ℕ) (e : Line) (from : Option ℕ) (o : Hand) (r : Reference)
