@@ -9,4 +9,6 @@ pub mod Onward
 pub mod Able
 pub mod Casting
 pub mod Gathering
+pub mod Leaves
+pub mod Staying
 pub mod Induction

@@ -96,7 +96,7 @@ module _ (known : NeededAgents) (p : Point) (s : Scene) (g : Ground p s) (k : Ha
   abbrev pub on : GoesOn p s k r i
   on = record { setting = g.setting; at_hand = at; looked = look; found = found_here }
 
-  needs_it : needs (s.holdings k.receiver) k.message ≡ r ∷ []
+  pub needs_it : needs (s.holdings k.receiver) k.message ≡ r ∷ []
   needs_it =
       ap (λ (h : ℕ → Holdings). needs (h k.receiver) k.message) g.setting.holdings
       ∙ onward_needs (holdings_at p k.receiver) k.message r (holdings_orderly p k.receiver (sound p s g)) look found_here
@@ -136,7 +136,7 @@ module _ (known : NeededAgents) (p : Point) (s : Scene) (g : Ground p s) (k : Ha
   ]
 
   -- the line of a message that goes on is settled
-  own_settled : is_settled_line p s i at.line ≡ true
+  pub own_settled : is_settled_line p s i at.line ≡ true
   own_settled =
       others_are_settled p s at.line i (record {
         setting = g.setting;
@@ -168,14 +168,14 @@ module _ (known : NeededAgents) (p : Point) (s : Scene) (g : Ground p s) (k : Ha
   line_needs : needs (s.holdings at.line.receiver) at.line.message ≡ r ∷ []
   line_needs = ap (λ (n : ℕ). needs (s.holdings n) at.line.message) line_receiver ∙ ap (needs (s.holdings k.receiver)) line_message ∙ needs_it
 
-  all_by : (test : Reference → Bool) → test r ≡ true → list_all test (taken_needs s at.line) ≡ true
+  pub all_by : (test : Reference → Bool) → test r ≡ true → list_all test (taken_needs s at.line) ≡ true
   all_by test e = by (is_stopped at.line.receiver at.line.message)
     where
       by : (b : Bool) → list_all test (if b then [] else needs (s.holdings at.line.receiver) at.line.message) ≡ true
       by true = refl
       by false = ap (list_all test) line_needs ∙ and_true (test r) true e refl
 
-  line_idle : (refuses s.network at.line.receiver || at.line.message.request.controls.nochain) ≡ is_idle s k
+  pub line_idle : (refuses s.network at.line.receiver || at.line.message.request.controls.nochain) ≡ is_idle s k
   line_idle = (λ q. refuses s.network (line_receiver q) || (line_message q).request.controls.nochain) ∙ swapped (refuses s.network k.receiver) k.message.request.controls.nochain
     where
       swapped : (a b : Bool) → (a || b) ≡ (b || a)
@@ -184,7 +184,7 @@ module _ (known : NeededAgents) (p : Point) (s : Scene) (g : Ground p s) (k : Ha
       swapped false true = refl
       swapped false false = refl
 
-  line_probe : is_probe at.line.message.request.body r.target ≡ false
+  pub line_probe : is_probe at.line.message.request.body r.target ≡ false
   line_probe = ap (λ (m : Chained). is_probe m.request.body r.target) line_message ∙ no_probe
 
   owner_takes : (j : Journal) → is_idle s k ≡ false → is_sent_by j.lines at.line (Some k.receiver) r ≡ true → is_taken s j.lines at.line r ≡ true
