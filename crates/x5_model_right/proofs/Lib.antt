@@ -11,4 +11,5 @@ pub mod Casting
 pub mod Gathering
 pub mod Leaves
 pub mod Staying
+pub mod Agents
 pub mod Induction
