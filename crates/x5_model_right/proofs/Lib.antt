@@ -13,3 +13,4 @@ pub mod Leaves
 pub mod Staying
 pub mod Agents
 pub mod Induction
+pub mod Top
