@@ -12,5 +12,6 @@ pub mod Gathering
 pub mod Leaves
 pub mod Staying
 pub mod Agents
+pub mod Parts
 pub mod Induction
 pub mod Top

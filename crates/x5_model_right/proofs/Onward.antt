@@ -87,6 +87,38 @@ prohibits_or_probes s =
           | inr y ↦ (let f = not_true (is_prohibited s) (both_true (not (refuses s.network b)) _ y).1 in absurd (let z : true ≡ false = sym e ∙ f in cc))
         ]
 
+-- ---- who owns what is needed may take it
+
+pub owner_may : (p : Point) (s : Scene) (k : Hand) (r : Reference) (i : Journal) → AtHand p s k i → is_idle s k ≡ false → In r (needs (s.holdings k.receiver) k.message) → MayTake s (Some k.receiver) k r i
+owner_may p s k r i at idle need = record {
+  needed = need;
+  sender_is = λ e f.
+      let q : Some at.line ≡ Some e = sym at.at_hand ∙ f in
+      let same : at.line ≡ e = cc in
+      or_left (k.receiver == e.receiver) _ ((nat_same_decides k.receiver e.receiver).1 (sym at.receiver_is ∙ ap (λ (l : Line). l.receiver) same));
+  chains = λ l sender c. chains_by l c;
+}
+  where
+    no_chain : k.message.request.controls.nochain ≡ false
+    no_chain = elim (true_or_false k.message.request.controls.nochain) [ inr e ↦ e | inl e ↦ (let z : true ≡ false = sym (or_left k.message.request.controls.nochain (refuses s.network k.receiver) e) ∙ idle in cc) ]
+
+    refuses_none : refuses s.network k.receiver ≡ false
+    refuses_none = elim (true_or_false (refuses s.network k.receiver)) [ inr e ↦ e | inl e ↦ (let z : true ≡ false = sym (or_right k.message.request.controls.nochain (refuses s.network k.receiver) e) ∙ idle in cc) ]
+
+    reads_on : (l : Line) → IsCarried (Some k.receiver) (line_for k) r l.message → (operation_of k.message.request.body == 1) ≡ true → (operation_of l.message.request.body == 1) ≡ true
+    reads_on l c e = ap (λ (y : Request). operation_of y.body == 1) c.request_is ∙ read_kept false k.message.request l.message.target r e
+
+    chains_by : (l : Line) → IsCarried (Some k.receiver) (line_for k) r l.message → may_chain s l (Some k.receiver) ≡ true
+    chains_by l c = elim (true_or_false (is_prohibited s)) [
+      | inr e ↦ or_right (is_probe_line s l) _ (and_true (not (refuses s.network k.receiver)) _ (ap not refuses_none) (ap not e))
+      | inl e ↦ elim ((prohibits_or_probes s i.lines at.line at.licensed (line_there p s k i at)).1 e) [
+        | inl n ↦ (let m : k.message.request.controls.nochain ≡ true = ap (λ (y : Chained). y.request.controls.nochain) (sym at.message_is) ∙ n in let no = no_chain in absurd (let z : true ≡ false = sym m ∙ no in cc))
+        | inr probe ↦
+            let b = both_true (is_update s.message.request.body) _ probe in
+            or_left (is_probe_line s l) _ (and_true (is_update s.message.request.body) _ b.0 (reads_on l c (ap (λ (y : Chained). operation_of y.request.body == 1) (sym at.message_is) ∙ b.1)))
+      ]
+    ]
+
 -- ---- the reference is the one that is needed
 
 module _ (known : NeededAgents) (p : Point) (s : Scene) (g : Ground p s) (k : Hand) (r : Reference) (i : Journal) (at : AtHand p s k i) (look : IsLooked k.message) (found : find (s.holdings k.receiver) k.message ≡ Onward r) where
@@ -207,34 +239,7 @@ module _ (known : NeededAgents) (p : Point) (s : Scene) (g : Ground p s) (k : Ha
 
   -- ---- its owner takes it
   may_own : is_idle s k ≡ false → MayTake s (Some k.receiver) k r i
-  may_own idle = record {
-    needed = needed;
-    sender_is = λ e f.
-        let q : Some at.line ≡ Some e = sym at.at_hand ∙ f in
-        let same : at.line ≡ e = cc in
-        or_left (k.receiver == e.receiver) _ ((nat_same_decides k.receiver e.receiver).1 (sym line_receiver ∙ ap (λ (l : Line). l.receiver) same));
-    chains = λ l sender c. chains_by l c;
-  }
-    where
-      no_chain : k.message.request.controls.nochain ≡ false
-      no_chain = elim (true_or_false k.message.request.controls.nochain) [ inr e ↦ e | inl e ↦ (let z : true ≡ false = sym (or_left k.message.request.controls.nochain (refuses s.network k.receiver) e) ∙ idle in cc) ]
-
-      refuses_none : refuses s.network k.receiver ≡ false
-      refuses_none = elim (true_or_false (refuses s.network k.receiver)) [ inr e ↦ e | inl e ↦ (let z : true ≡ false = sym (or_right k.message.request.controls.nochain (refuses s.network k.receiver) e) ∙ idle in cc) ]
-
-      reads_on : (l : Line) → IsCarried (Some k.receiver) (line_for k) r l.message → (operation_of k.message.request.body == 1) ≡ true → (operation_of l.message.request.body == 1) ≡ true
-      reads_on l c e = ap (λ (y : Request). operation_of y.body == 1) c.request_is ∙ read_kept false k.message.request l.message.target r e
-
-      chains_by : (l : Line) → IsCarried (Some k.receiver) (line_for k) r l.message → may_chain s l (Some k.receiver) ≡ true
-      chains_by l c = elim (true_or_false (is_prohibited s)) [
-        | inr e ↦ or_right (is_probe_line s l) _ (and_true (not (refuses s.network k.receiver)) _ (ap not refuses_none) (ap not e))
-        | inl e ↦ elim ((prohibits_or_probes s i.lines at.line at.licensed (line_there p s k i at)).1 e) [
-          | inl n ↦ (let m : k.message.request.controls.nochain ≡ true = ap (λ (y : Chained). y.request.controls.nochain) (sym line_message) ∙ n in absurd (let z : true ≡ false = sym m ∙ no_chain in cc))
-          | inr probe ↦
-              let b = both_true (is_update s.message.request.body) _ probe in
-              or_left (is_probe_line s l) _ (and_true (is_update s.message.request.body) _ b.0 (reads_on l c (ap (λ (y : Chained). operation_of y.request.body == 1) (sym line_message) ∙ b.1)))
-        ]
-      ]
+  may_own idle = owner_may p s k r i at idle needed
 
   -- before it is taken by its owner
   came_calm : (most : ℕ) → Comes p s k at.line i → is_done_before s i at.line ≡ false → Rests p s most at.line (is_update k.message.request.body) i
