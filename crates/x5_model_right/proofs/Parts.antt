@@ -9,14 +9,16 @@ use Rattle.x5_model.specs.Members.{In, here, there, Once}
 use Rattle.x5_model.specs.Keys.{Key, is_root}
 use Rattle.x5_model.specs.Values.{key_of}
 use Rattle.x5_model.specs.Entries.{Named}
-use Rattle.x5_model.specs.Requests.{Body, Request}
+use Rattle.x5_model.specs.Requests.{Body, Read, Compare, ListBelow, Search, AddEntry, RemoveEntry, ModifyEntry, ModifyDn, Request}
+use Rattle.x5_model.specs.Statics.{fault_of}
 use Rattle.x5_model.specs.References.{Progress, Start, Next, Done, Reference, Chained}
-use Rattle.x5_model.specs.Answers.{Answer, EntryFound, Matched, Listed, Found, Changed, Reply, Answered, Failed}
+use Rattle.x5_model.specs.Answers.{Source, Answer, DirError, EntryFound, Matched, Listed, Found, Changed, Reply, Answered, Failed}
 use Rattle.x5_model.proofs.Decide.{nat_same_decides}
 use Rattle.x5_model.proofs.Lists.{both_true, and_true, either_true, or_left, or_right, true_or_false, in_first, all_in}
 use Rattle.x5_model.proofs.Ascending.{of_insert, of_sorted, in_sorted}
-use Rattle.x5_model_tree.specs.Tree.{lowest}
-use Rattle.x5_model_tree.specs.Ask.{is_update, unexplored_of}
+use Rattle.x5_model_tree.specs.Tree.{Tree, lowest, is_there_or_root}
+use Rattle.x5_model_tree.specs.Ask.{Told, Shows, Compares, Lists, Finds, Changes, Refuses, is_update, unexplored_of, ask_body, ask_marked}
+use Rattle.x5_model_run.specs.Covers.{answer_below, answer_at_pin, told}
 use Rattle.x5_model_run.specs.Network.{arrives, refuses}
 use Rattle.x5_model_run.specs.Journal.{Line, Journal, same_name, is_done, is_wide, siblings}
 use Rattle.x5_model_run.specs.Holdings.{Held, Copy, Holdings, held_at, copy_at, known_pin, holds_within}
@@ -35,8 +37,8 @@ use Rattle.x5_model_theory.proofs.Following.{query_of}
 use Rattle.x5_model_parts.specs.Parts.{BeginsHere, begins_here, rest_needs}
 use Rattle.x5_model_serve.specs.Finding as finding
 use Rattle.x5_model_serve.specs.Finding.{Here, CopyHere, Root, Below, Onward, Nowhere, Stuck, IsLooked, find, found_by, by_first, in_own, in_copy, at_pin, resolved}
-use Rattle.x5_model_serve.specs.Answering.{taken_before, local_part, rest_of_parts, with_unexplored, only_unexplored, limited_answer, to_follow, passed_by}
-use Rattle.x5_model_serve.specs.Serving.{Hand, line_for, Gathered, Whole, Broken, Does, Gathers, Arrives, holds_now, found_at, begins_parts, parts_refs, at_limit, gathered_reply, is_idle, is_final, is_spent, limit_reply}
+use Rattle.x5_model_serve.specs.Answering.{reply_from, unlimited, taken_before, local_part, rest_of_parts, with_unexplored, only_unexplored, limited_answer, to_follow, passed_by}
+use Rattle.x5_model_serve.specs.Serving.{Hand, hand_of, line_for, Gathered, Whole, Broken, Does, Gathers, Arrives, holds_now, found_at, begins_parts, parts_refs, at_limit, gathered_reply, is_idle, is_final, is_spent, limit_reply}
 use Rattle.x5_model_serve.specs.Claims.{AtHand, Keeps, MayTake, MayGather, GatheredRight, AskedSoFar, SoFar, Apart, LiesWithin, is_due_line, is_settled_line, is_served_itself, takes_itself, serving_of, asked_line, line_at, depth_at}
 use Rattle.x5_model_serve.specs.Following.{IsFinalWhole}
 use Rattle.x5_model_serve.proofs.Finals.{idle_is_followed}
@@ -44,7 +46,7 @@ use Rattle.x5_model_find.proofs.Begins.{begins_alike}
 use Rattle.x5_model_find.proofs.Deciding.{parts_needed}
 use Rattle.x5_model_find.proofs.Orderly.{holdings_orderly}
 use Rattle.x5_model_bounds.proofs.Going.{some_subset}
-use Rattle.x5_model_bounds.proofs.Parting.{local_whole, left_parts, rest_part}
+use Rattle.x5_model_bounds.proofs.Parting.{local_whole, untried_all, rest_part}
 use Rattle.x5_model_joins.proofs.Backs.{own_answered}
 use Rattle.x5_model_joins.proofs.Following.{follow_tells, no_update_below}
 use Rattle.x5_model_joins.proofs.Idle.{idle_tells}
@@ -245,6 +247,23 @@ module _ (known : NeededAgents) (p : Point) (s : Scene) (g : Ground p s) (k : Ha
       (subst (λ (x : Asked). SoFar p s x i.lines t.0 (rest_of_parts (holdings_at p k.receiver) k.message)) (asked_is (length i.accepted))
       (subst (λ (rs : List Reference). SoFar p s (asked_line at.line (length i.accepted)) i.lines t.0 rs) (λ q. rest_of_parts (holdings_at p (at.receiver_is q)) (at.message_is q)) t.2))
 
+  pub query_below : is_query_below k.message.request.body ≡ true
+  query_below = query_of k.message asked_for
+
+  -- with its own part alone, and the references for the rest, it is a result
+  pub idle_result : (a : Answer) → is_idle s k ≡ true → SoFar p s (serving_of i k at.line.number) i.lines a (rest_of_parts (holdings_at p k.receiver) k.message)
+      → IsResult p s (serving_of i k at.line.number) i.lines (limited_answer k.message.request.controls.size (with_unexplored (rest_of_parts (holdings_at p k.receiver) k.message) a))
+  idle_result a idle so =
+      let asleep : is_idle s (hand_of at.line) ≡ true = (λ q. (at.message_is q).request.controls.nochain || refuses s.network (at.receiver_is q)) ∙ idle in
+      let there_so : SoFar p s (asked_line at.line (length i.accepted)) i.lines a (rest_of_parts (holdings_at p at.line.receiver) at.line.message) =
+      subst (λ (rs : List Reference). SoFar p s (asked_line at.line (length i.accepted)) i.lines a rs) (λ q. rest_of_parts (holdings_at p (sym at.receiver_is q)) (sym at.message_is q))
+      (subst (λ (x : Asked). SoFar p s x i.lines a (rest_of_parts (holdings_at p k.receiver) k.message)) (sym (asked_is (length i.accepted))) so) in
+      let res = idle_tells p s at.line i a g.setting.holdings line_begun asleep (line_there p s k i at) there_so in
+      let same : limited_answer at.line.message.request.controls.size (with_unexplored (rest_of_parts (holdings_at p at.line.receiver) at.line.message) a) ≡ limited_answer k.message.request.controls.size (with_unexplored (rest_of_parts (holdings_at p k.receiver) k.message) a) =
+      λ q. limited_answer (at.message_is q).request.controls.size (with_unexplored (rest_of_parts (holdings_at p (at.receiver_is q)) (at.message_is q)) a) in
+      subst (λ (x : Asked). IsResult p s x i.lines (limited_answer k.message.request.controls.size (with_unexplored (rest_of_parts (holdings_at p k.receiver) k.message) a))) (asked_is (length i.accepted))
+      (subst (λ (x : Answer). IsResult p s (asked_line at.line (length i.accepted)) i.lines x) same res)
+
 -- ---- sorted references stand once
 
 once_insert : (below : Reference → Reference → Bool) (x : Reference) (ys : List Reference) → (In x ys → ⊥) → Once ys → Once (insert_sorted below x ys)
@@ -398,3 +417,163 @@ asks_parts_right known p s most k i j a whole g arrives_here begins idle local d
 
     all_final : Does s most (Gathers (Some k.receiver) k (parts_refs s i k) a whole) i j → local_part (holds_now s i k) k.message ≡ Answered a → is_final (gathered_reply k whole) ≡ true
     all_final d e = gathered_final k whole (idle_is_followed s most (Gathers (Some k.receiver) k (parts_refs s i k) a whole) i j d (ap (filter (λ (r : Reference). not r.tried)) (local_whole (holds_now s i k) k.message a e)))
+
+-- ---- who follows asks them
+
+pub unexplored_right : NeededAgents → Unexplored
+unexplored_right known p s most from k i j a whole g some d gathers stood at m rests =
+    let left = m.left some in
+    let starts = left.0.0 in
+    let look = left.0.2 in
+    let refs : to_follow a ≡ rest_of_parts (holdings_at p k.receiver) k.message = left.0.1 ∙ ap (λ (h : ℕ → Holdings). rest_of_parts (h k.receiver) k.message) g.setting.holdings in
+    let none : is_update k.message.request.body ≡ false = query known p s g k i at look starts in
+    let may = may_gather known p s g from k i at look starts takes left.2 in
+    let so : SoFar p s (asked_line (line_at k at.line.number) stood) i.lines (only_unexplored (passed_by a) a) (to_follow a) =
+    follow_tells p s (asked_line (line_at k at.line.number) stood) i (is_spent most i) a g.setting.by_keys (inr g.setting.copies) (query_below known p s g k i at look starts) m.right m.within in
+    let w : GatherRight p s most at.line from k (rest_of_parts (holdings_at p k.receiver) k.message) [] whole i j =
+    subst (λ (rs : List Reference). GatherRight p s most at.line from k rs [] whole i j) refs
+    (gathers [] at (subst (λ (rs : List Reference). MayGather p s from k rs i) (sym refs) may) (rests some)
+    (subst (λ (rs : List Reference). SoFar p s (serving_of i k at.line.number) i.lines (only_unexplored (passed_by a) a) rs) (sym (none_more (to_follow a)))
+    (subst (λ (n : ℕ). SoFar p s (asked_line (line_at k at.line.number) n) i.lines (only_unexplored (passed_by a) a) (to_follow a)) left.3 so))) in
+    let same : length j.accepted ≡ stood = ap length (w.keeps.reads none).accepted_same ∙ sym left.3 in
+    let right_one = gathered_right known p s g from k i at look starts takes left.2 most j whole stood w same in
+    record {
+      keeps = w.keeps;
+      right = right_one.0;
+      within = right_one.1;
+      served = elim (all_sent known p s g from k i at look starts takes left.2 most j whole stood w same) [
+        | inl spent ↦ inl spent
+        | inr f ↦ inr (served_all known p s g k i at look starts j (λ r n. follower_takes known p s g k i at look starts j r from left.1 m.sender_is (f r n)))
+      ];
+    }
+  where
+    takes : (r : Reference) → In r (needs (s.holdings k.receiver) k.message) → MayTake s from k r i
+    takes r need = record {
+      needed = need;
+      sender_is = λ e f.
+          let q : Some at.line ≡ Some e = sym at.at_hand ∙ f in
+          let same : at.line ≡ e = cc in
+          subst (λ (l : Line). may_send s l from ≡ true) same (m.sends some);
+      chains = λ l sender c. m.chains some r l sender c;
+    }
+
+    none_more : (xs : List Reference) → xs ++ [] ≡ xs
+    none_more [] = refl
+    none_more (x ∷ xs) = ap (λ zs. x ∷ zs) (none_more xs)
+
+-- ---- what a list or search is told
+
+abbrev IsList : Told → Type 0
+IsList (Shows info) = ⊥
+IsList (Compares equal copy) = ⊥
+IsList (Lists subs cut) = Unit {0}
+IsList (Finds infos cut) = Unit {0}
+IsList Changes = ⊥
+IsList (Refuses x) = Unit {0}
+
+list_if : (b : Bool) (x y : Told) → IsList x → IsList y → IsList (if b then x else y)
+list_if true x y f g = f
+list_if false x y f g = g
+
+body_list : (copies : Key → Bool) (t : Tree) (r : Request) (b : Body) → is_query_below b ≡ true → IsList (ask_body copies t r b)
+body_list copies t r (ListBelow name) q = list_if (is_there_or_root t.entries (key_of name)) _ _ tt tt
+body_list copies t r (Search base subset f selection) q = list_if (is_there_or_root t.entries (key_of base)) _ _ tt tt
+body_list copies t r (Read name selection) q = cc
+body_list copies t r (Compare name x) q = cc
+body_list copies t r (AddEntry name xs) q = cc
+body_list copies t r (RemoveEntry name) q = cc
+body_list copies t r (ModifyEntry name xs) q = cc
+body_list copies t r (ModifyDn name rdn x) q = cc
+
+asked_list : (copies : Key → Bool) (t : Tree) (r : Request) → is_query_below r.body ≡ true → IsList (ask_marked copies t r)
+asked_list copies t r q = go (fault_of r.body)
+  where
+    by : Option DirError → Told
+    by (Some x) = Refuses x
+    by None = ask_body copies t r r.body
+
+    go : (x : Option DirError) → IsList (by x)
+    go (Some x) = tt
+    go None = body_list copies t r r.body q
+
+below_list : (copies : Key → Bool) (t : Tree) (r : Request) (b : Body) → is_query_below b ≡ true → IsList (answer_below copies t r b)
+below_list copies t r (ListBelow name) q = tt
+below_list copies t r (Search base subset f selection) q = tt
+below_list copies t r (Read name selection) q = cc
+below_list copies t r (Compare name x) q = cc
+below_list copies t r (AddEntry name xs) q = cc
+below_list copies t r (RemoveEntry name) q = cc
+below_list copies t r (ModifyEntry name xs) q = cc
+below_list copies t r (ModifyDn name rdn x) q = cc
+
+pin_list : (copies : Key → Bool) (t : Tree) (r : Request) (b : Body) → is_query_below b ≡ true → is_query_below r.body ≡ true → IsList (answer_at_pin copies t r b)
+pin_list copies t r (ListBelow name) q u = tt
+pin_list copies t r (Search base subset f selection) q u = asked_list copies t r u
+pin_list copies t r (Read name selection) q u = cc
+pin_list copies t r (Compare name x) q u = cc
+pin_list copies t r (AddEntry name xs) q u = cc
+pin_list copies t r (RemoveEntry name) q u = cc
+pin_list copies t r (ModifyEntry name xs) q u = cc
+pin_list copies t r (ModifyDn name rdn x) q u = cc
+
+told_is_list : (copies : Key → Bool) (t : Tree) (m : Chained) → is_query_below m.request.body ≡ true → IsList (told copies t m)
+told_is_list copies t m q =
+    list_if (is_done m.progress) _ _ (list_if (is_wide m.kind) _ _ (below_list copies t m.request m.request.body q) (pin_list copies t m.request m.request.body q q)) (asked_list copies t m.request q)
+
+abbrev IsListing : Answer → Type 0
+IsListing (EntryFound info x) = ⊥
+IsListing (Matched equal copy x) = ⊥
+IsListing (Listed subs xs o) = Unit {0}
+IsListing (Found infos xs o) = Unit {0}
+IsListing Changed = ⊥
+
+listing_of : (sources : List Source) (t : Told) (a : Answer) → IsList t → reply_from sources t ≡ Answered a → IsListing a
+listing_of sources (Shows info) a f e = absurd f
+listing_of sources (Compares equal copy) a f e = absurd f
+listing_of sources (Lists subs cut) a f e = (let same : Listed subs sources (record { limited = cut; unexplored = [] }) ≡ a = cc in subst IsListing same tt)
+listing_of sources (Finds infos cut) a f e = (let same : Found infos sources (record { limited = cut; unexplored = [] }) ≡ a = cc in subst IsListing same tt)
+listing_of sources Changes a f e = absurd f
+listing_of sources (Refuses x) a f e = cc
+
+listing_left : (size : Option ℕ) (rs : List Reference) (a : Answer) → IsListing a → unexplored_of a ≡ [] → ((r : Reference) → In r rs → r.tried ≡ false) → to_follow (limited_answer size (with_unexplored rs a)) ≡ rs
+listing_left size rs (EntryFound info x) l e f = absurd l
+listing_left size rs (Matched equal copy x) l e f = absurd l
+listing_left size rs (Listed subs xs o) l e f = ap (λ (zs : List Reference). filter (λ r. not r.tried) (zs ++ rs)) e ∙ untried_all rs f
+listing_left size rs (Found infos xs o) l e f = ap (λ (zs : List Reference). filter (λ r. not r.tried) (zs ++ rs)) e ∙ untried_all rs f
+listing_left size rs Changed l e f = absurd l
+
+-- ---- who may not chain gives its own part
+
+pub gives_parts_right : NeededAgents → GivesParts
+gives_parts_right known p s most k j a g arrives_here begins idle local at comes =
+    let look = looked p s g k j at comes.none arrives_here (found_at s j k) refl free in
+    let starts : begins_parts k (find (s.holdings k.receiver) k.message) ≡ true = ap (begins_parts k) (found_same p s g k j at comes.none arrives_here (found_at s j k) refl free) ∙ begins in
+    let same = holds_is p s g k j at comes.none arrives_here (found_at s j k) refl free in
+    let refs : parts_refs s j k ≡ rest_of_parts (holdings_at p k.receiver) k.message = ap (λ (h : Holdings). rest_of_parts h k.message) same in
+    let here_local : local_part (holdings_at p k.receiver) k.message ≡ Answered a = ap (λ (h : Holdings). local_part h k.message) (sym same) ∙ local in
+    let so : SoFar p s (serving_of j k at.line.number) j.lines a (rest_of_parts (holdings_at p k.receiver) k.message) = local_so known p s g k j at look starts a here_local in
+    let left_it : to_follow (at_limit k (with_unexplored (rest_of_parts (holdings_at p k.receiver) k.message) a)) ≡ rest_of_parts (holdings_at p k.receiver) k.message =
+    listing_left k.message.request.controls.size (rest_of_parts (holdings_at p k.receiver) k.message) a
+    (listing_of _ _ a (told_is_list _ _ (unlimited k.message) (query_below known p s g k j at look starts)) here_local) (local_whole (holdings_at p k.receiver) k.message a here_local)
+    (λ r m. (rest_part (holdings_at p k.receiver) k.message r m).1) in
+    subst (λ (rs : List Reference). ServedRight p s most at.line k (Answered (at_limit k (with_unexplored rs a))) j j) (sym refs) (record {
+      keeps = unchanged p s most k (is_update k.message.request.body) j at.licensed at.accepted comes.at_once;
+      right =
+          usual (ap not (able p s g k j at comes.none arrives_here (found_at s j k) refl free))
+          (right.result (own_answered at.line (length j.accepted) j.lines (line_there p s k j at)) (idle_result known p s g k j at look starts a idle so)
+          (ap not (query known p s g k j at look starts)) ((nat_same_decides (length j.accepted) (length j.accepted)).1 refl));
+      within = λ u b m n. so.tells.nested u b (subst (λ (zs : List Reference). In u zs) (unexplored_limited k.message.request.controls.size (with_unexplored (rest_of_parts (holdings_at p k.receiver) k.message) a)) m) n;
+      own = inr (
+        itself_idle known p s g k j at look starts j idle,
+        settled_query known p s g k j at look starts j,
+        λ z. served_all known p s g k j at look starts j (λ r m. elim (subst (λ (zs : List Reference). In r zs) (sym left_it ∙ empty_is _ z) m) [ ]),
+      );
+      left = λ z. ((starts, left_it ∙ ap (λ (h : ℕ → Holdings). rest_of_parts (h k.receiver) k.message) (sym g.setting.holdings), look), idle, refl, fresh p s g k j at comes.none arrives_here (found_at s j k) refl free);
+    })
+  where
+    free : found_at s j k ≡ Stuck → ⊥
+    free z = (let y : false ≡ true = ap (begins_parts k) (sym z) ∙ begins in cc)
+
+    empty_is : (xs : List Reference) → is_empty xs ≡ true → xs ≡ []
+    empty_is [] e = refl
+    empty_is (x ∷ xs) e = cc
