@@ -188,7 +188,7 @@ module _ (p : Point) (o : ℕ) (m : Chained) (sound : IsSound p) where
       by (is_empty level) (and_below_in n all base subset (filter (λ d. in_subset subset base (key_of d.prefix) && list_any (λ e. is_there e.entries (parent (key_of d.prefix))) level) all)
       (λ d j. (of_filter (λ d. in_subset subset base (key_of d.prefix) && list_any (λ e. is_there e.entries (parent (key_of d.prefix))) level) d all j).0) c) i
     where
-      abbrev next : List Held
+      next : List Held
       next = and_below n all base subset (filter (λ d. in_subset subset base (key_of d.prefix) && list_any (λ e. is_there e.entries (parent (key_of d.prefix))) level) all)
 
       by : (b : Bool) → (In c next → In c all) → In c (if b then [] else level ++ next) → In c all

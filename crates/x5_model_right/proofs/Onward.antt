@@ -46,6 +46,9 @@ use Rattle.x5_model_right.proofs.Finding.{looked, found_same, found_is, fresh}
 
 -- ---- a user who prohibits chaining has it prohibited in each message, but for probes
 
+abbrev form : Request → Bool → Reference → Bool → Bool → Request
+form asked user r probe part = if probe then probe_request r.target else (if part then part_request user (is_wide r.kind) r.target asked else asked)
+
 abbrev Chains : Scene → Line → Type 0
 Chains s l = (is_update l.message.request.body ≡ true → is_update s.message.request.body ≡ true) × (is_prohibited s ≡ true → (l.message.request.controls.nochain ≡ true) ⊎ (is_probe_line s l ≡ true))
 
@@ -55,9 +58,6 @@ prohibits_or_probes s =
     (λ l f. (λ u. ap (λ (m : Chained). is_update m.request.body) (sym f.message_is) ∙ u, λ e. inl (ap (λ (m : Chained). m.request.controls.nochain) f.message_is ∙ e)))
     (λ l o r needed listed carries chains before. (updates l o r carries before.0, λ e. by_sender l o r carries chains l.sender refl before.0 (before.1 e) e))
   where
-    abbrev form : Request → Bool → Reference → Bool → Bool → Request
-    form asked user r probe part = if probe then probe_request r.target else (if part then part_request user (is_wide r.kind) r.target asked else asked)
-
     for_user : (asked : Request) (user : Bool) (r : Reference) → user ≡ true → asked.controls.nochain ≡ true → (b c : Bool) → is_probe asked.body r.target ≡ b
         → ((form asked user r b c).controls.nochain ≡ true) ⊎ (((operation_of (form asked user r b c).body == 1) ≡ true) × (is_update asked.body ≡ true))
     for_user asked user r u n true c q = inr (refl, (both_true (is_update asked.body) _ q).0)
