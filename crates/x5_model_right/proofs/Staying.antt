@@ -46,7 +46,7 @@ use Rattle.x5_model_passing.proofs.Same.{the_way, way_phase}
 use Rattle.x5_model_right.specs.Kept.{Ground, Comes}
 use Rattle.x5_model_right.specs.Journeys.{NeededAgents}
 use Rattle.x5_model_right.specs.Claim.{ServedRight, MayFollow, FollowedRight}
-use Rattle.x5_model_right.specs.Served.{DoneBefore, IsStuck, Refers}
+use Rattle.x5_model_right.specs.Served.{DoneBefore, IsStuck, Refers, CarriesOut}
 use Rattle.x5_model_right.specs.Sent.{IsFinal}
 use Rattle.x5_model_right.proofs.Kept.{member_fills, unchanged, line_there}
 use Rattle.x5_model_right.proofs.Journeys.{sound, placed_here, contains_of}
@@ -280,3 +280,8 @@ refers_right known p s most k j r g a e idle at comes =
         by : (b : Bool) → is_done r.progress ≡ b → (if b then is_done r.progress else not (is_done r.progress)) ≡ true
         by true q = q
         by false q = ap not q
+
+-- ---- an update at its master is carried out
+
+pub carries_out_right : CarriesOut
+carries_out_right p s most k i j c reply g a e up d claim at comes = claim (record { at_hand = at; arrives = a; update = up; context = c; found = e }) comes
