@@ -146,7 +146,7 @@ done_before_right p s most k j g a b done at comes =
     }
   where
     able_still : resolves (holds_now s j k) k.message ≡ true → is_unable (s.holdings k.receiver) k.message ≡ false
-    able_still res = unshort _ _ _ _ (by k.message.progress refl)
+    able_still res = unshort (nat_lt (length k.message.trace) 128) (is_none (fault_of k.message.request.body)) (is_wide k.message.kind) (falls_short (s.holdings k.receiver) (key_of k.message.target) k.message.progress) (by k.message.progress refl)
       where
         by : (y : Progress) → k.message.progress ≡ y → falls_short (s.holdings k.receiver) (key_of k.message.target) k.message.progress ≡ false
         by Start q = rw q refl
@@ -216,7 +216,11 @@ module _ (p : Point) (s : Scene) (most : ℕ) (g : Ground p s) (k : Hand) (j : J
   problem_is : stuck_problem k ≡ unable_to_proceed
   problem_is = by (is_wide k.message.kind) wide_here
     where
-      by : (b : Bool) → b ≡ true → (if b then unable_to_proceed else invalid_reference) ≡ unable_to_proceed
+      problem : Bool → ℕ
+      problem true = unable_to_proceed
+      problem false = invalid_reference
+
+      by : (b : Bool) → b ≡ true → problem b ≡ unable_to_proceed
       by true q = refl
       by false q = cc
 
