@@ -13,5 +13,6 @@ pub mod Leaves
 pub mod Staying
 pub mod Agents
 pub mod Parts
+pub mod Reading
 pub mod Induction
 pub mod Top
