@@ -38,7 +38,7 @@ use Rattle.x5_model_run.specs.Placed.{RightReply, usual}
 use Rattle.x5_model_updates.proofs.Held.{of_held}
 use Rattle.x5_model_updates.proofs.Trees.{of_part, tree_filled}
 use Rattle.x5_model_theory.specs.Described.{knowledge_of}
-use Rattle.x5_model_updates.proofs.Judges.{holder_is_master}
+use Rattle.x5_model_updates.proofs.Judged.{holder_is_master}
 use Rattle.x5_model_serve.specs.Finding.{Found, Here, Stuck, IsLooked, find, resolved}
 use Rattle.x5_model_serve.specs.Answering.{reply_from, own_source, reply_in_own}
 use Rattle.x5_model_serve.specs.Serving.{Hand, Arrives, found_at, is_spent}

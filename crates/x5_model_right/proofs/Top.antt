@@ -217,7 +217,7 @@ module _ (p : Point) (s : Scene) (j : Journal) (acc : Accepted p s j) (calm : li
       let due : is_due_line p s j w.2 ≡ true = and_true (may_accept s j.lines w.2.receiver w.2) _ may (and_true (is_master_at p (key_of s.message.target) w.2.receiver) _ mastered_here b.1) in
       elim (either_true (not (is_due_line p s j w.2)) _ (of_all (is_settled_line p s j) w.2 j.lines calm there_too)) [
         | inl off ↦ (let z = not_true (is_due_line p s j w.2) off in absurd (let y : true ≡ false = sym due ∙ z in cc))
-        | inr yes ↦ yes
+        | inr kept ↦ kept
       ]
 
   due_by : (a : ℕ) → In a j.accepted → is_due p s j.lines ≡ true

@@ -11,7 +11,7 @@ ghost use Rattle.x5_model_right.specs.Gathered.{NoPart, PartUnheard, PartUnavail
 ghost use Rattle.x5_model_right.specs.Right.{ServingIsRight, RequestIsRight};
 
 /// Whom needed references name: agents of the world, one at least (X.518, section 18).
-pub fn journeys()
+pub fn needing()
     ensures { NeededAgents }
 {}
 
@@ -45,7 +45,7 @@ pub fn parting()
 {}
 
 /// One message: none is left; it is lost; its reply is lost; or it is heard, and followed (X.518, section 20).
-pub fn sending()
+pub fn one_message()
     ensures spent { Spent }
     ensures lost { IsLost }
     ensures dropped { Dropped }
@@ -61,7 +61,7 @@ pub fn following()
 {}
 
 /// The agents of one reference, in their order, until one is heard (X.518, section 20).
-pub fn taking()
+pub fn one_reference()
     ensures none { NoneYet }
     ensures vain { InVainToo }
     ensures heard { NextIsHeard }
@@ -69,7 +69,7 @@ pub fn taking()
 {}
 
 /// The agents of an NSSR, in their order, until one can go on (X.518, section 20: multi-chaining).
-pub fn casting()
+pub fn one_nssr()
     ensures none { NoneAsked }
     ensures unable { UnableToo }
     ensures silent { SilentToo }
@@ -79,7 +79,7 @@ pub fn casting()
 {}
 
 /// The references of a list or search, one after the other (X.518, sections 19.3 and 21).
-pub fn gathering()
+pub fn all_parts()
     ensures none { NoPart }
     ensures unheard { PartUnheard }
     ensures unavailable { PartUnavailable }

@@ -1,6 +1,6 @@
 use Rattle.x5_model_right.proofs.Agents.{needed_agents}
 use Rattle.x5_model_right.proofs.Taking.{none_yet_right, in_vain_too_right, next_is_heard_right, none_is_heard_right}
-use Rattle.x5_model_right.proofs.taking.Goals as goal
+use Rattle.x5_model_right.proofs.one_reference.Goals as goal
 
 pub returns-clause-none : goal.returns-clause-none
 returns-clause-none c = none_yet_right

@@ -1,6 +1,6 @@
 use Rattle.x5_model_right.proofs.Agents.{needed_agents}
 use Rattle.x5_model_right.proofs.Casting.{none_asked_right, unable_too_right, silent_too_right, is_answered_right, nobody_has_right, some_silent_right}
-use Rattle.x5_model_right.proofs.casting.Goals as goal
+use Rattle.x5_model_right.proofs.one_nssr.Goals as goal
 
 pub returns-clause-none : goal.returns-clause-none
 returns-clause-none c = none_asked_right

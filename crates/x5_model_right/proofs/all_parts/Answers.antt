@@ -1,5 +1,5 @@
 use Rattle.x5_model_right.proofs.Gathering.{no_part_right, part_unheard_right, part_unavailable_right, part_answered_right, part_breaks_right}
-use Rattle.x5_model_right.proofs.gathering.Goals as goal
+use Rattle.x5_model_right.proofs.all_parts.Goals as goal
 
 pub returns-clause-none : goal.returns-clause-none
 returns-clause-none c = no_part_right

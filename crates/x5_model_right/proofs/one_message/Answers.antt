@@ -1,6 +1,6 @@
 use Rattle.x5_model_right.proofs.Agents.{needed_agents}
 use Rattle.x5_model_right.proofs.Messages.{spent_right, lost_right, dropped_right, heard_right}
-use Rattle.x5_model_right.proofs.sending.Goals as goal
+use Rattle.x5_model_right.proofs.one_message.Goals as goal
 
 pub returns-clause-spent : goal.returns-clause-spent
 returns-clause-spent c = spent_right
