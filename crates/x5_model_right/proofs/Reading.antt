@@ -56,7 +56,7 @@ use Rattle.x5_model_right.proofs.Leaves.{with_nothing, settled_unless, within_er
 
 -- ---- what is told of an object
 
-abbrev IsObject : Told → Type 0
+abbrev pub IsObject : Told → Type 0
 IsObject (Shows info) = Unit {0}
 IsObject (Compares equal copy) = Unit {0}
 IsObject (Lists subs cut) = ⊥
@@ -91,7 +91,7 @@ of_read copies selection e = go (selection_fault selection e.entry)
     go (Some kind) = tt
 
 module _ (m : Chained) where
-  of_body : (copies : Key → Bool) (t : Tree) (r : Request) (b : Body) → subset_by m b ≡ None → is_update b ≡ false → IsObject (ask_body copies t r b)
+  pub of_body : (copies : Key → Bool) (t : Tree) (r : Request) (b : Body) → subset_by m b ≡ None → is_update b ≡ false → IsObject (ask_body copies t r b)
   of_body copies t r (Read name selection) none query = of_object t name (read copies selection) (of_read copies selection)
   of_body copies t r (Compare name a) none query = of_object t name (compare copies a) (λ e. object_if (has_type e.entry a.kind) _ _ tt tt)
   of_body copies t r (ListBelow name) none query = absurd (some_subset _ none)
@@ -113,7 +113,7 @@ module _ (m : Chained) where
   pins_apart copies es ps qs r (ModifyEntry name changes) none query = cc
   pins_apart copies es ps qs r (ModifyDn name rdn drops) none query = cc
 
-  nothing_new : (b : Body) → subset_by m b ≡ None → is_update b ≡ false → new_name b ≡ None
+  pub nothing_new : (b : Body) → subset_by m b ≡ None → is_update b ≡ false → new_name b ≡ None
   nothing_new (Read name selection) none query = refl
   nothing_new (Compare name a) none query = refl
   nothing_new (ListBelow name) none query = refl
