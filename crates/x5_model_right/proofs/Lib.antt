@@ -14,5 +14,6 @@ pub mod Staying
 pub mod Agents
 pub mod Parts
 pub mod Reading
+pub mod Copying
 pub mod Induction
 pub mod Top
