@@ -11,4 +11,8 @@ pub mod Casting
 pub mod Gathering
 pub mod Leaves
 pub mod Staying
+pub mod Probing
+pub mod Updates
+pub mod Probed
+pub mod Broken
 pub mod Induction
