@@ -288,14 +288,14 @@ module _ (s : Scene) where
   -- what stands last above all stands last above each line behind which it stands
   settled_back : (d : ℕ) (lines : List Line) (x : Line) (bx : List Line) (e : Line) → AllLicensed s lines → At lines x bx → In e bx → first_of (settled d lines) ≡ Some e → first_of (settled d bx) ≡ Some e
   settled_back d [] x bx e all a i h = absurd a
-  settled_back d (z ∷ zs) x bx e all a i h = by (nat_lt d (depth z)) h
+  settled_back d (z ∷ zs) x bx e all a i h = by (nat_lt d (depth z)) (λ v k. settled_back d zs x bx e all.1 v i k) h
     where
       behind : In e zs
       behind = elim a [ inl u ↦ subst (λ (ys : List Line). In e ys) u.1 i | inr v ↦ before_in zs x bx v e i ]
 
-      by : (b : Bool) → first_of (if b then settled d zs else (z ∷ zs)) ≡ Some e → first_of (settled d bx) ≡ Some e
-      by true k = elim a [ inl u ↦ subst (λ (ys : List Line). first_of (settled d ys) ≡ Some e) (sym u.1) k | inr v ↦ settled_back d zs x bx e all.1 v i k ]
-      by false k = (let same : z ≡ e = cc in absurd (never_again s z zs all e behind (ap (λ (y : Line). y.number) same)))
+      by : (b : Bool) → (At zs x bx → first_of (settled d zs) ≡ Some e → first_of (settled d bx) ≡ Some e) → first_of (if b then settled d zs else (z ∷ zs)) ≡ Some e → first_of (settled d bx) ≡ Some e
+      by true rest k = elim a [ inl u ↦ subst (λ (ys : List Line). first_of (settled d ys) ≡ Some e) (sym u.1) k | inr v ↦ rest v k ]
+      by false rest k = (let same : z ≡ e = cc in absurd (never_again s z zs all e behind (ap (λ (y : Line). y.number) same)))
 
 -- ---- the broken line
 

@@ -3,28 +3,30 @@
 use Rattle.std.proofs.Common.{◌≡◌, ℕ, ◌+◌, ◌-◌, ◌<◌, nat_lt, Bool, true, false, not, ◌&&◌, ◌||◌, ◌==◌, ◌⊎◌, if◌then◌else◌, inl, inr, List, [], ◌∷◌, ◌++◌, length, refl, sym, ap, subst, ◌∙◌, arith, Option, Some, None}
 use Rattle.std.specs.Prelude.{IsTrue}
 use Rattle.std.specs.List.{list_any}
+use Rattle.std.specs.Result.{is_ok}
 use Rattle.x5_model.specs.Words.{has, is_empty, first_of}
 use Rattle.x5_model.specs.Members.{In, here, Once}
 use Rattle.x5_model.specs.Keys.{Key}
 use Rattle.x5_model.specs.Values.{key_of}
-use Rattle.x5_model.specs.Problems.{unavailable, unable_to_proceed}
+use Rattle.x5_model.specs.Problems.{entry_already_exists, unavailable, unable_to_proceed}
 use Rattle.x5_model.specs.Requests.{Body}
 use Rattle.x5_model.specs.References.{Reference, Chained}
-use Rattle.x5_model.specs.Answers.{Answer, DirError, Reply, Answered, Failed}
+use Rattle.x5_model.specs.Answers.{Answer, DirError, UpdateProblem, ServiceProblem, Reply, Answered, Failed}
 use Rattle.x5_model.proofs.KeyLaws.{key_decides}
 use Rattle.x5_model.proofs.Decide.{nat_same_decides}
 use Rattle.x5_model.proofs.Lists.{both_true, and_true, either_true, or_left, or_right, in_first, in_right, of_any}
 use Rattle.x5_model_tree.specs.Ask.{Refuses, is_update}
-use Rattle.x5_model_run.specs.Network.{Fate, Lost, NoReply, Sent, is_sent, is_unheard}
+use Rattle.x5_model_tree.specs.Apply.{apply}
+use Rattle.x5_model_run.specs.Network.{Fate, Lost, NoReply, Sent, arrives, is_sent, is_unheard}
 use Rattle.x5_model_run.specs.Journal.{Line, Journal, depth, operation_of, same_name, same_progress, settled, some_line, opened_by, leads_up}
-use Rattle.x5_model_run.specs.Needs.{target_of, due_probes}
+use Rattle.x5_model_run.specs.Needs.{target_of, is_unable, due_probes}
 use Rattle.x5_model_run.specs.History.{Point, tree_at}
 use Rattle.x5_model_run.specs.Chain.{Scene, AllLicensed, IsCarried, asks_by, is_asked, is_probe, is_probe_line, is_in_vain, is_broken, is_broken_line, is_broken_off, suppliers_above}
-use Rattle.x5_model_run.specs.Accepting.{lacks_probe, may_accept}
+use Rattle.x5_model_run.specs.Accepting.{carries_update, lacks_probe, may_accept}
 use Rattle.x5_model_run.specs.Blocked.{Asked}
 use Rattle.x5_model_run.specs.Covers.{told}
 use Rattle.x5_model_run.specs.Right as right
-use Rattle.x5_model_run.specs.Right.{Right, result, changed}
+use Rattle.x5_model_run.specs.Right.{Right, result, changed, is_master_at}
 use Rattle.x5_model_run.specs.Placed as placed
 use Rattle.x5_model_run.specs.Placed.{RightReply, usual, is_long}
 use Rattle.x5_model_serve.specs.Answering.{is_service, of_these}
@@ -62,7 +64,7 @@ off_lacking true true false d e h = refl
 off_lacking true false c d e h = refl
 off_lacking false b c d e h = refl
 
-at_some : (test : Line → List Line → Bool) (lines : List Line) (l : Line) (e : List Line) → At lines l e → test l e ≡ true → some_line test lines ≡ true
+pub at_some : (test : Line → List Line → Bool) (lines : List Line) (l : Line) (e : List Line) → At lines l e → test l e ≡ true → some_line test lines ≡ true
 at_some test [] l e a h = absurd a
 at_some test (x ∷ xs) l e (inl u) h = or_left (test x xs) _ (sym (λ q. test (u.0 q) (u.1 q)) ∙ h)
 at_some test (x ∷ xs) l e (inr v) h = or_right (test x xs) _ (at_some test xs l e v h)
@@ -181,8 +183,9 @@ module _ (p : Point) (s : Scene) (g : Ground p s) (k : Hand) (i : Journal) (at :
             lacks_by w.0 w.1 w.2 (asks_same a w.0 u.0) t.0 (leads_opened at.at_hand.line.number w.0 w.1 u.1)
         | inr e ↦ lacks_broken a (both_true (is_probe at.at_hand.line.message.request.body r.target) _ e).1
       ] in
-      let never : may_accept s j.lines at.at_hand.line.receiver at.at_hand.line ≡ false = off_lacking _ _ _ _ _ (ap not lacks) in
-      or_left (not (is_due_line p s j at.at_hand.line)) (not (is_empty j.accepted)) (ap not (off_first _ _ never))
+      let never : may_accept s j.lines at.at_hand.line.receiver at.at_hand.line ≡ false =
+      off_lacking (at.at_hand.line.receiver == at.at_hand.line.receiver) (arrives at.at_hand.line.fate) (carries_update s at.at_hand.line) (not (is_unable (s.holdings at.at_hand.line.receiver) at.at_hand.line.message)) (not (some_line (lacks_probe s at.at_hand.line.number) j.lines)) (ap not lacks) in
+      or_left (not (is_due_line p s j at.at_hand.line)) (not (is_empty j.accepted)) (ap not (off_first (may_accept s j.lines at.at_hand.line.receiver at.at_hand.line) (is_master_at p (key_of s.message.target) at.at_hand.line.receiver && is_ok (apply (tree_at p) s.message.request)) never))
     where
       off_first : (x y : Bool) → x ≡ false → (x && y) ≡ false
       off_first true y q = cc
@@ -198,7 +201,7 @@ misses_right known p s most k i j mine r a noted g h due d probes at comes =
     record {
       keeps = record { keeps = t.keeps.keeps; since = t.keeps.since; at_once = t.keeps.at_once; reads = λ e. t.keeps.reads refl };
       right = missed_is_right p s most k i j r (noted ++ a ∷ []) (is_spent most j) g.setting at due once d t.keeps.keeps (t.keeps.reads refl).accepted_same (some noted) t.noted_so_far;
-      within = within_error p k at.at_hand.line.number (length i.accepted) _ (going p s g k i at);
+      within = within_error p k at.at_hand.line.number (length i.accepted) (ServiceProblem unavailable (Some (of_these (noted ++ a ∷ []) r)) None) (going p s g k i at);
       own = inr (w.0, w.1, λ e. w.2);
       left = λ e. cc;
     }
@@ -283,8 +286,8 @@ is_taken_right p s most k i j l mine r a before after noted found g h due split 
     record {
       keeps = record { keeps = kept.keeps; since = kept.since; at_once = kept.at_once; reads = λ z. kept.reads refl };
       right = right;
-      within = within_error p k at.at_hand.line.number (length i.accepted) _ (going p s g k i at);
-      own = elim (error_settles p s most g k i l at kept.keeps.licensed there _ right refl refl) [
+      within = within_error p k at.at_hand.line.number (length i.accepted) (UpdateProblem entry_already_exists) (going p s g k i at);
+      own = elim (error_settles p s most g k i l at kept.keeps.licensed there (UpdateProblem entry_already_exists) right refl refl) [
         | inl z ↦ inl z
         | inr calm ↦
             let v = served_probed p s g k i at r due l (λ b f. first_probing p s most g k r i j at due rests before noted t l a (Hears (Answered found)) u w.4 b (first_split r a after before split b f)) calm in

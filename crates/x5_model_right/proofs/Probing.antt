@@ -1,6 +1,6 @@
 -- The agents that a probe goes to, in their order: who is unable to proceed is cleared, and who isn't heard is noted. What
 -- a probe asks is a read, so nothing is accepted meanwhile.
-use Rattle.std.proofs.Common.{◌≡◌, ℕ, ◌<◌, Bool, true, false, not, ◌&&◌, ◌||◌, ◌⊎◌, inl, inr, List, [], ◌∷◌, ◌++◌, length, refl, sym, ap, subst, ◌∙◌, Option, Some}
+use Rattle.std.proofs.Common.{◌≡◌, ℕ, ◌<◌, Bool, true, false, not, ◌&&◌, ◌||◌, ◌⊎◌, inl, inr, List, [], ◌∷◌, ◌++◌, length, refl, sym, ap, subst, ◌∙◌, Option, Some, None}
 use Rattle.std.specs.Prelude.{IsTrue}
 use Rattle.x5_model.specs.Words.{first_of}
 use Rattle.x5_model.specs.Members.{In, here}

@@ -22,7 +22,7 @@ use Rattle.x5_model_run.specs.Journal.{Line, Journal, depth, operation_of, is_do
 use Rattle.x5_model_run.specs.Holdings.{Held, Holdings, ground_at}
 use Rattle.x5_model_run.specs.Needs.{subset_of, subset_in, by_pin, is_refused_here, due_probes, needs}
 use Rattle.x5_model_run.specs.History.{Point, tree_at, holdings_at}
-use Rattle.x5_model_run.specs.Chain.{Scene, AllLicensed, IsCarried, may_send, is_probe}
+use Rattle.x5_model_run.specs.Chain.{Scene, AllLicensed, IsCarried, may_send, is_probe, is_probe_line}
 use Rattle.x5_model_run.specs.Accepting.{carries_update, may_accept, accepting, is_probed, is_later, is_done_before}
 use Rattle.x5_model_run.specs.Covers.{told}
 use Rattle.x5_model_run.specs.Right.{is_accepted_right, is_master_at, is_sent_later}
@@ -208,7 +208,7 @@ module _ (p : Point) (s : Scene) (most : ℕ) (g : Ground p s) (k : Hand) (i j :
         let later : is_later s k.receiver e by_line.0 ≡ true = sym (ap (some_and (is_later s k.receiver e)) by_line.1) ∙ again in
         let both = both_true (nat_lt by_line.0.number e.number) _ (both_true (e.receiver == k.receiver) _ later).1 in
         elim ((kept.reads refl).lines e m) [
-          | inr no ↦ (let yes = both.1 in let z : true ≡ false = sym yes ∙ no in cc)
+          | inr off ↦ (let on = both.1 in let z : true ≡ false = sym on ∙ off in cc)
           | inl old ↦
               let low = numbers s i.lines at.at_hand.licensed e old in
               let less = (less_decides by_line.0.number e.number).0 both.0 in
@@ -265,7 +265,7 @@ module _ (p : Point) (s : Scene) (g : Ground p s) (k : Hand) (i : Journal) (at :
         let same : at.at_hand.line ≡ e = cc in
         or_left (k.receiver == e.receiver) _ ((nat_same_decides k.receiver e.receiver).1 (sym at.at_hand.receiver_is ∙ ap (λ (l : Line). l.receiver) same));
     chains = λ l sender c.
-        or_left _ _ (and_true (is_update s.message.request.body) _ (scene_update p s k i g.setting at)
+        or_left (is_probe_line s l) _ (and_true (is_update s.message.request.body) _ (scene_update p s k i g.setting at)
         (ap (λ (q : Request). operation_of q.body == 1) (asks p s k i g.setting at r due (Some k.receiver) l.message r.agents c)));
   }
 
