@@ -1,7 +1,8 @@
 -- The agents that a probe goes to, in their order: who is unable to proceed is cleared, and who isn't heard is noted. What
 -- a probe asks is a read, so nothing is accepted meanwhile.
-use Rattle.std.proofs.Common.{◌≡◌, ℕ, ◌<◌, Bool, true, false, not, ◌&&◌, ◌||◌, ◌⊎◌, inl, inr, List, [], ◌∷◌, ◌++◌, length, refl, sym, ap, subst, ◌∙◌, Option, Some, None}
+use Rattle.std.proofs.Common.{◌≡◌, ℕ, ◌<◌, nat_lt, Bool, true, false, not, ◌&&◌, ◌||◌, ◌⊎◌, inl, inr, List, [], ◌∷◌, ◌++◌, length, refl, sym, ap, subst, ◌∙◌, Option, Some, None}
 use Rattle.std.specs.Prelude.{IsTrue}
+use Rattle.std.specs.Option.{is_none}
 use Rattle.x5_model.specs.Words.{first_of}
 use Rattle.x5_model.specs.Members.{In, here}
 use Rattle.x5_model.specs.Keys.{Key}
@@ -11,6 +12,7 @@ use Rattle.x5_model.specs.Problems.{unavailable, unable_to_proceed}
 use Rattle.x5_model.specs.Requests.{Only, Request}
 use Rattle.x5_model.specs.References.{Progress, Reference, Chained}
 use Rattle.x5_model.specs.Answers.{DirError, Reply, Failed}
+use Rattle.x5_model.specs.Statics.{fault_of}
 use Rattle.x5_model.proofs.KeyLaws.{key_decides}
 use Rattle.x5_model.proofs.Lists.{and_true, true_or_false, or_left, or_right, in_first, in_left, in_right, in_either}
 use Rattle.x5_model_tree.specs.Tree.{Tree, entry_at}
@@ -224,7 +226,8 @@ clear_right p s most k r i j l before noted a reply g un d probes e sends after 
           let request = asks p s k i g.setting at r due (Some k.receiver) w.0.message r.agents w.2 in
           let going = goes_on p s k i g.setting at r due (Some k.receiver) w.0.message r.agents w.2 in
           let unable = probe_unable p s (asked_line w.0 w.3.stood) l (is_spent most l) request going reply w.3.right un in
-          let short : falls_short (s.holdings w.0.receiver) (key_of w.0.message.target) w.0.message.progress ≡ true = last_short _ _ _ _ unable in
+          let short : falls_short (s.holdings w.0.receiver) (key_of w.0.message.target) w.0.message.progress ≡ true =
+          last_short (nat_lt (length w.0.message.trace) 128) (is_none (fault_of w.0.message.request.body)) (is_wide w.0.message.kind) (falls_short (s.holdings w.0.receiver) (key_of w.0.message.target) w.0.message.progress) unable in
           let target : key_of r.target ≡ key_of w.0.message.target = (key_decides (key_of r.target) (key_of w.0.message.target)).0 w.2.target_is in
           probed_clear p s most g k r i j at due rests before noted t l a (Hears reply) u w.4
           (and_true (is_asked is_sent l.lines at.at_hand.line.number r a) _ w.5
