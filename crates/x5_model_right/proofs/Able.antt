@@ -3,14 +3,14 @@ use Rattle.std.proofs.Common.{◌≡◌, ℕ, Bool, true, false, ◌&&◌, ◌==
 use Rattle.x5_model.specs.Keys.{Key}
 use Rattle.x5_model.specs.Values.{TypeRef, Name, key_of}
 use Rattle.x5_model.specs.Entries.{Named}
-use Rattle.x5_model.specs.Attributes.{has_type}
+use Rattle.x5_model.specs.Selections.{selection_fault}
 use Rattle.x5_model.specs.Problems.{no_such_attribute_or_value, unavailable, unable_to_proceed}
 use Rattle.x5_model.specs.Requests.{Selection, Body, Read, Compare, ListBelow, Search, AddEntry, RemoveEntry, ModifyEntry, ModifyDn, Request}
 use Rattle.x5_model.specs.References.{Reference, Chained}
 use Rattle.x5_model.specs.Answers.{DirError, NoSuchObject, AttributeProblem, ServiceProblem, Reply, Answered, Failed}
 use Rattle.x5_model.specs.Statics.{fault_of}
 use Rattle.x5_model_tree.specs.Tree.{Tree, entry_at, is_there_or_root, matched}
-use Rattle.x5_model_tree.specs.Ask.{Told, Shows, Compares, Lists, Finds, Changes, Refuses, at_object, read, compare, selection_fault, info_of, updated, ask_body, ask_marked}
+use Rattle.x5_model_tree.specs.Ask.{Told, Shows, Compares, Lists, Finds, Changes, Refuses, has_type, at_object, read, compare, info_of, updated, ask_body, ask_marked}
 use Rattle.x5_model_tree.specs.Apply.{Outcome, Applied, ground_of, apply_over, apply}
 use Rattle.x5_model_run.specs.Journal.{Journal, is_done, is_wide}
 use Rattle.x5_model_run.specs.Needs.{is_unable}

@@ -81,13 +81,13 @@ module _ (p : Point) (s : Scene) (g : Ground p s) (k : Hand) (j : Journal) (at :
     | inr y ↦ y
     | inl y ↦
         let x = of_any (λ b. some_and (is_later s b at.line) (accepting s j.lines b)) j.accepted y in
-        let b = some_of (accepting s j.lines x.0) x.2 in
+        let b = some_of x.0 (accepting s j.lines x.0) x.2 in
         let mine : k.receiver ≡ x.0 = sym at.receiver_is ∙ (nat_same_decides at.line.receiver x.0).0 b in
         let there_too : has ◌==◌ j.accepted k.receiver ≡ true = has_in ◌==◌ nat_same_decides k.receiver j.accepted (subst (λ (n : ℕ). In n j.accepted) (sym mine) x.1) in
         let no = not_accepted in
         absurd (let z : true ≡ false = sym there_too ∙ no in cc)
   ]
     where
-      some_of : {b : ℕ} (o : Option Line) → some_and (is_later s b at.line) o ≡ true → (at.line.receiver == b) ≡ true
-      some_of None q = cc
-      some_of {b} (Some x) q = (both_true (at.line.receiver == b) _ q).0
+      some_of : (b : ℕ) (o : Option Line) → some_and (is_later s b at.line) o ≡ true → (at.line.receiver == b) ≡ true
+      some_of b None q = cc
+      some_of b (Some x) q = (both_true (at.line.receiver == b) _ q).0

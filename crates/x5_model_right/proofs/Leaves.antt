@@ -197,7 +197,7 @@ refused_right p s most k j x g a b c fault at comes =
     refl
   where
     unfaulted : (x y z : Bool) → y ≡ false → (x && (y && z)) ≡ false
-    unfaulted true true z e = e
+    unfaulted true true z e = cc
     unfaulted true false z e = refl
     unfaulted false y z e = refl
 
@@ -215,7 +215,7 @@ nowhere_right known p s most k j n g a e at comes =
     with_nothing p s most g k j at comes (Failed (NoSuchObject n))
     (usual (ap not (able p s g k j at comes.none a (Nowhere n) e free))
     (right.error (own_answered at.line (length j.accepted) j.lines (line_there p s k j at)) t.0
-    (or_right (is_some (fault_of k.message.request.body)) _ (known_by t.1))
+    (or_right (is_some (fault_of k.message.request.body)) _ (known_by n t.1))
     ((nat_same_decides (length j.accepted) (length j.accepted)).1 refl)))
     tt none (settled_elsewhere p s most g k j at comes look (Nowhere n) found (λ c z. cc)) refl
   where
@@ -225,14 +225,14 @@ nowhere_right known p s most k j n g a e at comes =
     stands : In at.line j.lines
     stands = line_there p s k j at
 
-    known_by : Ends p k.receiver k.message [] n
+    known_by : (x : Name) → Ends p k.receiver k.message [] x
         → (hears_master p (serving_of j k at.line.number) j.lines (lowest (tree_at p).entries (key_of k.message.target))
         && (hears_nssr p s (serving_of j k at.line.number) j.lines (lowest (tree_at p).entries (key_of k.message.target)) && true)) ≡ true
-    known_by (at_none first low) =
+    known_by _ (at_none first low) =
         subst (λ (o : Option Named). (hears_master p (serving_of j k at.line.number) j.lines o && (hears_nssr p s (serving_of j k at.line.number) j.lines o && true)) ≡ true) (sym low)
         (and_true _ true (own_back (λ y. first_level_at (knowledge_at p) y.receiver && same_name y.message.target k.message.target) at.line (length j.accepted) j.lines stands
         (and_true (first_level_at (knowledge_at p) at.line.receiver) _ (ap (first_level_at (knowledge_at p)) at.receiver_is ∙ first) same_target)) refl)
-    known_by (at_entry ent low master nssr) =
+    known_by _ (at_entry ent low master nssr) =
         subst (λ (o : Option Named). (hears_master p (serving_of j k at.line.number) j.lines o && (hears_nssr p s (serving_of j k at.line.number) j.lines o && true)) ≡ true) (sym low)
         (and_true _ _
         (ap (some_and (hears_of (serving_of j k at.line.number) j.lines k.message.target)) master

@@ -15,4 +15,7 @@ pub mod Probing
 pub mod Updates
 pub mod Probed
 pub mod Broken
+pub mod Agents
+pub mod Parts
 pub mod Induction
+pub mod Top

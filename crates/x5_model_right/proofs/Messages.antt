@@ -70,7 +70,7 @@ never_due true true c d e = cc
 never_due true false c d e = refl
 never_due false b c d e = refl
 
-lost_settled : (p : Point) (s : Scene) (j : Journal) (e : Line) → arrives e.fate ≡ false → is_settled_line p s j e ≡ true
+pub lost_settled : (p : Point) (s : Scene) (j : Journal) (e : Line) → arrives e.fate ≡ false → is_settled_line p s j e ≡ true
 lost_settled p s j e f = or_left (not (is_due_line p s j e)) _ (ap not (never_due (e.receiver == e.receiver) (arrives e.fate) _ _ f))
 
 pub lost_right : NeededAgents → IsLost

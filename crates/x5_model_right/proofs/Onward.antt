@@ -46,6 +46,9 @@ use Rattle.x5_model_right.proofs.Finding.{looked, found_same, found_is, fresh}
 
 -- ---- a user who prohibits chaining has it prohibited in each message, but for probes
 
+abbrev form : Request → Bool → Reference → Bool → Bool → Request
+form asked user r probe part = if probe then probe_request r.target else (if part then part_request user (is_wide r.kind) r.target asked else asked)
+
 abbrev Chains : Scene → Line → Type 0
 Chains s l = (is_update l.message.request.body ≡ true → is_update s.message.request.body ≡ true) × (is_prohibited s ≡ true → (l.message.request.controls.nochain ≡ true) ⊎ (is_probe_line s l ≡ true))
 
@@ -55,9 +58,6 @@ prohibits_or_probes s =
     (λ l f. (λ u. ap (λ (m : Chained). is_update m.request.body) (sym f.message_is) ∙ u, λ e. inl (ap (λ (m : Chained). m.request.controls.nochain) f.message_is ∙ e)))
     (λ l o r needed listed carries chains before. (updates l o r carries before.0, λ e. by_sender l o r carries chains l.sender refl before.0 (before.1 e) e))
   where
-    abbrev form : Request → Bool → Reference → Bool → Bool → Request
-    form asked user r probe part = if probe then probe_request r.target else (if part then part_request user (is_wide r.kind) r.target asked else asked)
-
     for_user : (asked : Request) (user : Bool) (r : Reference) → user ≡ true → asked.controls.nochain ≡ true → (b c : Bool) → is_probe asked.body r.target ≡ b
         → ((form asked user r b c).controls.nochain ≡ true) ⊎ (((operation_of (form asked user r b c).body == 1) ≡ true) × (is_update asked.body ≡ true))
     for_user asked user r u n true c q = inr (refl, (both_true (is_update asked.body) _ q).0)
@@ -86,6 +86,38 @@ prohibits_or_probes s =
           | inl y ↦ inr y
           | inr y ↦ (let f = not_true (is_prohibited s) (both_true (not (refuses s.network b)) _ y).1 in absurd (let z : true ≡ false = sym e ∙ f in cc))
         ]
+
+-- ---- who owns what is needed may take it
+
+pub owner_may : (p : Point) (s : Scene) (k : Hand) (r : Reference) (i : Journal) → AtHand p s k i → is_idle s k ≡ false → In r (needs (s.holdings k.receiver) k.message) → MayTake s (Some k.receiver) k r i
+owner_may p s k r i at idle need = record {
+  needed = need;
+  sender_is = λ e f.
+      let q : Some at.line ≡ Some e = sym at.at_hand ∙ f in
+      let same : at.line ≡ e = cc in
+      or_left (k.receiver == e.receiver) _ ((nat_same_decides k.receiver e.receiver).1 (sym at.receiver_is ∙ ap (λ (l : Line). l.receiver) same));
+  chains = λ l sender c. chains_by l c;
+}
+  where
+    no_chain : k.message.request.controls.nochain ≡ false
+    no_chain = elim (true_or_false k.message.request.controls.nochain) [ inr e ↦ e | inl e ↦ (let z : true ≡ false = sym (or_left k.message.request.controls.nochain (refuses s.network k.receiver) e) ∙ idle in cc) ]
+
+    refuses_none : refuses s.network k.receiver ≡ false
+    refuses_none = elim (true_or_false (refuses s.network k.receiver)) [ inr e ↦ e | inl e ↦ (let z : true ≡ false = sym (or_right k.message.request.controls.nochain (refuses s.network k.receiver) e) ∙ idle in cc) ]
+
+    reads_on : (l : Line) → IsCarried (Some k.receiver) (line_for k) r l.message → (operation_of k.message.request.body == 1) ≡ true → (operation_of l.message.request.body == 1) ≡ true
+    reads_on l c e = ap (λ (y : Request). operation_of y.body == 1) c.request_is ∙ read_kept false k.message.request l.message.target r e
+
+    chains_by : (l : Line) → IsCarried (Some k.receiver) (line_for k) r l.message → may_chain s l (Some k.receiver) ≡ true
+    chains_by l c = elim (true_or_false (is_prohibited s)) [
+      | inr e ↦ or_right (is_probe_line s l) _ (and_true (not (refuses s.network k.receiver)) _ (ap not refuses_none) (ap not e))
+      | inl e ↦ elim ((prohibits_or_probes s i.lines at.line at.licensed (line_there p s k i at)).1 e) [
+        | inl n ↦ (let m : k.message.request.controls.nochain ≡ true = ap (λ (y : Chained). y.request.controls.nochain) (sym at.message_is) ∙ n in let no = no_chain in absurd (let z : true ≡ false = sym m ∙ no in cc))
+        | inr probe ↦
+            let b = both_true (is_update s.message.request.body) _ probe in
+            or_left (is_probe_line s l) _ (and_true (is_update s.message.request.body) _ b.0 (reads_on l c (ap (λ (y : Chained). operation_of y.request.body == 1) (sym at.message_is) ∙ b.1)))
+      ]
+    ]
 
 -- ---- the reference is the one that is needed
 
@@ -207,34 +239,7 @@ module _ (known : NeededAgents) (p : Point) (s : Scene) (g : Ground p s) (k : Ha
 
   -- ---- its owner takes it
   may_own : is_idle s k ≡ false → MayTake s (Some k.receiver) k r i
-  may_own idle = record {
-    needed = needed;
-    sender_is = λ e f.
-        let q : Some at.line ≡ Some e = sym at.at_hand ∙ f in
-        let same : at.line ≡ e = cc in
-        or_left (k.receiver == e.receiver) _ ((nat_same_decides k.receiver e.receiver).1 (sym line_receiver ∙ ap (λ (l : Line). l.receiver) same));
-    chains = λ l sender c. chains_by l c;
-  }
-    where
-      no_chain : k.message.request.controls.nochain ≡ false
-      no_chain = elim (true_or_false k.message.request.controls.nochain) [ inr e ↦ e | inl e ↦ (let z : true ≡ false = sym (or_left k.message.request.controls.nochain (refuses s.network k.receiver) e) ∙ idle in cc) ]
-
-      refuses_none : refuses s.network k.receiver ≡ false
-      refuses_none = elim (true_or_false (refuses s.network k.receiver)) [ inr e ↦ e | inl e ↦ (let z : true ≡ false = sym (or_right k.message.request.controls.nochain (refuses s.network k.receiver) e) ∙ idle in cc) ]
-
-      reads_on : (l : Line) → IsCarried (Some k.receiver) (line_for k) r l.message → (operation_of k.message.request.body == 1) ≡ true → (operation_of l.message.request.body == 1) ≡ true
-      reads_on l c e = ap (λ (y : Request). operation_of y.body == 1) c.request_is ∙ read_kept false k.message.request l.message.target r e
-
-      chains_by : (l : Line) → IsCarried (Some k.receiver) (line_for k) r l.message → may_chain s l (Some k.receiver) ≡ true
-      chains_by l c = elim (true_or_false (is_prohibited s)) [
-        | inr e ↦ or_right (is_probe_line s l) _ (and_true (not (refuses s.network k.receiver)) _ (ap not refuses_none) (ap not e))
-        | inl e ↦ elim ((prohibits_or_probes s i.lines at.line at.licensed (line_there p s k i at)).1 e) [
-          | inl n ↦ (let m : k.message.request.controls.nochain ≡ true = ap (λ (y : Chained). y.request.controls.nochain) (sym line_message) ∙ n in absurd (let z : true ≡ false = sym m ∙ no_chain in cc))
-          | inr probe ↦
-              let b = both_true (is_update s.message.request.body) _ probe in
-              or_left (is_probe_line s l) _ (and_true (is_update s.message.request.body) _ b.0 (reads_on l c (ap (λ (y : Chained). operation_of y.request.body == 1) (sym line_message) ∙ b.1)))
-        ]
-      ]
+  may_own idle = owner_may p s k r i at idle needed
 
   -- before it is taken by its owner
   came_calm : (most : ℕ) → Comes p s k at.line i → is_done_before s i at.line ≡ false → Rests p s most at.line (is_update k.message.request.body) i
