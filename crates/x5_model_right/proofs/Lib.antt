@@ -15,6 +15,7 @@ pub mod Probing
 pub mod Updates
 pub mod Probed
 pub mod Broken
+pub mod Updating
 pub mod Agents
 pub mod Parts
 pub mod Induction
