@@ -233,7 +233,7 @@ module _ (p : Point) (o : ℕ) (m : Chained) (sound : IsSound p) where
       copied x.0 x.1 (subst (λ (y : Held). In n y.nssrs) x.2 i)
     where
       sent : (g : Agreement) (entries : List Named) (x : Option Mastered) → mastered_at (knowledge_at p) (key_of g.context) ≡ x
-          → In n (in_option (record { prefix = g.context; entries = entries; subordinate = []; nssrs = [] }) (λ (d : Mastered). record { prefix = g.context; entries = entries; subordinate = sent_references (knowledge_at p) d entries; nssrs = d.context.nssrs }) x).nssrs
+          → In n (in_option {X = Mastered} {Y = Held} (record { prefix = g.context; entries = entries; subordinate = []; nssrs = [] }) (λ (d : Mastered). record { prefix = g.context; entries = entries; subordinate = sent_references (knowledge_at p) d entries; nssrs = d.context.nssrs }) x).nssrs
           → IsAgent p a
       sent g entries None e k = elim k [ ]
       sent g entries (Some d) e k =

@@ -1,7 +1,9 @@
 -- The agents of an NSSR, in their order: who is unable to proceed is cleared, who isn't heard is noted, and anything else
 -- is the reply. With all of them asked there is no such entry, or the name is unavailable.
-use Rattle.std.proofs.Common.{◌≡◌, ℕ, Bool, true, false, not, ◌&&◌, ◌||◌, ◌==◌, ◌⊎◌, inl, inr, List, [], ◌∷◌, ◌++◌, length, refl, sym, ap, subst, ◌∙◌, Option, Some, None}
+use Rattle.std.proofs.Common.{◌≡◌, ℕ, nat_lt, Bool, true, false, not, ◌&&◌, ◌||◌, ◌==◌, ◌⊎◌, inl, inr, List, [], ◌∷◌, ◌++◌, length, refl, sym, ap, subst, ◌∙◌, Option, Some, None}
 use Rattle.std.specs.Prelude.{IsTrue}
+use Rattle.std.specs.Option.{is_none}
+use Rattle.x5_model.specs.Statics.{fault_of}
 use Rattle.x5_model.specs.Words.{is_empty, first_of}
 use Rattle.x5_model.specs.Members.{In, here, there, Once}
 use Rattle.x5_model.specs.Keys.{Key}
@@ -67,7 +69,7 @@ cleared_by p s most e from o r a reply i j h u = elim h [
   | inr w ↦ absurd (not_unable reply most j w.0 u)
   | inl w ↦
       let unable = unable_is p s (asked_line w.0 w.3.stood) j (is_spent most j) reply w.3.right u in
-      let short : falls_short (s.holdings w.0.receiver) (key_of w.0.message.target) w.0.message.progress ≡ true = last_short _ _ _ _ unable in
+      let short : falls_short (s.holdings w.0.receiver) (key_of w.0.message.target) w.0.message.progress ≡ true = last_short (nat_lt (length w.0.message.trace) 128) (is_none (fault_of w.0.message.request.body)) (is_wide w.0.message.kind) (falls_short (s.holdings w.0.receiver) (key_of w.0.message.target) w.0.message.progress) unable in
       let target : key_of r.target ≡ key_of w.0.message.target = (key_decides (key_of r.target) (key_of w.0.message.target)).0 w.2.target_is in
       and_true (is_asked is_sent j.lines e.number r a) _ w.5
       ((λ q. falls_short (s.holdings (sym w.1 q)) (target q) (sym w.2.progress_is q)) ∙ short)

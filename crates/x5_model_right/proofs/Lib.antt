@@ -18,5 +18,6 @@ pub mod Broken
 pub mod Updating
 pub mod Agents
 pub mod Parts
+pub mod Reading
 pub mod Induction
 pub mod Top

@@ -122,7 +122,7 @@ owner_may p s k r i at idle need = record {
 -- ---- the reference is the one that is needed
 
 module _ (known : NeededAgents) (p : Point) (s : Scene) (g : Ground p s) (k : Hand) (r : Reference) (i : Journal) (at : AtHand p s k i) (look : IsLooked k.message) (found : find (s.holdings k.receiver) k.message ≡ Onward r) where
-  found_here : find (holdings_at p k.receiver) k.message ≡ Onward r
+  pub found_here : find (holdings_at p k.receiver) k.message ≡ Onward r
   found_here = ap (λ (h : ℕ → Holdings). find (h k.receiver) k.message) (sym g.setting.holdings) ∙ found
 
   abbrev pub on : GoesOn p s k r i

@@ -37,7 +37,7 @@ use Rattle.x5_model_theory.proofs.Following.{query_of}
 use Rattle.x5_model_parts.specs.Parts.{BeginsHere, begins_here, rest_needs}
 use Rattle.x5_model_serve.specs.Finding as finding
 use Rattle.x5_model_serve.specs.Finding.{Here, CopyHere, Root, Below, Onward, Nowhere, Stuck, IsLooked, find, found_by, by_first, in_own, in_copy, at_pin, resolved}
-use Rattle.x5_model_serve.specs.Answering.{reply_from, unlimited, taken_before, local_part, rest_of_parts, with_unexplored, only_unexplored, limited_answer, to_follow, passed_by}
+use Rattle.x5_model_serve.specs.Answering.{reply_from, unlimited, local_sources, is_copied_here, local_tree, taken_before, local_part, rest_of_parts, with_unexplored, only_unexplored, limited_answer, to_follow, passed_by}
 use Rattle.x5_model_serve.specs.Serving.{Hand, hand_of, line_for, Gathered, Whole, Broken, Does, Gathers, Arrives, holds_now, found_at, begins_parts, parts_refs, at_limit, gathered_reply, is_idle, is_final, is_spent, limit_reply}
 use Rattle.x5_model_serve.specs.Claims.{AtHand, Keeps, MayTake, MayGather, GatheredRight, AskedSoFar, SoFar, Apart, LiesWithin, is_due_line, is_settled_line, is_served_itself, takes_itself, serving_of, asked_line, line_at, depth_at}
 use Rattle.x5_model_serve.specs.Following.{IsFinalWhole}
@@ -554,7 +554,8 @@ gives_parts_right known p s most k j a g arrives_here begins idle local at comes
     let so : SoFar p s (serving_of j k at.line.number) j.lines a (rest_of_parts (holdings_at p k.receiver) k.message) = local_so known p s g k j at look starts a here_local in
     let left_it : to_follow (at_limit k (with_unexplored (rest_of_parts (holdings_at p k.receiver) k.message) a)) ≡ rest_of_parts (holdings_at p k.receiver) k.message =
     listing_left k.message.request.controls.size (rest_of_parts (holdings_at p k.receiver) k.message) a
-    (listing_of _ _ a (told_is_list _ _ (unlimited k.message) (query_below known p s g k j at look starts)) here_local) (local_whole (holdings_at p k.receiver) k.message a here_local)
+    (listing_of (local_sources (holdings_at p k.receiver) k.message) (told (is_copied_here (holdings_at p k.receiver) k.message) (local_tree (holdings_at p k.receiver) k.message) (unlimited k.message)) a
+    (told_is_list (is_copied_here (holdings_at p k.receiver) k.message) (local_tree (holdings_at p k.receiver) k.message) (unlimited k.message) (query_below known p s g k j at look starts)) here_local) (local_whole (holdings_at p k.receiver) k.message a here_local)
     (λ r m. (rest_part (holdings_at p k.receiver) k.message r m).1) in
     subst (λ (rs : List Reference). ServedRight p s most at.line k (Answered (at_limit k (with_unexplored rs a))) j j) (sym refs) (record {
       keeps = unchanged p s most k (is_update k.message.request.body) j at.licensed at.accepted comes.at_once;

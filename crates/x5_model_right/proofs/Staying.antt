@@ -46,7 +46,7 @@ use Rattle.x5_model_passing.proofs.Same.{the_way, way_phase}
 use Rattle.x5_model_right.specs.Kept.{Ground, Comes}
 use Rattle.x5_model_right.specs.Journeys.{NeededAgents}
 use Rattle.x5_model_right.specs.Claim.{ServedRight, MayFollow, FollowedRight}
-use Rattle.x5_model_right.specs.Served.{DoneBefore, IsStuck, Refers}
+use Rattle.x5_model_right.specs.Served.{DoneBefore, IsStuck, Refers, CarriesOut}
 use Rattle.x5_model_right.specs.Sent.{IsFinal}
 use Rattle.x5_model_right.proofs.Kept.{member_fills, unchanged, line_there}
 use Rattle.x5_model_right.proofs.Journeys.{sound, placed_here, contains_of}
@@ -146,7 +146,7 @@ done_before_right p s most k j g a b done at comes =
     }
   where
     able_still : resolves (holds_now s j k) k.message ≡ true → is_unable (s.holdings k.receiver) k.message ≡ false
-    able_still res = unshort _ _ _ _ (by k.message.progress refl)
+    able_still res = unshort (nat_lt (length k.message.trace) 128) (is_none (fault_of k.message.request.body)) (is_wide k.message.kind) (falls_short (s.holdings k.receiver) (key_of k.message.target) k.message.progress) (by k.message.progress refl)
       where
         by : (y : Progress) → k.message.progress ≡ y → falls_short (s.holdings k.receiver) (key_of k.message.target) k.message.progress ≡ false
         by Start q = rw q refl
@@ -216,7 +216,11 @@ module _ (p : Point) (s : Scene) (most : ℕ) (g : Ground p s) (k : Hand) (j : J
   problem_is : stuck_problem k ≡ unable_to_proceed
   problem_is = by (is_wide k.message.kind) wide_here
     where
-      by : (b : Bool) → b ≡ true → (if b then unable_to_proceed else invalid_reference) ≡ unable_to_proceed
+      problem : Bool → ℕ
+      problem true = unable_to_proceed
+      problem false = invalid_reference
+
+      by : (b : Bool) → b ≡ true → problem b ≡ unable_to_proceed
       by true q = refl
       by false q = cc
 
@@ -280,3 +284,8 @@ refers_right known p s most k j r g a e idle at comes =
         by : (b : Bool) → is_done r.progress ≡ b → (if b then is_done r.progress else not (is_done r.progress)) ≡ true
         by true q = q
         by false q = ap not q
+
+-- ---- an update at its master is carried out
+
+pub carries_out_right : CarriesOut
+carries_out_right p s most k i j c reply g a e up d claim at comes = claim (record { at_hand = at; arrives = a; update = up; context = c; found = e }) comes

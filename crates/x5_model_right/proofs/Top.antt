@@ -4,7 +4,8 @@
 use Rattle.std.proofs.Common.{◌≡◌, ℕ, ◌+◌, ◌-◌, ◌<◌, ◌≤◌, nat_le, nat_lt, Bool, true, false, not, ◌&&◌, ◌||◌, ◌==◌, ◌⊎◌, if◌then◌else◌, inl, inr, List, [], ◌∷◌, ◌++◌, length, reverse, refl, sym, ap, subst, ◌∙◌, arith, Option, Some, None}
 use Rattle.std.proofs.lemmas.Bool.Decides.{leb_tells}
 use Rattle.std.specs.Prelude.{IsTrue}
-use Rattle.std.specs.Option.{is_some}
+use Rattle.std.specs.Option.{is_some, is_none}
+use Rattle.x5_model.specs.Statics.{fault_of}
 use Rattle.std.specs.Result.{is_ok}
 use Rattle.std.specs.List.{list_any, list_all, find, filter, AllByRecursion}
 use Rattle.x5_model.specs.Words.{has, is_empty, some_and, in_option, first_of}
@@ -215,8 +216,8 @@ module _ (p : Point) (s : Scene) (j : Journal) (acc : Accepted p s j) (calm : li
       let mastered_here : is_master_at p (key_of s.message.target) w.2.receiver ≡ true = ap (some_and (λ m. m == w.2.receiver)) w.1 ∙ (nat_same_decides w.0 w.2.receiver).1 (sym to) in
       let due : is_due_line p s j w.2 ≡ true = and_true (may_accept s j.lines w.2.receiver w.2) _ may (and_true (is_master_at p (key_of s.message.target) w.2.receiver) _ mastered_here b.1) in
       elim (either_true (not (is_due_line p s j w.2)) _ (of_all (is_settled_line p s j) w.2 j.lines calm there_too)) [
-        | inl no ↦ (let z = not_true (is_due_line p s j w.2) no in absurd (let y : true ≡ false = sym due ∙ z in cc))
-        | inr yes ↦ yes
+        | inl off ↦ (let z = not_true (is_due_line p s j w.2) off in absurd (let y : true ≡ false = sym due ∙ z in cc))
+        | inr kept ↦ kept
       ]
 
   due_by : (a : ℕ) → In a j.accepted → is_due p s j.lines ≡ true
@@ -354,7 +355,7 @@ module _ (p : Point) (first : ℕ) (r : Request) (set : Setting p (scene_at p fi
         by : (y : Reply) → RightReply p (scene_at p first r) (serving_of (with_line (user_line (scene_at p first r)) nothing_yet) (hand (scene_at p first r).first (scene_at p first r).message) (user_line (scene_at p first r)).number) j (is_spent (budget p) j) y
             → Right p (scene_at p first r) (by_user (scene_at p first r)) j y
         by y (placed.usual able x) = right_too p (scene_at p first r) j (user_line (scene_at p first r)).number sv.keeps.keeps.licensed (back_user fate) (come_user fate) y x
-        by _ (placed.unable h) = absurd (narrow _ _ h)
+        by _ (placed.unable h) = absurd (narrow (nat_lt (length (scene_at p first r).message.trace) 128) (is_none (fault_of r.body)) h)
         by _ (placed.limit h) = absurd (elim (either_true (is_spent (budget p) j) _ h) [
           | inl e ↦ (let f = not_spent in let z : true ≡ false = sym e ∙ f in cc)
           | inr e ↦ long_one e
