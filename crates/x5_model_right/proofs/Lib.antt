@@ -11,6 +11,11 @@ pub mod Casting
 pub mod Gathering
 pub mod Leaves
 pub mod Staying
+pub mod Probing
+pub mod Updates
+pub mod Probed
+pub mod Broken
+pub mod Updating
 pub mod Agents
 pub mod Parts
 pub mod Reading

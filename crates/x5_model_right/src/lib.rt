@@ -8,6 +8,7 @@ ghost use Rattle.x5_model_right.specs.Sent.{Spent, IsLost, Dropped, IsHeard, IsF
 ghost use Rattle.x5_model_right.specs.Taken.{NoneYet, InVainToo, NextIsHeard, NoneIsHeard};
 ghost use Rattle.x5_model_right.specs.Cast.{NoneAsked, UnableToo, SilentToo, IsAnswered, NobodyHas, SomeSilent};
 ghost use Rattle.x5_model_right.specs.Gathered.{NoPart, PartUnheard, PartUnavailable, PartAnswered, PartBreaks};
+ghost use Rattle.x5_model_right.specs.Updated.{NotDone, DoesAlone, ProbesAll, Misses, IsTaken, Breaks, NoProbe, Clear, Unsure, Silent};
 ghost use Rattle.x5_model_right.specs.Right.{ServingIsRight, RequestIsRight};
 
 /// Whom needed references name: agents of the world, one at least (X.518, section 18).
@@ -91,6 +92,26 @@ pub fn all_parts()
     ensures unavailable { PartUnavailable }
     ensures answered { PartAnswered }
     ensures breaks { PartBreaks }
+{}
+
+/// An update at its master: its own ground refuses it; it is done, without probes or after them; some weren't heard; a probe finds
+/// the new name, or brings another error (X.511, section 11; X.518, section 19.1).
+pub fn at_master()
+    ensures refused { NotDone }
+    ensures alone { DoesAlone }
+    ensures probed { ProbesAll }
+    ensures missed { Misses }
+    ensures found { IsTaken }
+    ensures broken { Breaks }
+{}
+
+/// The agents that a probe goes to, in their order: who can't go on is cleared; who couldn't hear its own supplier is noted, and so
+/// is who wasn't heard (X.518, section 19.1).
+pub fn all_probes()
+    ensures none { NoProbe }
+    ensures clear { Clear }
+    ensures unsure { Unsure }
+    ensures silent { Silent }
 {}
 
 /// From its cases, whatever is done for a message is licensed, right and thorough, and so is a request (X.518, sections 17 to 21).
