@@ -22,3 +22,4 @@ pub mod Reading
 pub mod Copying
 pub mod Induction
 pub mod Top
+pub mod Whole

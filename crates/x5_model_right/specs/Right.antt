@@ -46,3 +46,17 @@ RequestIsRight =
     → ((name : Name) → new_name r.body ≡ Some name → length name ≤ 16)
     → IsRequest (scene_at p first r) (budget p) j reply
     → AnswersRight p first r j reply × Thorough (scene_at p first r) j
+
+-- All cases are proved, so this holds without them: whatever is done, its claim holds.
+abbrev pub AllIsRight : Type 0
+AllIsRight =
+    (p : Point) (s : Scene) (most : ℕ) (x : Act) (i j : Journal) → Ground p s → Does s most x i j → Claim p s most x i j
+
+-- And so does what it gives a request: whatever a user is told over consistent knowledge is right and thorough.
+abbrev pub RequestsAreRight : Type 0
+RequestsAreRight =
+    (p : Point) (first : ℕ) (r : Request) (j : Journal) (reply : Reply)
+    → Setting p (scene_at p first r) → length (target_of r.body) ≤ 16
+    → ((name : Name) → new_name r.body ≡ Some name → length name ≤ 16)
+    → IsRequest (scene_at p first r) (budget p) j reply
+    → AnswersRight p first r j reply × Thorough (scene_at p first r) j

@@ -9,7 +9,7 @@ ghost use Rattle.x5_model_right.specs.Taken.{NoneYet, InVainToo, NextIsHeard, No
 ghost use Rattle.x5_model_right.specs.Cast.{NoneAsked, UnableToo, SilentToo, IsAnswered, NobodyHas, SomeSilent};
 ghost use Rattle.x5_model_right.specs.Gathered.{NoPart, PartUnheard, PartUnavailable, PartAnswered, PartBreaks};
 ghost use Rattle.x5_model_right.specs.Updated.{NotDone, DoesAlone, ProbesAll, Misses, IsTaken, Breaks, NoProbe, Clear, Unsure, Silent};
-ghost use Rattle.x5_model_right.specs.Right.{ServingIsRight, RequestIsRight};
+ghost use Rattle.x5_model_right.specs.Right.{ServingIsRight, RequestIsRight, AllIsRight, RequestsAreRight};
 
 /// Whom needed references name: agents of the world, one at least (X.518, section 18).
 pub fn needing()
@@ -118,4 +118,11 @@ pub fn all_probes()
 pub fn serving()
     ensures claims { ServingIsRight }
     ensures request { RequestIsRight }
+{}
+
+/// Without any premise on its cases, since all are proved: over consistent knowledge whatever is done for a message is licensed,
+/// right and thorough, and so is what a user is told (X.518, sections 17 to 21).
+pub fn everything()
+    ensures claims { AllIsRight }
+    ensures requests { RequestsAreRight }
 {}
