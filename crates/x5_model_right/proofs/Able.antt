@@ -1,13 +1,13 @@
 -- The tree never says that an agent is unable to proceed; so whose right reply is that, it is unable.
-use Rattle.std.proofs.Common.{◌≡◌, ℕ, Bool, true, false, ◌&&◌, ◌==◌, inl, inr, List, [], ◌∷◌, refl, sym, ap, subst, ◌∙◌, Option, Some, None, Ok, Err, if◌then◌else◌}
+use Rattle.std.proofs.Common.{◌≡◌, Bool, true, false, refl, subst, Option, Some, None, Ok, Err, if◌then◌else◌}
 use Rattle.x5_model.specs.Keys.{Key}
 use Rattle.x5_model.specs.Values.{TypeRef, Name, key_of}
 use Rattle.x5_model.specs.Entries.{Named}
 use Rattle.x5_model.specs.Selections.{selection_fault}
-use Rattle.x5_model.specs.Problems.{no_such_attribute_or_value, unavailable, unable_to_proceed}
+use Rattle.x5_model.specs.Problems.{no_such_attribute_or_value, unable_to_proceed}
 use Rattle.x5_model.specs.Requests.{Selection, Body, Read, Compare, ListBelow, Search, AddEntry, RemoveEntry, ModifyEntry, ModifyDn, Request}
-use Rattle.x5_model.specs.References.{Reference, Chained}
-use Rattle.x5_model.specs.Answers.{DirError, NoSuchObject, AttributeProblem, ServiceProblem, Reply, Answered, Failed}
+use Rattle.x5_model.specs.References.{Chained}
+use Rattle.x5_model.specs.Answers.{DirError, NoSuchObject, AttributeProblem, Reply, Failed}
 use Rattle.x5_model.specs.Statics.{fault_of}
 use Rattle.x5_model_tree.specs.Tree.{Tree, entry_at, is_there_or_root, matched}
 use Rattle.x5_model_tree.specs.Ask.{Told, Shows, Compares, Lists, Finds, Changes, Refuses, has_type, at_object, read, compare, info_of, updated, ask_body, ask_marked}

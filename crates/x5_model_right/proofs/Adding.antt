@@ -1,6 +1,6 @@
 -- A line that is sent for the line at hand, by a needed reference: it is licensed, what was accepted stays right, nothing
 -- was sent for a line that came again, and its message is now at hand, newly come.
-use Rattle.std.proofs.Common.{◌≡◌, ℕ, ◌+◌, ◌-◌, ◌<◌, ◌≤◌, nat_lt, Bool, true, false, not, ◌&&◌, ◌||◌, ◌==◌, ◌⊎◌, if◌then◌else◌, inl, inr, List, [], ◌∷◌, ◌++◌, length, reverse, refl, sym, ap, subst, ◌∙◌, arith, length-append, Option, Some, None}
+use Rattle.std.proofs.Common.{◌≡◌, ℕ, ◌+◌, ◌-◌, Bool, true, false, not, ◌&&◌, ◌||◌, ◌==◌, ◌⊎◌, if◌then◌else◌, inl, inr, List, [], ◌∷◌, ◌++◌, reverse, refl, sym, ap, subst, ◌∙◌, arith, length-append, Option, Some, None}
 use Rattle.std.proofs.lemmas.List.{reverse-append}
 use Rattle.std.specs.Prelude.{IsTrue}
 use Rattle.std.specs.List.{list_any, list_all, find}
@@ -9,28 +9,24 @@ use Rattle.x5_model.specs.Members.{In, here, there}
 use Rattle.x5_model.specs.Values.{Name}
 use Rattle.x5_model.specs.Requests.{Body, Read, Compare, ListBelow, Search, AddEntry, RemoveEntry, ModifyEntry, ModifyDn, Request}
 use Rattle.x5_model.specs.References.{Reference, Chained}
-use Rattle.x5_model.proofs.Lists.{both_true, and_true, either_true, or_right, true_or_false, in_first, in_either, any_in, of_any, of_all, all_in, of_find}
+use Rattle.x5_model.proofs.Lists.{both_true, and_true, or_right, true_or_false, in_first, in_either, of_all, all_in, of_find}
 use Rattle.x5_model_tree.specs.Ask.{is_update}
-use Rattle.x5_model_tree.specs.Apply.{apply}
-use Rattle.std.specs.Result.{is_ok}
-use Rattle.x5_model.specs.Values.{key_of}
 use Rattle.x5_model_run.specs.Network.{arrives, is_sent, is_unheard}
-use Rattle.x5_model_run.specs.Journal.{Line, Journal, depth, operation_of, is_wide, item_of, settled, siblings, some_line, is_reached, leads_up}
+use Rattle.x5_model_run.specs.Journal.{Line, Journal, depth, operation_of, is_wide, item_of, settled, some_line, is_reached, leads_up}
 use Rattle.x5_model_run.specs.Needs.{is_unable, due_probes}
-use Rattle.x5_model_run.specs.History.{Point, tree_at}
-use Rattle.x5_model_run.specs.Chain.{Scene, Licensed, AllLicensed, is_asked, is_user, is_probe, asks_part, probe_request, part_body, part_request, request_for, is_probe_line, is_prohibited}
+use Rattle.x5_model_run.specs.History.{Point}
+use Rattle.x5_model_run.specs.Chain.{Scene, AllLicensed, is_asked, is_user, is_probe, asks_part, probe_request, part_body, part_request, is_probe_line, is_prohibited}
 use Rattle.x5_model_run.specs.Accepting.{carries_update, lacks_probe, may_accept, accepting, is_probed, is_later, is_done_before}
-use Rattle.x5_model_run.specs.Right.{is_accepted_right, is_master_at, is_sent_later}
+use Rattle.x5_model_run.specs.Right.{is_accepted_right, is_sent_later}
 use Rattle.x5_model_run.proofs.Journals.{settled_at, siblings_at}
 use Rattle.x5_model_run.proofs.Growing.{all_grow}
 use Rattle.x5_model_joins.proofs.Backs.{numbers}
 use Rattle.x5_model_serve.specs.Serving.{Hand, hand, carried_for, next_line, with_line, is_spent}
-use Rattle.x5_model_serve.specs.Claims.{Accepted, AtHand, MayTake, AskedSoFar, depth_at, last_number, is_settled_line}
+use Rattle.x5_model_serve.specs.Claims.{Accepted, AtHand, MayTake, AskedSoFar, depth_at, is_settled_line}
 use Rattle.x5_model_serve.proofs.Licence.{next_is_licensed}
-use Rattle.x5_model_verdicts.specs.Verdicts.{JustCame}
 use Rattle.x5_model_right.specs.Kept.{Ground, AtOnce, Rests, Comes, asks_update}
 use Rattle.x5_model_right.specs.Journeys.{NeededAgents}
-use Rattle.x5_model_right.proofs.Kept.{settled_stays, some_stays, line_there}
+use Rattle.x5_model_right.proofs.Kept.{settled_stays}
 use Rattle.x5_model_right.proofs.Journeys.{apart_here}
 
 -- ---- bodies

@@ -1,31 +1,31 @@
 -- A needed reference names an agent, and only agents: a superior, an NSSR's others, a master and its shadows, a supplier,
 -- of all of which a described world says so. By the ways in which needed references are made.
-use Rattle.std.proofs.Common.{◌≡◌, ℕ, zero, suc, ◌+◌, ◌<◌, nat_lt, ◌==◌, Bool, true, false, not, ◌&&◌, ◌⊎◌, if◌then◌else◌, inl, inr, List, [], ◌∷◌, ◌++◌, map, length, refl, sym, ap, subst, ◌∙◌, arith, Option, Some, None, slice_get}
+use Rattle.std.proofs.Common.{◌≡◌, ℕ, zero, suc, ◌+◌, ◌<◌, nat_lt, ◌==◌, Bool, true, false, not, ◌&&◌, if◌then◌else◌, inl, inr, List, [], ◌∷◌, ◌++◌, map, length, refl, sym, ap, subst, ◌∙◌, arith, Option, Some, None, slice_get}
 use Rattle.std.specs.List.{list_all, filter, flat_map, list_any}
 use Rattle.std.specs.Option.{is_some, is_none}
 use Rattle.x5_model.specs.Words.{is_empty, in_option, when, some_and}
 use Rattle.x5_model.specs.Members.{In, here, there}
-use Rattle.x5_model.specs.Keys.{Key, same_key, parent, is_root, is_child}
+use Rattle.x5_model.specs.Keys.{Key, same_key, parent}
 use Rattle.x5_model.specs.Values.{Name, key_of}
 use Rattle.x5_model.specs.Entries.{Named}
-use Rattle.x5_model.specs.Requests.{Subset, Request}
+use Rattle.x5_model.specs.Requests.{Subset}
 use Rattle.x5_model.specs.Statics.{fault_of}
-use Rattle.x5_model.specs.References.{Progress, Start, Next, Done, RefType, Superior, Subordinate, Cross, Supplier, NonSpecific, Reference, Chained}
+use Rattle.x5_model.specs.References.{Progress, Start, Next, Done, Superior, Subordinate, Cross, Supplier, NonSpecific, Reference, Chained}
 use Rattle.x5_model.proofs.Decide.{less_decides}
 use Rattle.x5_model.proofs.Lists.{both_true, in_first, in_left, in_right, in_either, of_map, of_flat, of_filter, of_find, of_all}
-use Rattle.x5_model_tree.specs.World.{Specific, Nssr, Context, Agent, Agreement, World}
+use Rattle.x5_model_tree.specs.World.{Specific, Nssr, Agreement, World}
 use Rattle.x5_model_tree.specs.Tree.{lowest, entry_at, is_there, part}
 use Rattle.x5_model_tree.specs.Ask.{in_subset}
-use Rattle.x5_model_tree.specs.Masters.{Mastered, numbered, mastered, agent_at}
-use Rattle.x5_model_tree.specs.Described.{IsDescribed, is_agent, is_agent_name, is_context, is_rooted, is_kept, is_nssr, are_agents, are_references, has_superior, is_agreement, is_number, is_entry_name}
+use Rattle.x5_model_tree.specs.Masters.{Mastered, mastered, agent_at}
+use Rattle.x5_model_tree.specs.Described.{is_agent, is_agent_name, is_context, is_rooted, is_kept, is_nssr, has_superior, is_agreement, is_number, is_entry_name}
 use Rattle.x5_model_tree.proofs.Gives.{owner_of}
-use Rattle.x5_model_run.specs.Journal.{same_name, is_wide}
+use Rattle.x5_model_run.specs.Journal.{same_name}
 use Rattle.x5_model_run.specs.Holdings.{Held, Copy, Holdings, may_copy, masters_pin, usable_agents, usable_copies, served, subordinates, known_pin, held_at, copy_at}
-use Rattle.x5_model_run.specs.Needs.{others, reference, proceeding, resolves, to_superior, superior_needs, nssr_at, to_nssr, from_lowest, multicast_needs, copy_answers, supplier_needs, specific_at, to_specific, specific_needs, foreign_needs, known_needs, pin_needs, resolution_needs, by_pin, subset_of, begins_at, begins_by, found_by_name, found_at_root, found_in, found_below, found_at_pin, and_below, evaluated, answers_root, below_needs, in_scope, treated_below, to_each, wide_needs, subset_needs, part_needs, to_supplier, copied_needs, new_name, is_refused_here, probe_by, probe_from, probe_of, probe_at_master, probe_due, probe_needs, passing_needs, due_probes, needs}
-use Rattle.x5_model_run.specs.History.{Point, knowledge_at, tree_at, tree_of_moment, as_of, sent_references, mastered_at, copy_as_of, agent_holdings, no_holdings, holdings_at}
+use Rattle.x5_model_run.specs.Needs.{others, reference, proceeding, resolves, to_superior, superior_needs, nssr_at, to_nssr, from_lowest, multicast_needs, copy_answers, supplier_needs, specific_at, to_specific, specific_needs, foreign_needs, known_needs, pin_needs, resolution_needs, by_pin, subset_of, begins_at, begins_by, found_at_root, found_in, found_below, found_at_pin, and_below, evaluated, answers_root, below_needs, in_scope, treated_below, to_each, wide_needs, subset_needs, part_needs, to_supplier, copied_needs, new_name, is_refused_here, probe_by, probe_from, probe_of, probe_at_master, probe_due, probe_needs, passing_needs, due_probes, needs}
+use Rattle.x5_model_run.specs.History.{Point, knowledge_at, tree_of_moment, as_of, sent_references, mastered_at, copy_as_of, holdings_at}
 use Rattle.x5_model_theory.specs.Leading.{IsSound}
 use Rattle.x5_model_theory.proofs.Views.{at_place}
-use Rattle.x5_model_theory.proofs.Holding.{by_agent, own_is, copy_is, usable_is, usable_holds, IsRightAccess, subordinates_right, crosses_right}
+use Rattle.x5_model_theory.proofs.Holding.{by_agent, copy_is, usable_is, usable_holds, IsRightAccess, subordinates_right, crosses_right}
 use Rattle.x5_model_serve.specs.Claims.{IsAgent}
 use Rattle.x5_model_bounds.proofs.Agents.{nssr_agents, held_there}
 use Rattle.x5_model_bounds.proofs.Scopes.{served_subordinate}

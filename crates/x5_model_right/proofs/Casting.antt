@@ -1,42 +1,38 @@
 -- The agents of an NSSR, in their order: who is unable to proceed is cleared, who isn't heard is noted, and anything else
 -- is the reply. With all of them asked there is no such entry, or the name is unavailable.
-use Rattle.std.proofs.Common.{◌≡◌, ℕ, nat_lt, Bool, true, false, not, ◌&&◌, ◌||◌, ◌==◌, ◌⊎◌, inl, inr, List, [], ◌∷◌, ◌++◌, length, refl, sym, ap, subst, ◌∙◌, Option, Some, None}
+use Rattle.std.proofs.Common.{◌≡◌, ℕ, nat_lt, Bool, true, false, ◌&&◌, ◌⊎◌, inl, inr, List, [], ◌∷◌, ◌++◌, length, refl, sym, ap, subst, ◌∙◌, Option, Some}
 use Rattle.std.specs.Prelude.{IsTrue}
 use Rattle.std.specs.Option.{is_none}
 use Rattle.x5_model.specs.Statics.{fault_of}
 use Rattle.x5_model.specs.Words.{is_empty, first_of}
-use Rattle.x5_model.specs.Members.{In, here, there, Once}
-use Rattle.x5_model.specs.Keys.{Key}
+use Rattle.x5_model.specs.Members.{In, here, Once}
 use Rattle.x5_model.specs.Values.{key_of}
 use Rattle.x5_model.specs.Problems.{unable_to_proceed}
-use Rattle.x5_model.specs.References.{Progress, Reference, Chained}
+use Rattle.x5_model.specs.References.{Reference, Chained}
 use Rattle.x5_model.specs.Answers.{Reply}
 use Rattle.x5_model.proofs.KeyLaws.{key_decides}
-use Rattle.x5_model.proofs.Decide.{nat_same_decides}
-use Rattle.x5_model.proofs.Lists.{both_true, and_true, or_left, or_right, in_first, in_left, in_right, in_either}
+use Rattle.x5_model.proofs.Lists.{and_true, or_left, or_right, in_first, in_left, in_right, in_either}
 use Rattle.x5_model_run.specs.Network.{is_sent}
 use Rattle.x5_model_run.specs.Journal.{Line, Journal, is_wide, settled}
 use Rattle.x5_model_run.specs.Holdings.{Holdings}
-use Rattle.x5_model_run.specs.Needs.{falls_short, is_unable, needs}
-use Rattle.x5_model_run.specs.History.{Point, holdings_at}
-use Rattle.x5_model_run.specs.Chain.{Scene, IsCarried, is_asked, is_cleared, is_in_vain, is_passed}
+use Rattle.x5_model_run.specs.Needs.{falls_short, needs}
+use Rattle.x5_model_run.specs.History.{Point}
+use Rattle.x5_model_run.specs.Chain.{Scene, IsCarried, is_asked, is_cleared, is_in_vain}
 use Rattle.x5_model_run.specs.Right.{heard_whole}
 use Rattle.x5_model_run.specs.Thorough.{is_sent_by}
 use Rattle.x5_model_serve.specs.Answering.{is_service}
-use Rattle.x5_model_serve.specs.Serving.{Hand, line_for, Heard, Unheard, Hears, Does, Sends, Spreads, Casts, is_spent, limit_reply, answered, nobody_has, some_silent}
-use Rattle.x5_model_serve.specs.Claims.{AtHand, Keeps, MayTake, AskedSoFar, NotedSoFar, OnlyBy, HeardRight, TakenRight, IsSpentReply, depth_at, serving_of, asked_line}
-use Rattle.x5_model_bounds.specs.Unable.{IsUnable}
+use Rattle.x5_model_serve.specs.Serving.{Hand, line_for, Heard, Unheard, Hears, Sends, is_spent, limit_reply, answered}
+use Rattle.x5_model_serve.specs.Claims.{AtHand, MayTake, NotedSoFar, IsSpentReply, depth_at, asked_line}
 use Rattle.x5_model_bounds.proofs.Able.{replies_able}
 use Rattle.x5_model_bounds.proofs.Unables.{unable_sends_nothing}
-use Rattle.x5_model_passing.specs.Taking.{GoesOn}
 use Rattle.x5_model_passing.proofs.Taking.{casting_is_right}
 use Rattle.x5_model_passing.proofs.Nobody.{nobody_is_right}
 use Rattle.x5_model_passing.proofs.Unsure.{silence_is_right}
-use Rattle.x5_model_right.specs.Kept.{Ground, KeepsAll, Rests, asks_update, is_sent_to, IsUnsaid, Meanwhile}
+use Rattle.x5_model_right.specs.Kept.{Ground, KeepsAll, Rests, asks_update, is_sent_to}
 use Rattle.x5_model_right.specs.Journeys.{NeededAgents}
-use Rattle.x5_model_right.specs.Claim.{SentHeard, SentRight, SpreadRight, CastRight}
+use Rattle.x5_model_right.specs.Claim.{SentHeard, SentRight, SpreadRight}
 use Rattle.x5_model_right.specs.Cast.{NoneAsked, UnableToo, SilentToo, IsAnswered, NobodyHas, SomeSilent}
-use Rattle.x5_model_right.proofs.Kept.{sent_to_stays, vain_stays, cleared_stays, all_both, unchanged, at_hand_later, may_later, noted_later, rests_later}
+use Rattle.x5_model_right.proofs.Kept.{sent_to_stays, all_both, unchanged, at_hand_later, may_later, noted_later, rests_later}
 use Rattle.x5_model_right.proofs.Journeys.{sound, agent_here, apart_here}
 use Rattle.x5_model_right.proofs.Adding.{middle}
 use Rattle.x5_model_right.proofs.Able.{unable_is}

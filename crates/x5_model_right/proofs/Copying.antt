@@ -1,29 +1,27 @@
 -- A read or compare in a copy (X.518, section 19.2): what the copy tells, marked so, is what that one source tells; and a
 -- copy that would refuse it doesn't answer.
-use Rattle.std.proofs.Common.{◌≡◌, ℕ, Bool, true, false, cond, not, ◌&&◌, ◌||◌, ◌==◌, ◌⊎◌, if◌then◌else◌, inl, inr, List, [], ◌∷◌, ◌++◌, map, length, refl, sym, ap, subst, ◌∙◌, Option, Some, None}
-use Rattle.std.specs.Prelude.{IsTrue}
-use Rattle.std.specs.Option.{is_some, is_none}
-use Rattle.std.specs.List.{list_any, list_all, filter, AllByRecursion}
-use Rattle.x5_model.specs.Words.{has, distinct, in_option, some_and}
-use Rattle.x5_model.specs.Members.{In, here, there}
+use Rattle.std.proofs.Common.{◌≡◌, ℕ, Bool, true, false, cond, not, ◌&&◌, ◌==◌, if◌then◌else◌, inl, inr, List, [], ◌∷◌, map, length, refl, sym, ap, subst, ◌∙◌, Option, Some, None}
+use Rattle.std.specs.Option.{is_some}
+use Rattle.std.specs.List.{list_all, filter, AllByRecursion}
+use Rattle.x5_model.specs.Words.{has, distinct, in_option}
+use Rattle.x5_model.specs.Members.{In}
 use Rattle.x5_model.specs.Keys.{Key, same_key, is_root}
 use Rattle.x5_model.specs.Values.{Name, TypeRef, key_of}
 use Rattle.x5_model.specs.Entries.{Named}
 use Rattle.x5_model.specs.Selections.{selection_fault}
 use Rattle.x5_model.specs.Problems.{no_such_attribute_or_value}
 use Rattle.x5_model.specs.Requests.{Subset, Selection, Body, Read, Compare, ListBelow, Search, AddEntry, RemoveEntry, ModifyEntry, ModifyDn, Request}
-use Rattle.x5_model.specs.Statics.{fault_of}
 use Rattle.x5_model.specs.References.{Progress, Start, Next, Done, Reference, Chained}
-use Rattle.x5_model.specs.Answers.{Source, Answer, EntryFound, Matched, DirError, NoSuchObject, AttributeProblem, Reply, Answered, Failed}
+use Rattle.x5_model.specs.Answers.{Source, Answer, EntryFound, Matched, DirError, NoSuchObject, AttributeProblem}
 use Rattle.x5_model.proofs.KeyLaws.{key_decides}
 use Rattle.x5_model.proofs.Decide.{nat_same_decides}
 use Rattle.x5_model.proofs.Lists.{both_true, and_true, either_true, not_true, or_left, or_right, of_find}
 use Rattle.x5_model_tree.specs.Tree.{Tree, tree_of, lowest, entry_at, is_there, matched}
 use Rattle.x5_model_tree.specs.Ask.{rest_of, sources_of, unexplored_of, Told, Shows, Compares, Lists, Finds, Changes, Refuses, is_update, has_type, at_object, read, compare, info_of, ask_body, ask_marked, ask}
 use Rattle.x5_model_run.specs.Network.{arrives}
-use Rattle.x5_model_run.specs.Journal.{Line, Journal, same_name, is_done}
+use Rattle.x5_model_run.specs.Journal.{Journal, same_name, is_done}
 use Rattle.x5_model_run.specs.Holdings.{Held, Copy, Holdings, may_copy, usable_copies, known_pin, held_at, copy_at, holds_within, is_first_level}
-use Rattle.x5_model_run.specs.Needs.{target_of, subset_of, is_unable, resolves, superior_needs, multicast_needs, fails, copy_answers, supplier_needs, specific_needs, ends_here, ends_at_pin, new_name, probe_due, probe_needs, part_needs, needs}
+use Rattle.x5_model_run.specs.Needs.{target_of, subset_of, is_unable, resolves, superior_needs, multicast_needs, fails, copy_answers, specific_needs, ends_here, ends_at_pin, probe_due, needs}
 use Rattle.x5_model_run.specs.History.{Point, knowledge_at, tree_at, holdings_at}
 use Rattle.x5_model_run.specs.Chain.{Scene}
 use Rattle.x5_model_run.specs.Accepting.{carries_update, may_accept}
@@ -34,19 +32,19 @@ use Rattle.x5_model_run.specs.Right.{is_source, is_holder, is_copy_source, copy_
 use Rattle.x5_model_run.specs.Placed.{is_query_below, RightReply, usual}
 use Rattle.x5_model_serve.specs.Finding.{Found, Here, CopyHere, Root, Onward, Nowhere, Stuck, IsLooked, find, by_first, in_own, in_copy, at_pin, resolved}
 use Rattle.x5_model_serve.specs.Answering.{reply_from, copy_source, reply_in_copy}
-use Rattle.x5_model_serve.specs.Serving.{Hand, Arrives, found_at, is_spent}
-use Rattle.x5_model_serve.specs.Claims.{AtHand, LiesWithin, is_due_line, is_settled_line, serving_of}
+use Rattle.x5_model_serve.specs.Serving.{Hand, is_spent}
+use Rattle.x5_model_serve.specs.Claims.{AtHand, LiesWithin, serving_of}
 use Rattle.x5_model_find.proofs.Copies.{copy_is_told}
 use Rattle.x5_model_find.proofs.Deciding.{subset_by, needs_are}
-use Rattle.x5_model_find.proofs.Needing.{is_onward, part_of, passing}
+use Rattle.x5_model_find.proofs.Needing.{part_of, passing}
 use Rattle.x5_model_find.proofs.Owns.{some_subset}
 use Rattle.x5_model_bounds.proofs.Parting.{told_final}
 use Rattle.x5_model_joins.proofs.Backs.{own_back, own_answered}
-use Rattle.x5_model_right.specs.Kept.{Ground, Comes}
+use Rattle.x5_model_right.specs.Kept.{Ground}
 use Rattle.x5_model_right.specs.Served.{ReadsCopy}
 use Rattle.x5_model_right.proofs.Kept.{line_there}
 use Rattle.x5_model_right.proofs.Adding.{no_carrier}
-use Rattle.x5_model_right.proofs.Finding.{looked, found_same, found_is, able}
+use Rattle.x5_model_right.proofs.Finding.{looked, found_is, able}
 use Rattle.x5_model_right.proofs.Leaves.{with_nothing, settled_unless}
 use Rattle.x5_model_right.proofs.Reading.{IsObject, of_body, nothing_new}
 

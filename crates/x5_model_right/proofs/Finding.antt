@@ -1,15 +1,14 @@
 -- Where something is found, nothing was accepted by the agent before: so it holds what it held, is able to proceed, and
 -- doesn't do an update again.
-use Rattle.std.proofs.Common.{◌≡◌, ℕ, nat_lt, Bool, true, false, not, ◌&&◌, ◌||◌, ◌==◌, ◌⊎◌, inl, inr, List, [], ◌∷◌, length, refl, sym, ap, subst, ◌∙◌, Option, Some, None, if◌then◌else◌}
+use Rattle.std.proofs.Common.{◌≡◌, ℕ, nat_lt, Bool, true, false, ◌&&◌, ◌==◌, inl, inr, List, [], length, refl, sym, ap, subst, ◌∙◌, Option, Some, None, if◌then◌else◌}
 use Rattle.std.specs.Option.{is_none}
-use Rattle.std.specs.List.{list_any}
 use Rattle.x5_model.specs.Words.{has, some_and}
 use Rattle.x5_model.specs.Members.{In}
 use Rattle.x5_model.specs.Values.{key_of}
 use Rattle.x5_model.specs.Statics.{fault_of}
 use Rattle.x5_model.specs.References.{Progress, Start, Next, Done, Chained}
 use Rattle.x5_model.proofs.Decide.{nat_same_decides}
-use Rattle.x5_model.proofs.Lists.{both_true, either_true, true_or_false, of_any, has_in}
+use Rattle.x5_model.proofs.Lists.{both_true, true_or_false, of_any, has_in}
 use Rattle.x5_model_tree.specs.Ask.{is_update}
 use Rattle.x5_model_run.specs.Journal.{Line, Journal, is_wide}
 use Rattle.x5_model_run.specs.Holdings.{Holdings, holds_within}

@@ -1,31 +1,28 @@
 -- The references of a list or search, in turn: what was gathered so far is joined with what one more brings, by the loop
 -- of x5_model_joins; and each reference was taken. A list or search is no update.
-use Rattle.std.proofs.Common.{◌≡◌, ℕ, ◌<◌, Bool, true, false, ◌⊎◌, inl, inr, List, [], ◌∷◌, ◌++◌, length, refl, sym, ap, subst, ◌∙◌, Option}
+use Rattle.std.proofs.Common.{◌≡◌, ℕ, Bool, true, false, inl, inr, List, [], ◌∷◌, ◌++◌, refl, sym, ap, subst, ◌∙◌, Option}
 use Rattle.std.specs.Option.{is_some}
-use Rattle.std.specs.Prelude.{IsTrue}
-use Rattle.x5_model.specs.Members.{In, here, there, Once}
+use Rattle.x5_model.specs.Members.{In, here, Once}
 use Rattle.x5_model.specs.Values.{key_of}
 use Rattle.x5_model.proofs.KeyLaws.{key_decides}
-use Rattle.x5_model.specs.Requests.{Body}
 use Rattle.x5_model.specs.References.{Reference}
-use Rattle.x5_model.specs.Answers.{Answer, DirError, Reply, Answered, Failed}
+use Rattle.x5_model.specs.Answers.{Answer, Answered, Failed}
 use Rattle.x5_model.proofs.Lists.{in_first, in_left, in_right, in_either}
 use Rattle.x5_model_tree.specs.Ask.{is_update}
-use Rattle.x5_model_run.specs.Journal.{Line, Journal, depth, same_progress}
+use Rattle.x5_model_run.specs.Journal.{Line, Journal, same_progress}
 use Rattle.x5_model_run.specs.History.{Point}
 use Rattle.x5_model_run.specs.Chain.{Scene, IsCarried}
 use Rattle.x5_model_run.specs.Thorough.{is_sent_by}
 use Rattle.x5_model_theory.proofs.Following.{query_of}
-use Rattle.x5_model_parts.specs.Parts.{BeginsHere}
 use Rattle.x5_model_parts.proofs.Joining.{sight}
-use Rattle.x5_model_serve.specs.Answering.{merged, with_unexplored, in_vain, is_unavailable}
-use Rattle.x5_model_serve.specs.Serving.{Hand, line_for, Heard, Unheard, Hears, Gathered, Whole, Broken}
+use Rattle.x5_model_serve.specs.Answering.{is_unavailable}
+use Rattle.x5_model_serve.specs.Serving.{Hand, line_for, Heard, Unheard, Hears, Whole}
 use Rattle.x5_model_serve.specs.Claims as claims
 use Rattle.x5_model_serve.specs.Claims.{AtHand, MayTake, MayGather, AskedSoFar, OnlyBy, SoFar, GatheredRight, serving_of}
 use Rattle.x5_model_joins.proofs.Following.{no_update_below}
 use Rattle.x5_model_joins.proofs.Cases.{progress_itself, part_unheard, part_unavailable, part_answered, part_breaks}
-use Rattle.x5_model_right.specs.Kept.{Ground, KeepsAll, Rests, asks_update}
-use Rattle.x5_model_right.specs.Claim.{TookRight, TakesRight, AllAsked, GatherRight, GathersRight}
+use Rattle.x5_model_right.specs.Kept.{KeepsAll, Rests, asks_update}
+use Rattle.x5_model_right.specs.Claim.{TookRight, TakesRight, GatherRight, GathersRight}
 use Rattle.x5_model_right.specs.Gathered.{NoPart, PartUnheard, PartUnavailable, PartAnswered, PartBreaks}
 use Rattle.x5_model_right.proofs.Kept.{all_both, unchanged, at_hand_later, may_later, rests_later, sent_by_stays}
 use Rattle.x5_model_right.proofs.Adding.{query_asks}

@@ -1,6 +1,6 @@
 -- Where the message at hand is: it is placed at its receiver, which is an agent, and it fits its request; so the
 -- references that are needed for it ask others apart. By the causes of licensed lines.
-use Rattle.std.proofs.Common.{◌≡◌, ℕ, zero, suc, ◌+◌, ◌<◌, true, false, inl, inr, List, [], ◌∷◌, ◌++◌, length, slice_index, slice_index_or, refl, sym, ap, subst, ◌∙◌, arith}
+use Rattle.std.proofs.Common.{◌≡◌, ℕ, zero, suc, ◌<◌, inl, inr, List, [], ◌∷◌, ◌++◌, length, slice_index, slice_index_or, refl, sym, ap, subst, arith}
 use Rattle.std.specs.List.{Contains}
 use Rattle.x5_model.specs.Members.{In, here, there}
 use Rattle.x5_model.specs.References.{Reference, TraceItem, Chained}
@@ -13,10 +13,10 @@ use Rattle.x5_model_run.specs.Chain.{Scene, AllLicensed, Caused, begins, later, 
 use Rattle.x5_model_run.proofs.Growing.{contains_more}
 use Rattle.std.specs.Prelude.{IsTrue}
 use Rattle.x5_model_run.specs.Placed.{Placed}
-use Rattle.x5_model_theory.specs.Leading.{IsSound, IsGoing, with_own}
+use Rattle.x5_model_theory.specs.Leading.{IsSound, IsGoing}
 use Rattle.x5_model_theory.proofs.Carrying.{journals_are_placed}
 use Rattle.x5_model_serve.specs.Serving.{Hand}
-use Rattle.x5_model_serve.specs.Claims.{IsAgent, Setting, AtHand, Apart}
+use Rattle.x5_model_serve.specs.Claims.{IsAgent, AtHand, Apart}
 use Rattle.x5_model_bounds.proofs.Going.{sound_by}
 use Rattle.x5_model_needs.proofs.Needed.{needs_apart}
 use Rattle.x5_model_verdicts.proofs.At.{of_settled}

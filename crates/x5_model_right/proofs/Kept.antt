@@ -2,13 +2,13 @@
 -- first holds before the second. What was taken stays taken where lines are added, what was accepted stays, and the
 -- numbers of new lines are higher.
 use Rattle.std.proofs.Common.{◌≡◌, ℕ, ◌+◌, ◌≤◌, Bool, true, false, not, ◌&&◌, ◌||◌, if◌then◌else◌, nat_le, ◌==◌, ◌⊎◌, inl, inr, List, [], ◌∷◌, ◌++◌, length, refl, sym, ap, subst, ◌∙◌, arith, nat_lt, length-append, Option, Some, None}
-use Rattle.std.specs.List.{list_any, list_all}
+use Rattle.std.specs.List.{list_all}
 use Rattle.x5_model.specs.Words.{is_empty, in_option, some_and, first_of}
 use Rattle.x5_model.specs.Members.{In, here, there}
 use Rattle.x5_model.specs.References.{Reference}
-use Rattle.x5_model.proofs.Lists.{both_true, and_true, either_true, not_true, true_or_false, or_left, or_right, in_first, any_in, of_any, all_in, of_all}
+use Rattle.x5_model.proofs.Lists.{both_true, and_true, either_true, not_true, true_or_false, or_left, or_right, in_first, any_in, of_any, of_all}
 use Rattle.x5_model_run.specs.Network.{arrives}
-use Rattle.x5_model_run.specs.Journal.{Line, Journal, some_line, opened_by, same_sender, settled}
+use Rattle.x5_model_run.specs.Journal.{Line, Journal, some_line, opened_by, same_sender}
 use Rattle.x5_model_run.specs.Needs.{is_unable}
 use Rattle.x5_model_run.specs.History.{Point}
 use Rattle.x5_model_run.specs.Chain.{Scene, AllLicensed, asks_by, is_in_vain, is_passed, is_cleared}
@@ -20,9 +20,8 @@ use Rattle.x5_model.proofs.Decide.{less_decides}
 use Rattle.x5_model_joins.proofs.Keeping.{at_most}
 use Rattle.x5_model_joins.proofs.Backs.{numbers}
 use Rattle.x5_model_verdicts.proofs.At.{of_settled}
-use Rattle.x5_model_verdicts.proofs.Below.{of_some}
 use Rattle.x5_model_serve.specs.Serving.{Hand, is_spent}
-use Rattle.x5_model_serve.specs.Claims.{Accepted, AtHand, Keeps, MayTake, AskedSoFar, NotedSoFar, Grows, depth_at, last_number, is_due_line, is_settled_line, is_finished, is_served_itself, takes_itself}
+use Rattle.x5_model_serve.specs.Claims.{Accepted, AtHand, Keeps, MayTake, NotedSoFar, Grows, depth_at, last_number, is_due_line, is_settled_line, is_finished, is_served_itself, takes_itself}
 use Rattle.x5_model_right.specs.Kept.{AtOnce, ReadsOnly, AcceptedSince, KeepsAll, Rests, is_sent_to}
 
 pub is_at_most : (a b : ℕ) → nat_le a b ≡ true → a ≤ b

@@ -1,47 +1,42 @@
 -- Serving a message where nothing is sent: it can't come again, nor be too long, nor not fit, since it is placed; what is
 -- refused by the request alone is refused by the tree; who can't go on is unable; and where no entry is found the tree
 -- has none. Nothing more is needed, so all is taken. An agent that may not chain leaves what it needs to its sender.
-use Rattle.std.proofs.Common.{◌≡◌, ℕ, ◌+◌, ◌<◌, nat_le, nat_lt, Bool, true, false, not, ◌&&◌, ◌||◌, ◌==◌, ◌⊎◌, if◌then◌else◌, inl, inr, List, [], ◌∷◌, ◌++◌, map, length, refl, sym, ap, subst, ◌∙◌, arith, Option, Some, None, Ok, Err}
-use Rattle.std.specs.Prelude.{IsTrue}
+use Rattle.std.proofs.Common.{◌≡◌, ℕ, ◌+◌, ◌<◌, nat_le, nat_lt, Bool, true, false, not, ◌&&◌, ◌||◌, ◌==◌, if◌then◌else◌, inl, inr, List, [], ◌∷◌, length, refl, sym, ap, subst, ◌∙◌, arith, Option, Some, None}
 use Rattle.std.specs.Option.{is_some, is_none}
 use Rattle.std.specs.Result.{is_ok}
-use Rattle.std.specs.List.{list_any, list_all, Contains}
-use Rattle.x5_model.specs.Words.{has, is_empty, some_and, first_of}
+use Rattle.std.specs.List.{list_all}
+use Rattle.x5_model.specs.Words.{has, some_and}
 use Rattle.x5_model.specs.Members.{In, here, there}
-use Rattle.x5_model.specs.Keys.{Key, same_key, is_prefix}
+use Rattle.x5_model.specs.Keys.{Key}
 use Rattle.x5_model.specs.Values.{Name, key_of}
 use Rattle.x5_model.specs.Entries.{Named}
-use Rattle.x5_model.specs.Requests.{Body, Request}
-use Rattle.x5_model.specs.References.{Progress, Start, Next, Done, TraceItem, Reference, Chained}
-use Rattle.x5_model.specs.Answers.{Answer, Changed, DirError, NoSuchObject, AttributeProblem, UpdateProblem, ServiceProblem, Reply, Answered, Failed, Referred}
-use Rattle.x5_model.specs.Problems.{unable_to_proceed, invalid_reference}
+use Rattle.x5_model.specs.References.{TraceItem, Reference, Chained}
+use Rattle.x5_model.specs.Answers.{DirError, NoSuchObject, AttributeProblem, UpdateProblem, ServiceProblem, Reply, Failed}
 use Rattle.x5_model.specs.Statics.{fault_of}
 use Rattle.x5_model.proofs.KeyLaws.{key_decides}
-use Rattle.x5_model.proofs.Decide.{nat_same_decides, less_decides}
-use Rattle.x5_model.proofs.Lists.{both_true, and_true, either_true, not_true, or_left, or_right, true_or_false, in_first, in_left, any_in, all_in, of_has}
+use Rattle.x5_model.proofs.Decide.{nat_same_decides}
+use Rattle.x5_model.proofs.Lists.{both_true, and_true, either_true, not_true, or_left, or_right, true_or_false}
 use Rattle.x5_model_tree.specs.Tree.{Tree, lowest}
-use Rattle.x5_model_tree.specs.Ask.{Told, Refuses, is_update, ask_body, ask_marked}
+use Rattle.x5_model_tree.specs.Ask.{Refuses, is_update, ask_marked}
 use Rattle.x5_model_tree.specs.Apply.{Applied, ground_of, apply}
 use Rattle.x5_model_run.specs.Network.{arrives}
-use Rattle.x5_model_run.specs.Journal.{Line, Journal, depth, operation_of, same_name, same_item, item_of, is_done, is_wide}
-use Rattle.x5_model_run.specs.Holdings.{Held, Holdings, holds_within}
-use Rattle.x5_model_run.specs.Needs.{target_of, falls_short, is_unable, needs}
+use Rattle.x5_model_run.specs.Journal.{Journal, depth, operation_of, same_name, same_item, item_of, is_done}
+use Rattle.x5_model_run.specs.Holdings.{Held, Holdings}
+use Rattle.x5_model_run.specs.Needs.{target_of, is_unable, needs}
 use Rattle.x5_model_run.specs.History.{Point, knowledge_at, tree_at, holdings_at}
 use Rattle.x5_model_run.specs.Chain.{Scene}
-use Rattle.x5_model_run.specs.Accepting.{carries_update, may_accept, accepting, is_later, is_done_before}
+use Rattle.x5_model_run.specs.Accepting.{carries_update, may_accept, is_done_before}
 use Rattle.x5_model_run.specs.Covers.{told}
 use Rattle.x5_model_run.specs.Right as right
 use Rattle.x5_model_run.specs.Right.{master_at, is_master_at, first_level_at, hears_of, hears_master, hears_nssr, hears_below, nssr_agents, is_told, accepts_none}
-use Rattle.x5_model_run.specs.Placed as placed
-use Rattle.x5_model_run.specs.Placed.{Placed, fits, is_query_below, RightReply, usual}
-use Rattle.x5_model_run.specs.Thorough.{is_served, is_taken, is_stopped, taken_needs, sends_itself}
+use Rattle.x5_model_run.specs.Placed.{fits, RightReply, usual}
+use Rattle.x5_model_run.specs.Thorough.{is_taken, is_stopped, taken_needs, sends_itself}
 use Rattle.x5_model_theory.proofs.Stages.{no_loop}
 use Rattle.x5_model_updates.proofs.Outcomes.{ok_or_err, tree_made, accepted_over}
-use Rattle.x5_model_serve.specs.Finding.{Found, Here, Nowhere, Stuck, IsLooked, find, found_by, resolved}
-use Rattle.x5_model_serve.specs.Serving.{Hand, Arrives, holds_now, found_at, is_final, is_spent, is_looped, is_too_long, is_done_here, asked_by, stuck_problem, limit_reply}
-use Rattle.x5_model_serve.specs.Claims.{AtHand, LiesWithin, is_due_line, is_settled_line, is_served_itself, serving_of, asked_line, line_at, depth_at}
+use Rattle.x5_model_serve.specs.Finding.{Found, Here, Nowhere, Stuck, IsLooked, find}
+use Rattle.x5_model_serve.specs.Serving.{Hand, is_final, is_spent}
+use Rattle.x5_model_serve.specs.Claims.{AtHand, LiesWithin, is_due_line, is_settled_line, serving_of, asked_line, line_at, depth_at}
 use Rattle.x5_model_find.specs.Finds.{Ends, at_none, at_entry}
-use Rattle.x5_model_find.proofs.Goes.{resolved_moves, placed_goes_on}
 use Rattle.x5_model_find.proofs.Nowhere.{nowhere_is_told}
 use Rattle.x5_model_find.proofs.Deciding.{nothing_needed}
 use Rattle.x5_model_find.proofs.Orderly.{holdings_orderly}
@@ -53,7 +48,7 @@ use Rattle.x5_model_right.specs.Kept.{Ground, Comes}
 use Rattle.x5_model_right.specs.Journeys.{NeededAgents}
 use Rattle.x5_model_right.specs.Claim.{ServedRight}
 use Rattle.x5_model_right.specs.Served.{Loops, IsLong, Unfit, Refused, IsNowhere}
-use Rattle.x5_model_right.proofs.Kept.{is_at_most, member_fills, unchanged, line_there}
+use Rattle.x5_model_right.proofs.Kept.{is_at_most, unchanged, line_there}
 use Rattle.x5_model_right.proofs.Journeys.{sound, placed_here, line_placed, agent_here}
 use Rattle.x5_model_right.proofs.Adding.{update_no_read}
 use Rattle.x5_model_right.proofs.Finding.{looked, found_same, found_is, able}

@@ -1,41 +1,38 @@
 -- One message, case by case: none is left; it is lost; its reply is lost; or it is heard, and what it leaves is followed
 -- by its sender, who may chain since it chained before.
-use Rattle.std.proofs.Common.{◌≡◌, ℕ, ◌+◌, ◌-◌, ◌<◌, ◌≤◌, nat_le, nat_lt, Bool, true, false, not, ◌&&◌, ◌||◌, ◌==◌, ◌⊎◌, if◌then◌else◌, inl, inr, List, [], ◌∷◌, ◌++◌, length, refl, sym, ap, subst, ◌∙◌, arith, Option, Some, None}
-use Rattle.std.specs.Prelude.{IsTrue}
-use Rattle.std.specs.List.{list_any, list_all}
-use Rattle.x5_model.specs.Words.{is_empty, some_and, first_of}
-use Rattle.x5_model.specs.Members.{In, here, there}
-use Rattle.x5_model.specs.Values.{Name, key_of}
+use Rattle.std.proofs.Common.{◌≡◌, ℕ, ◌-◌, Bool, true, false, not, ◌&&◌, ◌||◌, ◌==◌, ◌⊎◌, if◌then◌else◌, inl, inr, List, [], ◌∷◌, ◌++◌, length, refl, sym, ap, subst, ◌∙◌, arith, Option, Some, None}
+use Rattle.std.specs.List.{list_all}
+use Rattle.x5_model.specs.Words.{is_empty}
+use Rattle.x5_model.specs.Members.{In, here}
+use Rattle.x5_model.specs.Values.{Name}
 use Rattle.x5_model.specs.Requests.{Body, Read, Compare, ListBelow, Search, AddEntry, RemoveEntry, ModifyEntry, ModifyDn, Request}
 use Rattle.x5_model.specs.References.{Reference, Chained}
-use Rattle.x5_model.specs.Answers.{Changed, Reply, Answered, Failed}
+use Rattle.x5_model.specs.Answers.{Changed, Reply, Answered}
 use Rattle.x5_model.proofs.Decide.{nat_same_decides}
 use Rattle.x5_model.proofs.Lists.{both_true, and_true, either_true, not_true, or_left, or_right, true_or_false, in_first, in_left, in_either, any_in}
 use Rattle.x5_model_tree.specs.Ask.{is_update}
-use Rattle.x5_model_run.specs.Network.{Fate, Lost, NoReply, Sent, arrives, is_sent, is_unheard, refuses}
-use Rattle.x5_model_run.specs.Journal.{Line, Journal, depth, operation_of, same_sender, is_done, is_wide, same_name, settled, siblings, leads_up}
+use Rattle.x5_model_run.specs.Network.{Sent, arrives, is_sent, is_unheard, refuses}
+use Rattle.x5_model_run.specs.Journal.{Line, Journal, depth, operation_of, same_sender, is_done, is_wide, same_name, siblings, leads_up}
 use Rattle.x5_model_run.specs.Needs.{target_of}
 use Rattle.x5_model_run.specs.History.{Point}
 use Rattle.x5_model_run.specs.Chain.{Scene, AllLicensed, IsCarried, carried, is_passed, is_probe_line, is_prohibited, is_user, is_probe, asks_part, probe_request, part_body, part_request, request_for, may_send, may_chain}
-use Rattle.x5_model_run.specs.Accepting.{accepting, may_accept}
 use Rattle.x5_model_run.specs.Blocked.{is_answered_line, came_back, hears_by}
 use Rattle.x5_model_run.specs.Right.{is_noreply, heard_whole}
-use Rattle.x5_model_run.specs.Placed.{fits, is_query_below, RightReply}
+use Rattle.x5_model_run.specs.Placed.{is_query_below, RightReply}
 use Rattle.x5_model_run.specs.Thorough.{is_served, sender_follows}
 use Rattle.x5_model_run.proofs.Carrying.{is_carried}
 use Rattle.x5_model_run.proofs.Growing.{all_grow}
 use Rattle.x5_model_run.proofs.Journals.{leads_from}
-use Rattle.x5_model_serve.specs.Answering.{is_service}
-use Rattle.x5_model_serve.specs.Serving.{Hand, hand, line_for, Heard, Unheard, Hears, Does, Serves, Follows, carried_for, next_line, with_line, is_spent, is_idle, is_final, limit_reply}
-use Rattle.x5_model_serve.specs.Claims.{Accepted, AtHand, Keeps, MayTake, AskedSoFar, HeardRight, depth_at, last_number, is_due_line, is_settled_line, is_served_itself, serving_of, asked_line, line_at}
+use Rattle.x5_model_serve.specs.Serving.{Hand, hand, line_for, Hears, Follows, carried_for, next_line, with_line, is_spent, is_idle, is_final}
+use Rattle.x5_model_serve.specs.Claims.{AtHand, MayTake, AskedSoFar, depth_at, is_due_line, is_settled_line, serving_of, asked_line, line_at}
 use Rattle.x5_model_serve.proofs.Finals.{idle_is_followed}
 use Rattle.x5_model_verdicts.proofs.At.{each_of_update, each_off, fit_key}
 use Rattle.x5_model_verdicts.proofs.Lines.{accepted_meanwhile}
-use Rattle.x5_model_right.specs.Kept.{Ground, AtOnce, ReadsOnly, AcceptedSince, KeepsAll, Rests, Comes, asks_update, is_sent_to, IsUnsaid, Meanwhile}
+use Rattle.x5_model_right.specs.Kept.{Ground, KeepsAll, Rests, asks_update, IsUnsaid, Meanwhile}
 use Rattle.x5_model_right.specs.Journeys.{NeededAgents}
-use Rattle.x5_model_right.specs.Claim.{ServedRight, ServesRight, FollowedRight, FollowsRight, MayFollow, SentHeard, SentRight}
+use Rattle.x5_model_right.specs.Claim.{ServedRight, MayFollow}
 use Rattle.x5_model_right.specs.Sent.{Spent, IsLost, Dropped, IsHeard}
-use Rattle.x5_model_right.proofs.Kept.{some_stays, passed_stays, settled_stays, spent_still, all_both, unchanged, at_hand_later, line_there}
+use Rattle.x5_model_right.proofs.Kept.{some_stays, settled_stays, spent_still, all_both, unchanged, at_hand_later}
 use Rattle.x5_model_right.proofs.Journeys.{by_causes, line_placed}
 use Rattle.x5_model_right.proofs.Adding.{update_no_read, deeper, licensed, accepting_same, accepted_still, at_once_still, prohibited_still, at_hand_now, comes_now}
 use Rattle.x5_model_right.proofs.Sending.{leads_at, sender_itself, number_itself, served_alone, stands, sent_there, vain_there, heard_there, only_it, next_so_far, sent_keeps}

@@ -1,29 +1,27 @@
 -- Where a name goes on by a reference, its owner may take it, and so may who follows the owner's referral. Each makes of
 -- what is heard a right reply; all that the owner needs was taken, and its own line is settled.
-use Rattle.std.proofs.Common.{◌≡◌, ℕ, Bool, true, false, not, ◌&&◌, ◌||◌, ◌==◌, ◌⊎◌, if◌then◌else◌, ◌<◌, nat_le, inl, inr, List, [], ◌∷◌, length, refl, sym, ap, subst, ◌∙◌, arith, Option, Some, None}
-use Rattle.std.specs.Prelude.{IsTrue}
+use Rattle.std.proofs.Common.{◌≡◌, ℕ, Bool, true, false, not, ◌||◌, ◌==◌, ◌⊎◌, if◌then◌else◌, ◌<◌, nat_le, inl, inr, List, [], ◌∷◌, length, refl, sym, ap, subst, ◌∙◌, arith, Option, Some, None}
 use Rattle.std.specs.List.{list_all}
-use Rattle.x5_model.specs.Words.{is_empty, first_of}
-use Rattle.x5_model.specs.Members.{In, here, there}
-use Rattle.x5_model.specs.Values.{key_of}
-use Rattle.x5_model.specs.Requests.{Body, Request}
+use Rattle.x5_model.specs.Words.{is_empty}
+use Rattle.x5_model.specs.Members.{In, here}
+use Rattle.x5_model.specs.Requests.{Request}
 use Rattle.x5_model.specs.References.{Reference, Chained}
-use Rattle.x5_model.specs.Answers.{Answer, Reply, Answered, Failed, Referred}
+use Rattle.x5_model.specs.Answers.{Referred}
 use Rattle.x5_model.proofs.Decide.{nat_same_decides}
-use Rattle.x5_model.proofs.Lists.{both_true, and_true, either_true, not_true, or_left, or_right, true_or_false, in_first, all_in}
+use Rattle.x5_model.proofs.Lists.{both_true, and_true, either_true, not_true, or_left, or_right, true_or_false}
 use Rattle.x5_model_tree.specs.Ask.{is_update}
-use Rattle.x5_model_run.specs.Network.{arrives, is_sent, refuses}
-use Rattle.x5_model_run.specs.Journal.{Line, Journal, operation_of, same_name, is_wide, settled, siblings}
+use Rattle.x5_model_run.specs.Network.{arrives, refuses}
+use Rattle.x5_model_run.specs.Journal.{Line, Journal, operation_of, is_wide, siblings}
 use Rattle.x5_model_run.specs.Holdings.{Holdings}
-use Rattle.x5_model_run.specs.Needs.{target_of, needs}
+use Rattle.x5_model_run.specs.Needs.{needs}
 use Rattle.x5_model_run.specs.History.{Point, holdings_at}
-use Rattle.x5_model_run.specs.Chain.{Scene, AllLicensed, IsCarried, carried, asks_part, part_request, probe_request, request_for, is_probe, is_probe_line, is_prohibited, is_user, may_send, may_chain}
+use Rattle.x5_model_run.specs.Chain.{Scene, AllLicensed, IsCarried, carried, asks_part, part_request, probe_request, is_probe, is_probe_line, is_prohibited, is_user, may_send, may_chain}
 use Rattle.x5_model_run.specs.Accepting.{is_done_before}
 use Rattle.x5_model_run.specs.Thorough.{is_served, is_taken, is_stopped, taken_needs, is_sent_by, sends_itself, sender_follows}
-use Rattle.x5_model_serve.specs.Finding.{Found, Here, Onward, Stuck, IsLooked, find}
+use Rattle.x5_model_serve.specs.Finding.{Here, Onward, Stuck, IsLooked, find}
 use Rattle.x5_model_serve.specs.Answering.{in_vain, is_unavailable}
-use Rattle.x5_model_serve.specs.Serving.{Hand, hand_of, line_for, Heard, Unheard, Hears, Does, Takes, Casts, Arrives, found_at, is_idle, is_final, is_spent, is_too_long, heard_or}
-use Rattle.x5_model_serve.specs.Claims.{AtHand, Keeps, MayTake, AskedSoFar, OnlyBy, TakenRight, IsSpentReply, LiesWithin, depth_at, is_settled_line, is_served_itself, takes_itself, serving_of, asked_line, line_at}
+use Rattle.x5_model_serve.specs.Serving.{Hand, hand_of, line_for, Heard, Unheard, Hears, Takes, Casts, is_idle, is_final, is_spent, heard_or}
+use Rattle.x5_model_serve.specs.Claims.{AtHand, Keeps, MayTake, AskedSoFar, LiesWithin, depth_at, is_settled_line, is_served_itself, asked_line, line_at}
 use Rattle.x5_model_run.specs.Placed.{RightReply}
 use Rattle.x5_model_serve.specs.Following.{IsFinalHeard}
 use Rattle.x5_model_serve.proofs.Finals.{idle_is_followed}
@@ -32,17 +30,16 @@ use Rattle.x5_model_find.proofs.Orderly.{holdings_orderly}
 use Rattle.x5_model_passing.specs.Taking.{GoesOn}
 use Rattle.x5_model_passing.proofs.Taking.{taking_is_right}
 use Rattle.x5_model_passing.proofs.Due.{others_are_settled, carried_is_same}
-use Rattle.x5_model_verdicts.proofs.At.{each_off}
-use Rattle.x5_model_right.specs.Kept.{Ground, KeepsAll, ReadsOnly, Rests, Comes, asks_update}
+use Rattle.x5_model_right.specs.Kept.{Ground, KeepsAll, Rests, Comes, asks_update}
 use Rattle.x5_model_right.specs.Journeys.{NeededAgents}
-use Rattle.x5_model_right.specs.Claim.{ServedRight, MayFollow, FollowedRight, TookRight, CastRight}
+use Rattle.x5_model_right.specs.Claim.{MayFollow}
 use Rattle.x5_model_right.specs.Served.{Goes, GoesWide}
 use Rattle.x5_model_right.specs.Sent.{Referral, WideReferral}
-use Rattle.x5_model_right.proofs.Kept.{is_at_most, settled_stays, itself_stays, spent_still, line_there}
-use Rattle.x5_model_right.proofs.Journeys.{sound, by_causes, placed_here, line_placed}
+use Rattle.x5_model_right.proofs.Kept.{is_at_most, settled_stays, line_there}
+use Rattle.x5_model_right.proofs.Journeys.{sound, by_causes, line_placed}
 use Rattle.x5_model_right.proofs.Adding.{query_asks, read_asks}
 use Rattle.x5_model_right.proofs.Messages.{read_kept}
-use Rattle.x5_model_right.proofs.Finding.{looked, found_same, found_is, fresh}
+use Rattle.x5_model_right.proofs.Finding.{looked, found_same, fresh}
 
 -- ---- a user who prohibits chaining has it prohibited in each message, but for probes
 

@@ -1,7 +1,6 @@
 -- A list or search whose base is found: what its agent evaluates on the spot tells the whole, with the references for the
 -- rest still to be asked. Who may not chain gives them to its sender, who follows them; any other asks them itself.
-use Rattle.std.proofs.Common.{◌≡◌, ℕ, Bool, true, false, cond, not, ◌&&◌, ◌||◌, ◌==◌, ◌⊎◌, if◌then◌else◌, inl, inr, List, [], ◌∷◌, ◌++◌, length, refl, sym, ap, subst, ◌∙◌, Option, Some, None}
-use Rattle.std.specs.Prelude.{IsTrue}
+use Rattle.std.proofs.Common.{◌≡◌, ℕ, Bool, true, false, not, ◌&&◌, ◌||◌, ◌==◌, ◌⊎◌, if◌then◌else◌, inl, inr, List, [], ◌∷◌, ◌++◌, length, refl, sym, ap, subst, ◌∙◌, Option, Some, None}
 use Rattle.std.specs.Option.{is_some, is_none}
 use Rattle.std.specs.List.{list_all, filter}
 use Rattle.x5_model.specs.Words.{is_empty, sorted, insert_sorted}
@@ -12,9 +11,9 @@ use Rattle.x5_model.specs.Entries.{Named}
 use Rattle.x5_model.specs.Requests.{Body, Read, Compare, ListBelow, Search, AddEntry, RemoveEntry, ModifyEntry, ModifyDn, Request}
 use Rattle.x5_model.specs.Statics.{fault_of}
 use Rattle.x5_model.specs.References.{Progress, Start, Next, Done, Reference, Chained}
-use Rattle.x5_model.specs.Answers.{Source, Answer, DirError, EntryFound, Matched, Listed, Found, Changed, Reply, Answered, Failed}
+use Rattle.x5_model.specs.Answers.{Source, Answer, DirError, EntryFound, Matched, Listed, Found, Changed, Reply, Answered}
 use Rattle.x5_model.proofs.Decide.{nat_same_decides}
-use Rattle.x5_model.proofs.Lists.{both_true, and_true, either_true, or_left, or_right, true_or_false, in_first, all_in}
+use Rattle.x5_model.proofs.Lists.{both_true, or_left, or_right, true_or_false, all_in}
 use Rattle.x5_model.proofs.Ascending.{of_insert, of_sorted, in_sorted}
 use Rattle.x5_model_tree.specs.Tree.{Tree, lowest, is_there_or_root}
 use Rattle.x5_model_tree.specs.Ask.{Told, Shows, Compares, Lists, Finds, Changes, Refuses, is_update, unexplored_of, ask_body, ask_marked}
@@ -34,12 +33,12 @@ use Rattle.x5_model_run.specs.Placed as placed
 use Rattle.x5_model_run.specs.Placed.{fits, is_query_below, RightReply, usual}
 use Rattle.x5_model_run.specs.Thorough.{is_served, is_taken, is_stopped, taken_needs, is_sent_by, sends_itself, sender_follows}
 use Rattle.x5_model_theory.proofs.Following.{query_of}
-use Rattle.x5_model_parts.specs.Parts.{BeginsHere, begins_here, rest_needs}
+use Rattle.x5_model_parts.specs.Parts.{BeginsHere, begins_here}
 use Rattle.x5_model_serve.specs.Finding as finding
 use Rattle.x5_model_serve.specs.Finding.{Here, CopyHere, Root, Below, Onward, Nowhere, Stuck, IsLooked, find, found_by, by_first, in_own, in_copy, at_pin, resolved}
 use Rattle.x5_model_serve.specs.Answering.{reply_from, unlimited, local_sources, is_copied_here, local_tree, taken_before, local_part, rest_of_parts, with_unexplored, only_unexplored, limited_answer, to_follow, passed_by}
-use Rattle.x5_model_serve.specs.Serving.{Hand, hand_of, line_for, Gathered, Whole, Broken, Does, Gathers, Arrives, holds_now, found_at, begins_parts, parts_refs, at_limit, gathered_reply, is_idle, is_final, is_spent, limit_reply}
-use Rattle.x5_model_serve.specs.Claims.{AtHand, Keeps, MayTake, MayGather, GatheredRight, AskedSoFar, SoFar, Apart, LiesWithin, is_due_line, is_settled_line, is_served_itself, takes_itself, serving_of, asked_line, line_at, depth_at}
+use Rattle.x5_model_serve.specs.Serving.{Hand, hand_of, line_for, Gathered, Whole, Broken, Does, Gathers, holds_now, found_at, begins_parts, parts_refs, at_limit, gathered_reply, is_idle, is_final, is_spent}
+use Rattle.x5_model_serve.specs.Claims.{AtHand, MayTake, MayGather, GatheredRight, SoFar, LiesWithin, is_due_line, is_settled_line, is_served_itself, serving_of, asked_line, line_at, depth_at}
 use Rattle.x5_model_serve.specs.Following.{IsFinalWhole}
 use Rattle.x5_model_serve.proofs.Finals.{idle_is_followed}
 use Rattle.x5_model_find.proofs.Begins.{begins_alike}
@@ -52,15 +51,15 @@ use Rattle.x5_model_joins.proofs.Following.{follow_tells, no_update_below}
 use Rattle.x5_model_joins.proofs.Idle.{idle_tells}
 use Rattle.x5_model_joins.proofs.Limit.{limit_last}
 use Rattle.x5_model_joins.proofs.Local.{local_tells}
-use Rattle.x5_model_right.specs.Kept.{Ground, KeepsAll, Rests, Comes}
+use Rattle.x5_model_right.specs.Kept.{Ground, Rests}
 use Rattle.x5_model_right.specs.Journeys.{NeededAgents}
-use Rattle.x5_model_right.specs.Claim.{ServedRight, MayFollow, FollowedRight, AllAsked, GatherRight}
+use Rattle.x5_model_right.specs.Claim.{ServedRight, AllAsked, GatherRight}
 use Rattle.x5_model_right.specs.Served.{GivesParts, AsksParts}
 use Rattle.x5_model_right.specs.Sent.{Unexplored}
-use Rattle.x5_model_right.proofs.Kept.{at_hand_later, unchanged, settled_stays, itself_stays, line_there}
+use Rattle.x5_model_right.proofs.Kept.{at_hand_later, unchanged, line_there}
 use Rattle.x5_model_right.proofs.Journeys.{sound, agent_here, apart_here}
 use Rattle.x5_model_right.proofs.Adding.{no_carrier}
-use Rattle.x5_model_right.proofs.Finding.{looked, holds_is, found_is, found_same, able, fresh, able_by}
+use Rattle.x5_model_right.proofs.Finding.{looked, holds_is, found_same, able, fresh, able_by}
 use Rattle.x5_model_right.proofs.Onward.{owner_may}
 
 -- ---- a list or search alone begins

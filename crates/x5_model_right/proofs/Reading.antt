@@ -1,8 +1,7 @@
 -- A read or compare in a context of the agent's own (X.518, section 19.2): what its entries tell is what the tree tells,
 -- and what that one source tells; so it is a result, or the tree's error, by the master of the target.
-use Rattle.std.proofs.Common.{◌≡◌, ℕ, ◌+◌, ◌<◌, ◌≤◌, Bool, true, false, not, ◌&&◌, ◌||◌, ◌==◌, ◌⊎◌, if◌then◌else◌, inl, inr, List, [], ◌∷◌, ◌++◌, map, length, refl, sym, ap, subst, ◌∙◌, arith, Option, Some, None}
-use Rattle.std.specs.Prelude.{IsTrue}
-use Rattle.std.specs.Option.{is_some, is_none}
+use Rattle.std.proofs.Common.{◌≡◌, ℕ, ◌<◌, ◌≤◌, Bool, true, false, not, ◌&&◌, ◌||◌, ◌==◌, if◌then◌else◌, inl, inr, List, [], ◌∷◌, ◌++◌, map, length, refl, sym, ap, subst, ◌∙◌, arith, Option, Some, None}
+use Rattle.std.specs.Option.{is_some}
 use Rattle.std.specs.List.{list_any, list_all, filter, AllByRecursion}
 use Rattle.x5_model.specs.Words.{has, distinct, in_option, some_and}
 use Rattle.x5_model.specs.Members.{In, here, there}
@@ -11,10 +10,10 @@ use Rattle.x5_model.specs.Values.{Name, TypeRef, key_of}
 use Rattle.x5_model.specs.Entries.{Named}
 use Rattle.x5_model.specs.Selections.{selection_fault}
 use Rattle.x5_model.specs.Problems.{no_such_attribute_or_value, entry_already_exists}
-use Rattle.x5_model.specs.Requests.{Subset, Base, OneLevel, Selection, Body, Read, Compare, ListBelow, Search, AddEntry, RemoveEntry, ModifyEntry, ModifyDn, Request}
+use Rattle.x5_model.specs.Requests.{Selection, Body, Read, Compare, ListBelow, Search, AddEntry, RemoveEntry, ModifyEntry, ModifyDn, Request}
 use Rattle.x5_model.specs.Statics.{fault_of}
 use Rattle.x5_model.specs.References.{Progress, Start, Next, Done, Reference, Chained}
-use Rattle.x5_model.specs.Answers.{Source, Answer, EntryFound, Matched, DirError, NoSuchObject, AttributeProblem, UpdateProblem, ServiceProblem, Reply, Answered, Failed}
+use Rattle.x5_model.specs.Answers.{Source, Answer, EntryFound, Matched, DirError, NoSuchObject, AttributeProblem, UpdateProblem, ServiceProblem}
 use Rattle.x5_model.proofs.KeyLaws.{key_decides}
 use Rattle.x5_model.proofs.Decide.{nat_same_decides}
 use Rattle.x5_model.proofs.Lists.{both_true, and_true, either_true, not_true, or_left, or_right, in_first, any_in, of_find}
@@ -22,11 +21,11 @@ use Rattle.x5_model.proofs.Prefixes.{prefix_itself, prefix_length, same_by_lengt
 use Rattle.x5_model_tree.specs.Tree.{Tree, key_at, tree_of, sorted_entries, longest, lowest, entry_at, is_there, part, matched}
 use Rattle.x5_model_tree.specs.Masters.{master_of}
 use Rattle.x5_model_tree.specs.Ask.{rest_of, sources_of, unexplored_of, Told, Shows, Compares, Lists, Finds, Changes, Refuses, is_update, has_type, at_object, read, compare, info_of, ask_body, ask_marked}
-use Rattle.x5_model_tree.proofs.Longest.{IsLongest, IsLowest, lowest_right}
+use Rattle.x5_model_tree.proofs.Longest.{IsLowest, lowest_right}
 use Rattle.x5_model_run.specs.Network.{arrives}
-use Rattle.x5_model_run.specs.Journal.{Line, Journal, same_name, is_done}
-use Rattle.x5_model_run.specs.Holdings.{Held, Holdings, known_pin, held_at, copy_at, holds_within, is_first_level}
-use Rattle.x5_model_run.specs.Needs.{target_of, subset_of, is_unable, resolves, copy_answers, ends_here, ends_at_pin, new_name, probe_due, due_probes, needs}
+use Rattle.x5_model_run.specs.Journal.{Journal, same_name, is_done}
+use Rattle.x5_model_run.specs.Holdings.{Held, Holdings, known_pin, copy_at, holds_within, is_first_level}
+use Rattle.x5_model_run.specs.Needs.{target_of, subset_of, is_unable, resolves, copy_answers, ends_here, ends_at_pin, new_name, probe_due, due_probes}
 use Rattle.x5_model_run.specs.History.{Point, knowledge_at, tree_at, world_at, holdings_at}
 use Rattle.x5_model_run.specs.Chain.{Scene}
 use Rattle.x5_model_run.specs.Accepting.{carries_update, may_accept}
@@ -39,15 +38,15 @@ use Rattle.x5_model_updates.proofs.Held.{of_held}
 use Rattle.x5_model_updates.proofs.Trees.{of_part, tree_filled}
 use Rattle.x5_model_theory.specs.Described.{knowledge_of}
 use Rattle.x5_model_updates.proofs.Judged.{holder_is_master}
-use Rattle.x5_model_serve.specs.Finding.{Found, Here, Stuck, IsLooked, find, resolved}
+use Rattle.x5_model_serve.specs.Finding.{Here, Stuck, IsLooked, find, resolved}
 use Rattle.x5_model_serve.specs.Answering.{reply_from, own_source, reply_in_own}
-use Rattle.x5_model_serve.specs.Serving.{Hand, Arrives, found_at, is_spent}
-use Rattle.x5_model_serve.specs.Claims.{AtHand, LiesWithin, is_due_line, is_settled_line, serving_of}
+use Rattle.x5_model_serve.specs.Serving.{Hand, is_spent}
+use Rattle.x5_model_serve.specs.Claims.{AtHand, LiesWithin, serving_of}
 use Rattle.x5_model_find.proofs.Deciding.{subset_by, here_needs}
 use Rattle.x5_model_find.proofs.Owns.{IsHere, pin_here, own_is_told, some_subset, object_touched, single}
 use Rattle.x5_model_bounds.proofs.Parting.{told_final}
 use Rattle.x5_model_joins.proofs.Backs.{own_back, own_answered}
-use Rattle.x5_model_right.specs.Kept.{Ground, Comes}
+use Rattle.x5_model_right.specs.Kept.{Ground}
 use Rattle.x5_model_right.specs.Served.{Reads}
 use Rattle.x5_model_right.proofs.Kept.{line_there}
 use Rattle.x5_model_right.proofs.Adding.{no_carrier}

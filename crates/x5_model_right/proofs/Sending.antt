@@ -1,44 +1,31 @@
 -- One message, case by case: none is left; it is lost; its reply is lost; or it is heard, and what it leaves is followed.
 -- What is kept by the serving of the message is kept by sending it, since its line is one deeper and is itself served.
-use Rattle.std.proofs.Common.{◌≡◌, ℕ, ◌+◌, ◌-◌, ◌<◌, ◌≤◌, nat_le, nat_lt, Bool, true, false, not, ◌&&◌, ◌||◌, ◌==◌, ◌⊎◌, if◌then◌else◌, inl, inr, List, [], ◌∷◌, ◌++◌, length, refl, sym, ap, subst, ◌∙◌, arith, Option, Some, None}
+use Rattle.std.proofs.Common.{◌≡◌, ℕ, ◌+◌, ◌-◌, ◌<◌, nat_le, nat_lt, Bool, true, false, not, ◌&&◌, ◌||◌, ◌==◌, ◌⊎◌, if◌then◌else◌, inl, inr, List, [], ◌∷◌, ◌++◌, length, refl, sym, ap, subst, ◌∙◌, arith, Option, Some, None}
 use Rattle.std.specs.Prelude.{IsTrue}
-use Rattle.std.specs.List.{list_any, list_all}
-use Rattle.x5_model.specs.Words.{is_empty, some_and, first_of}
-use Rattle.x5_model.specs.Members.{In, here, there}
+use Rattle.x5_model.specs.Words.{some_and, first_of}
+use Rattle.x5_model.specs.Members.{In, here}
 use Rattle.x5_model.specs.Values.{key_of}
-use Rattle.x5_model.specs.Requests.{Body, Read, Compare, ListBelow, Search, AddEntry, RemoveEntry, ModifyEntry, ModifyDn, Request}
 use Rattle.x5_model.specs.References.{Progress, Start, Next, Done, Reference, Chained}
-use Rattle.x5_model.specs.Answers.{Changed, Reply, Answered, Failed}
 use Rattle.x5_model.proofs.KeyLaws.{key_decides}
 use Rattle.x5_model.proofs.Decide.{nat_same_decides, less_decides}
 use Rattle.std.proofs.lemmas.Bool.Decides.{leb_tells}
-use Rattle.x5_model.proofs.Lists.{both_true, and_true, either_true, not_true, or_left, or_right, true_or_false, in_first, in_left, in_right, in_either, any_in, all_in, of_all}
-use Rattle.x5_model_tree.specs.Ask.{is_update}
-use Rattle.x5_model_run.specs.Network.{Fate, Lost, NoReply, Sent, arrives, is_sent, is_unheard, refuses}
-use Rattle.x5_model_run.specs.Journal.{Line, Journal, depth, same_sender, same_progress, same_name, is_done, settled, siblings, some_line, opened_by, leads_up}
+use Rattle.x5_model.proofs.Lists.{and_true, either_true, or_left, or_right, true_or_false, in_first, in_left, in_right, in_either, all_in, of_all}
+use Rattle.x5_model_run.specs.Network.{arrives, is_sent, is_unheard}
+use Rattle.x5_model_run.specs.Journal.{Line, Journal, depth, same_sender, same_progress, settled, siblings, opened_by, leads_up}
 use Rattle.x5_model_run.specs.History.{Point}
-use Rattle.x5_model_run.specs.Chain.{Scene, AllLicensed, IsCarried, asks_by, is_asked, is_passed, is_in_vain, is_probe_line, is_prohibited, is_user, may_send, may_chain}
+use Rattle.x5_model_run.specs.Chain.{Scene, IsCarried, asks_by, is_asked, is_passed, is_in_vain}
 use Rattle.x5_model_run.specs.Accepting.{carries_update, accepting, is_done_before}
-use Rattle.x5_model_run.specs.Blocked.{is_answered_line, came_back, hears_by}
-use Rattle.x5_model_run.specs.Right.{is_noreply, heard_whole}
-use Rattle.x5_model_run.specs.Placed.{is_query_below}
 use Rattle.x5_model_run.specs.Thorough.{is_served, is_taken, taken_needs, is_sent_by, sends_itself, sender_follows}
 use Rattle.x5_model_run.proofs.Carrying.{is_carried}
 use Rattle.x5_model_run.proofs.Growing.{all_grow}
-use Rattle.x5_model_run.proofs.Journals.{settled_above, siblings_under, leads_from}
-use Rattle.x5_model_serve.specs.Serving.{Hand, hand, line_for, Heard, Unheard, Hears, Does, Serves, Follows, carried_for, next_line, with_line, is_spent, is_idle, is_final, limit_reply}
-use Rattle.x5_model_serve.specs.Claims.{Accepted, AtHand, Keeps, MayTake, AskedSoFar, OnlyBy, HeardRight, depth_at, last_number, is_settled_line, is_finished, is_served_itself, takes_itself, serving_of, asked_line, line_at}
-use Rattle.x5_model_serve.proofs.Finals.{idle_is_followed}
-use Rattle.x5_model_verdicts.proofs.At.{each_of_update, each_off, fit_key}
+use Rattle.x5_model_run.proofs.Journals.{settled_above, siblings_under}
+use Rattle.x5_model_serve.specs.Serving.{Hand, hand, line_for, carried_for, next_line, with_line, is_spent}
+use Rattle.x5_model_serve.specs.Claims.{AtHand, MayTake, AskedSoFar, OnlyBy, depth_at, last_number, is_settled_line, is_finished, is_served_itself, takes_itself}
 use Rattle.x5_model_verdicts.proofs.Below.{same_number}
-use Rattle.x5_model_verdicts.proofs.Lines.{accepted_meanwhile}
-use Rattle.x5_model_right.specs.Kept.{Ground, AtOnce, ReadsOnly, AcceptedSince, KeepsAll, Rests, Comes, asks_update, is_sent_to, IsUnsaid, Meanwhile}
+use Rattle.x5_model_right.specs.Kept.{Ground, KeepsAll, Rests, asks_update, is_sent_to}
 use Rattle.x5_model_right.specs.Journeys.{NeededAgents}
-use Rattle.x5_model_right.specs.Claim.{ServedRight, FollowedRight, MayFollow, SentHeard, SentRight}
-use Rattle.x5_model_right.specs.Sent.{Spent, IsLost, Dropped, IsHeard}
-use Rattle.x5_model_right.proofs.Kept.{is_at_most, some_stays, sent_to_stays, passed_stays, settled_stays, old_line, grows_both, spent_still, all_both, unchanged, at_hand_later, line_there}
-use Rattle.x5_model_right.proofs.Journeys.{line_placed}
-use Rattle.x5_model_right.proofs.Adding.{update_no_read, no_carrier, query_asks, deeper, licensed, listed, accepting_same, accepted_still, at_once_still, prohibited_still, at_hand_now, comes_now}
+use Rattle.x5_model_right.proofs.Kept.{is_at_most, some_stays, sent_to_stays, passed_stays, grows_both}
+use Rattle.x5_model_right.proofs.Adding.{no_carrier, query_asks, deeper, listed, accepting_same}
 
 -- ---- tests of one line
 

@@ -1,40 +1,39 @@
 -- Serving a message where nothing is sent, and something was accepted before or is left: an update that its agent did
 -- before is done; who can't go on is unable; who may not chain refers its sender on. And a reply with nothing left is
 -- followed as it is.
-use Rattle.std.proofs.Common.{◌≡◌, ℕ, ◌<◌, nat_le, nat_lt, Bool, true, false, not, ◌&&◌, ◌||◌, ◌==◌, ◌⊎◌, if◌then◌else◌, inl, inr, List, [], ◌∷◌, ◌++◌, map, length, refl, sym, ap, subst, ◌∙◌, arith, Option, Some, None, Ok, Err}
-use Rattle.std.specs.Prelude.{IsTrue}
+use Rattle.std.proofs.Common.{◌≡◌, ℕ, nat_le, nat_lt, Bool, true, false, not, ◌&&◌, ◌||◌, ◌==◌, ◌⊎◌, if◌then◌else◌, inl, inr, List, [], ◌∷◌, ◌++◌, map, length, refl, sym, ap, subst, ◌∙◌, Some, None, Ok, Err}
 use Rattle.std.specs.Option.{is_some, is_none}
-use Rattle.std.specs.List.{list_any, list_all, filter, Contains}
-use Rattle.x5_model.specs.Words.{has, some_and, first_of}
+use Rattle.std.specs.List.{list_any}
+use Rattle.x5_model.specs.Words.{has, some_and}
 use Rattle.x5_model.specs.Members.{In, here}
 use Rattle.x5_model.specs.Keys.{Key, is_prefix}
 use Rattle.x5_model.specs.Values.{Name, key_of}
 use Rattle.x5_model.specs.Requests.{Body, Request}
 use Rattle.x5_model.specs.References.{Progress, Start, Next, Done, Reference, Chained}
-use Rattle.x5_model.specs.Answers.{Answer, Changed, ServiceProblem, Reply, Answered, Failed, Referred}
+use Rattle.x5_model.specs.Answers.{ServiceProblem, Failed}
 use Rattle.x5_model.specs.Problems.{unable_to_proceed, invalid_reference}
 use Rattle.std.proofs.lemmas.Bool.Decides.{leb_tells}
 use Rattle.x5_model.specs.Statics.{fault_of}
 use Rattle.x5_model.proofs.Decide.{nat_same_decides, less_decides}
-use Rattle.x5_model.proofs.Lists.{both_true, and_true, either_true, not_true, or_left, or_right, true_or_false, in_left, in_right, in_either, any_in, of_has}
+use Rattle.x5_model.proofs.Lists.{both_true, and_true, either_true, or_left, or_right, true_or_false, in_left, in_right, in_either, any_in, of_has}
 use Rattle.x5_model_tree.specs.Ask.{is_update}
 use Rattle.x5_model_tree.specs.Apply.{Outcome, apply_over}
-use Rattle.x5_model_run.specs.Network.{arrives, refuses}
-use Rattle.x5_model_run.specs.Journal.{Line, Journal, operation_of, same_name, is_done, is_wide}
+use Rattle.x5_model_run.specs.Network.{arrives}
+use Rattle.x5_model_run.specs.Journal.{Journal, operation_of, same_name, is_done, is_wide}
 use Rattle.x5_model_run.specs.Holdings.{Held, Copy, Holdings, prefixes, holds_within, ground_at}
 use Rattle.x5_model_run.specs.Needs.{target_of, resolves, resolves_by, falls_short, is_unable, resolution_needs, part_needs, copied_needs, passing_needs, needs}
-use Rattle.x5_model_run.specs.History.{Point, knowledge_at, tree_at, holdings_at}
+use Rattle.x5_model_run.specs.History.{Point, holdings_at}
 use Rattle.x5_model_run.specs.Chain.{Scene}
 use Rattle.x5_model_run.specs.Accepting.{carries_update, accepting, is_later, is_done_before}
 use Rattle.x5_model_run.specs.Right as right
 use Rattle.x5_model_run.specs.Right.{same_phase}
 use Rattle.x5_model_run.specs.Placed as placed
 use Rattle.x5_model_run.specs.Placed.{Placed, fits, is_query_below, RightReply, usual}
-use Rattle.x5_model_run.specs.Thorough.{is_served, is_taken, taken_needs, sends_itself}
+use Rattle.x5_model_run.specs.Thorough.{is_taken, sends_itself}
 use Rattle.x5_model_serve.specs.Committed.{holds_target, with_outcome, alone_at, changed_at, committed_if, committed}
-use Rattle.x5_model_serve.specs.Finding.{Found, Here, Onward, Below, Stuck, IsLooked, find, completed, resolved}
-use Rattle.x5_model_serve.specs.Serving.{Hand, Arrives, holds_now, found_at, is_final, is_spent, is_idle, is_too_long, is_done_here, asked_by, stuck_problem}
-use Rattle.x5_model_serve.specs.Claims.{AtHand, is_settled_line, is_served_itself, takes_itself, serving_of, asked_line, line_at}
+use Rattle.x5_model_serve.specs.Finding.{Onward, Below, Stuck, find}
+use Rattle.x5_model_serve.specs.Serving.{Hand, Arrives, holds_now, found_at, is_spent, asked_by, stuck_problem}
+use Rattle.x5_model_serve.specs.Claims.{AtHand, serving_of}
 use Rattle.x5_model_serve.proofs.Needing.{onward_resolution}
 use Rattle.x5_model_find.proofs.Goes.{resolved_moves, placed_goes_on}
 use Rattle.x5_model_find.proofs.Deciding.{nothing_needed}
@@ -45,7 +44,6 @@ use Rattle.x5_model_verdicts.proofs.At.{each_of_update, each_off, fit_key}
 use Rattle.x5_model_passing.proofs.Same.{the_way, way_phase}
 use Rattle.x5_model_right.specs.Kept.{Ground, Comes}
 use Rattle.x5_model_right.specs.Journeys.{NeededAgents}
-use Rattle.x5_model_right.specs.Claim.{ServedRight, MayFollow, FollowedRight}
 use Rattle.x5_model_right.specs.Served.{DoneBefore, IsStuck, Refers, CarriesOut}
 use Rattle.x5_model_right.specs.Sent.{IsFinal}
 use Rattle.x5_model_right.proofs.Kept.{member_fills, unchanged, line_there}
@@ -53,7 +51,7 @@ use Rattle.x5_model_right.proofs.Journeys.{sound, placed_here, contains_of}
 use Rattle.x5_model_right.proofs.Adding.{update_no_read}
 use Rattle.x5_model_right.proofs.Finding.{looked, found_same, found_is, able, fresh}
 use Rattle.x5_model_right.proofs.Leaves.{with_nothing, settled_elsewhere, within_error}
-use Rattle.x5_model_right.proofs.Onward.{needs_it, own_settled, line_idle, line_probe, all_by}
+use Rattle.x5_model_right.proofs.Onward.{own_settled, line_idle, line_probe, all_by}
 
 -- ---- a reply with nothing left to be followed
 

@@ -1,13 +1,12 @@
 -- The agents of one reference, in their order: each that isn't heard was asked in vain; the first that is heard ends it;
 -- and where none is, the reference is lost, since the line that needs it came back to itself.
-use Rattle.std.proofs.Common.{◌≡◌, ℕ, Bool, true, false, cond, not, ◌&&◌, ◌||◌, ◌==◌, ◌⊎◌, if◌then◌else◌, inl, inr, List, [], ◌∷◌, ◌++◌, length, refl, sym, ap, subst, ◌∙◌, Option, Some, None}
+use Rattle.std.proofs.Common.{◌≡◌, ℕ, Bool, true, false, cond, not, ◌&&◌, ◌==◌, if◌then◌else◌, inl, inr, List, [], ◌∷◌, ◌++◌, length, refl, sym, ap, subst, ◌∙◌, Option, Some}
 use Rattle.std.specs.Prelude.{IsTrue}
-use Rattle.std.specs.List.{list_any, list_all, filter, Contains}
+use Rattle.std.specs.List.{list_any, list_all, filter}
 use Rattle.std.specs.Cmp.Lexicographic.{pointwise}
 use Rattle.x5_model.specs.Words.{has, is_empty, in_option, first_of}
 use Rattle.x5_model.specs.Members.{In, here, there}
 use Rattle.x5_model.specs.References.{Reference, Chained}
-use Rattle.x5_model.specs.Answers.{Reply}
 use Rattle.x5_model.proofs.Decide.{nat_same_decides}
 use Rattle.x5_model.proofs.Lists.{and_true, or_left, or_right, not_false, in_first, in_right, in_either, any_in, of_any, all_in, has_in}
 use Rattle.x5_model_run.specs.Journal.{Line, Journal, is_wide, same_sender, some_line, opened_by}
@@ -15,16 +14,16 @@ use Rattle.x5_model_run.specs.Holdings.{Holdings}
 use Rattle.x5_model_run.specs.Needs.{needs}
 use Rattle.x5_model_run.specs.History.{Point, holdings_at}
 use Rattle.x5_model_run.specs.Chain.{Scene, asks_by, is_cleared, is_in_vain}
-use Rattle.x5_model_run.specs.Blocked.{IsLost, asked, lists_of, proceeds, others_cleared}
+use Rattle.x5_model_run.specs.Blocked.{asked, proceeds}
 use Rattle.x5_model_run.specs.Right.{is_noreply, heard_whole}
 use Rattle.x5_model_run.specs.Thorough.{is_sent_by}
 use Rattle.x5_model_joins.proofs.Backs.{own_back}
 use Rattle.x5_model_serve.specs.Answering.{in_vain}
 use Rattle.x5_model_serve.specs.Serving.{Hand, Heard, Unheard, Hears}
-use Rattle.x5_model_serve.specs.Claims.{Grows, AtHand, MayTake, AskedSoFar, OnlyBy, HeardRight, TakenRight, IsSpentReply, serving_of}
-use Rattle.x5_model_right.specs.Kept.{Ground, KeepsAll, Rests, asks_update, is_sent_to, Meanwhile}
+use Rattle.x5_model_serve.specs.Claims.{Grows, AtHand, OnlyBy}
+use Rattle.x5_model_right.specs.Kept.{KeepsAll, Rests, asks_update, is_sent_to, Meanwhile}
 use Rattle.x5_model_right.specs.Journeys.{NeededAgents}
-use Rattle.x5_model_right.specs.Claim.{SentHeard, SentRight, TriedRight, TookRight}
+use Rattle.x5_model_right.specs.Claim.{SentRight, TriedRight}
 use Rattle.x5_model_right.specs.Taken.{NoneYet, InVainToo, NextIsHeard, NoneIsHeard}
 use Rattle.x5_model_right.proofs.Kept.{vain_stays, sent_to_stays, all_both, unchanged, at_hand_later, may_later, rests_later, line_there}
 use Rattle.x5_model_right.proofs.Journeys.{sound, contains_of}

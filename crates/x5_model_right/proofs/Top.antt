@@ -1,49 +1,46 @@
 -- A request of a user: his message comes to its first agent as the one line, and what is done for it is claimed there.
 -- Messages never run out, so all lines are finished; and what came back to the agent's line came back to the user, if
 -- that line did. Where he hears nothing, his own message is lost.
-use Rattle.std.proofs.Common.{◌≡◌, ℕ, ◌+◌, ◌-◌, ◌<◌, ◌≤◌, nat_le, nat_lt, Bool, true, false, not, ◌&&◌, ◌||◌, ◌==◌, ◌⊎◌, if◌then◌else◌, inl, inr, List, [], ◌∷◌, ◌++◌, length, reverse, refl, sym, ap, subst, ◌∙◌, arith, Option, Some, None}
+use Rattle.std.proofs.Common.{◌≡◌, ℕ, ◌+◌, ◌<◌, ◌≤◌, nat_le, nat_lt, Bool, true, false, not, ◌&&◌, ◌||◌, ◌==◌, ◌⊎◌, inl, inr, List, [], ◌∷◌, length, reverse, refl, sym, ap, subst, ◌∙◌, arith, Option, Some, None}
 use Rattle.std.proofs.lemmas.Bool.Decides.{leb_tells}
 use Rattle.std.specs.Prelude.{IsTrue}
 use Rattle.std.specs.Option.{is_some, is_none}
 use Rattle.x5_model.specs.Statics.{fault_of}
-use Rattle.std.specs.Result.{is_ok}
-use Rattle.std.specs.List.{list_any, list_all, find, filter, AllByRecursion}
-use Rattle.x5_model.specs.Words.{has, is_empty, some_and, in_option, first_of}
-use Rattle.x5_model.specs.Members.{In, here, there}
+use Rattle.std.specs.List.{list_any, list_all, AllByRecursion}
+use Rattle.x5_model.specs.Words.{has, is_empty, some_and, in_option}
+use Rattle.x5_model.specs.Members.{In, here}
 use Rattle.x5_model.specs.Values.{Name, key_of}
 use Rattle.x5_model.specs.Entries.{Named}
 use Rattle.x5_model.specs.Requests.{Request}
-use Rattle.x5_model.specs.References.{Reference, Chained}
-use Rattle.x5_model.specs.Answers.{Source, Answer, DirError, NoSuchObject, AttributeProblem, UpdateProblem, ServiceProblem, Reply, Answered, Failed}
+use Rattle.x5_model.specs.References.{Reference}
+use Rattle.x5_model.specs.Answers.{Answer, DirError, NoSuchObject, AttributeProblem, UpdateProblem, ServiceProblem, Reply}
 use Rattle.x5_model.specs.Problems.{entry_already_exists}
-use Rattle.x5_model.proofs.Decide.{nat_same_decides, less_decides}
+use Rattle.x5_model.proofs.Decide.{nat_same_decides}
 use Rattle.x5_model.proofs.Lists.{both_true, and_true, either_true, not_true, or_left, or_right, true_or_false, in_first, in_right, any_in, of_any, all_in, of_all, of_find}
 use Rattle.x5_model_tree.specs.Tree.{lowest}
 use Rattle.x5_model_tree.specs.Masters.{master_of}
 use Rattle.x5_model_tree.specs.Ask.{is_update, sources_of, unexplored_of}
-use Rattle.x5_model_tree.specs.Apply.{apply}
-use Rattle.x5_model_run.specs.Network.{Fate, Lost, NoReply, Sent, arrives, is_sent, is_unheard, fate_of}
-use Rattle.x5_model_run.specs.Journal.{Line, Journal, depth, is_done, settled, some_line, leads_up}
-use Rattle.x5_model_run.specs.Holdings.{Held}
+use Rattle.x5_model_run.specs.Network.{Lost, NoReply, Sent, arrives, is_sent, is_unheard}
+use Rattle.x5_model_run.specs.Journal.{Line, Journal, depth, is_done}
 use Rattle.x5_model_run.specs.Needs.{target_of, ends_here, new_name}
 use Rattle.x5_model_run.specs.History.{Point, knowledge_at, tree_at}
 use Rattle.x5_model_run.specs.Stage.{budget}
 use Rattle.x5_model_run.specs.Chain.{Scene, scene_at, AllLicensed, begins}
-use Rattle.x5_model_run.specs.Accepting.{may_accept, accepting, is_probed, is_done_before, carries_update}
-use Rattle.x5_model_run.specs.Blocked.{Asked, by_user, to_self, is_answered_line, is_answered, came_back, hears_by, hears, IsUntried, IsLost, Blocked, user, untried, lost}
+use Rattle.x5_model_run.specs.Accepting.{may_accept, accepting, is_probed, carries_update}
+use Rattle.x5_model_run.specs.Blocked.{Asked, by_user, is_answered_line, is_answered, came_back, hears_by, hears, IsUntried, IsLost, Blocked, user, untried, lost}
 use Rattle.x5_model_run.specs.Right as right
 use Rattle.x5_model_run.specs.Right.{master_at, is_master_at, is_accepted_right, is_due, is_sent_later, is_noreply, heard_whole, accepts_none, is_holder, is_source, is_found, IsResult, is_for, first_level_at, hears_of, hears_master, hears_below, hears_nssr, nssr_agents, is_pin, knows, hears_pin, hears_taken, is_told, hears_accepted, Right, IsRight, Accepts, Finished}
 use Rattle.x5_model_run.specs.Placed as placed
 use Rattle.x5_model_run.specs.Placed.{RightReply, is_long}
-use Rattle.x5_model_run.specs.Thorough.{is_served, is_thorough, sender_follows, Thorough}
+use Rattle.x5_model_run.specs.Thorough.{is_served, sender_follows, Thorough}
 use Rattle.x5_model_run.proofs.Growing.{all_grow}
-use Rattle.x5_model_run.proofs.Journals.{settled_at, siblings_at, leads_from}
+use Rattle.x5_model_run.proofs.Journals.{leads_from}
 use Rattle.x5_model_theory.proofs.Carrying.{no_journal_is_long}
 use Rattle.x5_model_joins.proofs.Backs.{hears_further, lost_further}
 use Rattle.x5_model_bounds.proofs.Going.{sound_by}
-use Rattle.x5_model_serve.specs.Serving.{Hand, hand, hand_of, Does, Serves, with_line, IsRequest, nothing_yet, user_line, user_in_vain, is_spent, not_heard, not_told, answers}
-use Rattle.x5_model_serve.specs.Claims.{Setting, Accepted, AtHand, is_due_line, is_settled_line, is_finished, last_number, serving_of}
-use Rattle.x5_model_right.specs.Kept.{Ground, Comes, KeepsAll}
+use Rattle.x5_model_serve.specs.Serving.{Hand, hand, Does, Serves, with_line, IsRequest, nothing_yet, user_line, user_in_vain, is_spent, not_heard, not_told, answers}
+use Rattle.x5_model_serve.specs.Claims.{Setting, Accepted, AtHand, is_due_line, is_settled_line, last_number, serving_of}
+use Rattle.x5_model_right.specs.Kept.{Ground, Comes}
 use Rattle.x5_model_right.specs.Claim.{ServedRight}
 use Rattle.x5_model_right.specs.Right.{RequestIsRight}
 use Rattle.x5_model_joins.proofs.Keeping.{at_most}
