@@ -229,9 +229,9 @@ module _ (known : NeededAgents) (p : Point) (s : Scene) (most : ℕ) (g : Ground
     one = at.accepted.one;
     right = all_grow (is_accepted_right p s i.lines) (is_accepted_right p s (next_line s i from o r a ∷ i.lines)) right_more i.accepted at.accepted.right;
     probed = all_in (λ b. some_and (is_probed s (next_line s i from o r a ∷ i.lines)) (accepting s (next_line s i from o r a ∷ i.lines) b)) i.accepted (λ b m.
-      let y = was_accepting b m in
-      let old : is_probed s i.lines y.0 ≡ true = sym (ap (some_and (is_probed s i.lines)) y.1) ∙ of_all (λ c. some_and (is_probed s i.lines) (accepting s i.lines c)) b i.accepted at.accepted.probed m in
-      ap (some_and (is_probed s (next_line s i from o r a ∷ i.lines))) (accepting_same b m ∙ y.1) ∙ probed_more y.0 old);
+        let y = was_accepting b m in
+        let old : is_probed s i.lines y.0 ≡ true = sym (ap (some_and (is_probed s i.lines)) y.1) ∙ of_all (λ c. some_and (is_probed s i.lines) (accepting s i.lines c)) b i.accepted at.accepted.probed m in
+        ap (some_and (is_probed s (next_line s i from o r a ∷ i.lines))) (accepting_same b m ∙ y.1) ∙ probed_more y.0 old);
   }
 
   any_alike : (f h : ℕ → Bool) (xs : List ℕ) → ((b : ℕ) → In b xs → f b ≡ h b) → list_any f xs ≡ list_any h xs

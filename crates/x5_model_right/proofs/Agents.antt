@@ -123,8 +123,10 @@ module _ (p : Point) (o : ℕ) (m : Chained) (sound : IsSound p) where
       option [] (from_lowest (holdings_at p o) m c) (lowest c.entries (key_of m.target)) none
       (λ e q. option [] (to_nssr (holdings_at p o) m e) (nssr_at c.nssrs (key_of e.name)) none
       (λ n k. maybe (not (same_name e.name m.target) && not (is_empty (others (holdings_at p o).me n.agents))) (proceeding (length e.name + 1) e.name m.target NonSpecific (others (holdings_at p o).me n.agents))
-      (λ f. (filled (not (same_name e.name m.target)) (is_empty (others (holdings_at p o).me n.agents)) f,
-      λ a i. there_own c n a ic (found_nssr c (key_of e.name) n k) (of_filter (λ (x : ℕ). not (x == (holdings_at p o).me)) a n.agents i).0))))
+      (λ f. (
+        filled (not (same_name e.name m.target)) (is_empty (others (holdings_at p o).me n.agents)) f,
+        λ a i. there_own c n a ic (found_nssr c (key_of e.name) n k) (of_filter (λ (x : ℕ). not (x == (holdings_at p o).me)) a n.agents i).0,
+      ))))
 
   -- 3. a supplier
   supplier_is : (c : Copy) → In c (holdings_at p o).copies → IsAgent p c.supplier
@@ -143,9 +145,9 @@ module _ (p : Point) (o : ℕ) (m : Chained) (sound : IsSound p) where
   -- 4. a master and its shadows
   usable_good : (k : Specific) → IsRightAccess (knowledge_at p) k → (is_empty (usable_agents m.request k.access) ≡ false) × ((a : ℕ) → In a (usable_agents m.request k.access) → IsAgent p a)
   usable_good k right = (
-      some (may_copy m.request),
-      λ a i. agent_of (agent_at (knowledge_at p) a) (held_there (knowledge_at p) a (key_of k.pin) sound.described (usable_holds (knowledge_at p) m.request k a right i)),
-    )
+    some (may_copy m.request),
+    λ a i. agent_of (agent_at (knowledge_at p) a) (held_there (knowledge_at p) a (key_of k.pin) sound.described (usable_holds (knowledge_at p) m.request k a right i)),
+  )
     where
       some : (b : Bool) → is_empty (if b then k.access.master ∷ k.access.shadows else k.access.master ∷ []) ≡ false
       some true = refl

@@ -325,10 +325,10 @@ module _ (known : NeededAgents) (p : Point) (s : Scene) (most : ℕ) (g : Ground
       calm = λ u. elim sv.own [
         | inl spent ↦ inl spent
         | inr w ↦ inr (
-          let back_then : j ≡ with_line (next_line s i from o r a) i = (sv.left e).2 in
-          let mine : is_settled_line p s (with_line (next_line s i from o r a) i) (next_line s i from o r a) ≡ true = subst (λ (y : Journal). is_settled_line p s y (next_line s i from o r a) ≡ true) back_then w.1 in
-          subst (λ (y : Journal). list_all (is_settled_line p s y) y.lines ≡ true) (sym back_then) (and_true _ _ mine (settled_now u))
-        )
+            let back_then : j ≡ with_line (next_line s i from o r a) i = (sv.left e).2 in
+            let mine : is_settled_line p s (with_line (next_line s i from o r a) i) (next_line s i from o r a) ≡ true = subst (λ (y : Journal). is_settled_line p s y (next_line s i from o r a) ≡ true) back_then w.1 in
+            subst (λ (y : Journal). list_all (is_settled_line p s y) y.lines ≡ true) (sym back_then) (and_true _ _ mine (settled_now u))
+            )
       ];
       none = λ u. (sv.keeps.reads u).accepted_same ∙ rests.none u;
       fresh = (sv.left e).3;

@@ -351,9 +351,9 @@ module _ (known : NeededAgents) (p : Point) (s : Scene) (g : Ground p s) (from :
         by (Whole a) so =
             let res = limit_last p s (serving_of j k at.line.number) j.lines a so in (
               usual (ap not not_able)
-              (right.result (own_answered at.line stood j.lines stands)
-              (subst (λ (n : ℕ). IsResult p s (asked_line (line_at k at.line.number) n) j.lines (at_limit k a)) same res)
-              (ap not (query known p s g k i at look begins)) ((nat_same_decides (length j.accepted) stood).1 same)),
+                  (right.result (own_answered at.line stood j.lines stands)
+                  (subst (λ (n : ℕ). IsResult p s (asked_line (line_at k at.line.number) n) j.lines (at_limit k a)) same res)
+                  (ap not (query known p s g k i at look begins)) ((nat_same_decides (length j.accepted) stood).1 same)),
               nested_limited p s (serving_of j k at.line.number) j.lines k.message.request.controls.size a so,
             )
         by (Broken x) e = subst (λ (y : Reply). RightReply p s (asked_line (line_at k at.line.number) stood) j (is_spent most j) y × LiesWithin p (asked_line (line_at k at.line.number) stood) y) (sym e.0)

@@ -134,7 +134,8 @@ module _ (known : NeededAgents) (p : Point) (s : Scene) (most : ℕ) (g : Ground
     only_it e m = elim (in_first e (next_line s i from o r a) (siblings (depth_at o) i.lines) (subst (λ (xs : List Line). In e xs) sibling m)) [
       | inr old ↦ inl old
       | inl same ↦ inr (
-        r, here,
+        r,
+        here,
         subst (λ (y : Line). In y.receiver r.agents) (sym same) (listed known p s most g from o r i before after a at may rests split so_far),
         subst (λ (y : Line). IsCarried y.sender (line_for o) r y.message) (sym same) (is_carried from (line_for o) r),
       )
@@ -163,17 +164,17 @@ module _ (known : NeededAgents) (p : Point) (s : Scene) (most : ℕ) (g : Ground
 
       finished : is_finished p s j (last_number s (with_line (next_line s i from o r a) i)) ≡ true → (is_served s j (next_line s i from o r a) ≡ true) × (is_settled_line p s j (next_line s i from o r a) ≡ true) → is_finished p s j (last_number s i) ≡ true
       finished f mine = all_in (λ e. nat_le e.number (last_number s i) || (is_served s j e && is_settled_line p s j e)) j.lines (λ e m.
-        elim (true_or_false (nat_le e.number (last_number s i))) [
-          | inl low ↦ or_left _ _ low
-          | inr high ↦ or_right (nat_le e.number (last_number s i)) _ (elim (either_true (nat_le e.number (last_number s (with_line (next_line s i from o r a) i))) _ (of_all (λ y. nat_le y.number (last_number s (with_line (next_line s i from o r a) i)) || (is_served s j y && is_settled_line p s j y)) e j.lines f m)) [
-            | inr y ↦ y
-            | inl y ↦
-                let up = is_at_most e.number (last_number s (with_line (next_line s i from o r a) i)) y in
-                let over : last_number s i < e.number = above e.number (last_number s i) high in
-                let same : e ≡ next_line s i from o r a = same_number s j.lines kept.keeps.licensed e (next_line s i from o r a) m stands (omega (arith, up, over)) in
-                subst (λ (l : Line). (is_served s j l && is_settled_line p s j l) ≡ true) (sym same) (and_true (is_served s j (next_line s i from o r a)) _ mine.0 mine.1)
+          elim (true_or_false (nat_le e.number (last_number s i))) [
+            | inl low ↦ or_left _ _ low
+            | inr high ↦ or_right (nat_le e.number (last_number s i)) _ (elim (either_true (nat_le e.number (last_number s (with_line (next_line s i from o r a) i))) _ (of_all (λ y. nat_le y.number (last_number s (with_line (next_line s i from o r a) i)) || (is_served s j y && is_settled_line p s j y)) e j.lines f m)) [
+              | inr y ↦ y
+              | inl y ↦
+                  let up = is_at_most e.number (last_number s (with_line (next_line s i from o r a) i)) y in
+                  let over : last_number s i < e.number = above e.number (last_number s i) high in
+                  let same : e ≡ next_line s i from o r a = same_number s j.lines kept.keeps.licensed e (next_line s i from o r a) m stands (omega (arith, up, over)) in
+                  subst (λ (l : Line). (is_served s j l && is_settled_line p s j l) ≡ true) (sym same) (and_true (is_served s j (next_line s i from o r a)) _ mine.0 mine.1)
+            ])
           ])
-        ])
         where
           above : (n m : ℕ) → nat_le n m ≡ false → m < n
           above n m h = elim (leb_tells n m) [ inl t ↦ (let z = t.0 in cc) | inr f ↦ f.1 ]

@@ -35,7 +35,8 @@ all_cases = record {
     reads_copy = reads_copy_right;
     gives_parts = gives_parts_right needed_agents;
     asks_parts = asks_parts_right needed_agents;
-    carries_out = carries_out_right };
+    carries_out = carries_out_right;
+  };
   updating = record {
     not_done = not_done_right;
     does_alone = does_alone_right;
@@ -46,7 +47,8 @@ all_cases = record {
     no_probe = no_probe_right;
     clear = clear_right;
     unsure = unsure_right;
-    silent = silent_right };
+    silent = silent_right;
+  };
   sending = record {
     spent = spent_right;
     is_lost = lost_right needed_agents;
@@ -55,25 +57,30 @@ all_cases = record {
     is_final = final_right;
     referral = referral_right needed_agents;
     wide_referral = wide_referral_right needed_agents;
-    unexplored = unexplored_right needed_agents };
+    unexplored = unexplored_right needed_agents;
+  };
   taking = record {
     none_yet = none_yet_right;
     in_vain_too = in_vain_too_right;
     next_is_heard = next_is_heard_right;
-    none_is_heard = none_is_heard_right needed_agents };
+    none_is_heard = none_is_heard_right needed_agents;
+  };
   casting = record {
     none_asked = none_asked_right;
     unable_too = unable_too_right;
     silent_too = silent_too_right;
     is_answered = is_answered_right needed_agents;
     nobody_has = nobody_has_right needed_agents;
-    some_silent = some_silent_right needed_agents };
+    some_silent = some_silent_right needed_agents;
+  };
   gathering = record {
     no_part = no_part_right;
     part_unheard = part_unheard_right;
     part_unavailable = part_unavailable_right;
     part_answered = part_answered_right;
-    part_breaks = part_breaks_right } }
+    part_breaks = part_breaks_right;
+  };
+}
 
 pub all_is_right : AllIsRight
 all_is_right = serving_is_right all_cases
