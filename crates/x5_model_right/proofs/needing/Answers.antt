@@ -1,0 +1,5 @@
+use Rattle.x5_model_right.proofs.Agents.{needed_agents}
+use Rattle.x5_model_right.proofs.needing.Goals as goal
+
+pub returns : goal.returns
+returns c = needed_agents

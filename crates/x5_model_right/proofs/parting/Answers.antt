@@ -1,0 +1,9 @@
+use Rattle.x5_model_right.proofs.Agents.{needed_agents}
+use Rattle.x5_model_right.proofs.Parts.{gives_parts_right, asks_parts_right}
+use Rattle.x5_model_right.proofs.parting.Goals as goal
+
+pub returns-clause-gives : goal.returns-clause-gives
+returns-clause-gives c = gives_parts_right needed_agents
+
+pub returns-clause-asks : goal.returns-clause-asks
+returns-clause-asks c = asks_parts_right needed_agents

@@ -1,0 +1,10 @@
+pub mod Journeys
+pub mod Kept
+pub mod Claim
+pub mod Served
+pub mod Updated
+pub mod Sent
+pub mod Taken
+pub mod Cast
+pub mod Gathered
+pub mod Right
