@@ -1,0 +1,92 @@
+-- The setting of a user's request, part by part: what lines find and copies stand by is shown for lines that moved no
+-- context, a user's message is placed wherever it is, and the agents are those of the described world. A run moves none,
+-- by its commands. In a setting, what agents do is right by the one induction over all that is done.
+use Rattle.std.proofs.Common.{◌≡◌, ℕ, List, [], ◌∷◌, map, reverse, refl, sym, subst}
+use Rattle.x5_model.specs.Requests.{Request}
+use Rattle.x5_model_tree.specs.World.{World}
+use Rattle.x5_model_run.specs.Refresh.{RefreshOutcome, Done, Unheard, Problem, Missed, NotConsistent}
+use Rattle.x5_model_run.specs.History.{Deed, Nothing, Outs, Loses, Accepts, Refreshes, Splits, Unsplits, Did, knowledge_by, knowledge_after}
+use Rattle.x5_model_run.specs.Run.{Command, Blank, Asks, Changes, Drops, Updates, Block, Silent, Set, Replies, Refreshing, Judge, refreshed_by, did_by, IsRun, begin, next}
+use Rattle.x5_model_theory.proofs.Carrying.{opening_is_placed}
+use Rattle.x5_model_updates.specs.Keeping.{MovesNone, NoneMoved}
+use Rattle.x5_model_updates.specs.Standing as updates
+use Rattle.x5_model_updates.proofs.Stood.{lines_stand}
+use Rattle.x5_model_find.proofs.Standings.{stand_alike, copies_always}
+use Rattle.x5_model_right.proofs.Whole.{requests_are_right}
+use Rattle.x5_model_settled.specs.Settled.{HasAgent, LinesAreSettled, RunsAreSettled, LinesAreRight, RunsAreRight}
+
+-- agents stay
+knowledge_stays : (w : World) (past : List Did) → NoneMoved past → knowledge_by w past ≡ w
+knowledge_stays w [] n = refl
+knowledge_stays w (d ∷ before) n = by d.deed n.0 (knowledge_stays w before n.1)
+  where
+    by : (x : Deed) → MovesNone x → knowledge_by w before ≡ w → knowledge_after w before x (knowledge_by w before) ≡ w
+    by Nothing m q = q
+    by (Outs o) m q = q
+    by (Loses reply j) m q = q
+    by (Accepts accepted) m q = q
+    by (Refreshes f) m q = q
+    by (Splits name a) m q = absurd m
+    by (Unsplits name) m q = absurd m
+
+pub lines_are_settled : LinesAreSettled
+lines_are_settled w past first r described consistent none agent =
+    let whole : updates.Stands (record { described = w; past = past }) = lines_stand w past described consistent none in
+    record {
+      holdings = refl;
+      whole = whole;
+      by_keys = stand_alike (record { described = w; past = past }) whole;
+      copies = copies_always w past described consistent none;
+      first = (opening_is_placed (record { described = w; past = past }) first r).0;
+      agent = subst (λ (x : World). HasAgent x first) (sym (knowledge_stays w past none)) agent;
+      untraced = refl;
+    }
+
+pub lines_are_right : LinesAreRight
+lines_are_right w past first r described consistent none agent j reply short fresh is =
+    requests_are_right (record { described = w; past = past }) first r j reply
+    (lines_are_settled w past first r described consistent none agent) short fresh is
+
+-- ---- runs move no contexts
+
+abbrev accepted_deed : Request → List ℕ → Deed
+accepted_deed r [] = Nothing
+accepted_deed r (a ∷ more) = Accepts (map (λ x. record { agent = x; request = r }) (a ∷ more))
+
+accepts_none_moved : (r : Request) (accepted : List ℕ) → MovesNone (accepted_deed r accepted)
+accepts_none_moved r [] = tt
+accepts_none_moved r (a ∷ more) = tt
+
+refreshed_none_moved : (o : RefreshOutcome) → MovesNone (refreshed_by o)
+refreshed_none_moved (Done f) = tt
+refreshed_none_moved Unheard = tt
+refreshed_none_moved (Problem n) = tt
+refreshed_none_moved (Missed a b) = tt
+refreshed_none_moved NotConsistent = tt
+
+did_none_move : (command : Command) (block : Block) → MovesNone (did_by command block).deed
+did_none_move Blank block = tt
+did_none_move (Changes o) block = tt
+did_none_move (Drops reply n) block = tt
+did_none_move (Asks to r) Silent = tt
+did_none_move (Asks to r) Set = tt
+did_none_move (Asks to r) (Replies j reply) = accepts_none_moved r (reverse j.accepted)
+did_none_move (Asks to r) (Refreshing b) = tt
+did_none_move (Updates number pushes total) Silent = tt
+did_none_move (Updates number pushes total) Set = tt
+did_none_move (Updates number pushes total) (Replies j reply) = tt
+did_none_move (Updates number pushes total) (Refreshing b) = refreshed_none_moved b.outcome
+
+run_none_moved : (judge : Judge) (w : World) (commands : List Command) (blocks : List Block) (past : List Did)
+    → IsRun judge w commands blocks past → NoneMoved past
+run_none_moved judge w commands blocks past begin = tt
+run_none_moved judge w commands blocks past (next {commands = cs} {blocks = bs} {past = before} command block run is) =
+    (did_none_move command block, run_none_moved judge w cs bs before run)
+
+pub runs_are_settled : (judge : Judge) → RunsAreSettled judge
+runs_are_settled judge w commands blocks past first r described consistent run agent =
+    lines_are_settled w past first r described consistent (run_none_moved judge w commands blocks past run) agent
+
+pub runs_are_right : (judge : Judge) → RunsAreRight judge
+runs_are_right judge w commands blocks past first r described consistent run agent =
+    lines_are_right w past first r described consistent (run_none_moved judge w commands blocks past run) agent

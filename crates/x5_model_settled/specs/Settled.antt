@@ -1,0 +1,63 @@
+-- What the theorem on serving presumes of a point follows of a run over consistent knowledge (X.501, section 22; X.518,
+-- sections 17 to 21).
+use Rattle.std.specs.Prelude.{◌≡◌, ◌≤◌, ℕ, List, length}
+use Rattle.std.specs.declared.option.Option.TheVariants.{Some}
+use Rattle.x5_model.specs.Values.{Name}
+use Rattle.x5_model.specs.Requests.{Request}
+use Rattle.x5_model.specs.Answers.{Reply}
+use Rattle.x5_model_tree.specs.World.{Agent, World}
+use Rattle.x5_model_tree.specs.Masters.{agent_at}
+use Rattle.x5_model_tree.specs.Consistent.{IsConsistent}
+use Rattle.x5_model_tree.specs.Described.{IsDescribed}
+use Rattle.x5_model_run.specs.Journal.{Journal}
+use Rattle.x5_model_run.specs.Needs.{target_of, new_name}
+use Rattle.x5_model_run.specs.History.{Did, Point}
+use Rattle.x5_model_run.specs.Stage.{budget}
+use Rattle.x5_model_run.specs.Chain.{scene_at}
+use Rattle.x5_model_run.specs.Right.{AnswersRight}
+use Rattle.x5_model_run.specs.Thorough.{Thorough}
+use Rattle.x5_model_run.specs.Run.{Command, Block, Judge, IsRun}
+use Rattle.x5_model_updates.specs.Keeping.{NoneMoved}
+use Rattle.x5_model_serve.specs.Serving.{IsRequest}
+use Rattle.x5_model_serve.specs.Claims.{Setting}
+
+-- the described world has an agent of this number
+abbrev pub HasAgent : World → ℕ → Type 0
+HasAgent w first = (a : Agent) × (agent_at w first ≡ Some a)
+
+-- 1. A line that was led to without moving contexts, whatever was accepted and refreshed, is a setting for any request
+-- of a user to an agent of the world.
+abbrev pub LinesAreSettled : Type 0
+LinesAreSettled =
+    (w : World) (past : List Did) (first : ℕ) (r : Request)
+    → IsDescribed w → IsConsistent w → NoneMoved past → HasAgent w first
+    → Setting (record { described = w; past = past }) (scene_at (record { described = w; past = past }) first r)
+
+-- 2. So is every line of a run, however its blocks are judged: a run moves no context.
+abbrev pub RunsAreSettled : Judge → Type 0
+RunsAreSettled judge =
+    (w : World) (commands : List Command) (blocks : List Block) (past : List Did) (first : ℕ) (r : Request)
+    → IsDescribed w → IsConsistent w → IsRun judge w commands blocks past → HasAgent w first
+    → Setting (record { described = w; past = past }) (scene_at (record { described = w; past = past }) first r)
+
+-- 3. So whatever agents do there with a request whose names have 16 RDNs at most, as all names in a directory have, is
+-- right, and no message that it needs is left out.
+abbrev pub ServesRight : Point → ℕ → Request → Type 0
+ServesRight p first r =
+    (j : Journal) (reply : Reply)
+    → length (target_of r.body) ≤ 16 → ((name : Name) → new_name r.body ≡ Some name → length name ≤ 16)
+    → IsRequest (scene_at p first r) (budget p) j reply
+    → AnswersRight p first r j reply × Thorough (scene_at p first r) j
+
+abbrev pub LinesAreRight : Type 0
+LinesAreRight =
+    (w : World) (past : List Did) (first : ℕ) (r : Request)
+    → IsDescribed w → IsConsistent w → NoneMoved past → HasAgent w first
+    → ServesRight (record { described = w; past = past }) first r
+
+-- 4. And so it is at every line of a run.
+abbrev pub RunsAreRight : Judge → Type 0
+RunsAreRight judge =
+    (w : World) (commands : List Command) (blocks : List Block) (past : List Did) (first : ℕ) (r : Request)
+    → IsDescribed w → IsConsistent w → IsRun judge w commands blocks past → HasAgent w first
+    → ServesRight (record { described = w; past = past }) first r
