@@ -1,6 +1,6 @@
 -- A script that agents carry out is a run: block by block, each request by what holds at every line of a run,
 -- whatever its judge; all other blocks are judged alike.
-use Rattle.std.proofs.Common.{◌≡◌, ℕ, List, [], ◌∷◌, ◌++◌}
+use Rattle.std.proofs.Common.{List, [], ◌∷◌, ◌++◌}
 use Rattle.std.specs.List.{AllByRecursion}
 use Rattle.x5_model_tree.specs.World.{World}
 use Rattle.x5_model_tree.specs.Consistent.{IsConsistent}
