@@ -22,3 +22,4 @@ pub mod Starred
 pub mod Outputs
 pub mod Descriptions
 pub mod Serving
+pub mod Stepping
