@@ -1,2 +1,6 @@
 pub mod Order
 pub mod Search
+pub mod Adding
+pub mod Taking
+pub mod Terms
+pub mod Finding

@@ -36,7 +36,7 @@ equal_postings a b e =
 pub itself : (a : Posting) → posting_cmp a a ≡ Equal
 itself a = tied_itself posting_total a
 
-is_less : (o : Ordering) → is_lt o ≡ true → o ≡ Less
+pub is_less : (o : Ordering) → is_lt o ≡ true → o ≡ Less
 is_less Less e = refl
 is_less Equal e = cc
 is_less Greater e = cc

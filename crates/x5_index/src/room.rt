@@ -1,6 +1,7 @@
 //! What is made ready of an entry before it is put into an index.
 
-ghost use Rattle.std.specs.Prelude.{◌≡◌, ◌++◌, IfOk, OnOk, length};
+ghost use Rattle.std.specs.Prelude.{◌≡◌, ◌++◌, IfOk, OnOk, IsTrue, length};
+ghost use Rattle.x5_model.specs.Attributes.{is_ordered};
 ghost use Rattle.x5_model.specs.Members.{Once};
 ghost use Rattle.x5_index.specs.Index.{terms_in, terms_of};
 
@@ -44,7 +45,8 @@ fn add_terms(terms: &mut Vec<Term>, attribute: &Stored) -> Result<(), NoMemory>
 impl Room {
     /// The values of the entry, made ready.
     pub fn new(alloc: Global, entry: &Entry) -> Result<Room, NoMemory>
-        ensures { IfOk result (λ room. room ≡ terms_of entry.now) }
+        ensures terms { IfOk result (λ room. room ≡ terms_of entry.now) }
+        ensures ordered { IsTrue (is_ordered entry.now) }
     {
         let mut terms = Vec::new(alloc);
         for attribute in entry.attributes() {
