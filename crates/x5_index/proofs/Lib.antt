@@ -4,3 +4,4 @@ pub mod Adding
 pub mod Taking
 pub mod Terms
 pub mod Finding
+pub mod Laws

@@ -4,11 +4,11 @@ use Rattle.std.specs.declared.option.Option.{Option}
 use Rattle.std.specs.declared.option.Option.TheVariants.{None, Some}
 use Rattle.std.specs.declared.result.Result.{Result}
 use Rattle.std.specs.declared.result.Result.TheVariants.{Ok, Err}
+use Rattle.std.specs.Ordering.{is_eq}
 use Rattle.x5_model.specs.Members.{In, Once}
 use Rattle.x5_model.specs.Words.{ascending}
-use Rattle.x5_model.specs.Keys.{KeyPair}
+use Rattle.x5_model.specs.Keys.{KeyPair, pair_cmp}
 use Rattle.x5_model.specs.Values.{TypeRef, Known, Unknown}
-use Rattle.x5_model.specs.Filters.{Assertion}
 use Rattle.x5_index.specs.Index.{Posting, posting_below}
 
 -- how many stand before the first that isn't below it
@@ -35,11 +35,13 @@ pub record AreNodesOf (postings : List Posting) (term : KeyPair) (nodes : List �
   pub same : (node : ℕ) → In node nodes ↔ In (record { term = term; node = node }) postings
   pub once : Once nodes
 
--- of an assertion; there are none where it has no normal form
-abbrev pub AreAsserted : List Posting → Assertion → List ℕ → Type 0
-AreAsserted postings a nodes = by a.kind a.normal
-  where
-    by : TypeRef → Option (List ℕ) → Type 0
-    by (Known kind) (Some normal) = AreNodesOf postings (kind, normal) nodes
-    by (Known kind) None = nodes ≡ []
-    by (Unknown arcs) normal = nodes ≡ []
+-- of an assertion's type and normal form; there are none where it has no normal form
+abbrev pub AreAsserted : List Posting → TypeRef → Option (List ℕ) → List ℕ → Type 0
+AreAsserted postings (Known kind) (Some normal) nodes = AreNodesOf postings (kind, normal) nodes
+AreAsserted postings (Known kind) None nodes = nodes ≡ []
+AreAsserted postings (Unknown arcs) normal nodes = nodes ≡ []
+
+-- the nodes of the first postings, as far as they are of the value
+abbrev pub nodes_with : KeyPair → List Posting → List ℕ
+nodes_with term [] = []
+nodes_with term (p ∷ ps) = if is_eq (pair_cmp p.term term) then p.node ∷ nodes_with term ps else []

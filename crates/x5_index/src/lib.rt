@@ -6,6 +6,8 @@ mod lookup;
 mod posting;
 mod postings;
 mod room;
+#[cfg(test)]
+mod tests;
 
 pub use lookup::NodeList;
 pub use postings::Postings;

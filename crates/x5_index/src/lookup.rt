@@ -1,12 +1,12 @@
 //! What a filter is looked up by, and the nodes that are found so (X.511, section 7.8).
 
-ghost use Rattle.std.specs.Prelude.{◌≡◌, IfOk, IsTrue, Some};
+ghost use Rattle.std.specs.Prelude.{◌≡◌, ◌≤◌, length, IfOk, IsTrue, Some};
 ghost use Rattle.std.specs.Option.{option_copied};
 ghost use Rattle.x5_model.specs.Words.{ascending};
 ghost use Rattle.x5_match.specs.FilterView.{item_view, filter_view, filters_of};
 ghost use Rattle.x5_index.specs.Index.{posting_below};
 ghost use Rattle.x5_index.specs.Lookup as model;
-ghost use Rattle.x5_index.specs.Places.{AreNodesOf, AreAsserted};
+ghost use Rattle.x5_index.specs.Places.{AreNodesOf, AreAsserted, nodes_with, place_of};
 
 use crate::posting::{Posting, compare_terms, find};
 use std::alloc::Global;
@@ -64,7 +64,13 @@ fn equality_of(filter: &Filter) -> Option<&Assertion>
 fn first_equality(members: &[Filter]) -> Option<&Assertion>
     ensures { option_copied result ≡ model.first_equality (filters_of members.now) }
 {
-    members.iter().find_map(equality_of)
+    for member in members {
+        let found = equality_of(member);
+        if found.is_some() {
+            return found;
+        }
+    }
+    None
 }
 
 /// What the filter is looked up by.
@@ -74,6 +80,37 @@ pub(crate) fn assertion_of(filter: &Filter) -> Option<&Assertion>
     match filter {
         Filter::And(members) => first_equality(members),
         _ => equality_of(filter),
+    }
+}
+
+/// The nodes of the first postings, as far as they are of this type and normal form.
+fn nodes_from(
+    alloc: Global,
+    postings: &[Posting],
+    kind: TypeId,
+    normal: &Normal,
+) -> Result<NodeList, NoMemory>
+    ensures { IfOk result (λ nodes. nodes ≡ nodes_with (kind, normal.now) postings.now) }
+{
+    let mut nodes = Vec::new(alloc);
+    for posting in postings {
+        if compare_terms(&posting.term, kind, normal).is_ne() {
+            break;
+        }
+        nodes.push(posting.node)?;
+    }
+    Ok(NodeList { nodes })
+}
+
+/// The place from which on no posting is below all of this type and normal form.
+fn first_place(postings: &[Posting], kind: TypeId, normal: &Normal) -> usize
+    requires { IsTrue (ascending posting_below postings.now) }
+    ensures place { result ≡ place_of postings.now (record { term = (kind, normal.now); node = 0 }) }
+    ensures within { result ≤ length postings.now }
+{
+    match find(postings, kind, normal, 0) {
+        Ok(place) => place,
+        Err(place) => place,
     }
 }
 
@@ -87,18 +124,8 @@ fn nodes_of(
     requires { IsTrue (ascending posting_below postings.now) }
     ensures { IfOk result (λ nodes. AreNodesOf postings.now (kind, normal.now) nodes) }
 {
-    let first = match find(postings, kind, normal, 0) {
-        Ok(place) => place,
-        Err(place) => place,
-    };
-    let mut nodes = Vec::new(alloc);
-    for posting in &postings[first..] {
-        if compare_terms(&posting.term, kind, normal).is_ne() {
-            break;
-        }
-        nodes.push(posting.node)?;
-    }
-    Ok(NodeList { nodes })
+    let first = first_place(postings, kind, normal);
+    nodes_from(alloc, &postings[first..], kind, normal)
 }
 
 /// The nodes that have the asserted value; none where the value isn't of its type's kind.
@@ -108,7 +135,7 @@ pub(crate) fn asserted(
     assertion: &Assertion,
 ) -> Result<NodeList, NoMemory>
     requires { IsTrue (ascending posting_below postings.now) }
-    ensures { IfOk result (λ nodes. AreAsserted postings.now assertion.now nodes) }
+    ensures { IfOk result (λ nodes. AreAsserted postings.now assertion.now.kind assertion.now.normal nodes) }
 {
     match (&assertion.kind, &assertion.normal) {
         (TypeRef::Known(kind), Some(normal)) => nodes_of(alloc, postings, *kind, normal),

@@ -8,5 +8,5 @@ use Rattle.x5_index.proofs.posting.find.Goals as goal
 pub returns : goal.returns
 returns c =
     let x : Posting = record { term = (c.args.kind, c.args.normal.now); node = c.args.node } in
-    found x c.args.postings.now c.requires _ c.binary_search_by.ensures.bound
+    found x c.args.postings.now c.requires c.binary_search_by.result c.binary_search_by.ensures.bound
     (c.binary_search_by.ensures.position (λ y. posting_cmp y x) (always_returns_same _ _ _ (λ a r f k. search (rules, of_calls))))
