@@ -1,8 +1,8 @@
 -- What one more posting, and one for each of some terms, makes of the postings of a list in order.
-use Rattle.std.proofs.Common.{◌≡◌, ◌≢◌, ℕ, zero, suc, ◌≤◌, Bool, true, false, cond, ◌⊎◌, inl, inr, List, [], ◌∷◌, ◌++◌, length, take, drop, refl, sym, ap, subst, ◌∙◌, arith, ◌==◌}
+use Rattle.std.proofs.Common.{◌≡◌, ℕ, suc, ◌≤◌, Bool, true, false, cond, ◌⊎◌, inl, inr, List, [], ◌∷◌, ◌++◌, length, take, drop, refl, sym, ap, subst, arith, ◌==◌}
 use Rattle.std.proofs.lemmas.Grind.{common_steps}
 use Rattle.x5_model.specs.Words.{ascending, insert_sorted}
-use Rattle.x5_model.specs.Members.{In, Once, here, there}
+use Rattle.x5_model.specs.Members.{In, Once, here}
 use Rattle.x5_model.specs.Keys.{KeyPair}
 use Rattle.x5_model.proofs.Lists.{in_first, in_left, in_right, in_either, none_of}
 use Rattle.x5_model.proofs.Ascending.{of_insert, new_in_insert, old_in_insert, insert_ascending}

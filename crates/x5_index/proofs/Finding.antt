@@ -1,6 +1,6 @@
 -- From the place of a value's first posting on stand the postings of that value, and so the nodes found there are those whose
 -- entries have it. What a filter is looked up by is true wherever the filter is.
-use Rattle.std.proofs.Common.{◌≡◌, ℕ, zero, suc, Bool, true, false, cond, ◌⊎◌, inl, inr, List, [], ◌∷◌, length, take, drop, ◌-◌, refl, sym, ap, subst, ◌∙◌, arith, Option, Some, None, Result, Ok, Err}
+use Rattle.std.proofs.Common.{◌≡◌, ℕ, suc, Bool, true, false, cond, inl, inr, List, [], ◌∷◌, length, take, drop, ◌-◌, refl, sym, ap, subst, ◌∙◌, arith, Option, Some, None, Result, Ok, Err}
 use Rattle.std.specs.Result.{IfOk}
 use Rattle.std.proofs.lemmas.Grind.{common_steps}
 use Rattle.std.proofs.lemmas.List.{take_rest}
@@ -19,7 +19,7 @@ use Rattle.x5_model.specs.Truth.{Truth, False, Undefined, True, truth_and, truth
 use Rattle.x5_model.proofs.KeyLaws.{pair_cmp_total}
 use Rattle.x5_model.proofs.Lists.{true_or_false, in_first}
 use Rattle.x5_model.proofs.Ascending.{rest_ascending, first_below}
-use Rattle.x5_index.specs.Index.{Posting, posting_cmp, posting_below, IsEntryAt}
+use Rattle.x5_index.specs.Index.{Posting, posting_below, IsEntryAt}
 use Rattle.x5_index.specs.Places.{place_of, AreNodesOf, AreAsserted, nodes_with}
 use Rattle.x5_index.specs.Lookup.{known_assertion, asserted_in, equality_in, or_else, first_equality, looked_up, AreCandidates}
 use Rattle.x5_index.proofs.Order.{equal_pairs, never_below, below_chain}

@@ -1,11 +1,10 @@
 -- What is put or dropped leaves every other node as it was: absent, or there with its entry.
 use Rattle.std.proofs.Common.{◌≡◌, ◌≢◌, ℕ, true, false, ◌==◌, inl, inr, List, sym, subst, arith}
 use Rattle.std.proofs.lemmas.Grind.{common_steps}
-use Rattle.std.specs.List.{list_any}
 use Rattle.x5_model.specs.Members.{In}
 use Rattle.x5_model.specs.Entries.{Entry}
 use Rattle.x5_model.proofs.Lists.{true_or_false, any_in, of_any}
-use Rattle.x5_index.specs.Index.{Posting, is_there, IsEntryAt, OthersStay, IsPut, IsDropped}
+use Rattle.x5_index.specs.Index.{Posting, is_there, IsEntryAt, OthersStay}
 
 number_is : (a b : ℕ) → (a == b) ≡ true → a ≡ b
 number_is a b e = grind (arith, common_steps)

@@ -1,5 +1,5 @@
 -- What a search by halves in a list of postings in order tells: the place, and whether the posting is there.
-use Rattle.std.proofs.Common.{◌≡◌, ℕ, zero, suc, ◌+◌, ◌<◌, ◌≤◌, Bool, true, false, cond, ◌⊎◌, inl, inr, List, [], ◌∷◌, length, get_or, refl, sym, ap, subst, ◌∙◌, arith, Result, Ok, Err}
+use Rattle.std.proofs.Common.{◌≡◌, ℕ, zero, suc, ◌<◌, ◌≤◌, Bool, true, false, cond, ◌⊎◌, inl, inr, List, [], ◌∷◌, length, get_or, refl, sym, ap, subst, ◌∙◌, arith, Result, Ok, Err}
 use Rattle.std.specs.List.Sorted.{IsBinarySearchResult, IsSearchInRange, IsNonDecreasingBy}
 use Rattle.std.specs.declared.cmp.Ordering.{Ordering}
 use Rattle.std.specs.declared.cmp.Ordering.TheVariants.{Less, Equal, Greater}
@@ -9,7 +9,7 @@ use Rattle.x5_model.specs.Members.{In, here, there}
 use Rattle.x5_model.proofs.Ascending.{rest_ascending, first_below}
 use Rattle.x5_index.specs.Index.{Posting, posting_cmp, posting_below}
 use Rattle.x5_index.specs.Places.{place_of, IsFoundAt}
-use Rattle.x5_index.proofs.Order.{posting_total, equal_postings, itself, less, never_below, below_chain}
+use Rattle.x5_index.proofs.Order.{posting_total, equal_postings, itself, less, below_chain}
 
 -- ---- members by their places
 

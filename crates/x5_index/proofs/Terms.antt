@@ -1,17 +1,17 @@
 -- The terms of an entry are its values, each once; and so what is put for them stands for the entry.
-use Rattle.std.proofs.Common.{◌≡◌, ◌≢◌, ℕ, Bool, true, false, cond, not, ◌&&◌, ◌==◌, ◌⊎◌, inl, inr, List, [], ◌∷◌, ◌++◌, map, refl, sym, ap, subst, ◌∙◌, arith, Option, Some}
+use Rattle.std.proofs.Common.{◌≡◌, ◌≢◌, ℕ, Bool, true, false, cond, not, ◌&&◌, ◌==◌, inl, inr, List, [], ◌∷◌, ◌++◌, map, refl, sym, ap, subst, ◌∙◌, arith, Some}
 use Rattle.std.proofs.lemmas.Grind.{common_steps}
-use Rattle.std.specs.List.{list_any, list_all, flat_map, find}
-use Rattle.std.specs.Cmp.Lexicographic.{bytes_decides, nat_list_cmp_total, slice_cmp}
+use Rattle.std.specs.List.{list_all, flat_map, find}
+use Rattle.std.specs.Cmp.Lexicographic.{bytes_decides, nat_list_cmp_total}
 use Rattle.std.specs.Cmp.{tied_itself}
-use Rattle.std.specs.Ordering.{is_lt, nat_cmp}
+use Rattle.std.specs.Ordering.{is_lt}
 use Rattle.x5_model.specs.Words.{ascending, in_option, is_empty, same_octets, octets_below}
 use Rattle.x5_model.specs.Members.{In, Once, here, there}
 use Rattle.x5_model.specs.Keys.{KeyPair}
 use Rattle.x5_model.specs.Values.{StoredValue}
 use Rattle.x5_model.specs.Entries.{Stored, Entry}
 use Rattle.x5_model.specs.Attributes.{value_below, kind_below, is_ordered, values_at, has_value}
-use Rattle.x5_model.proofs.Lists.{both_true, true_or_false, in_first, in_left, in_right, in_either, in_map, of_map, any_in, of_any, none_of}
+use Rattle.x5_model.proofs.Lists.{both_true, true_or_false, in_left, in_right, in_either, in_map, of_map, any_in, of_any, none_of}
 use Rattle.x5_model.proofs.Ascending.{rest_ascending, first_below}
 use Rattle.x5_index.specs.Index.{Posting, terms_in, terms_of, is_there, IsEntryAt, IsPut, IsDropped}
 use Rattle.x5_index.specs.Places.{AreAdded, AreTaken}

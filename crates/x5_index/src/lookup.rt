@@ -1,6 +1,6 @@
 //! What a filter is looked up by, and the nodes that are found so (X.511, section 7.8).
 
-ghost use Rattle.std.specs.Prelude.{◌≡◌, ◌≤◌, length, IfOk, IsTrue, Some};
+ghost use Rattle.std.specs.Prelude.{◌≡◌, ◌≤◌, length, IfOk, IsTrue};
 ghost use Rattle.std.specs.Option.{option_copied};
 ghost use Rattle.x5_model.specs.Words.{ascending};
 ghost use Rattle.x5_match.specs.FilterView.{item_view, filter_view, filters_of};

@@ -45,7 +45,10 @@ pub(crate) fn compare_terms(term: &Term, kind: TypeId, normal: &Normal) -> Order
     ensures { result ≡ pair_cmp term.now (kind, normal.now) }
 {
     let octets = term.normal.as_slice();
-    term.kind.number().cmp(&kind.number()).then(octets.cmp(normal.as_slice()))
+    term.kind
+        .number()
+        .cmp(&kind.number())
+        .then(octets.cmp(normal.as_slice()))
 }
 
 /// How a posting stands to one of this type, normal form and node.

@@ -3,7 +3,6 @@
 ghost use Rattle.std.specs.Prelude.{◌≡◌, ◌+◌, ◌≤◌, ◌<◌, ◌∷◌, [], false, length, vec_len, vec_capacity, IfOk, OnOk, OnErr, IsTrue};
 ghost use Rattle.x5_model.specs.Attributes.{is_ordered};
 ghost use Rattle.x5_model.specs.Entries.{Entry as entry};
-ghost use Rattle.x5_model.specs.Keys.{KeyPair};
 ghost use Rattle.x5_model.specs.Members.{In, Once};
 ghost use Rattle.x5_model.specs.Words.{ascending, insert_sorted};
 ghost use Rattle.x5_match.specs.FilterView.{filter_view};
@@ -11,7 +10,7 @@ ghost use Rattle.x5_index.specs.Index.{posting_below, terms_in, terms_of, is_the
 ghost use Rattle.x5_index.specs.Lookup.{IsLookUp};
 ghost use Rattle.x5_index.specs.Places.{AreAdded, AreTaken};
 
-use crate::lookup::{NodeList, assertion_of, asserted};
+use crate::lookup::{NodeList, asserted, assertion_of};
 use crate::posting::{Posting, Term, find};
 use crate::room::Room;
 use std::alloc::Global;

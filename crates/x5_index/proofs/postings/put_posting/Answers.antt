@@ -1,8 +1,7 @@
 -- The posting isn't there, so the search tells the place at which it goes.
-use Rattle.std.proofs.Common.{◌≡◌, ◌∷◌, ◌++◌, Bool, true, not, List, take, drop, length, ap, ◌∙◌, arith, is_ok, if◌then◌else◌}
-use Rattle.x5_index.specs.Index.{Posting, posting_below}
+use Rattle.std.proofs.Common.{◌≡◌, ◌∷◌, ◌++◌, Bool, true, not, take, drop, ap, ◌∙◌, arith, is_ok, if◌then◌else◌}
+use Rattle.x5_index.specs.Index.{Posting}
 use Rattle.x5_index.specs.Places.{place_of}
-use Rattle.x5_model.specs.Words.{insert_sorted}
 use Rattle.x5_index.proofs.Adding.{place_bound, insert_at}
 use Rattle.x5_index.proofs.postings.put_posting.Goals as goal
 

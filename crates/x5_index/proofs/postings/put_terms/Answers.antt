@@ -5,7 +5,7 @@ use Rattle.x5_model.specs.Members.{In, Once}
 use Rattle.x5_model.specs.Keys.{KeyPair}
 use Rattle.x5_index.specs.Index.{Posting}
 use Rattle.x5_index.specs.Places.{AreAdded}
-use Rattle.x5_index.proofs.Adding.{added_none, added_more, absent_more}
+use Rattle.x5_index.proofs.Adding.{added_more, absent_more}
 use Rattle.x5_index.proofs.postings.put_terms.Goals as goal
 
 pub put_posting-requires-clause-absent : goal.put_posting-requires-clause-absent
@@ -25,7 +25,7 @@ loop-term-preserved c =
     let all : c.args.terms.items ≡ c.loop-term.yielded ++ c.in-Some.term ∷ rest =
     sym c.into_iter-term-iterator.ensures.into_iter_gives.0 ∙ sym at.all ∙ ap (λ (ts : List KeyPair). c.loop-term.yielded ++ ts) c.in-Some.ensures.steps.0 in
     let absent : In x c.loop-term.postings.items → ⊥ = absent_more c.args.postings.now.items c.args.node c.loop-term.yielded rest c.in-Some.term c.loop-term.postings.items c.requires.absent
-        (subst (λ (ts : List KeyPair). Once ts) all c.requires.once) at.added in
+    (subst (λ (ts : List KeyPair). Once ts) all c.requires.once) at.added in
     let steps : into_iter_items c.loop-term.term-iterator ≡ c.in-Some.term ∷ rest = c.in-Some.ensures.steps.0 in
     let gone = c.in-Some.ensures.steps.1 in
     let short = ap length steps in

@@ -1,6 +1,5 @@
 -- The search tells whether the posting is there, and then its place.
-use Rattle.std.proofs.Common.{◌≡◌, ◌+◌, ◌<◌, ◌∷◌, [], ◌++◌, List, suc, take, drop, length, ap, subst, sym, ◌∙◌, arith, add-one}
-use Rattle.std.specs.Vec.{vec_len}
+use Rattle.std.proofs.Common.{◌≡◌, ◌+◌, ◌∷◌, [], ◌++◌, List, take, drop, length, ap, subst, sym, ◌∙◌, arith, add-one}
 use Rattle.x5_model.specs.Members.{In}
 use Rattle.x5_index.specs.Index.{Posting}
 use Rattle.x5_index.specs.Places.{place_of, AreTaken}

@@ -1,9 +1,9 @@
 -- One value more has been taken away.
-use Rattle.std.proofs.Common.{◌≡◌, [], refl, ap, arith}
+use Rattle.std.proofs.Common.{◌≡◌, ap, arith}
 use Rattle.x5_model.specs.Keys.{KeyPair}
 use Rattle.x5_model.specs.Values.{StoredValue}
 use Rattle.x5_model.specs.Entries.{Stored}
-use Rattle.x5_index.proofs.Taking.{term_with, taken_none, taken_value}
+use Rattle.x5_index.proofs.Taking.{term_with, taken_value}
 use Rattle.x5_index.proofs.postings.take_terms.Goals as goal
 
 pub loop-value-preserved : goal.loop-value-preserved

@@ -1,6 +1,6 @@
 -- The room has the entry's values, and the entry is in order.
-use Rattle.std.proofs.Common.{◌≡◌, false, List, sym, subst}
-use Rattle.x5_index.specs.Index.{Posting, IsPut, is_there}
+use Rattle.std.proofs.Common.{List, subst}
+use Rattle.x5_index.specs.Index.{Posting, IsPut}
 use Rattle.x5_index.proofs.postings.Postings.add.Goals as goal
 
 pub returns-clause-ok : goal.returns-clause-ok

@@ -1,5 +1,5 @@
 -- The entry is in order, so each of its terms is there once.
-use Rattle.std.proofs.Common.{◌≡◌, ◌++◌, List, drop, sym, ap, subst, ◌∙◌, append-nil}
+use Rattle.std.proofs.Common.{◌≡◌, ◌++◌, List, sym, ap, subst, ◌∙◌, append-nil}
 use Rattle.std.proofs.lemmas.List.{drop_all}
 use Rattle.std.specs.List.{flat_map}
 use Rattle.x5_model.specs.Members.{Once}
