@@ -1,0 +1,7 @@
+pub mod Order
+pub mod Search
+pub mod Adding
+pub mod Taking
+pub mod Terms
+pub mod Finding
+pub mod Laws

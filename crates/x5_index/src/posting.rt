@@ -1,0 +1,72 @@
+//! Postings: what an index has of a value of an entry, and their order.
+
+ghost use Rattle.std.specs.Prelude.{◌≡◌, IsTrue};
+ghost use Rattle.x5_model.specs.Keys.{pair_cmp};
+ghost use Rattle.x5_model.specs.Words.{ascending};
+ghost use Rattle.x5_index.specs.Index.{posting_cmp, posting_below};
+ghost use Rattle.x5_index.specs.Places.{IsFoundAt};
+
+use std::cmp::Ordering;
+use std::marker::Model;
+use x5_syntax::{Normal, TypeId};
+
+/// A value by which an entry is found: its type and its normal form.
+#[derive(Debug, Drop)]
+pub(crate) struct Term {
+    pub(crate) kind: TypeId,
+    pub(crate) normal: Normal,
+}
+
+impl Model for Term {
+    ghost use Rattle.x5_model.specs.Keys.{KeyPair};
+
+    ghost Value = { KeyPair };
+
+    ghost view = { λ t. (t.kind, t.normal) };
+}
+
+/// A value that an entry has, and the number of the entry's node.
+#[derive(Debug, Drop)]
+pub(crate) struct Posting {
+    pub(crate) term: Term,
+    pub(crate) node: usize,
+}
+
+impl Model for Posting {
+    ghost use Rattle.x5_index.specs.Index as index;
+
+    ghost Value = { index.Posting };
+
+    ghost view = { λ p. record { term = p.term; node = p.node } };
+}
+
+/// How a term stands to one of this type and normal form.
+pub(crate) fn compare_terms(term: &Term, kind: TypeId, normal: &Normal) -> Ordering
+    ensures { result ≡ pair_cmp term.now (kind, normal.now) }
+{
+    let octets = term.normal.as_slice();
+    term.kind
+        .number()
+        .cmp(&kind.number())
+        .then(octets.cmp(normal.as_slice()))
+}
+
+/// How a posting stands to one of this type, normal form and node.
+fn compare(posting: &Posting, kind: TypeId, normal: &Normal, node: usize) -> Ordering
+    ensures { result ≡ posting_cmp posting.now (record { term = (kind, normal.now); node = node }) }
+{
+    compare_terms(&posting.term, kind, normal).then(posting.node.cmp(&node))
+}
+
+/// The place of the posting of this type, normal form and node, or where it would go. No memory.
+pub(crate) fn find(
+    postings: &[Posting],
+    kind: TypeId,
+    normal: &Normal,
+    node: usize,
+) -> Result<usize, usize>
+    requires { IsTrue (ascending posting_below postings.now) }
+    ensures { IsFoundAt postings.now (record { term = (kind, normal.now); node = node }) result }
+{
+    postings.binary_search_by(|posting| compare(posting, kind, normal, node))
+}
