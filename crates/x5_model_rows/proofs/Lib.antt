@@ -22,3 +22,5 @@ pub mod Starred
 pub mod Outputs
 pub mod Descriptions
 pub mod Serving
+pub mod Refusals
+pub mod Texts
