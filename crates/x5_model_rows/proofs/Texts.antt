@@ -6,7 +6,7 @@ use lib.Utf8.{encode}
 use Rattle.x5_model.specs.Values.{Text, Known, NameValue, Value}
 use Rattle.x5_model.specs.Normal.{ValueFault}
 use Rattle.x5_model_text.specs.ValueText.{resolved}
-use Rattle.x5_model_text.specs.NameText.{NameFault, BadSpelling, UnknownType, TooManyRdns, TooManyPairs, name_of_text, text_of_written, text_of_value, value_of_text}
+use Rattle.x5_model_text.specs.NameText.{NameFault, BadSpelling, UnknownType, RepeatedType, TooManyRdns, TooManyPairs, name_of_text, text_of_written, text_of_value, value_of_text}
 use Rattle.x5_model_text.specs.Filters.{filter_of_text}
 use Rattle.x5_model_tree.specs.Described.{is_agent_name}
 
@@ -45,6 +45,10 @@ no_value = refl
 
 pub no_keyword : name_of_text (codes "/commonName=a") ≡ Err UnknownType
 no_keyword = refl
+
+pub type_twice : name_of_text (codes "/CN=a+2.5.4.3=b") ≡ Err RepeatedType
+unfolding is_utf8 chars encode
+type_twice = refl
 
 pub five_pairs : name_of_text (codes "/CN=a+SN=b+L=c+O=d+OU=e") ≡ Err TooManyPairs
 unfolding is_utf8 chars encode
@@ -119,6 +123,9 @@ a_space_behind_the_end = refl
 
 pub a_second_filter : filter_of_text (codes "(&)(|)") ≡ Err 3
 a_second_filter = refl
+
+pub nesting_17_of_one : filter_of_text (codes "(!(!(!(!(!(!(!(!(!(!(!(!(!(!(!(|(L=*))))))))))))))))))") ≡ Err 32
+nesting_17_of_one = refl
 
 pub nesting_17_of_two : filter_of_text (codes "(!(!(!(!(!(!(!(!(!(!(!(!(!(!(|(L=*)(!(O=*)))))))))))))))))") ≡ Err 37
 unfolding is_utf8 chars encode
