@@ -1,8 +1,6 @@
-//! Tests of requests, traces, moments and blocks through their public calls. Nothing stands on it.
+//! Tests of requests, changes, traces and moments through their public calls. Nothing stands on it.
 #![tactic(auto)]
 
-#[cfg(test)]
-mod blocks;
 #[cfg(test)]
 mod moments;
 #[cfg(test)]

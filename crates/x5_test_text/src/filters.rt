@@ -13,18 +13,17 @@ fn stored(alloc: Global, kind: TypeId, text: &str) -> Result<StoredValue, Fail> 
     Ok(StoredValue { value, normal })
 }
 
-/// An attribute with one value: its type's number and the value's text.
-fn attribute(alloc: Global, number: u8, text: &str) -> Result<Stored, Fail> {
-    let kind = TypeId::new(number).ok_or("no type")?;
-    let values = vec![in alloc; stored(alloc, kind, text)?]?;
-    let values = StoredValueList::from_vec(values);
-    Ok(Stored { kind, values })
+/// An entry with one value.
+fn entry_of(alloc: Global, kind: TypeId, value: StoredValue) -> Result<Entry, Fail> {
+    let values = StoredValueList::from_vec(vec![in alloc; value]?);
+    let attributes = vec![in alloc; Stored { kind, values }]?;
+    Ok(Entry::from_list(StoredList::from_vec(attributes)))
 }
 
-/// An entry with one attribute.
+/// The same, of its type's number and the value's text.
 fn entry_with(alloc: Global, number: u8, text: &str) -> Result<Entry, Fail> {
-    let attributes = vec![in alloc; attribute(alloc, number, text)?]?;
-    Ok(Entry::from_list(StoredList::from_vec(attributes)))
+    let kind = TypeId::new(number).ok_or("no type")?;
+    entry_of(alloc, kind, stored(alloc, kind, text)?)
 }
 
 /// What the filter that a text spells says of the entry.

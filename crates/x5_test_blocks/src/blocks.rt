@@ -56,12 +56,45 @@ fn below(
     })
 }
 
+fn add_reference(
+    alloc: Global,
+    references: &mut ReferenceList,
+    kind: RefType,
+    text: &str,
+    excluded: &str,
+    tried: bool,
+) -> Result<(), Fail> {
+    references.push(below(alloc, kind, text, excluded, tried)?)?;
+    Ok(())
+}
+
 /// Unexplored references, not in the order in which they are printed.
 fn unexplored(alloc: Global) -> Result<ReferenceList, Fail> {
     let mut references = Listed::new(alloc);
-    references.push(below(alloc, RefType::NonSpecific, "Gamma", "OU=Shop", true)?)?;
-    references.push(below(alloc, RefType::Subordinate, "Gamma", "", false)?)?;
-    references.push(below(alloc, RefType::NonSpecific, "Delta", "", true)?)?;
+    add_reference(
+        alloc,
+        &mut references,
+        RefType::NonSpecific,
+        "Gamma",
+        "OU=Shop",
+        true,
+    )?;
+    add_reference(
+        alloc,
+        &mut references,
+        RefType::Subordinate,
+        "Gamma",
+        "",
+        false,
+    )?;
+    add_reference(
+        alloc,
+        &mut references,
+        RefType::NonSpecific,
+        "Delta",
+        "",
+        true,
+    )?;
     Ok(references)
 }
 
@@ -80,11 +113,28 @@ fn source(
     })
 }
 
+fn add_source(
+    alloc: Global,
+    sources: &mut SourceList,
+    context: &str,
+    text: &str,
+    moment: Option<Moment>,
+) -> Result<(), Fail> {
+    sources.push(source(alloc, context, text, moment)?)?;
+    Ok(())
+}
+
 /// Sources, the later context first.
 fn sources(alloc: Global) -> Result<SourceList, Fail> {
     let mut sources = Listed::new(alloc);
-    sources.push(source(alloc, "/C=NL/O=Acme/OU=Shop", "Delta", None)?)?;
-    sources.push(source(alloc, "/C=NL/O=Acme", "Epsilon", Some(Moment(1)))?)?;
+    add_source(alloc, &mut sources, "/C=NL/O=Acme/OU=Shop", "Delta", None)?;
+    add_source(
+        alloc,
+        &mut sources,
+        "/C=NL/O=Acme",
+        "Epsilon",
+        Some(Moment(1)),
+    )?;
     Ok(sources)
 }
 
@@ -120,9 +170,12 @@ fn found(alloc: Global) -> Result<LineOutcome, Fail> {
     Ok(LineOutcome::Answered(Reply::Done(found)))
 }
 
-fn start() -> Result<Start, Fail> {
-    let date = Date::new(1993, 1, 1)?;
-    Ok(Start::new(date, 0).ok_or("no start")?)
+/// The first second of 1993.
+fn start() -> Option<Start> {
+    match Date::new(1993, 1, 1) {
+        Ok(date) => Start::new(date, 0),
+        Err(_) => None,
+    }
 }
 
 /// A journal of these messages, of which nobody accepted one.
@@ -134,15 +187,21 @@ fn journal(alloc: Global, lines: Vec<Line>) -> Journal {
 }
 
 /// What is printed for line 2 of a world that starts with 1993.
-fn printed(alloc: Global, journal: Journal, outcome: LineOutcome) -> Result<Text, Fail> {
-    let start = start()?;
-    Ok(block(alloc, &start, 2, &journal, &outcome)?)
+fn printed(alloc: Global, journal: &Journal, outcome: &LineOutcome) -> Result<Text, Fail> {
+    let start = start().ok_or("no start")?;
+    Ok(block(alloc, &start, 2, journal, outcome)?)
+}
+
+/// What is printed of the search without messages.
+fn search(alloc: Global) -> Result<Text, Fail> {
+    let outcome = found(alloc)?;
+    printed(alloc, &journal(alloc, Vec::new(alloc)), &outcome)
 }
 
 #[test]
 fn a_search_prints_sources_and_what_is_unexplored_in_order(rt: HostRuntime) -> Result<(), Fail> {
     let alloc = rt.alloc();
-    let text = printed(alloc, journal(alloc, Vec::new(alloc)), found(alloc)?)?;
+    let text = search(alloc)?;
     assert_eq!(rt;
         text.as_str(),
         "#2\nfound 1\nentry /C=NL/O=Acme/CN=Desk copy\nsource /C=NL/O=Acme Epsilon 19930101000001Z\nsource /C=NL/O=Acme/OU=Shop Delta now\nunexplored subordinate /C=NL/O=Acme done Gamma\nunexplored nonSpecific /C=NL/O=Acme done Delta tried\nunexplored nonSpecific /C=NL/O=Acme done Gamma less OU=Shop tried\nlimit sizeLimitExceeded\n"
@@ -167,7 +226,7 @@ fn asked(alloc: Global) -> Result<Line, Fail> {
 fn refresh(alloc: Global, number: u32, refreshed: Refreshed) -> Result<Text, Fail> {
     let lines = vec![in alloc; asked(alloc)?]?;
     let outcome = LineOutcome::Refreshed(number, refreshed);
-    printed(alloc, journal(alloc, lines), outcome)
+    printed(alloc, &journal(alloc, lines), &outcome)
 }
 
 #[test]
