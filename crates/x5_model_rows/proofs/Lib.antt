@@ -23,3 +23,5 @@ pub mod Outputs
 pub mod Descriptions
 pub mod Serving
 pub mod Stepping
+pub mod Refusals
+pub mod Texts

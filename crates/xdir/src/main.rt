@@ -6,8 +6,6 @@ mod made;
 mod refusals;
 mod run;
 mod show;
-#[cfg(test)]
-mod tests;
 mod top;
 
 use asked::AskedFiles;
