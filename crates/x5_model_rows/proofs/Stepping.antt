@@ -53,11 +53,11 @@ pub jan_served : IsServed at_first 3 read_jan jan_journal jan_reply
 jan_served =
     answers jan_reply refl
     (goes up (Hears jan_reply) (record { unlooped = refl; short = refl; fresh = refl; unrefused = refl; fit = refl })
-        refl refl refl
+    refl refl refl
     (heard [] [] 1 jan_reply refl none_yet
     (sends 1 jan_reply jan_reply refl refl
     (casts jan_nssr jan_reply (record { unlooped = refl; short = refl; fresh = refl; unrefused = refl; fit = refl })
-        refl refl refl
+    refl refl refl
     (answered [] (3 ∷ []) [] 2 jan_reply refl refl none_asked
     (sends 2 jan_reply jan_reply refl refl
     (reads _ (record { unlooped = refl; short = refl; fresh = refl; unrefused = refl; fit = refl }) refl refl refl)
@@ -75,7 +75,7 @@ pub absent_served : IsServed at_first 1 read_absent absent_journal (Failed (NoSu
 absent_served =
     answers _ refl
     (casts absent_nssr (Failed (NoSuchObject acme))
-        (record { unlooped = refl; short = refl; fresh = refl; unrefused = refl; fit = refl }) refl refl refl
+    (record { unlooped = refl; short = refl; fresh = refl; unrefused = refl; fit = refl }) refl refl refl
     (nobody_has
     (unable_too 3 (absent_by 3 3) refl
     (unable_too 2 (absent_by 2 2) refl none_asked
@@ -83,7 +83,7 @@ absent_served =
     (stuck (record { unlooped = refl; short = refl; fresh = refl; unrefused = refl; fit = refl }) refl) (final _ refl)))
     (sends 3 (absent_by 3 3) (absent_by 3 3) refl refl
     (stuck (record { unlooped = refl; short = refl; fresh = refl; unrefused = refl; fit = refl }) refl)
-        (final _ refl)))))
+    (final _ refl)))))
 
 -- with Gamma down, Lab: Alpha asks Beta by its subordinate reference, and Beta hears nothing from Gamma
 abbrev pub lab_reply : Reply
@@ -99,17 +99,17 @@ pub lab_served : IsServed resolution.gamma_down 0 read_lab lab_journal lab_reply
 lab_served =
     answers lab_reply refl
     (goes to_beta (Hears lab_reply)
-        (record { unlooped = refl; short = refl; fresh = refl; unrefused = refl; fit = refl }) refl refl refl
+    (record { unlooped = refl; short = refl; fresh = refl; unrefused = refl; fit = refl }) refl refl refl
     (heard [] (4 ∷ []) 1 lab_reply refl none_yet
     (sends 1 lab_reply lab_reply refl refl
     (casts lab_nssr lab_reply (record { unlooped = refl; short = refl; fresh = refl; unrefused = refl; fit = refl })
-        refl refl refl
+    refl refl refl
     (some_silent (2 ∷ []) refl
     (unable_too 3 lab_by_delta refl
     (silent_too 2 none_asked (lost 2 refl refl))
     (sends 3 lab_by_delta lab_by_delta refl refl
     (stuck (record { unlooped = refl; short = refl; fresh = refl; unrefused = refl; fit = refl }) refl)
-        (final _ refl)))))
+    (final _ refl)))))
     (final lab_reply refl))))
 
 -- and Shop, which Delta has: that Gamma wasn't heard doesn't matter
@@ -126,11 +126,11 @@ pub shop_served : IsServed gamma_still_down 0 read_shop shop_journal shop_reply
 shop_served =
     answers shop_reply refl
     (goes to_shop (Hears shop_reply)
-        (record { unlooped = refl; short = refl; fresh = refl; unrefused = refl; fit = refl }) refl refl refl
+    (record { unlooped = refl; short = refl; fresh = refl; unrefused = refl; fit = refl }) refl refl refl
     (heard [] (4 ∷ []) 1 shop_reply refl none_yet
     (sends 1 shop_reply shop_reply refl refl
     (casts shop_nssr shop_reply (record { unlooped = refl; short = refl; fresh = refl; unrefused = refl; fit = refl })
-        refl refl refl
+    refl refl refl
     (answered (2 ∷ []) [] (2 ∷ []) 3 shop_reply refl refl
     (silent_too 2 none_asked (lost 2 refl refl))
     (sends 3 shop_reply shop_reply refl refl
@@ -146,7 +146,7 @@ pub followed_served : IsServed beta_refuses 0 name_lab followed_journal name_rep
 followed_served =
     answers name_reply refl
     (goes to_beta (Hears name_reply)
-        (record { unlooped = refl; short = refl; fresh = refl; unrefused = refl; fit = refl }) refl refl refl
+    (record { unlooped = refl; short = refl; fresh = refl; unrefused = refl; fit = refl }) refl refl refl
     (heard [] (4 ∷ []) 1 name_reply refl none_yet
     (sends 1 (Referred lab_nssr) name_reply refl refl
     (refers lab_nssr (record { unlooped = refl; short = refl; fresh = refl; unrefused = refl; fit = refl }) refl refl)
@@ -183,7 +183,7 @@ pub unchained_served : IsServed at_first 0 unchained (journal (asks 1 0 unchaine
 unchained_served =
     answers _ refl
     (gives_parts of_alpha (record { unlooped = refl; short = refl; fresh = refl; unrefused = refl; fit = refl }) refl
-        refl refl)
+    refl refl)
 
 -- from the root, asked of Gamma: up to Alpha, which has the root; then by parts
 abbrev pub of_beta : Answer
@@ -198,7 +198,7 @@ of_delta = Found (bare shop ∷ bare ada ∷ []) (now shop 3 ∷ []) whole_outco
 abbrev pub below_acme : Answer
 below_acme =
     Found (bare acme ∷ bare desk ∷ bare lab ∷ bare jan ∷ bare shop ∷ bare ada ∷ [])
-        (now acme 1 ∷ now lab 2 ∷ now shop 3 ∷ []) whole_outcome
+    (now acme 1 ∷ now lab 2 ∷ now shop 3 ∷ []) whole_outcome
 
 abbrev pub of_all : Answer
 of_all = Found (bare nl ∷ bare acme ∷ bare desk ∷ bare lab ∷ bare jan ∷ bare shop ∷ bare ada ∷ []) the_sources
@@ -214,31 +214,31 @@ pub root_served : IsServed at_first 2 from_root root_journal (Answered of_all)
 root_served =
     answers (Answered of_all) refl
     (goes (to_superior 1) (Hears (Answered of_all))
-        (record { unlooped = refl; short = refl; fresh = refl; unrefused = refl; fit = refl }) refl refl refl
+    (record { unlooped = refl; short = refl; fresh = refl; unrefused = refl; fit = refl }) refl refl refl
     (heard [] [] 1 (Answered of_all) refl none_yet
     (sends 1 (Answered of_all) (Answered of_all) refl refl
     (goes (to_superior 0) (Hears (Answered of_all))
-        (record { unlooped = refl; short = refl; fresh = refl; unrefused = refl; fit = refl }) refl refl refl
+    (record { unlooped = refl; short = refl; fresh = refl; unrefused = refl; fit = refl }) refl refl refl
     (heard [] [] 0 (Answered of_all) refl none_yet
     (sends 0 (Answered of_all) (Answered of_all) refl refl
     (asks_parts of_alpha (Whole of_all)
-        (record { unlooped = refl; short = refl; fresh = refl; unrefused = refl; fit = refl }) refl refl refl
+    (record { unlooped = refl; short = refl; fresh = refl; unrefused = refl; fit = refl }) refl refl refl
     (part_answered acme_reference below_acme no_part
     (heard [] (4 ∷ []) 1 (Answered below_acme) refl none_yet
     (sends 1 (Answered below_acme) (Answered below_acme) refl refl
     (asks_parts of_beta (Whole below_acme)
-        (record { unlooped = refl; short = refl; fresh = refl; unrefused = refl; fit = refl }) refl refl refl
+    (record { unlooped = refl; short = refl; fresh = refl; unrefused = refl; fit = refl }) refl refl refl
     (part_answered (by_agent 3) of_delta
     (part_answered (by_agent 2) of_gamma no_part
     (heard [] [] 2 (Answered of_gamma) refl none_yet
     (sends 2 (Answered of_gamma) (Answered of_gamma) refl refl
     (asks_parts of_gamma (Whole of_gamma)
-        (record { unlooped = refl; short = refl; fresh = refl; unrefused = refl; fit = refl }) refl refl refl no_part)
+    (record { unlooped = refl; short = refl; fresh = refl; unrefused = refl; fit = refl }) refl refl refl no_part)
     (final (Answered of_gamma) refl))))
     (heard [] [] 3 (Answered of_delta) refl none_yet
     (sends 3 (Answered of_delta) (Answered of_delta) refl refl
     (asks_parts of_delta (Whole of_delta)
-        (record { unlooped = refl; short = refl; fresh = refl; unrefused = refl; fit = refl }) refl refl refl no_part)
+    (record { unlooped = refl; short = refl; fresh = refl; unrefused = refl; fit = refl }) refl refl refl no_part)
     (final (Answered of_delta) refl)))))
     (final (Answered below_acme) refl)))))
     (final (Answered of_all) refl))))
@@ -263,7 +263,7 @@ again_served =
     (silent 2 no_probe (lost 2 refl refl))
     (sends 3 probe_by_delta probe_by_delta refl refl
     (stuck (record { unlooped = refl; short = refl; fresh = refl; unrefused = refl; fit = refl }) refl)
-        (final _ refl)))))
+    (final _ refl)))))
 
 -- Beta takes the update, and its reply to the user is lost
 pub gears_served : IsServed losing_first 1 put_gears (accepted_journal (asks 1 1 put_gears NoReply ∷ []) 1) (Failed
@@ -271,7 +271,7 @@ pub gears_served : IsServed losing_first 1 put_gears (accepted_journal (asks 1 1
 gears_served =
     not_told (Answered Changed) refl
     (updates _ _ (record { unlooped = refl; short = refl; fresh = refl; unrefused = refl; fit = refl }) refl refl
-        (does _ refl refl))
+    (does _ refl refl))
 
 -- Gamma takes it, and its reply to Beta is lost: Beta asks Delta, which can't go on
 abbrev pub put_by_delta : Reply
@@ -281,16 +281,16 @@ pub put_served : IsServed losing_second 1 put_lab put_journal lab_reply
 put_served =
     answers lab_reply refl
     (casts lab_nssr lab_reply (record { unlooped = refl; short = refl; fresh = refl; unrefused = refl; fit = refl })
-        refl refl refl
+    refl refl refl
     (some_silent (2 ∷ []) refl
     (unable_too 3 put_by_delta refl
     (silent_too 2 none_asked
     (dropped 2 (Answered Changed) refl refl
     (updates _ _ (record { unlooped = refl; short = refl; fresh = refl; unrefused = refl; fit = refl }) refl refl
-        (does _ refl refl))))
+    (does _ refl refl))))
     (sends 3 put_by_delta put_by_delta refl refl
     (stuck (record { unlooped = refl; short = refl; fresh = refl; unrefused = refl; fit = refl }) refl)
-        (final _ refl)))))
+    (final _ refl)))))
 
 -- Delta has a copy of Lab: by it the update comes to Gamma again, which has taken it and says so at once
 abbrev pub lab_supplier : Reference
@@ -300,18 +300,18 @@ pub twice_served : IsServed losing_shadowed 1 put_lab twice_journal (Answered Ch
 twice_served =
     answers (Answered Changed) refl
     (casts lab_nssr (Answered Changed)
-        (record { unlooped = refl; short = refl; fresh = refl; unrefused = refl; fit = refl }) refl refl refl
+    (record { unlooped = refl; short = refl; fresh = refl; unrefused = refl; fit = refl }) refl refl refl
     (answered (2 ∷ []) [] (2 ∷ []) 3 (Answered Changed) refl refl
     (silent_too 2 none_asked
     (dropped 2 (Answered Changed) refl refl
     (updates _ _ (record { unlooped = refl; short = refl; fresh = refl; unrefused = refl; fit = refl }) refl refl
-        (does _ refl refl))))
+    (does _ refl refl))))
     (sends 3 (Answered Changed) (Answered Changed) refl refl
     (goes lab_supplier (Hears (Answered Changed))
-        (record { unlooped = refl; short = refl; fresh = refl; unrefused = refl; fit = refl }) refl refl refl
+    (record { unlooped = refl; short = refl; fresh = refl; unrefused = refl; fit = refl }) refl refl refl
     (heard [] [] 2 (Answered Changed) refl none_yet
     (sends 2 (Answered Changed) (Answered Changed) refl refl (done_before refl refl refl) (final
-        (Answered Changed) refl))))
+    (Answered Changed) refl))))
     (final (Answered Changed) refl))))
 
 -- ---- nothing else comes of them
@@ -320,7 +320,7 @@ twice_served =
 pub not_answered : (j : Journal) (a : Answer) → IsServed alpha_refuses 0 read_lab j (Answered a) → ⊥
 not_answered j a d =
     let w = request_is_determined (scene_at alpha_refuses 0 read_lab) (budget alpha_refuses) (journal
-        (lab_at_alpha ∷ [])) j
+    (lab_at_alpha ∷ [])) j
     (Referred to_beta) (Answered a) referred_served d in
     let e : Answered a ≡ Referred to_beta = w.0 in
     cc
@@ -329,7 +329,7 @@ not_answered j a d =
 pub not_before : (reply : Reply) → IsServed at_first 1 read_absent (journal (absent_at_beta ∷ [])) reply → ⊥
 not_before reply d =
     let w = request_is_determined (scene_at at_first 1 read_absent) (budget at_first) absent_journal (journal
-        (absent_at_beta ∷ []))
+    (absent_at_beta ∷ []))
     (Failed (NoSuchObject acme)) reply absent_served d in
     let e : 1 ≡ 3 = ap (λ (j : Journal). length j.lines) w.1 in
     omega (arith, e)
@@ -361,8 +361,15 @@ empty_scene = record (scene_at at_first 1 read_acme) {
 }
 
 abbrev pub asked_part : Hand
-asked_part = hand 1 (record { target = acme; progress = Done; kind = Subordinate; exclusions = []; trace = []; request
-    = everything acme WholeSubtree })
+asked_part = hand 1 (record {
+  target = acme;
+  progress = Done;
+  kind = Subordinate;
+  exclusions = [];
+  trace = [];
+  request
+      = everything acme WholeSubtree;
+})
 
 pub nothing_done : (most : ℕ) (reply : Reply) (j : Journal)
     → Does empty_scene most (Serves asked_part reply) (journal []) j → ⊥
