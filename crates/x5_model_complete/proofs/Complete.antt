@@ -81,16 +81,16 @@ not_broken s lines number r a arrived =
     let b = both_true (opened_by number before e) (is_broken_line s lines e)
     (both_true (asks_by r a e) (opened_by number before e && is_broken_line s lines e) t).1 in
     let c = both_true (not (masters_pin (s.holdings e.receiver) (key_of e.message.target))) (some_line
-        (is_broken_off s e) lines)
+    (is_broken_off s e) lines)
     (both_true (is_sent e.fate) _ b.1).1 in
     no_line (is_broken_off s e) lines (λ l earlier k u. unheard_not l (arrived l k) (both_true
-        (is_unheard l.fate) _ u).0) c.1)
+    (is_unheard l.fate) _ u).0) c.1)
 
 not_vain : (s : Scene) (lines : List Line) (o : Line) (r : Reference) (a : ℕ) → Arrived lines
     → is_in_vain s lines o r a ≡ true → ⊥
 not_vain s lines o r a arrived e =
     elim (either_true (is_asked is_unheard lines o.number r a)
-        (is_probe o.message.request.body r.target && is_broken s lines o.number r a) e) [
+    (is_probe o.message.request.body r.target && is_broken s lines o.number r a) e) [
       | inl x ↦ none_unheard (λ l before. asks_by r a l && opened_by o.number before l) lines arrived x
       | inr x ↦ not_broken s lines o.number r a arrived (both_true (is_probe o.message.request.body r.target) _ x).1
     ]
@@ -137,7 +137,7 @@ accepted_ok : (p : Point) (s : Scene) (lines : List Line) (agents : List ℕ) (a
 accepted_ok p s lines [] a h e = true_false (sym e)
 accepted_ok p s lines (b ∷ more) a h e =
     let x = both_true (is_update s.message.request.body) _ (both_true (is_accepted_right p s lines b) (list_all
-        (is_accepted_right p s lines) more) h).0 in
+    (is_accepted_right p s lines) more) h).0 in
     let y = both_true (is_reached lines b) _ x.1 in
     (x.0, (both_true (is_master_at p (key_of s.message.target) b) (is_ok (apply (tree_at p) s.message.request)) y.1).1)
 
@@ -149,13 +149,13 @@ accepted_in : (s : Scene) (q : Asked) (j : Journal) (lines : List Line) → some
 accepted_in s q j [] h = true_false (sym h)
 accepted_in s q j (l ∷ before) h = elim (either_true (accepts_at s q j l before) (some_line
     (accepts_at s q j) before) h) [
-  | inl x ↦ (
-    l.receiver,
-    (both_true (has ◌==◌ j.accepted l.receiver) (carries_update s l)
-        (both_true (has ◌==◌ j.accepted l.receiver && carries_update s l) (came_back q l before) x).0).0,
-  )
-  | inr x ↦ accepted_in s q j before x
-]
+      | inl x ↦ (
+        l.receiver,
+        (both_true (has ◌==◌ j.accepted l.receiver) (carries_update s l)
+            (both_true (has ◌==◌ j.accepted l.receiver && carries_update s l) (came_back q l before) x).0).0,
+      )
+      | inr x ↦ accepted_in s q j before x
+    ]
 
 some_accepted : (s : Scene) (q : Asked) (j : Journal) → hears_accepted s q j ≡ true
     → (a : ℕ) × (has ◌==◌ j.accepted a ≡ true)
@@ -180,7 +180,7 @@ module _ (p : Point) (first : ℕ) (r : Request) (j : Journal) (chains : r.contr
   complete_by l a _ (result {a = answer} back is off none) =
       complete.result (not_true (is_update r.body) off) is
       (none_blocked s (by_user s) j.lines (unexplored_of answer) chains clear
-          (all_arrived s clear j.lines l) is.blocked)
+      (all_arrived s clear j.lines l) is.blocked)
   complete_by l a _ (changed back up hears) =
       let w = some_accepted s (by_user s) j hears in
       let ok = accepted_ok p s j.lines j.accepted w.0 a.right w.1 in
@@ -229,12 +229,12 @@ pub lines_are_spared : LinesAreSpared
 lines_are_spared w past first r described consistent none agent j reply short fresh is =
     let x = lines_are_right w past first r described consistent none agent j reply short fresh is in
     spared reply (spared_by (record { described = w; past = past }) (scene_at
-        (record { described = w; past = past }) first r)
+    (record { described = w; past = past }) first r)
     (by_user (scene_at (record { described = w; past = past }) first r)) j reply x.0.answer)
 
 pub runs_are_spared : (judge : Judge) → RunsAreSpared judge
 runs_are_spared judge w commands blocks past first r described consistent run agent j reply short fresh is =
     let x = runs_are_right judge w commands blocks past first r described consistent run agent j reply short fresh is in
     spared reply (spared_by (record { described = w; past = past }) (scene_at
-        (record { described = w; past = past }) first r)
+    (record { described = w; past = past }) first r)
     (by_user (scene_at (record { described = w; past = past }) first r)) j reply x.0.answer)

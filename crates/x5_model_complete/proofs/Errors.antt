@@ -73,9 +73,9 @@ attributes_plain : (earlier : List TypeRef) (given : List Attribute) → AllPlai
 attributes_plain earlier [] = none_plain
 attributes_plain earlier (a ∷ more) =
     both_plain (when (has_equal_values a || has same_type earlier a.kind) (repeated a)) (attribute_repeats
-        (a.kind ∷ earlier) more)
+    (a.kind ∷ earlier) more)
     (when_plain (has_equal_values a || has same_type earlier a.kind) (repeated a) refl) (attributes_plain
-        (a.kind ∷ earlier) more)
+    (a.kind ∷ earlier) more)
 
 change_plain : (c : Change) → AllPlain (change_repeats c)
 change_plain (AddAttribute a) = when_plain (has_equal_values a) (repeated a) refl
@@ -117,7 +117,7 @@ added_plain (ModifyDn name rdn drops) = none_plain
 all_plain : (body : Body) → AllPlain (static_refusals body)
 all_plain body =
     both_plain (name_refusals body ++ flat_map value_refusals (given body) ++ repeat_refusals body)
-        (added_refusals body)
+    (added_refusals body)
     (both_plain (name_refusals body ++ flat_map value_refusals (given body)) (repeat_refusals body)
     (both_plain (name_refusals body) (flat_map value_refusals (given body)) (names_plain body)
     (flat_plain value_refusals (given body) values_plain)) (repeats_plain body)) (added_plain body)
@@ -196,7 +196,7 @@ modified_plain : (rdn : Rdn) (cs : List Change) (e : Entry) → PlainChanged (mo
 modified_plain rdn cs e =
     then_plain (and_then (changed_by cs e) (keeps_rdn rdn)) single_valued
     (then_plain (changed_by cs e) (keeps_rdn rdn) (changes_plain cs e) (λ f. if_plain (has_rdn f rdn)
-        (Ok f) _ tt refl)) single_plain
+    (Ok f) _ tt refl)) single_plain
 
 -- ---- by the ground
 abbrev PlainOutcome : Outcome → Type 0
@@ -244,7 +244,7 @@ update_plain g (ModifyDn name rdn drops) = elim (none_or_some (entry_at g.entrie
   where
     by : (e : Named) → entry_at g.entries (key_of name) ≡ Some e → (a : Bool) → above_pin g (key_of name) ≡ a
         → (c : Changed) → single_valued (renamed (last_rdn name) rdn drops e.entry) ≡ c → (b : Bool)
-            → clashes g name rdn ≡ b
+        → clashes g name rdn ≡ b
         → PlainChanged c → PlainOutcome (rename g name rdn drops)
     by e q true h c i b t p = subst (λ (o : Outcome). PlainOutcome o) (sym
         (rename_some g name rdn drops e true c b q h i t)) refl
@@ -347,7 +347,7 @@ pin_plain copies t r (ModifyDn name rdn drops) = marked_plain copies t r
 whole_plain : (copies : Key → Bool) (t : Tree) (m : Chained) → PlainTold (told copies t m)
 whole_plain copies t m = if_told (is_done m.progress) _ (ask_marked copies t m.request)
     (if_told (is_wide m.kind) (answer_below copies t m.request m.request.body)
-        (answer_at_pin copies t m.request m.request.body)
+    (answer_at_pin copies t m.request m.request.body)
     (below_plain copies t m.request m.request.body) (pin_plain copies t m.request m.request.body))
     (marked_plain copies t m.request)
 

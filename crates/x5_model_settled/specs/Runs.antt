@@ -25,7 +25,7 @@ ByAgents p first r j reply = IsRequest (scene_at p first r) (budget p) j reply
 abbrev pub IsAskable : World → Command → Type 0
 IsAskable w (Asks first r) =
     HasAgent w first × (length (target_of r.body) ≤ 16) ×
-        ((name : Name) → new_name r.body ≡ Some name → length name ≤ 16)
+    ((name : Name) → new_name r.body ≡ Some name → length name ≤ 16)
 IsAskable w other = ⊤
 
 -- 1. Such a script is a run: each answer is right, and no message is left out;
@@ -40,5 +40,5 @@ abbrev pub AgentsPrintRun : Type 0
 AgentsPrintRun =
     (w : World) (moment : ℕ → Text) (commands : List Command) (octets : Text)
     → IsDescribed w → IsConsistent w → AllByRecursion (IsAskable w) commands
-        → PrintsRun ByAgents w moment commands octets
+    → PrintsRun ByAgents w moment commands octets
     → PrintsRun RightAndWhole w moment commands octets
