@@ -1,14 +1,13 @@
 -- What tags that are apart say: an alternative is found by its tag, and an element of one component is none of another.
-use Rattle.std.proofs.Common.{◌≡◌, ℕ, Bool, true, false, cond, not, ◌&&◌, ◌||◌, ◌==◌, List, [], ◌∷◌, refl, sym, ap, ap₂, subst, ◌∙◌, inl, inr}
+use Rattle.std.proofs.Common.{◌≡◌, ℕ, Bool, true, false, cond, not, ◌&&◌, ◌||◌, ◌==◌, List, [], ◌∷◌, refl, sym, ap, ap₂, ◌∙◌}
 use Rattle.std.proofs.lemmas.Bool.{eq-eqb}
 use Rattle.std.proofs.lemmas.Bool.Decides.{Decides-eqb}
-use Rattle.std.specs.List.{find, list_all}
 use Rattle.std.specs.Option.{is_some}
 use Rattle.std.specs.declared.option.Option.{Option}
 use Rattle.std.specs.declared.option.Option.TheVariants.{None, Some}
 use Rattle.x5_model.specs.Words.{has, distinct}
 use Rattle.x5_model.specs.Members.{In, here, there}
-use Rattle.x5_model.proofs.Lists.{both_true, not_true, in_first, of_all, of_find}
+use Rattle.x5_model.proofs.Lists.{both_true, not_true, of_all, of_find}
 use Rattle.x5_model_typed.specs.Forms.{Alternative, Component, Layout, has_tag, by_tag, may_be_tagged, alternatives, is_component}
 use Rattle.x5_model_typed_laws.specs.Fits.{same_tag, are_apart}
 

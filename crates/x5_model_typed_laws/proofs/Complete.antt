@@ -1,6 +1,6 @@
 -- Wherever an element is a value of a type, reading by type comes to that value.
-use Rattle.std.proofs.Common.{◌≡◌, ℕ, ◌+◌, Bool, true, false, ◌&&◌, List, [], ◌∷◌, ◌++◌, length, map, take, drop, refl, ap, ap₂, sym, ◌∙◌, subst, arith, append_assoc, append-nil, inl, inr}
-use Rattle.std.specs.Prelude.{ℤ, if◌then◌else◌}
+use Rattle.std.proofs.Common.{◌≡◌, ℕ, ◌+◌, Bool, true, false, ◌&&◌, List, [], ◌∷◌, ◌++◌, length, map, take, drop, refl, ap, ap₂, sym, ◌∙◌, arith, append_assoc, append-nil, inl, inr}
+use Rattle.std.specs.Prelude.{if◌then◌else◌}
 use Rattle.std.proofs.Math.Seq.{take-append_seam, drop-append_seam}
 use Rattle.std.proofs.lemmas.List.{map-append}
 use Rattle.std.proofs.lemmas.List.Folds.{list_all-append}
@@ -8,13 +8,12 @@ use Rattle.std.specs.List.{list_all}
 use Rattle.std.specs.declared.option.Option.{Option}
 use Rattle.std.specs.declared.option.Option.TheVariants.{None, Some}
 use Rattle.std.specs.declared.result.Result.{Result}
-use Rattle.std.specs.declared.result.Result.TheVariants.{Ok, Err}
+use Rattle.std.specs.declared.result.Result.TheVariants.{Ok}
 use Rattle.x5_model.specs.Words.{in_option}
 use Rattle.x5_model_typed.specs.Trees.{Tree, Trees, Leaf, Branch, Bare, Row, place_of, class_of, tag_of}
-use Rattle.x5_model_typed.specs.Nodes as nodes
-use Rattle.x5_model_typed.specs.Nodes.{Node, Nodes, Number, Many, list, row}
+use Rattle.x5_model_typed.specs.Nodes.{Node, Nodes, Many, list, row}
 use Rattle.x5_model_typed.specs.Named.{Named}
-use Rattle.x5_model_typed.specs.Forms.{Layout, Presence, Required, Default, Code, Alternative, Component, Content, Joined, JoinedBits, Explicit, Sequence, Set, Members, by_tag, plain, alternatives, is_component}
+use Rattle.x5_model_typed.specs.Forms.{Layout, Presence, Required, Default, Code, Alternative, Component, Content, Explicit, by_tag, alternatives, is_component}
 use Rattle.x5_model_typed.specs.Judged.{Breach, State, Awaited, Next, InPlace, judged, judged_all, judged_member, and_then, wrong_tag, or_wrong, stepped, settled, ended, begun, marked, leaf_node, sequence_awaits, unless_required, in_place, behind_code, left_behind, default_of, may_be_missing, some_many}
 use Rattle.x5_model_typed.specs.Typed as typed
 use Rattle.x5_model_typed.specs.Typed.{IsOf, Holds, AllOf, InOrder, InAnyOrder, Goes, IsPassed}

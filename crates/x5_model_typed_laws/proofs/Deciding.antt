@@ -1,5 +1,5 @@
 -- Reading by type comes to a value exactly where there is one, and else to a breach.
-use Rattle.std.proofs.Common.{◌≡◌, List, refl, sym, ◌∙◌, ◌⊎◌, inl, inr}
+use Rattle.std.proofs.Common.{◌≡◌, List, refl, ◌⊎◌, inl, inr}
 use Rattle.std.specs.declared.result.Result.{Result}
 use Rattle.std.specs.declared.result.Result.TheVariants.{Ok, Err}
 use Rattle.x5_model_typed.specs.Trees.{Tree}

@@ -7,4 +7,7 @@ pub mod Apart
 pub mod Writing
 pub mod Table
 pub mod Back
+pub mod Numbers
+pub mod Oids
+pub mod Leaves
 mod Examples

@@ -1,15 +1,15 @@
 -- A SET's members are read in their own order, each into the slot of its component.
-use Rattle.std.proofs.Common.{◌≡◌, ℕ, ◌+◌, Bool, true, false, ◌&&◌, List, [], ◌∷◌, ◌++◌, length, map, refl, ap, ap₂, sym, ◌∙◌, subst, arith, ◌⊎◌, inl, inr}
+use Rattle.std.proofs.Common.{◌≡◌, ℕ, ◌+◌, Bool, true, false, ◌&&◌, List, [], ◌∷◌, ◌++◌, length, refl, ap, ap₂, sym, ◌∙◌, arith, ◌⊎◌, inl, inr}
 use Rattle.std.specs.Prelude.{slice_set, if◌then◌else◌}
 use Rattle.std.specs.declared.option.Option.{Option}
 use Rattle.std.specs.declared.option.Option.TheVariants.{None, Some}
 use Rattle.std.specs.declared.result.Result.{Result}
-use Rattle.std.specs.declared.result.Result.TheVariants.{Ok, Err}
+use Rattle.std.specs.declared.result.Result.TheVariants.{Ok}
 use Rattle.x5_model.specs.Words.{in_option}
 use Rattle.x5_model_typed.specs.Trees.{Tree, Trees, Bare, Row, place_of, class_of, tag_of}
-use Rattle.x5_model_typed.specs.Nodes.{Node, row}
-use Rattle.x5_model_typed.specs.Forms.{Layout, Presence, Default, Alternative, Component, alternatives, is_component}
-use Rattle.x5_model_typed.specs.Judged.{Breach, State, Awaited, Step, InSlot, judged, judged_all, judged_member, and_then, wrong_content, stepped, set_awaits, default_of, may_be_missing, is_filled, all_filled, filled}
+use Rattle.x5_model_typed.specs.Nodes.{Node}
+use Rattle.x5_model_typed.specs.Forms.{Layout, Default, Component, alternatives, is_component}
+use Rattle.x5_model_typed.specs.Judged.{Breach, State, Awaited, InSlot, judged, judged_all, and_then, wrong_content, stepped, set_awaits, may_be_missing, all_filled, filled}
 use Rattle.x5_model_typed.specs.Typed as typed
 use Rattle.x5_model_typed.specs.Typed.{IsMissing, Among}
 use Rattle.x5_model_typed.proofs.Laws.{default_is}

@@ -1,26 +1,27 @@
 -- A value that fits its type is written as one element, which is that value by type, wherever it is laid.
-use Rattle.std.proofs.Common.{◌≡◌, ℕ, ◌+◌, Bool, true, false, cond, not, ◌&&◌, List, [], ◌∷◌, length, refl, sym, ap, ap₂, subst, ◌∙◌}
-use Rattle.std.specs.Prelude.{ℤ, ◌==◌, if◌then◌else◌}
+use Rattle.std.proofs.Common.{◌≡◌, ℕ, ◌+◌, Bool, true, false, cond, List, [], ◌∷◌, length, refl, sym, ap, ap₂, subst, ◌∙◌}
+use Rattle.std.specs.Prelude.{◌==◌, if◌then◌else◌}
 use Rattle.std.proofs.lemmas.Bool.{eq-eqb}
 use Rattle.std.proofs.lemmas.Bool.Decides.{Decides-eqb}
 use Rattle.std.specs.List.{find, list_all}
 use Rattle.std.specs.declared.option.Option.{Option}
 use Rattle.std.specs.declared.option.Option.TheVariants.{None, Some}
+use Rattle.x5_model.specs.Members.{In, here, there}
 use Rattle.x5_model.specs.Words.{in_option, distinct}
 use Rattle.x5_model.proofs.Lists.{both_true, of_all, of_find}
 use Rattle.x5_model_octets.specs.Elements as elements
 use Rattle.x5_model_octets.specs.Elements.{Element, Elements, canonical}
-use Rattle.x5_model_typed.specs.Trees.{Tree, Trees, Leaf, Branch, Bare, Row, class_of, tag_of, laid, laid_all}
+use Rattle.x5_model_typed.specs.Trees.{Leaf, class_of, tag_of, laid, laid_all}
 use Rattle.x5_model_typed.specs.Nodes as nodes
 use Rattle.x5_model_typed.specs.Nodes.{Node, Nodes, Vacant, Flag, Number, Oid, Bits, Octets, Text, Chosen, Many}
 use Rattle.x5_model_typed.specs.Named.{Named}
-use Rattle.x5_model_typed.specs.Forms.{Presence, Required, Default, Code, Component, Content, Explicit, Sequence, Set, Members, Alternative, Layout, any_node, by_tag, may_be_tagged, context, plain, tagged, alternatives, is_component}
+use Rattle.x5_model_typed.specs.Forms.{Presence, Required, Default, Code, Component, Content, Explicit, Alternative, Layout, by_tag, may_be_tagged, context, plain, tagged, alternatives, is_component}
 use Rattle.x5_model_typed.specs.Judged.{leaf_node, marked, may_be_missing}
 use Rattle.x5_model_typed.specs.Typed as typed
 use Rattle.x5_model_typed.specs.Typed.{IsOf, Holds, AllOf, InOrder, InAnyOrder, Goes, IsPassed, IsMissing}
 use Rattle.x5_model_typed.specs.Written.{leaf_octets, can_hold, is_marked, primitive_of, constructed_of, single, one_before, tagged_with, by_content, no_element, leaf_or, is_default, goes_on, written, written_members, written_components}
 use Rattle.x5_model_typed_laws.specs.Fits as fits
-use Rattle.x5_model_typed_laws.specs.Fits.{are_apart, apart_from, is_sequence_apart, is_set_apart, is_content_apart, are_tags_apart, AreTagsApart, is_chosen, same_tag, Fits, FitsIn, FitsSequence, FitsSet, FitsEach}
+use Rattle.x5_model_typed_laws.specs.Fits.{are_apart, apart_from, is_sequence_apart, is_set_apart, is_content_apart, are_tags_apart, AreTagsApart, is_chosen, same_tag, ReadsBack, AllReadBack, LeavesReadBack, Fits, FitsIn, FitsSequence, FitsSet, FitsEach}
 use Rattle.x5_model_typed_laws.proofs.Apart.{found_by_tag, tagged_by, other_component}
 
 -- What is written for a value of the types.
@@ -261,19 +262,26 @@ chosen_by layout types tag ns a es h k =
     ap (λ (x : Option Alternative). in_option None (λ b. constructed_of b (by_content b.content (λ f. written layout (layout f) (Many ns)) (λ cs. written_components layout cs ns) (λ f. written_members layout (layout f) ns))) x) h
     ∙ ap (λ (x : Option Elements). constructed_of a x) k
 
-module _ (layout : Layout) (apart : AreTagsApart layout) where
+-- the content of an alternative of the list reads back
+content_back : (types : List Alternative) (a : Alternative) → AllReadBack types → In a types → ReadsBack a.content
+content_back [] a h i = elim i [ ]
+content_back (x ∷ xs) a h here = h.0
+content_back (x ∷ xs) a h (there i) = content_back xs a h.1 i
+
+module _ (layout : Layout) (apart : AreTagsApart layout) (back : LeavesReadBack layout) where
   mutual
-    pub fits_written : (types : List Alternative) (n : Node) → are_tags_apart layout types ≡ true → Fits layout types n → IsWritten layout types n
-    fits_written types n t (fits.whole a octets isnt h plain_mark o r rule) =
-        whole_written layout types n a octets (is_tagged layout types (can_hold n) a t h) (leaf_written layout types n a octets isnt h o) (unmarked a n plain_mark) r rule
-    fits_written types n t (fits.made {ns = ns} a h plain_mark isnt inner rule) =
+    pub fits_written : (types : List Alternative) (n : Node) → are_tags_apart layout types ≡ true → AllReadBack types → Fits layout types n → IsWritten layout types n
+    fits_written types n t b (fits.whole a octets isnt h plain_mark o rule) =
+        whole_written layout types n a octets (is_tagged layout types (can_hold n) a t h) (leaf_written layout types n a octets isnt h o) (unmarked a n plain_mark)
+        (content_back types a b (of_find (can_hold n) a types h).0 n octets o) rule
+    fits_written types n t b (fits.made {ns = ns} a h plain_mark isnt inner rule) =
         let w = in_written a.content ns (content_apart layout types (can_hold (Many ns)) a t h) inner in
         made_written layout types (Many ns) (Many ns) a w.elements (is_tagged layout types (can_hold (Many ns)) a t h) (made_by layout types ns a w.elements h isnt (w.are_written no_element)) (unmarked a (Many ns) plain_mark) w.hold rule
-    fits_written types n t (fits.chosen {n = m} a tag form h c inner rule) =
-        let w = fits_written (layout form) m (apart form) inner in
+    fits_written types n t b (fits.chosen {n = m} a tag form h c inner rule) =
+        let w = fits_written (layout form) m (apart form) (back form) inner in
         made_written layout types m (Chosen tag m) a (elements.More w.element elements.Nil) (is_tagged layout types (is_marked tag) a t h) (chosen_written layout types tag m a form w.element h c w.is_written) (marked_by tag types a m h)
         (λ at. subst (λ (x : Content). Holds layout x (laid_all at (elements.More w.element elements.Nil)) m) (sym c) (typed.one (w.is_of at))) rule
-    fits_written types n t (fits.chosen_made {ns = ns} a tag h inner rule) =
+    fits_written types n t b (fits.chosen_made {ns = ns} a tag h inner rule) =
         let w = in_written a.content ns (content_apart layout types (is_marked tag) a t h) inner in
         made_written layout types (Many ns) (Chosen tag (Many ns)) a w.elements (is_tagged layout types (is_marked tag) a t h) (chosen_by layout types tag ns a w.elements h (w.are_written (λ form. written layout (layout form) (Many ns)))) (marked_by tag types a (Many ns) h) w.hold rule
 
@@ -294,20 +302,20 @@ module _ (layout : Layout) (apart : AreTagsApart layout) where
         sequence_left layout c others ms d p is t (sequence_written others ms (both_true (if may_be_missing c then apart_from layout c others else true) (is_sequence_apart layout others) t).1 inner)
     sequence_written cs ns t (fits.given {c = c} {cs = others} {rest = rest} {n = n} {ns = ms} isnt one g inner) =
         let here = rest_apart layout c others rest n c.presence g (both_true (if may_be_missing c then apart_from layout c others else true) (is_sequence_apart layout others) t).1 in
-        sequence_given layout c others rest n ms isnt g (component_by layout c n c.tag refl (fits_written (layout c.form) n (apart c.form) one)) (sequence_written rest ms here inner)
+        sequence_given layout c others rest n ms isnt g (component_by layout c n c.tag refl (fits_written (layout c.form) n (apart c.form) (back c.form) one)) (sequence_written rest ms here inner)
 
     set_written : (cs : List Component) (ns : Nodes) → is_set_apart layout cs ≡ true → FitsSet layout cs ns → SetWritten layout cs ns
     set_written cs ns t fits.all = record { elements = elements.Nil; are_written = refl; in_any_order = λ at. typed.complete; misses = λ x h at. tt }
     set_written cs ns t (fits.absent {c = c} {cs = others} {ns = ms} d p is inner) =
         set_left layout c others ms d p is t (set_written others ms (both_true (list_all (λ (b : Component). are_apart layout b c) others) (is_set_apart layout others) t).1 inner)
     set_written cs ns t (fits.present {c = c} {cs = others} {n = n} {ns = ms} isnt one g inner) =
-        set_given layout c others n ms isnt g t (component_by layout c n c.tag refl (fits_written (layout c.form) n (apart c.form) one))
+        set_given layout c others n ms isnt g t (component_by layout c n c.tag refl (fits_written (layout c.form) n (apart c.form) (back c.form) one))
         (set_written others ms (both_true (list_all (λ (b : Component). are_apart layout b c) others) (is_set_apart layout others) t).1 inner)
 
     each_written : (form : Named) (ns : Nodes) → FitsEach layout form ns → EachWritten layout form ns
     each_written form ns fits.none = record { elements = elements.Nil; are_written = refl; all_of = λ at. typed.nil }
     each_written form ns (fits.more {n = n} {ns = ms} one inner) =
-        let w = fits_written (layout form) n (apart form) one in
+        let w = fits_written (layout form) n (apart form) (back form) one in
         let rest = each_written form ms inner in
         record {
           elements = elements.More w.element rest.elements;
