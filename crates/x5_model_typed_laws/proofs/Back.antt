@@ -34,22 +34,34 @@ record LiesThere (layout : Layout) (form : Named) (n : Node) (octets : List ℕ)
   lies : Lies 1 0 (laid 0 element) octets
   is_of : IsOf layout (layout form) (laid 0 element) n
 
-lies_there : (layout : Layout) (form : Named) (n : Node) (octets : List ℕ) → IsTable layout → Fits layout (layout form) n → HasSpelling layout form n → canonical_octets layout form n ≡ Some octets → LiesThere layout form n octets
+lies_there : (layout : Layout) (form : Named) (n : Node) (octets : List ℕ) → IsTable layout
+    → Fits layout (layout form) n → HasSpelling layout form n → canonical_octets layout form n ≡ Some octets
+    → LiesThere layout form n octets
 lies_there layout form n octets table fit s h =
     let w = fits_written layout table.apart table.back (layout form) n (table.apart form) (table.back form) fit in
     let same : s.element ≡ w.element = same_element s.element w.element (sym s.is_written ∙ w.is_written) in
-    let are : canonical w.element ≡ octets = same_octets (canonical w.element) octets (sym (ap (λ (o : Option Element). in_option None (λ e. Some (canonical e)) o) w.is_written) ∙ h) in
+    let are : canonical w.element ≡ octets =
+    same_octets (canonical w.element) octets
+    (sym (ap (λ (o : Option Element). in_option None (λ e. Some (canonical e)) o) w.is_written) ∙ h) in
     let has : HasCanonical 1 w.element = subst (λ (e : Element). HasCanonical 1 e) same s.has in
     record { element = w.element; lies = subst (λ (l : List ℕ). Lies 1 0 (laid 0 w.element) l) are (laid_lies 1 0 w.element has); is_of = w.is_of 0 }
 
 pub written_is_spelled : WrittenIsSpelled
 written_is_spelled layout form n octets table fit s h =
-    let l = lies_there layout form n octets table fit s h in record { tree = laid 0 l.element; lies = l.lies; is_of = l.is_of }
+    let l =
+    lies_there layout form n octets table fit s h in record { tree = laid 0 l.element; lies = l.lies; is_of = l.is_of }
 
 pub written_reads_back : WrittenReadsBack
 written_reads_back layout form n octets table fit s h =
-    let l = lies_there layout form n octets table fit s h in (laid 0 l.element, l.lies, judged_so layout (layout form) (laid 0 l.element) n l.is_of)
+    let l =
+    lies_there layout form n octets table fit s h in (
+      laid 0 l.element,
+      l.lies,
+      judged_so layout (layout form)
+          (laid 0 l.element) n l.is_of,
+    )
 
 pub one_is_written : OneIsWritten
 one_is_written layout form m n octets table fit s fit' s' h k =
-    one_value layout form octets m n (written_is_spelled layout form m octets table fit s h) (written_is_spelled layout form n octets table fit' s' k)
+    one_value layout form octets m n (written_is_spelled layout form m octets table fit s h)
+    (written_is_spelled layout form n octets table fit' s' k)

@@ -67,7 +67,9 @@ number_reads_back test (Flag b) octets h = absurd (cc h)
 number_reads_back test (Number k) octets h =
     let w = so (is_short_number k && test k) (number_octets k) octets h in
     let v = both_true (is_short_number k) (test k) w.0 in
-    ap (number test).reads (sym w.1) ∙ ap (λ (o : Option ℤ). in_option None (λ j. where_so (test j) (Number j)) o) (number_back k v.0) ∙ let_through (test k) (Number k) v.1
+    ap (number test).reads (sym w.1)
+    ∙ ap (λ (o : Option ℤ). in_option None (λ j. where_so (test j) (Number j)) o) (number_back k v.0)
+    ∙ let_through (test k) (Number k) v.1
 number_reads_back test (Oid arcs) octets h = absurd (cc h)
 number_reads_back test (Bits bits) octets h = absurd (cc h)
 number_reads_back test (Octets o) octets h = absurd (cc h)
@@ -84,7 +86,9 @@ oid_reads_back test (Number k) octets h = absurd (cc h)
 oid_reads_back test (Oid arcs) octets h =
     let w = so (is_oid arcs && test arcs) (oid_octets arcs) octets h in
     let v = both_true (is_oid arcs) (test arcs) w.0 in
-    ap (oid test).reads (sym w.1) ∙ ap (λ (o : Option (List ℕ)). in_option None (λ l. where_so (test l) (Oid l)) o) (oid_back arcs v.0) ∙ let_through (test arcs) (Oid arcs) v.1
+    ap (oid test).reads (sym w.1)
+    ∙ ap (λ (o : Option (List ℕ)). in_option None (λ l. where_so (test l) (Oid l)) o) (oid_back arcs v.0)
+    ∙ let_through (test arcs) (Oid arcs) v.1
 oid_reads_back test (Bits bits) octets h = absurd (cc h)
 oid_reads_back test (Octets o) octets h = absurd (cc h)
 oid_reads_back test (Text t) octets h = absurd (cc h)
@@ -122,7 +126,8 @@ text_back test (Many ns) octets h = absurd (cc h)
 character_small : (c : ℕ) → is_character c ≡ true → c < 2 ^ 32
 character_small c h = elim (either_true (nat_lt c 55296) (nat_lt 57343 c && nat_lt c 1114112) h) [
   | inl e ↦ (let l : c < 55296 = ltb-true c 55296 e in omega arith)
-  | inr e ↦ (let l : c < 1114112 = ltb-true c 1114112 (both_true (nat_lt 57343 c) (nat_lt c 1114112) e).1 in omega arith)
+  | inr e ↦
+      (let l : c < 1114112 = ltb-true c 1114112 (both_true (nat_lt 57343 c) (nat_lt c 1114112) e).1 in omega arith)
 ]
 
 cell_gives : (c : ℕ) → c < 2 ^ 32 → big_endian 0 (to_be_bytes w32 c) ≡ c
@@ -148,10 +153,14 @@ universal_back (Text t) octets h =
     let u = both_true (list_all is_character (chars t)) (same_octets (encode_utf8_all (chars t)) t) v.0 in
     let same : encode_utf8_all (chars t) ≡ t = (bytes_decides (encode_utf8_all (chars t)) t).0 u.1 in
     let fine : (list_all is_character (chars t) && is_length (encode_utf8_all (chars t))) ≡ true =
-    and_true (list_all is_character (chars t)) (is_length (encode_utf8_all (chars t))) u.0 (ap is_length same ∙ v.1) in
+    and_true (list_all is_character (chars t)) (is_length (encode_utf8_all (chars t))) u.0
+    (ap is_length same ∙ v.1) in
     ap universal_string.reads (sym w.1)
-    ∙ ap (λ (o : Option (List ℕ)). in_option None (λ cs. where_so (list_all is_character cs && is_length (encode_utf8_all cs)) (Text (encode_utf8_all cs))) o) (cells_back (chars t) u.0)
-    ∙ let_through (list_all is_character (chars t) && is_length (encode_utf8_all (chars t))) (Text (encode_utf8_all (chars t))) fine
+    ∙ ap
+    (λ (o : Option (List ℕ)). in_option None (λ cs. where_so (list_all is_character cs && is_length (encode_utf8_all cs)) (Text (encode_utf8_all cs))) o)
+    (cells_back (chars t) u.0)
+    ∙ let_through (list_all is_character (chars t) && is_length (encode_utf8_all (chars t)))
+    (Text (encode_utf8_all (chars t))) fine
     ∙ ap (λ (l : List ℕ). Some (Text l)) same
 universal_back (Chosen tag m) octets h = absurd (cc h)
 universal_back (Many ns) octets h = absurd (cc h)
@@ -172,10 +181,15 @@ time_back w clock (Many ns) octets h = absurd (cc h)
 
 -- ---- the options
 
-two_flags : (a b : Bool) (octets : List ℕ) → leaf_octets (JoinedBits options) (Many (row (Flag a ∷ Flag b ∷ []))) ≡ Some octets → leaf_node (JoinedBits options) octets ≡ Some (Many (row (Flag a ∷ Flag b ∷ [])))
-two_flags true true octets h = ap (leaf_node (JoinedBits options)) (sym (some_is (bit_content (false ∷ true ∷ false ∷ true ∷ [])) octets h))
-two_flags true false octets h = ap (leaf_node (JoinedBits options)) (sym (some_is (bit_content (false ∷ false ∷ false ∷ true ∷ [])) octets h))
-two_flags false true octets h = ap (leaf_node (JoinedBits options)) (sym (some_is (bit_content (false ∷ true ∷ [])) octets h))
+two_flags : (a b : Bool) (octets : List ℕ)
+    → leaf_octets (JoinedBits options) (Many (row (Flag a ∷ Flag b ∷ []))) ≡ Some octets
+    → leaf_node (JoinedBits options) octets ≡ Some (Many (row (Flag a ∷ Flag b ∷ [])))
+two_flags true true octets h =
+    ap (leaf_node (JoinedBits options)) (sym (some_is (bit_content (false ∷ true ∷ false ∷ true ∷ [])) octets h))
+two_flags true false octets h =
+    ap (leaf_node (JoinedBits options)) (sym (some_is (bit_content (false ∷ false ∷ false ∷ true ∷ [])) octets h))
+two_flags false true octets h =
+    ap (leaf_node (JoinedBits options)) (sym (some_is (bit_content (false ∷ true ∷ [])) octets h))
 two_flags false false octets h = ap (leaf_node (JoinedBits options)) (sym (some_is (bit_content []) octets h))
 
 pub options_back : ReadsBack (JoinedBits options)
@@ -188,6 +202,8 @@ options_back (Octets o) octets h = absurd (cc h)
 options_back (Text t) octets h = absurd (cc h)
 options_back (Chosen tag m) octets h = absurd (cc h)
 options_back (Many (nodes.More (Flag true) (nodes.More (Flag b) nodes.Nil))) octets h = two_flags true b octets h
-options_back (Many (nodes.More (Flag false) (nodes.More (Flag true) nodes.Nil))) octets h = two_flags false true octets h
-options_back (Many (nodes.More (Flag false) (nodes.More (Flag false) nodes.Nil))) octets h = two_flags false false octets h
+options_back (Many (nodes.More (Flag false) (nodes.More (Flag true) nodes.Nil))) octets h =
+    two_flags false true octets h
+options_back (Many (nodes.More (Flag false) (nodes.More (Flag false) nodes.Nil))) octets h =
+    two_flags false false octets h
 options_back (Many ns) octets h = absurd (cc h)

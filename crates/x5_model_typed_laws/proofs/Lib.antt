@@ -10,4 +10,6 @@ pub mod Back
 pub mod Numbers
 pub mod Oids
 pub mod Leaves
+pub mod Reading
+pub mod Spelled
 mod Examples

@@ -32,7 +32,8 @@ kept_value : (ds : List ℕ) → big_endian 0 (without_zeros ds) ≡ big_endian 
 kept_value [] = refl
 kept_value (d ∷ ds) = by (d == 0) refl (kept_value ds)
   where
-    by : (b : Bool) → (d == 0) ≡ b → big_endian 0 (without_zeros ds) ≡ big_endian 0 ds → big_endian 0 (without_zeros (d ∷ ds)) ≡ big_endian (0 * 256 + d) ds
+    by : (b : Bool) → (d == 0) ≡ b → big_endian 0 (without_zeros ds) ≡ big_endian 0 ds
+        → big_endian 0 (without_zeros (d ∷ ds)) ≡ big_endian (0 * 256 + d) ds
     by true e again = let none : d ≡ 0 = grind (arith, nat_tests) in rw (e, none) again
     by false e again = rw e refl
 
@@ -40,7 +41,8 @@ kept_octets : (ds : List ℕ) → list_all is_octet ds ≡ true → list_all is_
 kept_octets [] h = refl
 kept_octets (d ∷ ds) h = by (d == 0) refl (kept_octets ds (both_true (is_octet d) (list_all is_octet ds) h).1)
   where
-    by : (b : Bool) → (d == 0) ≡ b → list_all is_octet (without_zeros ds) ≡ true → list_all is_octet (without_zeros (d ∷ ds)) ≡ true
+    by : (b : Bool) → (d == 0) ≡ b → list_all is_octet (without_zeros ds) ≡ true
+        → list_all is_octet (without_zeros (d ∷ ds)) ≡ true
     by true e again = rw e again
     by false e again = rw e h
 
@@ -56,7 +58,8 @@ no_longer : (ds : List ℕ) → length (without_zeros ds) ≤ length ds
 no_longer [] = omega arith
 no_longer (d ∷ ds) = by (d == 0) refl (no_longer ds)
   where
-    by : (b : Bool) → (d == 0) ≡ b → length (without_zeros ds) ≤ length ds → length (without_zeros (d ∷ ds)) ≤ suc (length ds)
+    by : (b : Bool) → (d == 0) ≡ b → length (without_zeros ds) ≤ length ds
+        → length (without_zeros (d ∷ ds)) ≤ suc (length ds)
     by true e again = rw e (omega arith)
     by false e again = rw e (omega arith)
 
@@ -85,7 +88,9 @@ byte_below (suc k) n = omega arith
 
 octets_below : (k n : ℕ) → list_all is_octet (bytes_high_first k n) ≡ true
 octets_below zero n = refl
-octets_below (suc k) n = and_true (is_octet (byte_at k n)) (list_all is_octet (bytes_high_first k n)) (lt-ltb (byte_at k n) 256 (byte_below k n)) (octets_below k n)
+octets_below (suc k) n =
+    and_true (is_octet (byte_at k n)) (list_all is_octet (bytes_high_first k n))
+    (lt-ltb (byte_at k n) 256 (byte_below k n)) (octets_below k n)
 
 first_below : (n : ℕ) → n < 2 ^ 63 → byte_at 7 n < 128
 first_below n small = omega arith
@@ -129,7 +134,8 @@ pub positive_back : (n : ℕ) → n < 2 ^ 63 → number_of (number_octets (pos n
 positive_back n small =
     let d = digits_of n small in
     let ds : List ℕ = without_zeros (to_be_bytes w64 n) in
-    ap₂ (λ (b c : Bool). where_so (b && c) (complement (unsigned ds))) (shortest ds d.led) (le-leb (length (unsigned ds)) 8 d.few)
+    ap₂ (λ (b c : Bool). where_so (b && c) (complement (unsigned ds))) (shortest ds d.led)
+    (le-leb (length (unsigned ds)) 8 d.few)
     ∙ ap (λ (k : ℤ). Some k) (gives_back ds ∙ ap (λ (k : ℕ). pos k) d.gives)
 
 -- ---- numbers below zero
@@ -146,30 +152,39 @@ power k =
 regroup : (s q : ℕ) → s * 256 * q ≡ s * (256 * q)
 regroup s q = omega arith
 
-flipped_sum : (us : List ℕ) (x y : ℕ) → list_all is_octet us ≡ true → big_endian x (map flip us) + big_endian y us + 1 ≡ (x + y + 1) * 2 ^ (8 * length us)
+flipped_sum : (us : List ℕ) (x y : ℕ) → list_all is_octet us ≡ true
+    → big_endian x (map flip us) + big_endian y us + 1 ≡ (x + y + 1) * 2 ^ (8 * length us)
 flipped_sum [] x y h = omega arith
 flipped_sum (d ∷ us) x y h =
     let w = both_true (is_octet d) (list_all is_octet us) h in
     let low : d < 256 = ltb-true d 256 w.0 in
     let rest = flipped_sum us (x * 256 + (255 - d)) (y * 256 + d) w.1 in
     let front : x * 256 + (255 - d) + (y * 256 + d) + 1 ≡ (x + y + 1) * 256 = omega arith in
-    rest ∙ ap (λ (k : ℕ). k * 2 ^ (8 * length us)) front ∙ regroup (x + y + 1) (2 ^ (8 * length us)) ∙ ap (λ (q : ℕ). (x + y + 1) * q) (sym (power (length us)))
+    rest ∙ ap (λ (k : ℕ). k * 2 ^ (8 * length us)) front ∙ regroup (x + y + 1) (2 ^ (8 * length us))
+    ∙ ap (λ (q : ℕ). (x + y + 1) * q) (sym (power (length us)))
 
-flipped_gives : (a : ℕ) (os : List ℕ) → a < 128 → list_all is_octet (a ∷ os) ≡ true → complement (map flip (a ∷ os)) ≡ negsuc (big_endian 0 (a ∷ os))
+flipped_gives : (a : ℕ) (os : List ℕ) → a < 128 → list_all is_octet (a ∷ os) ≡ true
+    → complement (map flip (a ∷ os)) ≡ negsuc (big_endian 0 (a ∷ os))
 flipped_gives a os less h =
     let high : nat_lt (255 - a) 128 ≡ false = le-ltb (255 - a) 128 (omega arith) in
-    let sum : big_endian 0 (map flip (a ∷ os)) + big_endian 0 (a ∷ os) + 1 ≡ (0 + 0 + 1) * 2 ^ (8 * length (a ∷ os)) = flipped_sum (a ∷ os) 0 0 h in
+    let sum : big_endian 0 (map flip (a ∷ os)) + big_endian 0 (a ∷ os) + 1 ≡ (0 + 0 + 1) * 2 ^ (8 * length (a ∷ os)) =
+    flipped_sum (a ∷ os) 0 0 h in
     let same : length (map flip (a ∷ os)) ≡ length (a ∷ os) = length-map (a ∷ os) flip in
     let size : 2 ^ (8 * length (map flip (a ∷ os))) ≡ 2 ^ (8 * length (a ∷ os)) = ap (λ (k : ℕ). 2 ^ (8 * k)) same in
-    let value : 2 ^ (8 * length (map flip (a ∷ os))) - 1 - big_endian 0 (map flip (a ∷ os)) ≡ big_endian 0 (a ∷ os) = omega (arith, sum, size) in
-    ap (λ (b : Bool). if b then pos (big_endian 0 (map flip (a ∷ os))) else negsuc (2 ^ (8 * length (map flip (a ∷ os))) - 1 - big_endian 0 (map flip (a ∷ os)))) high
+    let value : 2 ^ (8 * length (map flip (a ∷ os))) - 1 - big_endian 0 (map flip (a ∷ os)) ≡ big_endian 0 (a ∷ os) =
+    omega (arith, sum, size) in
+    ap
+    (λ (b : Bool). if b then pos (big_endian 0 (map flip (a ∷ os))) else negsuc
+    (2 ^ (8 * length (map flip (a ∷ os))) - 1 - big_endian 0 (map flip (a ∷ os)))) high
     ∙ ap (λ (k : ℕ). negsuc k) value
 
-below_back : (ds : List ℕ) → list_all is_octet ds ≡ true → complement (map flip (unsigned ds)) ≡ negsuc (big_endian 0 ds)
+below_back : (ds : List ℕ) → list_all is_octet ds ≡ true
+    → complement (map flip (unsigned ds)) ≡ negsuc (big_endian 0 ds)
 below_back [] h = refl
 below_back (a ∷ os) h = by (nat_lt a 128) refl
   where
-    by : (b : Bool) → nat_lt a 128 ≡ b → complement (map flip (unsigned (a ∷ os))) ≡ negsuc (big_endian (0 * 256 + a) os)
+    by : (b : Bool) → nat_lt a 128 ≡ b
+        → complement (map flip (unsigned (a ∷ os))) ≡ negsuc (big_endian (0 * 256 + a) os)
     by true e = rw e (flipped_gives a os (ltb-true a 128 e) h)
     by false e = rw e (flipped_gives 0 (a ∷ os) (omega arith) (and_true true (list_all is_octet (a ∷ os)) refl h))
 
@@ -200,7 +215,8 @@ negative_back n small =
     let d = digits_of n small in
     let ds : List ℕ = without_zeros (to_be_bytes w64 n) in
     let few : length (map flip (unsigned ds)) ≤ 8 = omega (arith, d.few, length-map (unsigned ds) flip) in
-    ap₂ (λ (b c : Bool). where_so (b && c) (complement (map flip (unsigned ds)))) (flipped_shortest ds d.led) (le-leb (length (map flip (unsigned ds))) 8 few)
+    ap₂ (λ (b c : Bool). where_so (b && c) (complement (map flip (unsigned ds)))) (flipped_shortest ds d.led)
+    (le-leb (length (map flip (unsigned ds))) 8 few)
     ∙ ap (λ (k : ℤ). Some k) (below_back ds d.octets ∙ ap (λ (k : ℕ). negsuc k) d.gives)
 
 -- ---- the leaf

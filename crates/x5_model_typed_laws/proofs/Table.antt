@@ -10,7 +10,8 @@ use Rattle.x5_model_typed_laws.specs.Fits.{are_tags_apart, AreTagsApart, AllRead
 use Rattle.x5_model_typed_laws.proofs.Leaves.{boolean_back, null_back, number_reads_back, oid_reads_back, octets_back, text_back, universal_back, time_back, options_back}
 
 filters_apart : (w : Surroundings) (levels : ℕ) (b : Bool)
-    → are_tags_apart (layout w) (if b then choice 0 Never ∷ choice 1 Never ∷ choice 2 Never ∷ choice 3 Never ∷ [] else (choice 0 (Explicit Item) ∷ choice 1 (Explicit (Filters (levels - 1))) ∷ choice 2 (Explicit (Filters (levels - 1))) ∷ choice 3 (Explicit (Filter (levels - 1))) ∷ [])) ≡ true
+    → are_tags_apart (layout w)
+    (if b then choice 0 Never ∷ choice 1 Never ∷ choice 2 Never ∷ choice 3 Never ∷ [] else (choice 0 (Explicit Item) ∷ choice 1 (Explicit (Filters (levels - 1))) ∷ choice 2 (Explicit (Filters (levels - 1))) ∷ choice 3 (Explicit (Filter (levels - 1))) ∷ [])) ≡ true
 filters_apart w levels true = refl
 filters_apart w levels false = refl
 
@@ -111,15 +112,22 @@ messages_apart w Renamed = refl
 
 filters_read_back : (levels : ℕ) (b : Bool)
     → AllReadBack (if b then choice 0 Never ∷ choice 1 Never ∷ choice 2 Never ∷ choice 3 Never ∷ [] else (choice 0 (Explicit Item) ∷ choice 1 (Explicit (Filters (levels - 1))) ∷ choice 2 (Explicit (Filters (levels - 1))) ∷ choice 3 (Explicit (Filter (levels - 1))) ∷ []))
-filters_read_back levels true = (λ n octets h. absurd (cc h), (λ n octets h. absurd (cc h), (λ n octets h. absurd (cc h), (λ n octets h. absurd (cc h), tt))))
-filters_read_back levels false = (λ n octets h. absurd (cc h), (λ n octets h. absurd (cc h), (λ n octets h. absurd (cc h), (λ n octets h. absurd (cc h), tt))))
+filters_read_back levels true = (
+  λ n octets h. absurd (cc h),
+  (λ n octets h. absurd (cc h), (λ n octets h. absurd (cc h), (λ n octets h. absurd (cc h), tt))),
+)
+filters_read_back levels false = (
+  λ n octets h. absurd (cc h),
+  (λ n octets h. absurd (cc h), (λ n octets h. absurd (cc h), (λ n octets h. absurd (cc h), tt))),
+)
 
 pub messages_read_back : (w : Surroundings) → ClockReadsBack w → LeavesReadBack (layout w)
 messages_read_back w clock DapRequest = (λ n octets h. absurd (cc h), tt)
 messages_read_back w clock DapAnswer = (λ n octets h. absurd (cc h), (λ n octets h. absurd (cc h), tt))
 messages_read_back w clock DspRequest = (λ n octets h. absurd (cc h), tt)
 messages_read_back w clock DspAnswer = (λ n octets h. absurd (cc h), (λ n octets h. absurd (cc h), tt))
-messages_read_back w clock DispMessage = (λ n octets h. absurd (cc h), (λ n octets h. absurd (cc h), (λ n octets h. absurd (cc h), tt)))
+messages_read_back w clock DispMessage =
+    (λ n octets h. absurd (cc h), (λ n octets h. absurd (cc h), (λ n octets h. absurd (cc h), tt)))
 messages_read_back w clock (Argument Read) = (λ n octets h. absurd (cc h), tt)
 messages_read_back w clock (Argument Compare) = (λ n octets h. absurd (cc h), tt)
 messages_read_back w clock (Argument ListBelow) = (λ n octets h. absurd (cc h), tt)
@@ -146,8 +154,32 @@ messages_read_back w clock (Enumeration low high) = (number_reads_back (from_to 
 messages_read_back w clock Boolean = (boolean_back, tt)
 messages_read_back w clock Null = (null_back, tt)
 messages_read_back w clock AnyOid = (oid_reads_back any_oid, tt)
-messages_read_back w clock Value = (oid_reads_back short_oid, (octets_back, (λ n octets h. absurd (cc h), (text_back (text_of is_printable), (universal_back, (text_back (text_of is_numeric), (text_back (text_of is_seven_bit), tt)))))))
-messages_read_back w clock Part = (text_back (text_of is_printable), (universal_back, (text_back (text_of is_numeric), (text_back (text_of is_seven_bit), (oid_reads_back short_oid, (octets_back, (λ n octets h. absurd (cc h), tt)))))))
+messages_read_back w clock Value = (
+  oid_reads_back short_oid,
+  (
+    octets_back,
+    (
+      λ n octets h. absurd (cc h),
+      (
+        text_back (text_of is_printable),
+        (universal_back, (text_back (text_of is_numeric), (text_back (text_of is_seven_bit), tt))),
+      ),
+    ),
+  ),
+)
+messages_read_back w clock Part = (
+  text_back (text_of is_printable),
+  (
+    universal_back,
+    (
+      text_back (text_of is_numeric),
+      (
+        text_back (text_of is_seven_bit),
+        (oid_reads_back short_oid, (octets_back, (λ n octets h. absurd (cc h), tt))),
+      ),
+    ),
+  ),
+)
 messages_read_back w clock AgentName = (text_back (λ t. if is_agent_name t then any_agent t else false), tt)
 messages_read_back w clock Time = (time_back w clock, tt)
 messages_read_back w clock Options = (options_back, tt)
@@ -164,13 +196,26 @@ messages_read_back w clock Selection = (λ n octets h. absurd (cc h), tt)
 messages_read_back w clock Controls = (λ n octets h. absurd (cc h), tt)
 messages_read_back w clock Assertion = (λ n octets h. absurd (cc h), tt)
 messages_read_back w clock Changes = (λ n octets h. absurd (cc h), tt)
-messages_read_back w clock Change = (λ n octets h. absurd (cc h), (λ n octets h. absurd (cc h), (λ n octets h. absurd (cc h), (λ n octets h. absurd (cc h), tt))))
+messages_read_back w clock Change = (
+  λ n octets h. absurd (cc h),
+  (λ n octets h. absurd (cc h), (λ n octets h. absurd (cc h), (λ n octets h. absurd (cc h), tt))),
+)
 messages_read_back w clock (Filter levels) = filters_read_back levels (levels == 0)
 messages_read_back w clock (Filters levels) = (λ n octets h. absurd (cc h), tt)
-messages_read_back w clock Item = (λ n octets h. absurd (cc h), (λ n octets h. absurd (cc h), (λ n octets h. absurd (cc h), (λ n octets h. absurd (cc h), (λ n octets h. absurd (cc h), (λ n octets h. absurd (cc h), tt))))))
+messages_read_back w clock Item = (
+  λ n octets h. absurd (cc h),
+  (
+    λ n octets h. absurd (cc h),
+    (
+      λ n octets h. absurd (cc h),
+      (λ n octets h. absurd (cc h), (λ n octets h. absurd (cc h), (λ n octets h. absurd (cc h), tt))),
+    ),
+  ),
+)
 messages_read_back w clock Substrings = (λ n octets h. absurd (cc h), tt)
 messages_read_back w clock Parts = (λ n octets h. absurd (cc h), tt)
-messages_read_back w clock PlacedPart = (λ n octets h. absurd (cc h), (λ n octets h. absurd (cc h), (λ n octets h. absurd (cc h), tt)))
+messages_read_back w clock PlacedPart =
+    (λ n octets h. absurd (cc h), (λ n octets h. absurd (cc h), (λ n octets h. absurd (cc h), tt)))
 messages_read_back w clock Chaining = (λ n octets h. absurd (cc h), tt)
 messages_read_back w clock Progress = (λ n octets h. absurd (cc h), tt)
 messages_read_back w clock Trace = (λ n octets h. absurd (cc h), tt)
@@ -206,5 +251,8 @@ messages_read_back w clock WorldAgents = (λ n octets h. absurd (cc h), tt)
 messages_read_back w clock WorldAgent = (λ n octets h. absurd (cc h), tt)
 messages_read_back w clock WorldAgentName = (text_back (λ t. if is_agent_name t then w.is_agent t else false), tt)
 messages_read_back w clock Steps = (λ n octets h. absurd (cc h), tt)
-messages_read_back w clock Step = (λ n octets h. absurd (cc h), (λ n octets h. absurd (cc h), (λ n octets h. absurd (cc h), (λ n octets h. absurd (cc h), tt))))
+messages_read_back w clock Step = (
+  λ n octets h. absurd (cc h),
+  (λ n octets h. absurd (cc h), (λ n octets h. absurd (cc h), (λ n octets h. absurd (cc h), tt))),
+)
 messages_read_back w clock Renamed = (λ n octets h. absurd (cc h), tt)

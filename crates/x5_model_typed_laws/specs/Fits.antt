@@ -11,7 +11,8 @@ use Rattle.x5_model_typed.specs.Typed.{Goes}
 use Rattle.x5_model_typed.specs.Layouts.{Surroundings}
 use Rattle.x5_model_typed.specs.Written.{leaf_octets, can_hold, is_marked, is_default}
 
--- ---- tags that are apart (X.680: a CHOICE's alternatives, a SET's components, and in a SEQUENCE each component that may be missing
+-- ---- tags that are apart (X.680: a CHOICE's alternatives, a SET's components, and in a SEQUENCE each component that
+-- may be missing
 -- and those that may follow it up to the first that may not)
 
 abbrev pub same_tag : Alternative → Alternative → Bool
@@ -75,15 +76,18 @@ mutual
   pub data Fits (layout : Layout) : List Alternative → Node → Type 0 where
     -- a content of octets or bits
     whole : {types : List Alternative} {n : Node} (a : Alternative) (octets : List ℕ)
-        → is_chosen n ≡ false → find (can_hold n) types ≡ Some a → a.marked ≡ false → leaf_octets a.content n ≡ Some octets → a.settles n ≡ Some n
+        → is_chosen n ≡ false → find (can_hold n) types ≡ Some a → a.marked ≡ false
+        → leaf_octets a.content n ≡ Some octets → a.settles n ≡ Some n
         → Fits layout types n
     -- a content of elements
     made : {types : List Alternative} {ns : Nodes} (a : Alternative)
-        → find (can_hold (Many ns)) types ≡ Some a → a.marked ≡ false → leaf_octets a.content (Many ns) ≡ None → FitsIn layout a.content ns → a.settles (Many ns) ≡ Some (Many ns)
+        → find (can_hold (Many ns)) types ≡ Some a → a.marked ≡ false → leaf_octets a.content (Many ns) ≡ None
+        → FitsIn layout a.content ns → a.settles (Many ns) ≡ Some (Many ns)
         → Fits layout types (Many ns)
     -- one of several, by its tag: an element of a type, or a content of elements
     chosen : {types : List Alternative} {n : Node} (a : Alternative) (tag : ℕ) (form : Named)
-        → find (is_marked tag) types ≡ Some a → a.content ≡ Explicit form → Fits layout (layout form) n → a.settles n ≡ Some n
+        → find (is_marked tag) types ≡ Some a → a.content ≡ Explicit form → Fits layout (layout form) n
+        → a.settles n ≡ Some n
         → Fits layout types (Chosen tag n)
     chosen_made : {types : List Alternative} {ns : Nodes} (a : Alternative) (tag : ℕ)
         → find (is_marked tag) types ≡ Some a → FitsIn layout a.content ns → a.settles (Many ns) ≡ Some (Many ns)
@@ -98,19 +102,24 @@ mutual
   -- A SEQUENCE's components: those that are left out have their default, and no other has.
   pub data FitsSequence (layout : Layout) : List Component → Nodes → Type 0 where
     over : FitsSequence layout [] Nil
-    left_out : {c : Component} {cs : List Component} {ns : Nodes} (d : Node) → c.presence ≡ Default d → is_default c.presence d ≡ true → FitsSequence layout cs ns → FitsSequence layout (c ∷ cs) (More d ns)
+    left_out : {c : Component} {cs : List Component} {ns : Nodes} (d : Node) → c.presence ≡ Default d
+        → is_default c.presence d ≡ true → FitsSequence layout cs ns → FitsSequence layout (c ∷ cs) (More d ns)
     given : {c : Component} {cs rest : List Component} {n : Node} {ns : Nodes}
-        → is_default c.presence n ≡ false → Fits layout (layout c.form) n → Goes cs n c.presence rest → FitsSequence layout rest ns
+        → is_default c.presence n ≡ false → Fits layout (layout c.form) n → Goes cs n c.presence rest
+        → FitsSequence layout rest ns
         → FitsSequence layout (c ∷ cs) (More n ns)
 
   -- A SET's components likewise.
   pub data FitsSet (layout : Layout) : List Component → Nodes → Type 0 where
     all : FitsSet layout [] Nil
-    absent : {c : Component} {cs : List Component} {ns : Nodes} (d : Node) → c.presence ≡ Default d → is_default c.presence d ≡ true → FitsSet layout cs ns → FitsSet layout (c ∷ cs) (More d ns)
+    absent : {c : Component} {cs : List Component} {ns : Nodes} (d : Node) → c.presence ≡ Default d
+        → is_default c.presence d ≡ true → FitsSet layout cs ns → FitsSet layout (c ∷ cs) (More d ns)
     present : {c : Component} {cs : List Component} {n : Node} {ns : Nodes}
-        → is_default c.presence n ≡ false → Fits layout (layout c.form) n → Goes cs n c.presence cs → FitsSet layout cs ns
+        → is_default c.presence n ≡ false → Fits layout (layout c.form) n → Goes cs n c.presence cs
+        → FitsSet layout cs ns
         → FitsSet layout (c ∷ cs) (More n ns)
 
   pub data FitsEach (layout : Layout) : Named → Nodes → Type 0 where
     none : {form : Named} → FitsEach layout form Nil
-    more : {form : Named} {n : Node} {ns : Nodes} → Fits layout (layout form) n → FitsEach layout form ns → FitsEach layout form (More n ns)
+    more : {form : Named} {n : Node} {ns : Nodes} → Fits layout (layout form) n → FitsEach layout form ns
+        → FitsEach layout form (More n ns)

@@ -4,6 +4,7 @@
 #![tactic(auto)]
 
 ghost use Rattle.x5_model_typed_laws.specs.Complete.{IsJudged, JudgedDecides};
+ghost use Rattle.x5_model_typed_laws.specs.Said.{SpelledFits};
 ghost use Rattle.x5_model_typed_laws.specs.Written.{FitsIsWritten, WrittenIsSpelled, WrittenReadsBack, OneIsWritten, MessagesAreTable};
 
 /// Reading by type comes to a value exactly where the element is one, and else to a breach.
@@ -26,4 +27,9 @@ pub fn written_reads_back()
 /// bits (X.690, section 8).
 pub fn messages_are_a_table()
     ensures { MessagesAreTable }
+{}
+
+/// In a table whose rules keep what they make of what was read, whatever octets spell fits its type.
+pub fn what_is_read_fits()
+    ensures { SpelledFits }
 {}
