@@ -1,4 +1,5 @@
--- The entry that a world file gives keeps the order of its values, has the normal form of each, and has the values of its RDN: by what
+-- The entry that a world file gives keeps the order of its values, has the normal form of each, and has the values of
+-- its RDN: by what
 -- one value more does.
 use Rattle.std.proofs.Common.{◌≡◌, ℕ, Bool, true, false, not, ◌&&◌, ◌==◌, ◌⊎◌, inl, inr, List, [], ◌∷◌, refl, sym, ap, subst, ◌∙◌, arith, if◌then◌else◌, Option, Some, None}
 use Rattle.std.proofs.lemmas.List.Folds.{list_all-map}
@@ -25,20 +26,25 @@ below_chain x y z p q = grind arith
 below_other : (x y : Stored) → kind_below x y ≡ true → (x.kind == y.kind) ≡ false
 below_other x y h = grind arith
 
-found_here : (xs : List Stored) (a : Stored) → ascending kind_below xs ≡ true → In a xs → find (λ b. b.kind == a.kind) xs ≡ Some a
+found_here : (xs : List Stored) (a : Stored) → ascending kind_below xs ≡ true → In a xs
+    → find (λ b. b.kind == a.kind) xs ≡ Some a
 found_here [] a h i = elim i [ ]
-found_here (a ∷ xs) b h here = ap (λ (t : Bool). if t then Some b else find (λ c. c.kind == b.kind) xs) ((nat_same_decides b.kind b.kind).1 refl)
+found_here (a ∷ xs) b h here =
+    ap (λ (t : Bool). if t then Some b else find (λ c. c.kind == b.kind) xs) ((nat_same_decides b.kind b.kind).1 refl)
 found_here (x ∷ xs) a h (there i) =
-    ap (λ (t : Bool). if t then Some x else find (λ c. c.kind == a.kind) xs) (below_other x a (first_below kind_below below_chain x a xs h i))
+    ap (λ (t : Bool). if t then Some x else find (λ c. c.kind == a.kind) xs)
+    (below_other x a (first_below kind_below below_chain x a xs h i))
     ∙ found_here xs a (rest_ascending kind_below below_chain x xs h) i
 
 attributes_ascend : (e : Entry) → is_ordered e ≡ true → ascending kind_below e.attributes ≡ true
 attributes_ascend e h = (both_true (ascending kind_below e.attributes) _ h).0
 
 values_there : (e : Entry) (a : Stored) → is_ordered e ≡ true → In a e.attributes → values_at e a.kind ≡ a.values
-values_there e a h i = ap (λ (o : Option Stored). in_option [] (λ b. b.values) o) (found_here e.attributes a (attributes_ascend e h) i)
+values_there e a h i =
+    ap (λ (o : Option Stored). in_option [] (λ b. b.values) o) (found_here e.attributes a (attributes_ascend e h) i)
 
-pub has_by : (e : Entry) (a : Stored) (normal : List ℕ) → is_ordered e ≡ true → In a e.attributes → has_normal normal a.values ≡ true → has_value e a.kind normal ≡ true
+pub has_by : (e : Entry) (a : Stored) (normal : List ℕ) → is_ordered e ≡ true → In a e.attributes
+    → has_normal normal a.values ≡ true → has_value e a.kind normal ≡ true
 has_by e a normal h i p = ap (λ (vs : List StoredValue). has_normal normal vs) (values_there e a h i) ∙ p
 
 -- an attribute of this type has this value
@@ -51,7 +57,8 @@ record Holds (e : Entry) (kind : ℕ) (normal : List ℕ) : Type 0 where
 of_has_value : (e : Entry) (kind : ℕ) (normal : List ℕ) → has_value e kind normal ≡ true → Holds e kind normal
 of_has_value e kind normal h = by (attribute_at e kind) refl h
   where
-    by : (o : Option Stored) → attribute_at e kind ≡ o → has_normal normal (in_option [] (λ b. b.values) o) ≡ true → Holds e kind normal
+    by : (o : Option Stored) → attribute_at e kind ≡ o → has_normal normal (in_option [] (λ b. b.values) o) ≡ true
+        → Holds e kind normal
     by None q h = cc
     by (Some a) q h =
         let w = of_find (λ (b : Stored). b.kind == kind) a e.attributes q in
@@ -72,7 +79,8 @@ module _ (kind : ℕ) (values : List StoredValue) (e : Entry) where
       left : In a others → In a e.attributes
       left j = (of_filter (λ b. not (b.kind == kind)) a e.attributes j).0
 
-      by : (b : Bool) → In a (if b then others else insert_sorted kind_below new others) → (a ≡ new) ⊎ In a e.attributes
+      by : (b : Bool) → In a (if b then others else insert_sorted kind_below new others)
+          → (a ≡ new) ⊎ In a e.attributes
       by true j = inr (left j)
       by false j = elim (of_insert kind_below a new others j) [ inl p ↦ inl p | inr k ↦ inr (left k) ]
 
@@ -87,7 +95,8 @@ module _ (kind : ℕ) (values : List StoredValue) (e : Entry) where
       by true q = cc
       by false q = new_in_insert kind_below new others
 
-  pub old_with : (a : Stored) → In a e.attributes → (a.kind == kind) ≡ false → In a (entry_with kind values e).attributes
+  pub old_with : (a : Stored) → In a e.attributes → (a.kind == kind) ≡ false
+      → In a (entry_with kind values e).attributes
   old_with a i q = by (is_empty values)
     where
       kept : In a others
@@ -105,14 +114,18 @@ pub record IsKept (e : Entry) : Type 0 where
 values_stored : (e : Entry) (kind : ℕ) → IsKept e → list_all (is_stored_value kind) (values_at e kind) ≡ true
 values_stored e kind k = by (attribute_at e kind) refl
   where
-    by : (o : Option Stored) → attribute_at e kind ≡ o → list_all (is_stored_value kind) (in_option [] (λ b. b.values) o) ≡ true
+    by : (o : Option Stored) → attribute_at e kind ≡ o
+        → list_all (is_stored_value kind) (in_option [] (λ b. b.values) o) ≡ true
     by None q = refl
     by (Some a) q =
         let w = of_find (λ (b : Stored). b.kind == kind) a e.attributes q in
-        let s = both_true (is_known a.kind) (list_all (is_stored_value a.kind) a.values) (of_all is_stored_attribute a e.attributes k.stored w.0) in
+        let s =
+        both_true (is_known a.kind) (list_all (is_stored_value a.kind) a.values)
+        (of_all is_stored_attribute a e.attributes k.stored w.0) in
         subst (λ (n : ℕ). list_all (is_stored_value n) a.values ≡ true) ((nat_same_decides a.kind kind).0 w.1) s.1
 
-pub put_kept : (kind : ℕ) (v : StoredValue) (e : Entry) → IsKept e → is_known kind ≡ true → is_stored_value kind v ≡ true → has_value e kind v.normal ≡ false → IsKept (put_value kind v e)
+pub put_kept : (kind : ℕ) (v : StoredValue) (e : Entry) → IsKept e → is_known kind ≡ true
+    → is_stored_value kind v ≡ true → has_value e kind v.normal ≡ false → IsKept (put_value kind v e)
 put_kept kind v e k known stored absent =
     let more = insert_sorted value_below v (values_at e kind) in
     record {
@@ -129,25 +142,31 @@ put_kept kind v e k known stored absent =
     }
 
 -- it has the new value, and those that it had
-has_new : (kind : ℕ) (v : StoredValue) (e : Entry) → is_ordered (put_value kind v e) ≡ true → has_value (put_value kind v e) kind v.normal ≡ true
+has_new : (kind : ℕ) (v : StoredValue) (e : Entry) → is_ordered (put_value kind v e) ≡ true
+    → has_value (put_value kind v e) kind v.normal ≡ true
 has_new kind v e h =
     let more = insert_sorted value_below v (values_at e kind) in
-    has_by (put_value kind v e) (record { kind = kind; values = more }) v.normal h (new_with kind more e v (new_in_insert value_below v (values_at e kind)))
-    (any_in (λ (w : StoredValue). same_octets w.normal v.normal) v more (new_in_insert value_below v (values_at e kind)) ((bytes_decides v.normal v.normal).1 refl))
+    has_by (put_value kind v e) (record { kind = kind; values = more }) v.normal h
+    (new_with kind more e v (new_in_insert value_below v (values_at e kind)))
+    (any_in (λ (w : StoredValue). same_octets w.normal v.normal) v more
+    (new_in_insert value_below v (values_at e kind)) ((bytes_decides v.normal v.normal).1 refl))
 
-has_old : (kind : ℕ) (v : StoredValue) (e : Entry) → is_ordered e ≡ true → is_ordered (put_value kind v e) ≡ true → (k : ℕ) (normal : List ℕ) → has_value e k normal ≡ true → has_value (put_value kind v e) k normal ≡ true
+has_old : (kind : ℕ) (v : StoredValue) (e : Entry) → is_ordered e ≡ true → is_ordered (put_value kind v e) ≡ true
+    → (k : ℕ) (normal : List ℕ) → has_value e k normal ≡ true → has_value (put_value kind v e) k normal ≡ true
 has_old kind v e before after k normal h =
     let w = of_has_value e k normal h in
     let more = insert_sorted value_below v (values_at e kind) in
     elim (true_or_false (w.attribute.kind == kind)) [
       | inl q ↦
           let same : w.attribute.kind ≡ kind = (nat_same_decides w.attribute.kind kind).0 q in
-          let at : values_at e kind ≡ w.attribute.values = ap (λ (n : ℕ). values_at e n) (sym same) ∙ values_there e w.attribute before w.place in
+          let at : values_at e kind ≡ w.attribute.values =
+          ap (λ (n : ℕ). values_at e n) (sym same) ∙ values_there e w.attribute before w.place in
           let x = of_any (λ (u : StoredValue). same_octets u.normal normal) w.attribute.values w.has in
           let old : In x.0 (values_at e kind) = subst (λ (us : List StoredValue). In x.0 us) (sym at) x.1 in
           let new : In x.0 more = old_in_insert value_below x.0 v (values_at e kind) old in
           subst (λ (n : ℕ). has_value (put_value kind v e) n normal ≡ true) (sym same ∙ w.is_type)
-          (has_by (put_value kind v e) (record { kind = kind; values = more }) normal after (new_with kind more e x.0 new) (any_in (λ (u : StoredValue). same_octets u.normal normal) x.0 more new x.2))
+          (has_by (put_value kind v e) (record { kind = kind; values = more }) normal after
+          (new_with kind more e x.0 new) (any_in (λ (u : StoredValue). same_octets u.normal normal) x.0 more new x.2))
       | inr q ↦
           subst (λ (n : ℕ). has_value (put_value kind v e) n normal ≡ true) w.is_type
           (has_by (put_value kind v e) w.attribute normal after (old_with kind more e w.attribute w.place q) w.has)
@@ -167,16 +186,20 @@ pair_kept p e k g = by (has_pair e p) refl
   where
     by : (b : Bool) → has_pair e p ≡ b → IsKept (with_pair b p e)
     by true q = k
-    by false q = let w = both_true (is_known p.kind) (is_stored_value p.kind (value_of_pair p)) g in put_kept p.kind (value_of_pair p) e k w.0 w.1 q
+    by false q =
+        let w = both_true (is_known p.kind) (is_stored_value p.kind (value_of_pair p)) g in put_kept p.kind
+        (value_of_pair p) e k w.0 w.1 q
 
-pair_old : (p : Pair) (e : Entry) → IsKept e → is_good_pair p ≡ true → (k : ℕ) (normal : List ℕ) → has_value e k normal ≡ true → has_value (with_pair (has_pair e p) p e) k normal ≡ true
+pair_old : (p : Pair) (e : Entry) → IsKept e → is_good_pair p ≡ true → (k : ℕ) (normal : List ℕ)
+    → has_value e k normal ≡ true → has_value (with_pair (has_pair e p) p e) k normal ≡ true
 pair_old p e kept g k normal h = by (has_pair e p) (pair_kept p e kept g)
   where
     by : (b : Bool) → IsKept (with_pair b p e) → has_value (with_pair b p e) k normal ≡ true
     by true after = h
     by false after = has_old p.kind (value_of_pair p) e kept.ordered after.ordered k normal h
 
-pair_new : (p : Pair) (e : Entry) → IsKept e → is_good_pair p ≡ true → has_pair (with_pair (has_pair e p) p e) p ≡ true
+pair_new : (p : Pair) (e : Entry) → IsKept e → is_good_pair p ≡ true
+    → has_pair (with_pair (has_pair e p) p e) p ≡ true
 pair_new p e k g = by (has_pair e p) refl (pair_kept p e k g)
   where
     by : (b : Bool) → has_pair e p ≡ b → IsKept (with_pair b p e) → has_pair (with_pair b p e) p ≡ true
@@ -189,13 +212,15 @@ rdn_kept (p ∷ ps) e k g =
     let w = both_true (is_good_pair p) (list_all is_good_pair ps) g in
     rdn_kept ps (with_pair (has_pair e p) p e) (pair_kept p e k w.0) w.1
 
-rdn_old : (rdn : Rdn) (e : Entry) → IsKept e → list_all is_good_pair rdn ≡ true → (k : ℕ) (normal : List ℕ) → has_value e k normal ≡ true → has_value (with_rdn rdn e) k normal ≡ true
+rdn_old : (rdn : Rdn) (e : Entry) → IsKept e → list_all is_good_pair rdn ≡ true → (k : ℕ) (normal : List ℕ)
+    → has_value e k normal ≡ true → has_value (with_rdn rdn e) k normal ≡ true
 rdn_old [] e kept g k normal h = h
 rdn_old (p ∷ ps) e kept g k normal h =
     let w = both_true (is_good_pair p) (list_all is_good_pair ps) g in
     rdn_old ps (with_pair (has_pair e p) p e) (pair_kept p e kept w.0) w.1 k normal (pair_old p e kept w.0 k normal h)
 
-pub rdn_there : (rdn : Rdn) (e : Entry) → IsKept e → list_all is_good_pair rdn ≡ true → has_rdn (with_rdn rdn e) rdn ≡ true
+pub rdn_there : (rdn : Rdn) (e : Entry) → IsKept e → list_all is_good_pair rdn ≡ true
+    → has_rdn (with_rdn rdn e) rdn ≡ true
 rdn_there [] e k g = refl
 rdn_there (p ∷ ps) e k g =
     let w = both_true (is_good_pair p) (list_all is_good_pair ps) g in
@@ -207,5 +232,6 @@ rdn_there (p ∷ ps) e k g =
 -- another spelling of the RDN is there too
 pub rdn_alike : (e : Entry) (r s : Rdn) → key_of_rdn r ≡ key_of_rdn s → has_rdn e r ≡ has_rdn e s
 rdn_alike e r s h =
-    sym (list_all-map (λ (k : KeyPair). has_value e k.0 k.1) key_of_pair r) ∙ ap (λ (k : KeyRdn). list_all (λ (x : KeyPair). has_value e x.0 x.1) k) h
+    sym (list_all-map (λ (k : KeyPair). has_value e k.0 k.1) key_of_pair r)
+    ∙ ap (λ (k : KeyRdn). list_all (λ (x : KeyPair). has_value e x.0 x.1) k) h
     ∙ list_all-map (λ (k : KeyPair). has_value e k.0 k.1) key_of_pair s

@@ -28,7 +28,8 @@ pub first_none : (p q : Option Text) → first_of_two p q ≡ None → (p ≡ No
 first_none None q h = (refl, h)
 first_none (Some x) q h = cc
 
-pub each_known : (unknown : Text → Data → Option Text) (path : Text) (i : ℕ) (items : Items) → first_in unknown path i items ≡ None → Each (IsKnown unknown) items
+pub each_known : (unknown : Text → Data → Option Text) (path : Text) (i : ℕ) (items : Items)
+    → first_in unknown path i items ≡ None → Each (IsKnown unknown) items
 each_known unknown path i no_items h = tt
 each_known unknown path i (item d ds) h =
     let w = first_none (unknown (nth path i) d) (first_in unknown path (i + 1) ds) h in
@@ -36,10 +37,13 @@ each_known unknown path i (item d ds) h =
 
 module _ {S Y : Type 0} (step : Text → S → Data → Read Y) (add : S → Y → S) (loop : Text → ℕ → S → Items → Read S)
     (stops : (path : Text) (i : ℕ) (s : S) → loop path i s no_items ≡ Ok s)
-    (goes : (path : Text) (i : ℕ) (s : S) (d : Data) (ds : Items) → loop path i s (item d ds) ≡ (step (nth path i) s d >>= λ y. loop path (i + 1) (add s y) ds))
+    (goes : (path : Text) (i : ℕ) (s : S) (d : Data) (ds : Items) → loop path i s
+    (item d ds) ≡ (step (nth path i) s d >>= λ y. loop path (i + 1) (add s y) ds))
     (Q : Data → Type 0) (P : ℕ → S → Type 0)
-    (keeps : (path : Text) (n : ℕ) (s : S) (d : Data) (y : Y) → Q d → P n s → step path s d ≡ Ok y → P (n + 1) (add s y)) where
-  pub loop_keeps : (path : Text) (i n : ℕ) (s t : S) (items : Items) → Each Q items → P n s → loop path i s items ≡ Ok t → P (n + items_len items) t
+    (keeps : (path : Text) (n : ℕ) (s : S) (d : Data) (y : Y) → Q d → P n s → step path s d ≡ Ok y → P (n + 1)
+    (add s y)) where
+  pub loop_keeps : (path : Text) (i n : ℕ) (s t : S) (items : Items) → Each Q items → P n s
+      → loop path i s items ≡ Ok t → P (n + items_len items) t
   loop_keeps path i n s t no_items q p h =
       let same : s ≡ t = same_found s t (sym (stops path i s) ∙ h) in
       let same_count : n ≡ n + 0 = omega arith in
@@ -50,5 +54,7 @@ module _ {S Y : Type 0} (step : Text → S → Data → Read Y) (add : S → Y �
       let same_count : n + 1 + items_len ds ≡ n + suc (items_len ds) = omega arith in
       subst (λ (k : ℕ). P k t) same_count rest
 
-pub known_members : (unknown : Text → Data → Option Text) (path name : Text) (d : Data) (items : Items) → first_at unknown path name d ≡ None → items_at name d ≡ items → Each (IsKnown unknown) items
-known_members unknown path name d items h e = each_known unknown (at path name) 0 items (ap (first_in unknown (at path name) 0) (sym e) ∙ h)
+pub known_members : (unknown : Text → Data → Option Text) (path name : Text) (d : Data) (items : Items)
+    → first_at unknown path name d ≡ None → items_at name d ≡ items → Each (IsKnown unknown) items
+known_members unknown path name d items h e =
+    each_known unknown (at path name) 0 items (ap (first_in unknown (at path name) 0) (sym e) ∙ h)

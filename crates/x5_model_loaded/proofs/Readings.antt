@@ -17,9 +17,11 @@ one_reading octets found other a b =
     let same : a.value ≡ b.value = some_value a.value b.value (sym a.is_json.is_read ∙ b.is_json.is_read) in
     sym a.is_found ∙ ap file_of same ∙ b.is_found
 
-read_as : (octets : List ℕ) (o : Option Data) → IsUtf8 octets → read octets ≡ o → IsNoJson octets ⊎ ((found : Read File) × Describes octets found)
+read_as : (octets : List ℕ) (o : Option Data) → IsUtf8 octets → read octets ≡ o
+    → IsNoJson octets ⊎ ((found : Read File) × Describes octets found)
 read_as octets None utf8 h = inl (λ u. h)
-read_as octets (Some d) utf8 h = inr (file_of d, record { value = d; is_json = record { utf8 = utf8; is_read = h }; is_found = refl })
+read_as octets (Some d) utf8 h =
+    inr (file_of d, record { value = d; is_json = record { utf8 = utf8; is_read = h }; is_found = refl })
 
 pub some_reading : SomeReading
 some_reading octets = elim (true_or_false (is_utf8 octets)) [

@@ -1,4 +1,5 @@
--- Names and values that were read have the normal forms of their texts: so has a name that is put together from the name of the entry above
+-- Names and values that were read have the normal forms of their texts: so has a name that is put together from the
+-- name of the entry above
 -- and the last RDN of another, within the limits.
 use Rattle.std.proofs.Common.{◌≡◌, ℕ, suc, ◌+◌, ◌-◌, ◌≤◌, Bool, true, ◌&&◌, ◌==◌, [], ◌∷◌, ◌++◌, take, length, refl, sym, ap, subst, ◌∙◌, arith}
 use Rattle.std.proofs.lemmas.List.{length_push, take_at, map_push, length-map}
@@ -21,8 +22,10 @@ use Rattle.x5_model_tree.proofs.Stored.{same_name_is, stored_short}
 
 pair_itself : (p : Pair) → same_pair_spelled p p ≡ true
 pair_itself p =
-    and_true (p.kind == p.kind) (same_octets p.text p.text && same_octets p.normal p.normal) ((nat_same_decides p.kind p.kind).1 refl)
-    (and_true (same_octets p.text p.text) (same_octets p.normal p.normal) ((bytes_decides p.text p.text).1 refl) ((bytes_decides p.normal p.normal).1 refl))
+    and_true (p.kind == p.kind) (same_octets p.text p.text && same_octets p.normal p.normal)
+    ((nat_same_decides p.kind p.kind).1 refl)
+    (and_true (same_octets p.text p.text) (same_octets p.normal p.normal) ((bytes_decides p.text p.text).1 refl)
+    ((bytes_decides p.normal p.normal).1 refl))
 
 rdn_itself : (r : Rdn) → pointwise same_pair_spelled r r ≡ true
 rdn_itself [] = refl
@@ -30,14 +33,16 @@ rdn_itself (p ∷ r) = and_true (same_pair_spelled p p) (pointwise same_pair_spe
 
 pub spelled_itself : (n : Name) → same_spelling n n ≡ true
 spelled_itself [] = refl
-spelled_itself (r ∷ n) = and_true (pointwise same_pair_spelled r r) (same_spelling n n) (rdn_itself r) (spelled_itself n)
+spelled_itself (r ∷ n) =
+    and_true (pointwise same_pair_spelled r r) (same_spelling n n) (rdn_itself r) (spelled_itself n)
 
 pub spelled_same : (m n : Name) → m ≡ n → same_spelling m n ≡ true
 spelled_same m n e = subst (λ (x : Name). same_spelling m x ≡ true) e (spelled_itself m)
 
 pub is_stored_by : (n : Name) → IsStored n → is_stored n ≡ true
 is_stored_by n s =
-    and_true (same_spelling n (stored (written n))) (is_name (written n) && is_none (name_over 0 (written n))) (spelled_same n (stored (written n)) s.normal)
+    and_true (same_spelling n (stored (written n))) (is_name (written n) && is_none (name_over 0 (written n)))
+    (spelled_same n (stored (written n)) s.normal)
     (and_true (is_name (written n)) (is_none (name_over 0 (written n))) s.valid (ap is_none s.short))
 
 -- ---- one RDN more
@@ -66,63 +71,83 @@ parts_of (r ∷ s ∷ n) h =
     ap (λ (m : Name). r ∷ m) (parts_of (s ∷ n) refl) ∙ ap (λ (k : ℕ). take k (r ∷ s ∷ n) ++ last_rdn (s ∷ n) ∷ []) e
 
 -- the key of a name just below another is the own name's, where the other's is its parent's
-pub key_below_parent : (above own : Name) → is_entry_name own ≡ true → parent (key_of own) ≡ key_of above → key_of (above ++ last_rdn own ∷ []) ≡ key_of own
+pub key_below_parent : (above own : Name) → is_entry_name own ≡ true → parent (key_of own) ≡ key_of above
+    → key_of (above ++ last_rdn own ∷ []) ≡ key_of own
 key_below_parent above own h e =
-    key_pushed above (last_rdn own) ∙ ap (λ (k : Key). k ++ key_of_rdn (last_rdn own) ∷ []) (sym e ∙ sym (above_key own))
+    key_pushed above (last_rdn own)
+    ∙ ap (λ (k : Key). k ++ key_of_rdn (last_rdn own) ∷ []) (sym e ∙ sym (above_key own))
     ∙ sym (key_pushed (name_above own) (last_rdn own)) ∙ ap key_of (sym (parts_of own h))
 
 -- ---- limits
 
-fifteen : (above own : Name) → is_entry_name own ≡ true → parent (key_of own) ≡ key_of above → IsStored own → length above + 1 ≤ 16
+fifteen : (above own : Name) → is_entry_name own ≡ true → parent (key_of own) ≡ key_of above → IsStored own
+    → length above + 1 ≤ 16
 fifteen above own h e s =
     let a : length (key_of own) ≤ 16 = stored_short own s in
-    let b : length (key_of (above ++ last_rdn own ∷ [])) ≡ length (key_of own) = ap (λ (k : Key). length k) (key_below_parent above own h e) in
-    let c : length (key_of (above ++ last_rdn own ∷ [])) ≡ length (above ++ last_rdn own ∷ []) = length-map (above ++ last_rdn own ∷ []) key_of_rdn in
+    let b : length (key_of (above ++ last_rdn own ∷ [])) ≡ length (key_of own) =
+    ap (λ (k : Key). length k) (key_below_parent above own h e) in
+    let c : length (key_of (above ++ last_rdn own ∷ [])) ≡ length (above ++ last_rdn own ∷ []) =
+    length-map (above ++ last_rdn own ∷ []) key_of_rdn in
     let d : length (above ++ last_rdn own ∷ []) ≡ length above + 1 = length_push above (last_rdn own) in omega arith
 
 -- what holds of each RDN of a name holds of its last
-pub of_last : (test : Rdn → Bool) (n : Name) → is_entry_name n ≡ true → list_all test n ≡ true → test (last_rdn n) ≡ true
+pub of_last : (test : Rdn → Bool) (n : Name) → is_entry_name n ≡ true → list_all test n ≡ true
+    → test (last_rdn n) ≡ true
 of_last test [] h all = cc
 of_last test (r ∷ []) h all = (both_true (test r) true all).0
 of_last test (r ∷ s ∷ n) h all = of_last test (s ∷ n) refl (both_true (test r) (list_all test (s ∷ n)) all).1
 
 -- an RDN that a stored name has
 abbrev pub is_good : Rdn → Bool
-is_good r = is_rdn (written_rdn r) && (is_small (written_rdn r) && pointwise same_pair_spelled r (stored_rdn (written_rdn r)))
+is_good r =
+    is_rdn (written_rdn r) && (is_small (written_rdn r) && pointwise same_pair_spelled r (stored_rdn (written_rdn r)))
 
-each_good : (n : Name) → is_name (written n) ≡ true → list_all is_small (written n) ≡ true → same_spelling n (stored (written n)) ≡ true → list_all is_good n ≡ true
+each_good : (n : Name) → is_name (written n) ≡ true → list_all is_small (written n) ≡ true
+    → same_spelling n (stored (written n)) ≡ true → list_all is_good n ≡ true
 each_good [] a b c = refl
 each_good (r ∷ n) a b c =
     let x = both_true (is_rdn (written_rdn r)) (is_name (written n)) a in
     let y = both_true (is_small (written_rdn r)) (list_all is_small (written n)) b in
-    let z = both_true (pointwise same_pair_spelled r (stored_rdn (written_rdn r))) (same_spelling n (stored (written n))) c in
+    let z =
+    both_true (pointwise same_pair_spelled r (stored_rdn (written_rdn r)))
+    (same_spelling n (stored (written n))) c in
     and_true (is_good r) (list_all is_good n)
-    (and_true (is_rdn (written_rdn r)) _ x.0 (and_true (is_small (written_rdn r)) _ y.0 z.0)) (each_good n x.1 y.1 z.1)
+    (and_true (is_rdn (written_rdn r)) _ x.0 (and_true (is_small (written_rdn r)) _ y.0 z.0))
+    (each_good n x.1 y.1 z.1)
 
-goods : (n : Name) → list_all is_good n ≡ true → (is_name (written n) ≡ true) × (list_all is_small (written n) ≡ true) × (same_spelling n (stored (written n)) ≡ true)
+goods : (n : Name) → list_all is_good n ≡ true
+    → (is_name (written n) ≡ true) × (list_all is_small (written n) ≡ true) × (same_spelling n (stored (written n)) ≡ true)
 goods [] h = (refl, refl, refl)
 goods (r ∷ n) h =
     let x = both_true (is_good r) (list_all is_good n) h in
-    let y = both_true (is_rdn (written_rdn r)) (is_small (written_rdn r) && pointwise same_pair_spelled r (stored_rdn (written_rdn r))) x.0 in
+    let y =
+    both_true (is_rdn (written_rdn r))
+    (is_small (written_rdn r) && pointwise same_pair_spelled r (stored_rdn (written_rdn r))) x.0 in
     let z = both_true (is_small (written_rdn r)) (pointwise same_pair_spelled r (stored_rdn (written_rdn r))) y.1 in
     let rest = goods n x.1 in (
       and_true (is_rdn (written_rdn r)) (is_name (written n)) y.0 rest.0,
       and_true (is_small (written_rdn r)) (list_all is_small (written n)) z.0 rest.1,
-      and_true (pointwise same_pair_spelled r (stored_rdn (written_rdn r))) (same_spelling n (stored (written n))) z.1 rest.2,
+      and_true (pointwise same_pair_spelled r (stored_rdn (written_rdn r)))
+          (same_spelling n (stored (written n))) z.1 rest.2,
     )
 
 pub all_good : (n : Name) → IsStored n → list_all is_good n ≡ true
-all_good n s = each_good n s.valid (name_small 0 n' (omega arith) s.short).rdns (spelled_same n (stored (written n)) s.normal)
+all_good n s =
+    each_good n s.valid (name_small 0 n' (omega arith) s.short).rdns (spelled_same n (stored (written n)) s.normal)
   where
     n' : NameValue
     n' = written n
 
-pub stored_pushed : (above own : Name) → IsStored above → IsStored own → is_entry_name own ≡ true → parent (key_of own) ≡ key_of above → IsStored (above ++ last_rdn own ∷ [])
+pub stored_pushed : (above own : Name) → IsStored above → IsStored own → is_entry_name own ≡ true
+    → parent (key_of own) ≡ key_of above → IsStored (above ++ last_rdn own ∷ [])
 stored_pushed above own s t h e =
     let g : list_all is_good (above ++ last_rdn own ∷ []) ≡ true =
-    list_all-append is_good above (last_rdn own ∷ []) ∙ and_true (list_all is_good above) _ (all_good above s) (and_true (is_good (last_rdn own)) true (of_last is_good own h (all_good own t)) refl) in
+    list_all-append is_good above (last_rdn own ∷ [])
+    ∙ and_true (list_all is_good above) _ (all_good above s)
+    (and_true (is_good (last_rdn own)) true (of_last is_good own h (all_good own t)) refl) in
     let w = goods (above ++ last_rdn own ∷ []) g in
-    let c : length (written (above ++ last_rdn own ∷ [])) ≡ length (above ++ last_rdn own ∷ []) = length-map (above ++ last_rdn own ∷ []) written_rdn in
+    let c : length (written (above ++ last_rdn own ∷ [])) ≡ length (above ++ last_rdn own ∷ []) =
+    length-map (above ++ last_rdn own ∷ []) written_rdn in
     let d : length (above ++ last_rdn own ∷ []) ≡ length above + 1 = length_push above (last_rdn own) in
     let f : length above + 1 ≤ 16 = fifteen above own h e t in
     record {

@@ -1,4 +1,5 @@
--- What is so of whatever a world file describes (docs/FORMATS.md, world file): statements, which this crate's functions name.
+-- What is so of whatever a world file describes (docs/FORMATS.md, world file): statements, which this crate's
+-- functions name.
 use Rattle.std.specs.Prelude.{◌≡◌, ℕ, ◌≤◌, false, ◌⊎◌, List, [], map, length, Some, Ok, codes}
 use Rattle.serde_json.specs.Data.{Data}
 use Rattle.x5_model.specs.Members.{In}
@@ -11,7 +12,8 @@ use Rattle.x5_model_world.specs.NetworkText.{quiet}
 use Rattle.x5_model_world.specs.Mentioned.{items_at}
 use Rattle.x5_model_world.specs.WorldFile.{File, file_of, format_of, IsNoJson, Describes}
 
--- The world of a file is a described world: its agents, contexts, entries, references, agreements and network keep the rules and the
+-- The world of a file is a described world: its agents, contexts, entries, references, agreements and network keep
+-- the rules and the
 -- limits, and each name and each value has the normal form of its text.
 abbrev pub FilesAreDescribed : Type 0
 FilesAreDescribed = (d : Data) (f : File) → file_of d ≡ Ok f → IsDescribed f.world
@@ -20,7 +22,8 @@ FilesAreDescribed = (d : Data) (f : File) → file_of d ≡ Ok f → IsDescribed
 abbrev pub NamesAreShort : Type 0
 NamesAreShort = (d : Data) (f : File) → file_of d ≡ Ok f → (e : Named) → In e (all_entries f.world) → length e.name ≤ 16
 
--- Its agents are those whose names the file gives, in their order: an agent's place in the world is its place in the file.
+-- Its agents are those whose names the file gives, in their order: an agent's place in the world is its place in the
+-- file.
 abbrev pub PlacesAreTheFiles : Type 0
 PlacesAreTheFiles = (d : Data) (f : File) → file_of d ≡ Ok f → names_behind [] (items_at (codes "agents") d) ≡ map (λ a. a.name) f.world.agents
 
@@ -28,7 +31,8 @@ PlacesAreTheFiles = (d : Data) (f : File) → file_of d ≡ Ok f → names_behin
 abbrev pub FirstFormatIsQuiet : Type 0
 FirstFormatIsQuiet = (d : Data) (f : File) → file_of d ≡ Ok f → format_of d ≡ Some false → f.world.network ≡ quiet
 
--- Octets describe one thing at most: one file, or one first breach. Octets in UTF-8 either are no JSON or describe something, never both.
+-- Octets describe one thing at most: one file, or one first breach. Octets in UTF-8 either are no JSON or describe
+-- something, never both.
 abbrev pub OneReading : Type 0
 OneReading = (octets : List ℕ) (found other : Read File) → Describes octets found → Describes octets other → found ≡ other
 

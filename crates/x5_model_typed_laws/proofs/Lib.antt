@@ -7,4 +7,9 @@ pub mod Apart
 pub mod Writing
 pub mod Table
 pub mod Back
+pub mod Numbers
+pub mod Oids
+pub mod Leaves
+pub mod Reading
+pub mod Spelled
 mod Examples

@@ -1,13 +1,17 @@
--- The tags of the table of messages are apart, type by type.
+-- The tags of the table of messages are apart, and its contents read back, type by type.
 use Rattle.std.proofs.Common.{◌≡◌, ℕ, Bool, true, false, refl, [], ◌∷◌}
 use Rattle.std.specs.Prelude.{◌-◌, ◌==◌, if◌then◌else◌}
-use Rattle.x5_model_typed.specs.Named.{Named, Operation, Read, Compare, ListBelow, Search, AddEntry, RemoveEntry, ModifyEntry, ModifyDn, DapRequest, DapAnswer, DspRequest, DspAnswer, DispMessage, Argument, Chained, DapResult, DspResult, DispResult, Outcome, AnyNumber, NumberBelow, Enumeration, Boolean, Null, AnyOid, Value, Part, AgentName, Time, Options, RefType, Name, Rdn, Rdns, Pair, Attribute, Attributes, Values, TypeList, Selection, Controls, Assertion, Changes, Change, Filter, Filters, Item, Substrings, Parts, PlacedPart, Chaining, Progress, Trace, TraceItem, Agents, Agent, Reference, References, Source, Sources, EntryInfo, EntryInfos, Sub, Subs, Qualifier, AttributeError, NameError, ServiceError, UpdateError, ShadowError, Agreement, ShadowArgument, UpdateArgument, Refresh, Total, Entries, Entry, Knowns, Known, NonSpecifics, NonSpecific, WorldAgents, WorldAgent, WorldAgentName, Steps, Step, Renamed}
+use Rattle.x5_model_typed.specs.Named.{Read, Compare, ListBelow, Search, AddEntry, RemoveEntry, ModifyEntry, ModifyDn, DapRequest, DapAnswer, DspRequest, DspAnswer, DispMessage, Argument, Chained, DapResult, DspResult, DispResult, Outcome, AnyNumber, NumberBelow, Enumeration, Boolean, Null, AnyOid, Value, Part, AgentName, Time, Options, RefType, Name, Rdn, Rdns, Pair, Attribute, Attributes, Values, TypeList, Selection, Controls, Assertion, Changes, Change, Filter, Filters, Item, Substrings, Parts, PlacedPart, Chaining, Progress, Trace, TraceItem, Agents, Agent, Reference, References, Source, Sources, EntryInfo, EntryInfos, Sub, Subs, Qualifier, AttributeError, NameError, ServiceError, UpdateError, ShadowError, Agreement, ShadowArgument, UpdateArgument, Refresh, Total, Entries, Entry, Knowns, Known, NonSpecifics, NonSpecific, WorldAgents, WorldAgent, WorldAgentName, Steps, Step, Renamed}
 use Rattle.x5_model_typed.specs.Forms.{Explicit, Never, choice}
-use Rattle.x5_model_typed.specs.Layouts.{Surroundings, layout}
-use Rattle.x5_model_typed_laws.specs.Fits.{are_tags_apart, AreTagsApart}
+use Rattle.x5_model.specs.Normal.{is_printable}
+use Rattle.x5_model_typed.specs.Leaves.{any_number, from_to, one_of, any_oid, short_oid, text_of, is_numeric, is_seven_bit, is_agent_name}
+use Rattle.x5_model_typed.specs.Layouts.{Surroundings, layout, any_agent}
+use Rattle.x5_model_typed_laws.specs.Fits.{are_tags_apart, AreTagsApart, AllReadBack, LeavesReadBack, ClockReadsBack}
+use Rattle.x5_model_typed_laws.proofs.Leaves.{boolean_back, null_back, number_reads_back, oid_reads_back, octets_back, text_back, universal_back, time_back, options_back}
 
 filters_apart : (w : Surroundings) (levels : ℕ) (b : Bool)
-    → are_tags_apart (layout w) (if b then choice 0 Never ∷ choice 1 Never ∷ choice 2 Never ∷ choice 3 Never ∷ [] else (choice 0 (Explicit Item) ∷ choice 1 (Explicit (Filters (levels - 1))) ∷ choice 2 (Explicit (Filters (levels - 1))) ∷ choice 3 (Explicit (Filter (levels - 1))) ∷ [])) ≡ true
+    → are_tags_apart (layout w)
+    (if b then choice 0 Never ∷ choice 1 Never ∷ choice 2 Never ∷ choice 3 Never ∷ [] else (choice 0 (Explicit Item) ∷ choice 1 (Explicit (Filters (levels - 1))) ∷ choice 2 (Explicit (Filters (levels - 1))) ∷ choice 3 (Explicit (Filter (levels - 1))) ∷ [])) ≡ true
 filters_apart w levels true = refl
 filters_apart w levels false = refl
 
@@ -105,3 +109,150 @@ messages_apart w WorldAgentName = refl
 messages_apart w Steps = refl
 messages_apart w Step = refl
 messages_apart w Renamed = refl
+
+filters_read_back : (levels : ℕ) (b : Bool)
+    → AllReadBack (if b then choice 0 Never ∷ choice 1 Never ∷ choice 2 Never ∷ choice 3 Never ∷ [] else (choice 0 (Explicit Item) ∷ choice 1 (Explicit (Filters (levels - 1))) ∷ choice 2 (Explicit (Filters (levels - 1))) ∷ choice 3 (Explicit (Filter (levels - 1))) ∷ []))
+filters_read_back levels true = (
+  λ n octets h. absurd (cc h),
+  (λ n octets h. absurd (cc h), (λ n octets h. absurd (cc h), (λ n octets h. absurd (cc h), tt))),
+)
+filters_read_back levels false = (
+  λ n octets h. absurd (cc h),
+  (λ n octets h. absurd (cc h), (λ n octets h. absurd (cc h), (λ n octets h. absurd (cc h), tt))),
+)
+
+pub messages_read_back : (w : Surroundings) → ClockReadsBack w → LeavesReadBack (layout w)
+messages_read_back w clock DapRequest = (λ n octets h. absurd (cc h), tt)
+messages_read_back w clock DapAnswer = (λ n octets h. absurd (cc h), (λ n octets h. absurd (cc h), tt))
+messages_read_back w clock DspRequest = (λ n octets h. absurd (cc h), tt)
+messages_read_back w clock DspAnswer = (λ n octets h. absurd (cc h), (λ n octets h. absurd (cc h), tt))
+messages_read_back w clock DispMessage =
+    (λ n octets h. absurd (cc h), (λ n octets h. absurd (cc h), (λ n octets h. absurd (cc h), tt)))
+messages_read_back w clock (Argument Read) = (λ n octets h. absurd (cc h), tt)
+messages_read_back w clock (Argument Compare) = (λ n octets h. absurd (cc h), tt)
+messages_read_back w clock (Argument ListBelow) = (λ n octets h. absurd (cc h), tt)
+messages_read_back w clock (Argument Search) = (λ n octets h. absurd (cc h), tt)
+messages_read_back w clock (Argument AddEntry) = (λ n octets h. absurd (cc h), tt)
+messages_read_back w clock (Argument RemoveEntry) = (λ n octets h. absurd (cc h), tt)
+messages_read_back w clock (Argument ModifyEntry) = (λ n octets h. absurd (cc h), tt)
+messages_read_back w clock (Argument ModifyDn) = (λ n octets h. absurd (cc h), tt)
+messages_read_back w clock (Chained operation) = (λ n octets h. absurd (cc h), tt)
+messages_read_back w clock DapResult = (λ n octets h. absurd (cc h), tt)
+messages_read_back w clock DspResult = (λ n octets h. absurd (cc h), tt)
+messages_read_back w clock DispResult = (λ n octets h. absurd (cc h), tt)
+messages_read_back w clock (Outcome Read) = (λ n octets h. absurd (cc h), tt)
+messages_read_back w clock (Outcome Compare) = (λ n octets h. absurd (cc h), tt)
+messages_read_back w clock (Outcome ListBelow) = (λ n octets h. absurd (cc h), tt)
+messages_read_back w clock (Outcome Search) = (λ n octets h. absurd (cc h), tt)
+messages_read_back w clock (Outcome AddEntry) = (null_back, tt)
+messages_read_back w clock (Outcome RemoveEntry) = (null_back, tt)
+messages_read_back w clock (Outcome ModifyEntry) = (null_back, tt)
+messages_read_back w clock (Outcome ModifyDn) = (null_back, tt)
+messages_read_back w clock AnyNumber = (number_reads_back any_number, tt)
+messages_read_back w clock (NumberBelow low high) = (number_reads_back (from_to low high), tt)
+messages_read_back w clock (Enumeration low high) = (number_reads_back (from_to low high), tt)
+messages_read_back w clock Boolean = (boolean_back, tt)
+messages_read_back w clock Null = (null_back, tt)
+messages_read_back w clock AnyOid = (oid_reads_back any_oid, tt)
+messages_read_back w clock Value = (
+  oid_reads_back short_oid,
+  (
+    octets_back,
+    (
+      λ n octets h. absurd (cc h),
+      (
+        text_back (text_of is_printable),
+        (universal_back, (text_back (text_of is_numeric), (text_back (text_of is_seven_bit), tt))),
+      ),
+    ),
+  ),
+)
+messages_read_back w clock Part = (
+  text_back (text_of is_printable),
+  (
+    universal_back,
+    (
+      text_back (text_of is_numeric),
+      (
+        text_back (text_of is_seven_bit),
+        (oid_reads_back short_oid, (octets_back, (λ n octets h. absurd (cc h), tt))),
+      ),
+    ),
+  ),
+)
+messages_read_back w clock AgentName = (text_back (λ t. if is_agent_name t then any_agent t else false), tt)
+messages_read_back w clock Time = (time_back w clock, tt)
+messages_read_back w clock Options = (options_back, tt)
+messages_read_back w clock RefType = (number_reads_back (one_of (1 ∷ 2 ∷ 3 ∷ 4 ∷ 5 ∷ 8 ∷ [])), tt)
+messages_read_back w clock Name = (λ n octets h. absurd (cc h), tt)
+messages_read_back w clock Rdn = (λ n octets h. absurd (cc h), tt)
+messages_read_back w clock Rdns = (λ n octets h. absurd (cc h), tt)
+messages_read_back w clock Pair = (λ n octets h. absurd (cc h), tt)
+messages_read_back w clock Attribute = (λ n octets h. absurd (cc h), tt)
+messages_read_back w clock Attributes = (λ n octets h. absurd (cc h), tt)
+messages_read_back w clock Values = (λ n octets h. absurd (cc h), tt)
+messages_read_back w clock TypeList = (λ n octets h. absurd (cc h), tt)
+messages_read_back w clock Selection = (λ n octets h. absurd (cc h), tt)
+messages_read_back w clock Controls = (λ n octets h. absurd (cc h), tt)
+messages_read_back w clock Assertion = (λ n octets h. absurd (cc h), tt)
+messages_read_back w clock Changes = (λ n octets h. absurd (cc h), tt)
+messages_read_back w clock Change = (
+  λ n octets h. absurd (cc h),
+  (λ n octets h. absurd (cc h), (λ n octets h. absurd (cc h), (λ n octets h. absurd (cc h), tt))),
+)
+messages_read_back w clock (Filter levels) = filters_read_back levels (levels == 0)
+messages_read_back w clock (Filters levels) = (λ n octets h. absurd (cc h), tt)
+messages_read_back w clock Item = (
+  λ n octets h. absurd (cc h),
+  (
+    λ n octets h. absurd (cc h),
+    (
+      λ n octets h. absurd (cc h),
+      (λ n octets h. absurd (cc h), (λ n octets h. absurd (cc h), (λ n octets h. absurd (cc h), tt))),
+    ),
+  ),
+)
+messages_read_back w clock Substrings = (λ n octets h. absurd (cc h), tt)
+messages_read_back w clock Parts = (λ n octets h. absurd (cc h), tt)
+messages_read_back w clock PlacedPart =
+    (λ n octets h. absurd (cc h), (λ n octets h. absurd (cc h), (λ n octets h. absurd (cc h), tt)))
+messages_read_back w clock Chaining = (λ n octets h. absurd (cc h), tt)
+messages_read_back w clock Progress = (λ n octets h. absurd (cc h), tt)
+messages_read_back w clock Trace = (λ n octets h. absurd (cc h), tt)
+messages_read_back w clock TraceItem = (λ n octets h. absurd (cc h), tt)
+messages_read_back w clock Agents = (λ n octets h. absurd (cc h), tt)
+messages_read_back w clock Agent = (λ n octets h. absurd (cc h), tt)
+messages_read_back w clock Reference = (λ n octets h. absurd (cc h), tt)
+messages_read_back w clock References = (λ n octets h. absurd (cc h), tt)
+messages_read_back w clock Source = (λ n octets h. absurd (cc h), tt)
+messages_read_back w clock Sources = (λ n octets h. absurd (cc h), tt)
+messages_read_back w clock EntryInfo = (λ n octets h. absurd (cc h), tt)
+messages_read_back w clock EntryInfos = (λ n octets h. absurd (cc h), tt)
+messages_read_back w clock Sub = (λ n octets h. absurd (cc h), tt)
+messages_read_back w clock Subs = (λ n octets h. absurd (cc h), tt)
+messages_read_back w clock Qualifier = (λ n octets h. absurd (cc h), tt)
+messages_read_back w clock AttributeError = (λ n octets h. absurd (cc h), tt)
+messages_read_back w clock NameError = (λ n octets h. absurd (cc h), tt)
+messages_read_back w clock ServiceError = (λ n octets h. absurd (cc h), tt)
+messages_read_back w clock UpdateError = (λ n octets h. absurd (cc h), tt)
+messages_read_back w clock ShadowError = (λ n octets h. absurd (cc h), tt)
+messages_read_back w clock Agreement = (number_reads_back (from_to 0 4294967295), tt)
+messages_read_back w clock ShadowArgument = (λ n octets h. absurd (cc h), tt)
+messages_read_back w clock UpdateArgument = (λ n octets h. absurd (cc h), tt)
+messages_read_back w clock Refresh = (null_back, (λ n octets h. absurd (cc h), (λ n octets h. absurd (cc h), tt)))
+messages_read_back w clock Total = (λ n octets h. absurd (cc h), tt)
+messages_read_back w clock Entries = (λ n octets h. absurd (cc h), tt)
+messages_read_back w clock Entry = (λ n octets h. absurd (cc h), tt)
+messages_read_back w clock Knowns = (λ n octets h. absurd (cc h), tt)
+messages_read_back w clock Known = (λ n octets h. absurd (cc h), tt)
+messages_read_back w clock NonSpecifics = (λ n octets h. absurd (cc h), tt)
+messages_read_back w clock NonSpecific = (λ n octets h. absurd (cc h), tt)
+messages_read_back w clock WorldAgents = (λ n octets h. absurd (cc h), tt)
+messages_read_back w clock WorldAgent = (λ n octets h. absurd (cc h), tt)
+messages_read_back w clock WorldAgentName = (text_back (λ t. if is_agent_name t then w.is_agent t else false), tt)
+messages_read_back w clock Steps = (λ n octets h. absurd (cc h), tt)
+messages_read_back w clock Step = (
+  λ n octets h. absurd (cc h),
+  (λ n octets h. absurd (cc h), (λ n octets h. absurd (cc h), (λ n octets h. absurd (cc h), tt))),
+)
+messages_read_back w clock Renamed = (λ n octets h. absurd (cc h), tt)

@@ -9,7 +9,8 @@ use Rattle.x5_model_typed.specs.Typed.{IsOf}
 
 -- Wherever an element is a value of a type, it is judged to be that value.
 abbrev pub IsJudged : Type 0
-IsJudged = (layout : Layout) (types : List Alternative) (t : Tree) (n : Node) → IsOf layout types t n → judged layout types t ≡ Ok n
+IsJudged = (layout : Layout) (types : List Alternative) (t : Tree) (n : Node) → IsOf layout types t n
+    → judged layout types t ≡ Ok n
 
 -- An element is a value of a type, and judged to be it, or it is none, and judged to have a breach.
 abbrev pub JudgedDecides : Type 0

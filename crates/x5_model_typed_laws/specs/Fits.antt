@@ -1,17 +1,18 @@
 -- Which values are written and read back the same, in every table of types whose tags are apart.
 use Rattle.std.specs.Prelude.{◌≡◌, ℕ, Bool, true, false, not, ◌&&◌, if◌then◌else◌, List, [], ◌∷◌}
 use Rattle.std.specs.List.{find, list_all}
-use Rattle.std.specs.declared.option.Option.{Option}
 use Rattle.std.specs.declared.option.Option.TheVariants.{None, Some}
 use Rattle.x5_model.specs.Words.{distinct}
 use Rattle.x5_model_typed.specs.Nodes.{Node, Nodes, Chosen, Many, Nil, More}
 use Rattle.x5_model_typed.specs.Named.{Named}
-use Rattle.x5_model_typed.specs.Forms.{Presence, Default, Component, Content, Explicit, Sequence, Set, Members, Alternative, Layout, has_tag, may_be_tagged, alternatives}
+use Rattle.x5_model_typed.specs.Forms.{Default, Component, Content, Explicit, Sequence, Set, Members, Alternative, Layout, has_tag, may_be_tagged, alternatives}
 use Rattle.x5_model_typed.specs.Judged.{leaf_node, may_be_missing}
 use Rattle.x5_model_typed.specs.Typed.{Goes}
+use Rattle.x5_model_typed.specs.Layouts.{Surroundings}
 use Rattle.x5_model_typed.specs.Written.{leaf_octets, can_hold, is_marked, is_default}
 
--- ---- tags that are apart (X.680: a CHOICE's alternatives, a SET's components, and in a SEQUENCE each component that may be missing
+-- ---- tags that are apart (X.680: a CHOICE's alternatives, a SET's components, and in a SEQUENCE each component that
+-- may be missing
 -- and those that may follow it up to the first that may not)
 
 abbrev pub same_tag : Alternative → Alternative → Bool
@@ -44,6 +45,27 @@ are_tags_apart layout types = distinct same_tag types && list_all (λ a. is_cont
 abbrev pub AreTagsApart : Layout → Type 0
 AreTagsApart layout = (form : Named) → are_tags_apart layout (layout form) ≡ true
 
+-- ---- contents that read back: what is written in one is read as the value
+
+abbrev pub ReadsBack : Content → Type 0
+ReadsBack c = (n : Node) (octets : List ℕ) → leaf_octets c n ≡ Some octets → leaf_node c octets ≡ Some n
+
+abbrev pub AllReadBack : List Alternative → Type 0
+AllReadBack [] = Unit {0}
+AllReadBack (a ∷ as') = ReadsBack a.content × AllReadBack as'
+
+abbrev pub LeavesReadBack : Layout → Type 0
+LeavesReadBack layout = (form : Named) → AllReadBack (layout form)
+
+-- What is asked of a table of types.
+pub record IsTable (layout : Layout) : Type 0 where
+  pub apart : AreTagsApart layout
+  pub back : LeavesReadBack layout
+
+-- the clock that both ends share reads the times that it writes
+abbrev pub ClockReadsBack : Surroundings → Type 0
+ClockReadsBack w = (m : ℕ) → w.moment (w.time m) ≡ Some m
+
 -- ---- values that fit: the alternative that is written for the value takes it as it is
 
 abbrev pub is_chosen : Node → Bool
@@ -52,17 +74,20 @@ is_chosen n = false
 
 mutual
   pub data Fits (layout : Layout) : List Alternative → Node → Type 0 where
-    -- a content of octets or bits, which reads back
+    -- a content of octets or bits
     whole : {types : List Alternative} {n : Node} (a : Alternative) (octets : List ℕ)
-        → is_chosen n ≡ false → find (can_hold n) types ≡ Some a → a.marked ≡ false → leaf_octets a.content n ≡ Some octets → leaf_node a.content octets ≡ Some n → a.settles n ≡ Some n
+        → is_chosen n ≡ false → find (can_hold n) types ≡ Some a → a.marked ≡ false
+        → leaf_octets a.content n ≡ Some octets → a.settles n ≡ Some n
         → Fits layout types n
     -- a content of elements
     made : {types : List Alternative} {ns : Nodes} (a : Alternative)
-        → find (can_hold (Many ns)) types ≡ Some a → a.marked ≡ false → leaf_octets a.content (Many ns) ≡ None → FitsIn layout a.content ns → a.settles (Many ns) ≡ Some (Many ns)
+        → find (can_hold (Many ns)) types ≡ Some a → a.marked ≡ false → leaf_octets a.content (Many ns) ≡ None
+        → FitsIn layout a.content ns → a.settles (Many ns) ≡ Some (Many ns)
         → Fits layout types (Many ns)
     -- one of several, by its tag: an element of a type, or a content of elements
     chosen : {types : List Alternative} {n : Node} (a : Alternative) (tag : ℕ) (form : Named)
-        → find (is_marked tag) types ≡ Some a → a.content ≡ Explicit form → Fits layout (layout form) n → a.settles n ≡ Some n
+        → find (is_marked tag) types ≡ Some a → a.content ≡ Explicit form → Fits layout (layout form) n
+        → a.settles n ≡ Some n
         → Fits layout types (Chosen tag n)
     chosen_made : {types : List Alternative} {ns : Nodes} (a : Alternative) (tag : ℕ)
         → find (is_marked tag) types ≡ Some a → FitsIn layout a.content ns → a.settles (Many ns) ≡ Some (Many ns)
@@ -77,19 +102,24 @@ mutual
   -- A SEQUENCE's components: those that are left out have their default, and no other has.
   pub data FitsSequence (layout : Layout) : List Component → Nodes → Type 0 where
     over : FitsSequence layout [] Nil
-    left_out : {c : Component} {cs : List Component} {ns : Nodes} (d : Node) → c.presence ≡ Default d → is_default c.presence d ≡ true → FitsSequence layout cs ns → FitsSequence layout (c ∷ cs) (More d ns)
+    left_out : {c : Component} {cs : List Component} {ns : Nodes} (d : Node) → c.presence ≡ Default d
+        → is_default c.presence d ≡ true → FitsSequence layout cs ns → FitsSequence layout (c ∷ cs) (More d ns)
     given : {c : Component} {cs rest : List Component} {n : Node} {ns : Nodes}
-        → is_default c.presence n ≡ false → Fits layout (layout c.form) n → Goes cs n c.presence rest → FitsSequence layout rest ns
+        → is_default c.presence n ≡ false → Fits layout (layout c.form) n → Goes cs n c.presence rest
+        → FitsSequence layout rest ns
         → FitsSequence layout (c ∷ cs) (More n ns)
 
   -- A SET's components likewise.
   pub data FitsSet (layout : Layout) : List Component → Nodes → Type 0 where
     all : FitsSet layout [] Nil
-    absent : {c : Component} {cs : List Component} {ns : Nodes} (d : Node) → c.presence ≡ Default d → is_default c.presence d ≡ true → FitsSet layout cs ns → FitsSet layout (c ∷ cs) (More d ns)
+    absent : {c : Component} {cs : List Component} {ns : Nodes} (d : Node) → c.presence ≡ Default d
+        → is_default c.presence d ≡ true → FitsSet layout cs ns → FitsSet layout (c ∷ cs) (More d ns)
     present : {c : Component} {cs : List Component} {n : Node} {ns : Nodes}
-        → is_default c.presence n ≡ false → Fits layout (layout c.form) n → Goes cs n c.presence cs → FitsSet layout cs ns
+        → is_default c.presence n ≡ false → Fits layout (layout c.form) n → Goes cs n c.presence cs
+        → FitsSet layout cs ns
         → FitsSet layout (c ∷ cs) (More n ns)
 
   pub data FitsEach (layout : Layout) : Named → Nodes → Type 0 where
     none : {form : Named} → FitsEach layout form Nil
-    more : {form : Named} {n : Node} {ns : Nodes} → Fits layout (layout form) n → FitsEach layout form ns → FitsEach layout form (More n ns)
+    more : {form : Named} {n : Node} {ns : Nodes} → Fits layout (layout form) n → FitsEach layout form ns
+        → FitsEach layout form (More n ns)

@@ -1,3 +1,4 @@
 pub mod Complete
 pub mod Fits
 pub mod Written
+pub mod Said

@@ -1,10 +1,11 @@
-//! Laws of typed octets: reading by type decides what an element is; and in every table of types whose tags are apart, as
-//! those of the messages are, what is written of a value that fits its type spells it and reads back. Each function here
+//! Laws of typed octets: reading by type decides what an element is; and in every table of types whose tags are apart and
+//! whose contents read back, as that of the messages is, what is written of a value that fits its type spells it and reads back. Each function here
 //! does nothing; its clauses are the theorems.
 #![tactic(auto)]
 
 ghost use Rattle.x5_model_typed_laws.specs.Complete.{IsJudged, JudgedDecides};
-ghost use Rattle.x5_model_typed_laws.specs.Written.{FitsIsWritten, WrittenIsSpelled, WrittenReadsBack, OneIsWritten, MessagesAreApart};
+ghost use Rattle.x5_model_typed_laws.specs.Said.{SpelledFits};
+ghost use Rattle.x5_model_typed_laws.specs.Written.{FitsIsWritten, WrittenIsSpelled, WrittenReadsBack, OneIsWritten, MessagesAreTable};
 
 /// Reading by type comes to a value exactly where the element is one, and else to a breach.
 #[tactic(auto, using(crate::proofs::Deciding::is_judged))]
@@ -22,7 +23,13 @@ pub fn written_reads_back()
     ensures one { OneIsWritten }
 {}
 
-/// The tags of the table of messages are apart (X.680).
-pub fn messages_are_apart()
-    ensures { MessagesAreApart }
+/// The tags of the table of messages are apart (X.680), and each of its contents reads back: numbers, object identifiers, strings and
+/// bits (X.690, section 8).
+pub fn messages_are_a_table()
+    ensures { MessagesAreTable }
+{}
+
+/// In a table whose rules keep what they make of what was read, whatever octets spell fits its type.
+pub fn what_is_read_fits()
+    ensures { SpelledFits }
 {}
