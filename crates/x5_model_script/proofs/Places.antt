@@ -3,7 +3,8 @@ use Rattle.std.proofs.Common.{◌≡◌, ℕ, ◌<◌, ◌≤◌, Bool, if◌the
 use Rattle.std.proofs.lemmas.Bool.{cases_lt, lt-ltb, le-ltb}
 use Rattle.std.specs.List.{position, position_or_len}
 
-position_there : {X : Type 0} (p : X → Bool) (xs : List X) → position_or_len p xs < length xs → position p xs ≡ Some (position_or_len p xs)
+position_there : {X : Type 0} (p : X → Bool) (xs : List X) → position_or_len p xs < length xs
+    → position p xs ≡ Some (position_or_len p xs)
 position_there p xs h = ap (λ b. if b then Some (position_or_len p xs) else None) (lt-ltb _ _ h)
 
 position_absent : {X : Type 0} (p : X → Bool) (xs : List X) → length xs ≤ position_or_len p xs → position p xs ≡ None
@@ -12,7 +13,8 @@ position_absent p xs h = ap (λ b. if b then Some (position_or_len p xs) else No
 some_injective : (m n : ℕ) → Some m ≡ Some n → m ≡ n
 some_injective m n h = cc
 
-pub position_some : {X : Type 0} (p : X → Bool) (xs : List X) (i : ℕ) → position p xs ≡ Some i → (i ≡ position_or_len p xs) × (i < length xs)
+pub position_some : {X : Type 0} (p : X → Bool) (xs : List X) (i : ℕ) → position p xs ≡ Some i
+    → (i ≡ position_or_len p xs) × (i < length xs)
 position_some p xs i h = elim (cases_lt (position_or_len p xs) (length xs)) [
   | inl low ↦ (let same : i ≡ position_or_len p xs = some_injective _ _ (sym h ∙ position_there p xs low) in (same, omega (arith, same, low)))
   | inr high ↦ (let e : Some i ≡ None = sym h ∙ position_absent p xs high in absurd (cc))

@@ -14,10 +14,12 @@ use Rattle.x5_model_script.proofs.Places.{position_some, position_none}
 
 -- ---- lines
 
-pub first_line_cut : (octets : Text) (i : ℕ) → position is_line_feed octets ≡ Some i → take i octets ≡ before_first is_line_feed octets
+pub first_line_cut : (octets : Text) (i : ℕ) → position is_line_feed octets ≡ Some i
+    → take i octets ≡ before_first is_line_feed octets
 first_line_cut octets i h = ap (λ n. take n octets) (position_some is_line_feed octets i h).0
 
-pub behind_line_cut : (octets : Text) (i : ℕ) → position is_line_feed octets ≡ Some i → take (length octets - (i + 1)) (drop (i + 1) octets) ≡ after_first is_line_feed octets
+pub behind_line_cut : (octets : Text) (i : ℕ) → position is_line_feed octets ≡ Some i
+    → take (length octets - (i + 1)) (drop (i + 1) octets) ≡ after_first is_line_feed octets
 behind_line_cut octets i h =
     take_all (length octets - (i + 1)) (drop (i + 1) octets) (omega (arith, length-drop (i + 1) octets))
     ∙ ap (λ n. drop (n + 1) octets) (position_some is_line_feed octets i h).0
@@ -25,7 +27,8 @@ behind_line_cut octets i h =
 pub first_line_whole : (octets : Text) → position is_line_feed octets ≡ None → octets ≡ before_first is_line_feed octets
 first_line_whole octets h = sym (take_all (position_or_len is_line_feed octets) octets (position_none is_line_feed octets h))
 
-pub behind_line_whole : (octets : Text) → position is_line_feed octets ≡ None → take (length octets - length octets) (drop (length octets) octets) ≡ after_first is_line_feed octets
+pub behind_line_whole : (octets : Text) → position is_line_feed octets ≡ None
+    → take (length octets - length octets) (drop (length octets) octets) ≡ after_first is_line_feed octets
 behind_line_whole octets h =
     let absent : length octets ≤ position_or_len is_line_feed octets = position_none is_line_feed octets h in
     let far : length octets ≤ position_or_len is_line_feed octets + 1 = omega arith in
@@ -33,13 +36,15 @@ behind_line_whole octets h =
     ∙ drop-length octets
     ∙ sym (drop_of_length-le octets far)
 
-not_last : (line : Text) (lines : List Text) → 0 < length lines → without_last_empty (line ∷ lines) ≡ line ∷ without_last_empty lines
+not_last : (line : Text) (lines : List Text) → 0 < length lines
+    → without_last_empty (line ∷ lines) ≡ line ∷ without_last_empty lines
 not_last [] [] h = absurd (omega arith)
 not_last (b ∷ bs) [] h = absurd (omega arith)
 not_last [] (next ∷ lines) h = refl
 not_last (b ∷ bs) (next ∷ lines) h = refl
 
-no_cut_from : (p : ℕ → Bool) (x : ℕ) (xs : Text) (b : Bool) → p x ≡ b → length (x ∷ xs) ≤ position_or_len p (x ∷ xs) → (length xs ≤ position_or_len p xs → slice_split p xs ≡ xs ∷ []) → slice_split p (x ∷ xs) ≡ (x ∷ xs) ∷ []
+no_cut_from : (p : ℕ → Bool) (x : ℕ) (xs : Text) (b : Bool) → p x ≡ b → length (x ∷ xs) ≤ position_or_len p (x ∷ xs)
+    → (length xs ≤ position_or_len p xs → slice_split p xs ≡ xs ∷ []) → slice_split p (x ∷ xs) ≡ (x ∷ xs) ∷ []
 no_cut_from p x xs true e far rest = let at : position_or_len p (x ∷ xs) ≡ 0 = rw e refl in absurd (omega (arith, at, far))
 no_cut_from p x xs false e far rest =
     let at : position_or_len p (x ∷ xs) ≡ 1 + position_or_len p xs = rw e refl in
@@ -50,7 +55,8 @@ no_cut p [] far = refl
 no_cut p (x ∷ xs) far = no_cut_from p x xs (p x) refl far (no_cut p xs)
 
 -- octets are the first line and what stands behind it
-pub lines_next : (b : ℕ) (bs : Text) → lines_of (b ∷ bs) ≡ before_first is_line_feed (b ∷ bs) ∷ lines_of (after_first is_line_feed (b ∷ bs))
+pub lines_next : (b : ℕ) (bs : Text)
+    → lines_of (b ∷ bs) ≡ before_first is_line_feed (b ∷ bs) ∷ lines_of (after_first is_line_feed (b ∷ bs))
 lines_next b bs = elim (cases_lt (position_or_len is_line_feed (b ∷ bs)) (length (b ∷ bs))) [
   | inl there ↦ (
       let behind = after_first is_line_feed (b ∷ bs) in
@@ -76,7 +82,8 @@ abbrev pub behind : List Asked → Result (List Asked) (ℕ × Fault) → Result
 behind done (Ok asked) = Ok (done ++ asked)
 behind done (Err fault) = Err fault
 
-behind_one : (number : ℕ) (done : List Asked) (one : Asked) (rest : Result (List Asked) (ℕ × Fault)) → behind done (with_others number (Ok one) rest) ≡ behind (done ++ one ∷ []) rest
+behind_one : (number : ℕ) (done : List Asked) (one : Asked) (rest : Result (List Asked) (ℕ × Fault))
+    → behind done (with_others number (Ok one) rest) ≡ behind (done ++ one ∷ []) rest
 behind_one number done one (Ok asked) = ap Ok (sym (append_assoc done (one ∷ []) asked))
 behind_one number done one (Err fault) = refl
 
@@ -84,7 +91,9 @@ behind_one number done one (Err fault) = refl
 abbrev pub left : List Text → List Asked → ℕ → Text → Result (List Asked) (ℕ × Fault)
 left names done before rest = behind done (lines_from names before (lines_of rest))
 
-pub line_taken : (names : List Text) (done : List Asked) (before : ℕ) (rest : Text) (one : Asked) → 0 < length rest → line_behind names before (before_first is_line_feed rest) ≡ Ok one → left names done before rest ≡ left names (done ++ one ∷ []) (before + 1) (after_first is_line_feed rest)
+pub line_taken : (names : List Text) (done : List Asked) (before : ℕ) (rest : Text) (one : Asked) → 0 < length rest
+    → line_behind names before (before_first is_line_feed rest) ≡ Ok one
+    → left names done before rest ≡ left names (done ++ one ∷ []) (before + 1) (after_first is_line_feed rest)
 line_taken names done before [] one some h = absurd (omega arith)
 line_taken names done before (b ∷ bs) one some h =
     let others = lines_from names (before + 1) (lines_of (after_first is_line_feed (b ∷ bs))) in
@@ -92,14 +101,17 @@ line_taken names done before (b ∷ bs) one some h =
     ∙ ap (λ r. behind done (with_others (before + 1) r others)) h
     ∙ behind_one (before + 1) done one others
 
-pub line_refused : (names : List Text) (done : List Asked) (before : ℕ) (rest : Text) (fault : Fault) → 0 < length rest → line_behind names before (before_first is_line_feed rest) ≡ Err fault → left names done before rest ≡ Err (before + 1, fault)
+pub line_refused : (names : List Text) (done : List Asked) (before : ℕ) (rest : Text) (fault : Fault)
+    → 0 < length rest → line_behind names before (before_first is_line_feed rest) ≡ Err fault
+    → left names done before rest ≡ Err (before + 1, fault)
 line_refused names done before [] fault some h = absurd (omega arith)
 line_refused names done before (b ∷ bs) fault some h =
     let others = lines_from names (before + 1) (lines_of (after_first is_line_feed (b ∷ bs))) in
     ap (λ ls. behind done (lines_from names before ls)) (lines_next b bs)
     ∙ ap (λ r. behind done (with_others (before + 1) r others)) h
 
-pub all_lines : (names : List Text) (done : List Asked) (before : ℕ) (rest : Text) → length rest ≡ 0 → left names done before rest ≡ Ok done
+pub all_lines : (names : List Text) (done : List Asked) (before : ℕ) (rest : Text) → length rest ≡ 0
+    → left names done before rest ≡ Ok done
 all_lines names done before [] h = ap Ok (append-nil done)
 all_lines names done before (b ∷ bs) h = absurd (omega arith)
 

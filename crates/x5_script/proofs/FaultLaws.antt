@@ -5,7 +5,8 @@ use Rattle.x5_script.specs.Views.{IsFault}
 use Rattle.x5_script.specs.declared.command.ScriptFault.{ScriptFault}
 use Rattle.x5_script.specs.declared.command.ScriptFault.TheVariants.{BadWord, BadName, BadFilter, BadHex, LineTooLong, NoMemory}
 
-pub fault_along : {X Y : Type 0} (fault : ScriptFault) (r : Result X words.Fault) (s : Result Y words.Fault) → ((e : words.Fault) → r ≡ Err e → s ≡ Err e) → IsFault fault r → IsFault fault s
+pub fault_along : {X Y : Type 0} (fault : ScriptFault) (r : Result X words.Fault) (s : Result Y words.Fault)
+    → ((e : words.Fault) → r ≡ Err e → s ≡ Err e) → IsFault fault r → IsFault fault s
 fault_along (BadWord column) r s f h = f (words.BadWord column) h
 fault_along (BadName column) r s f h = f (words.BadName column) h
 fault_along (BadFilter column) r s f h = f (words.BadFilter column) h

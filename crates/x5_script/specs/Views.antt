@@ -1,5 +1,5 @@
 -- What words, commands and faults stand for, and what the reader's answer says of a line.
-use Rattle.std.specs.Prelude.{◌≡◌, ℕ, List, map, drop, Result, Ok, Err}
+use Rattle.std.specs.Prelude.{◌≡◌, List, map, drop, Result, Ok, Err}
 use Rattle.x5_model.specs.Values as model
 use Rattle.x5_model_run.specs.Run as run
 use Rattle.x5_model_script.specs.Words as words

@@ -14,11 +14,18 @@ pub enum Command {
     /// A comment or an empty line.
     Nothing,
     /// A request to an agent.
-    Ask { to: AgentId, request: Request },
+    Ask {
+        to: AgentId,
+        request: Request,
+    },
     /// What happens to an agent or between two.
     Outage(Outage),
     /// A refresh by the agreement of this number: pushed by the supplier or pulled by the consumer, total or incremental.
-    Refresh { id: u32, push: bool, total: bool },
+    Refresh {
+        id: u32,
+        push: bool,
+        total: bool,
+    },
     /// Octets handed to an agent, by the protocol between agents or by that of users.
     Deliver {
         dsp: bool,
@@ -26,7 +33,10 @@ pub enum Command {
         octets: Octets,
     },
     /// Of the messages sent from now on the one of this number, from 1, is lost, or the reply to it.
-    Lose { reply: bool, k: u32 },
+    Lose {
+        reply: bool,
+        k: u32,
+    },
 }
 
 /// Why a line is refused: the first word from the left that isn't as it should be. Columns count octets from 1.

@@ -8,7 +8,9 @@ ghost use Rattle.x5_script.specs.Views.{ReadsLine, Says, Takes, command_view, le
 
 use crate::command::{Command, ScriptFault};
 use crate::operations::operation;
-use crate::texts::{agreement_of, loss_kind_of, loss_of, octets_at, or_fault, protocol_of, size_of, strategy_of};
+use crate::texts::{
+    agreement_of, loss_kind_of, loss_of, octets_at, or_fault, protocol_of, size_of, strategy_of,
+};
 use crate::tokens::{Word, Words};
 use crate::words::tokens_of;
 use std::alloc::Global;
@@ -100,10 +102,7 @@ fn other_agent(
 }
 
 /// Two different agents, and nothing behind them.
-fn two_agents(
-    words: &mut Words<'_>,
-    agents: &AgentNames,
-) -> Result<(AgentId, AgentId), ScriptFault>
+fn two_agents(words: &mut Words<'_>, agents: &AgentNames) -> Result<(AgentId, AgentId), ScriptFault>
     ensures { Says (λ p. (p.0, p.1)) result (lines.two_agents agents.now (left_view words.old)) }
 {
     let first = next_agent(words, agents)?;
@@ -266,11 +265,7 @@ fn command(
 }
 
 /// The command of a line of 4,096 octets at most that is neither empty nor a comment.
-fn read_words(
-    alloc: Global,
-    line: &[u8],
-    agents: &AgentNames,
-) -> Result<Command, ScriptFault>
+fn read_words(alloc: Global, line: &[u8], agents: &AgentNames) -> Result<Command, ScriptFault>
     requires { length line.now ≤ 4096 }
     ensures { Says command_view result (lines.command agents.now (model.words_of line.now)) }
 {
@@ -281,11 +276,7 @@ fn read_words(
 
 /// What a line asks for, without its line feed: an empty line and one that begins with `#` ask for nothing. Else the first fault
 /// from the left; but a line of more than 4,096 octets is too long, whatever it holds. After want of memory nothing is said of it.
-pub fn parse_line(
-    alloc: Global,
-    line: &[u8],
-    agents: &AgentNames,
-) -> Result<Command, ScriptFault>
+pub fn parse_line(alloc: Global, line: &[u8], agents: &AgentNames) -> Result<Command, ScriptFault>
     ensures { ReadsLine result agents.now line.now }
 {
     if line.len() > MOST_OCTETS {

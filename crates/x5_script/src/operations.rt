@@ -10,13 +10,17 @@ ghost use Rattle.x5_syntax.specs.TypeView.{type_view};
 ghost use Rattle.x5_syntax.specs.ValueView.{value_view};
 
 use crate::command::ScriptFault;
-use crate::texts::{attrs_of, change_of, filter_at, name_at, or_fault, pair_of, place_of, rdn_at, subset_of};
+use crate::texts::{
+    attrs_of, change_of, filter_at, name_at, or_fault, pair_of, place_of, rdn_at, subset_of,
+};
 use crate::tokens::{Word, Words};
 use std::alloc::Global;
 use x5_match::Filter;
 use x5_memory::NoMemory;
 use x5_names::{Name, Rdn};
-use x5_ops::{Attribute, AttributeList, Body, Change, ChangeList, Selection, Subset, TypeList, ValueList};
+use x5_ops::{
+    Attribute, AttributeList, Body, Change, ChangeList, Selection, Subset, TypeList, ValueList,
+};
 use x5_syntax::{TypeRef, Value};
 
 /// The next word as a name.
@@ -60,7 +64,10 @@ fn next_types(alloc: Global, words: &mut Words<'_>) -> Result<Vec<TypeRef>, Scri
     ensures { Takes (λ v. map type_view v.items) result words.new (lines.reading texts.attrs_in model.BadWord (left_view words.old)) }
 {
     let word = words.next()?;
-    let kinds = or_fault(attrs_of(alloc, word.text)?, ScriptFault::BadWord(word.column))?;
+    let kinds = or_fault(
+        attrs_of(alloc, word.text)?,
+        ScriptFault::BadWord(word.column),
+    )?;
     Ok(kinds)
 }
 
@@ -69,7 +76,10 @@ fn next_pair(alloc: Global, words: &mut Words<'_>) -> Result<(TypeRef, Value), S
     ensures { Takes pair_view result words.new (lines.reading texts.pair_in model.BadWord (left_view words.old)) }
 {
     let word = words.next()?;
-    let pair = or_fault(pair_of(alloc, word.text)?, ScriptFault::BadWord(word.column))?;
+    let pair = or_fault(
+        pair_of(alloc, word.text)?,
+        ScriptFault::BadWord(word.column),
+    )?;
     Ok(pair)
 }
 
@@ -78,7 +88,10 @@ fn next_change(alloc: Global, words: &mut Words<'_>) -> Result<Change, ScriptFau
     ensures { Takes change_view result words.new (lines.reading texts.change_in model.BadWord (left_view words.old)) }
 {
     let word = words.next()?;
-    let change = or_fault(change_of(alloc, word.text)?, ScriptFault::BadWord(word.column))?;
+    let change = or_fault(
+        change_of(alloc, word.text)?,
+        ScriptFault::BadWord(word.column),
+    )?;
     Ok(change)
 }
 
@@ -229,11 +242,7 @@ fn move_to(alloc: Global, words: &mut Words<'_>) -> Result<Body, ScriptFault>
 }
 
 /// The update that the word names, with its arguments.
-fn update_by(
-    alloc: Global,
-    word: Word<'_>,
-    words: &mut Words<'_>,
-) -> Result<Body, ScriptFault>
+fn update_by(alloc: Global, word: Word<'_>, words: &mut Words<'_>) -> Result<Body, ScriptFault>
     ensures { Takes body_view result words.new (lines.update_by (word_view word.entry) (left_view words.old)) }
 {
     if word.text == "add" {
@@ -250,11 +259,7 @@ fn update_by(
 }
 
 /// The operation that the word names, with its arguments.
-fn operation_by(
-    alloc: Global,
-    word: Word<'_>,
-    words: &mut Words<'_>,
-) -> Result<Body, ScriptFault>
+fn operation_by(alloc: Global, word: Word<'_>, words: &mut Words<'_>) -> Result<Body, ScriptFault>
     ensures { Takes body_view result words.new (lines.operation_by (word_view word.entry) (left_view words.old)) }
 {
     if word.text == "read" {

@@ -22,9 +22,13 @@ fn told_request(alloc: Global, request: &Request) -> Result<String, Fail> {
     let controls = request.controls;
     let code = request.body.operation();
     let name = request.body.name().text(alloc)?;
-    Ok(
-        format!(in alloc; "{} {} {:?} {code} {}", controls.nocopy, controls.nochain, controls.size, name.as_str())?,
-    )
+    Ok(format!(in alloc;
+        "{} {} {:?} {code} {}",
+        controls.nocopy,
+        controls.nochain,
+        controls.size,
+        name.as_str()
+    )?)
 }
 
 /// What a line asks for, in short.
@@ -39,7 +43,7 @@ fn told(alloc: Global, line: &[u8]) -> Result<String, Fail> {
         Command::Outage(change) => format!(in alloc; "{change:?}")?,
         Command::Refresh { id, push, total } => format!(in alloc; "refresh {id} {push} {total}")?,
         Command::Deliver { dsp, to, octets } => {
-            format!(in alloc; "deliver {dsp} {} {}", to.0, octets.len())?
+            format!(in alloc; "deliver {dsp} {} {}", to.0, octets.as_slice().len())?
         }
         Command::Lose { reply, k } => format!(in alloc; "lose {reply} {k}")?,
     };
@@ -52,20 +56,35 @@ fn each_kind_of_line_is_read(rt: HostRuntime) -> Result<(), Fail> {
     for (line, want) in [
         ("", "nothing"),
         ("# at Alpha", "nothing"),
-        ("at Beta read / attrs=CN,2.5.4.4", "ask 1 false false None 1 /"),
-        ("at Alpha nocopy compare /C=NL C=NL", "ask 0 true false None 2 /C=NL"),
-        ("at Alpha nochain list /C=NL", "ask 0 false true None 4 /C=NL"),
+        (
+            "at Beta read / attrs=CN,2.5.4.4",
+            "ask 1 false false None 1 /",
+        ),
+        (
+            "at Alpha nocopy compare /C=NL C=NL",
+            "ask 0 true false None 2 /C=NL",
+        ),
+        (
+            "at Alpha nochain list /C=NL",
+            "ask 0 false true None 4 /C=NL",
+        ),
         (
             "at Alpha nocopy nochain size=4294967295 search tree / (&) attrs=",
             "ask 0 true true Some(4294967295) 5 /",
         ),
-        ("at Alpha add /C=NL objectClass=2.5.6.2 CN=a CN=b", "ask 0 false false None 6 /C=NL"),
+        (
+            "at Alpha add /C=NL objectClass=2.5.6.2 CN=a CN=b",
+            "ask 0 false false None 6 /C=NL",
+        ),
         ("at Alpha remove /C=NL", "ask 0 false false None 7 /C=NL"),
         (
             "at Alpha modify /C=NL new:SN=a,b\\2c drop:L put:SN=c cut:SN=a",
             "ask 0 false false None 8 /C=NL",
         ),
-        ("at Alpha move /C=NL/O=a O=b drop", "ask 0 false false None 9 /C=NL/O=a"),
+        (
+            "at Alpha move /C=NL/O=a O=b drop",
+            "ask 0 false false None 9 /C=NL/O=a",
+        ),
         ("down Alpha", "Down(AgentId(0))"),
         ("up Beta", "Up(AgentId(1))"),
         ("cut Alpha Beta", "Cut(AgentId(0), AgentId(1))"),
@@ -98,16 +117,40 @@ fn faults_have_their_columns(rt: HostRuntime) -> Result<(), Fail> {
         (b"at".as_slice(), ScriptFault::BadWord(3)),
         (b"at  Alpha list /".as_slice(), ScriptFault::BadWord(4)),
         (b"at Gamma list /".as_slice(), ScriptFault::BadName(4)),
-        (b"at Alpha nochain nocopy list /".as_slice(), ScriptFault::BadWord(18)),
-        (b"at Alpha size=4294967296 list /".as_slice(), ScriptFault::BadWord(10)),
+        (
+            b"at Alpha nochain nocopy list /".as_slice(),
+            ScriptFault::BadWord(18),
+        ),
+        (
+            b"at Alpha size=4294967296 list /".as_slice(),
+            ScriptFault::BadWord(10),
+        ),
         (b"at Alpha list C=NL".as_slice(), ScriptFault::BadName(15)),
         (b"at Alpha list / ".as_slice(), ScriptFault::BadWord(17)),
-        (b"at Alpha list /O=\xff".as_slice(), ScriptFault::BadWord(18)),
-        (b"at Alpha read / attrs=CN,".as_slice(), ScriptFault::BadWord(17)),
-        (b"at Alpha search base / (CN=a".as_slice(), ScriptFault::BadFilter(24)),
-        (b"at Alpha modify /C=NL".as_slice(), ScriptFault::BadWord(22)),
-        (b"at Alpha modify /C=NL put:SN=a,".as_slice(), ScriptFault::BadWord(23)),
-        (b"at Alpha move /C=NL /O=a".as_slice(), ScriptFault::BadName(21)),
+        (
+            b"at Alpha list /O=\xff".as_slice(),
+            ScriptFault::BadWord(18),
+        ),
+        (
+            b"at Alpha read / attrs=CN,".as_slice(),
+            ScriptFault::BadWord(17),
+        ),
+        (
+            b"at Alpha search base / (CN=a".as_slice(),
+            ScriptFault::BadFilter(24),
+        ),
+        (
+            b"at Alpha modify /C=NL".as_slice(),
+            ScriptFault::BadWord(22),
+        ),
+        (
+            b"at Alpha modify /C=NL put:SN=a,".as_slice(),
+            ScriptFault::BadWord(23),
+        ),
+        (
+            b"at Alpha move /C=NL /O=a".as_slice(),
+            ScriptFault::BadName(21),
+        ),
         (b"cut Beta Beta".as_slice(), ScriptFault::BadWord(10)),
         (b"pull 12345678 total".as_slice(), ScriptFault::BadWord(6)),
         (b"deliver dap Alpha a".as_slice(), ScriptFault::BadHex(19)),

@@ -1,5 +1,5 @@
 -- A word at fault ends it; a pair more leaves the words behind it.
-use Rattle.std.proofs.Common.{◌≡◌, ◌+◌, ◌≤◌, [], map, length, sym, ◌∙◌}
+use Rattle.std.proofs.Common.{[], map, sym, ◌∙◌}
 use Rattle.std.proofs.lemmas.Result.{err_from_is_err_and}
 use Rattle.x5_model_script.specs.Lines as lines
 use Rattle.x5_model_script.specs.Texts.{pair_in}

@@ -1,5 +1,5 @@
 -- A word at fault ends it; a change more leaves the words behind it.
-use Rattle.std.proofs.Common.{◌≡◌, ◌+◌, ◌≤◌, [], ◌∷◌, map, length, sym, ◌∙◌, ap}
+use Rattle.std.proofs.Common.{[], ◌∷◌, map, sym, ◌∙◌, ap}
 use Rattle.std.proofs.lemmas.List.{map-append}
 use Rattle.std.proofs.lemmas.Result.{err_from_is_err_and}
 use Rattle.x5_model_script.specs.Lines as lines

@@ -19,5 +19,5 @@ pub returns-in_ok-push-in-None-2 : goal.returns-in_ok-push-in-None-2
 returns-in_ok-push-in-None-2 c =
     ap (map attribute_view) c.in_ok-push-in-None-2.ensures.items
     ∙ at_end (type_view c.args.kind) (value_view c.args.value) _ c.args.attributes.now.items
-      (sym c.in-None.is ∙ c.place_of.ensures ∙ ap (position (λ a. same_type (type_view a.kind) (type_view c.args.kind))) c.deref.ensures.value)
-      (alone c.args.kind c.args.value c.new-values.result c.push-in-None.new.self c.new-values.ensures c.in_ok-push-in-None.ensures.ok)
+    (sym c.in-None.is ∙ c.place_of.ensures ∙ ap (position (λ a. same_type (type_view a.kind) (type_view c.args.kind))) c.deref.ensures.value)
+    (alone c.args.kind c.args.value c.new-values.result c.push-in-None.new.self c.new-values.ensures c.in_ok-push-in-None.ensures.ok)
