@@ -1,7 +1,6 @@
 -- The lines of a script and what they ask for, or the first fault from the left of one that asks for nothing (docs/FORMATS.md, script).
 use Rattle.std.specs.Prelude.{ℕ, Bool, true, false, ◌||◌, ◌==◌, nat_lt, if◌then◌else◌, List, [], ◌∷◌, ◌++◌, length, codes, Option, Some, None, option_and_then, Result, Ok, Err, nat_eq}
 use Rattle.std.specs.List.{starts_with}
-use Rattle.std.specs.Str.{is_utf8}
 use Rattle.x5_model.specs.Words.{is_empty, same_octets, first_of}
 use Rattle.x5_model.specs.Values.{Text, Name, Rdn, TypeRef, Value}
 use Rattle.x5_model.specs.Statics.{same_type}
@@ -9,7 +8,7 @@ use Rattle.x5_model.specs.Assertions.{assertion_of, offered}
 use Rattle.x5_model.specs.Requests as ask
 use Rattle.x5_model_run.specs.Network as network
 use Rattle.x5_model_run.specs.Run as run
-use Rattle.x5_model_script.specs.Words.{Fault, Long, BadWord, BadName, BadFilter, BadHex, ◌>>=◌, or_fault, Word, Left, words_of, sound, passed, next, skipped, ended}
+use Rattle.x5_model_script.specs.Words.{Fault, Long, BadWord, BadName, BadFilter, BadHex, ◌>>=◌, or_fault, Word, Left, words_of, sound, passed, next, peeked, skipped, ended}
 use Rattle.x5_model_script.specs.Texts as texts
 
 -- What a line asks for: what runs are made of, or octets handed to an agent by the protocol between agents, or by that of users.
@@ -73,24 +72,33 @@ search left = do
   shown ← selection filter.1
   Ok (ask.Search base.0 subset.0 filter.0 shown.0, shown.1)
 
--- a value of an attribute: words of one type are values of one attribute, at the place of its first
+abbrev pub one_more : Value → ask.Attribute → ask.Attribute
+one_more v a = record { kind = a.kind; values = a.values ++ offered a.kind v ∷ [] }
+
+-- a value of a type: words of one type are values of one attribute, at the place of its first
 abbrev pub with_value : TypeRef → Value → List ask.Attribute → List ask.Attribute
 with_value kind v [] = record { kind = kind; values = offered kind v ∷ [] } ∷ []
-with_value kind v (a ∷ others) =
-    if same_type a.kind kind then record { kind = a.kind; values = a.values ++ offered kind v ∷ [] } ∷ others else a ∷ with_value kind v others
+with_value kind v (a ∷ others) = if same_type a.kind kind then one_more v a ∷ others else a ∷ with_value kind v others
 
--- all words that are left are `T=value`
-abbrev pub attributes_by : List ask.Attribute → List Word → Result (List ask.Attribute) Fault
-attributes_by before [] = Ok before
-attributes_by before (w ∷ ws) = do
+-- the words, each read so, put one after another to what was there before
+abbrev pub gathered : {A B : Type 0} → (Text → Option A) → (A → B → B) → B → List Word → Result B Fault
+gathered read put before [] = Ok before
+gathered read put before (w ∷ ws) = do
   word ← sound w
-  pair ← or_fault (BadWord word.column) (texts.pair_in word.text)
-  attributes_by (with_value pair.0 pair.1 before) ws
+  x ← or_fault (BadWord word.column) (read word.text)
+  gathered read put (put x before) ws
+
+-- all words that are left
+abbrev pub gather : {A B : Type 0} → (Text → Option A) → (A → B → B) → B → Left → Result (B × Left) Fault
+gather read put before left = do
+  all ← gathered read put before left.words
+  Ok (all, record { words = []; end = left.end })
+
+abbrev pub with_pair : TypeRef × Value → List ask.Attribute → List ask.Attribute
+with_pair pair before = with_value pair.0 pair.1 before
 
 abbrev pub attributes : Left → Result (List ask.Attribute × Left) Fault
-attributes left = do
-  all ← attributes_by [] left.words
-  Ok (all, record { words = []; end = left.end })
+attributes left = gather texts.pair_in with_pair [] left
 
 -- `NAME T=value T=value`, of which there may be none
 abbrev pub add : Left → Result (ask.Body × Left) Fault
@@ -105,18 +113,12 @@ remove left = do
   object ← name left
   Ok (ask.RemoveEntry object.0, object.1)
 
--- all words that are left are changes
-abbrev pub changes_by : List ask.Change → List Word → Result (List ask.Change) Fault
-changes_by before [] = Ok before
-changes_by before (w ∷ ws) = do
-  word ← sound w
-  change ← or_fault (BadWord word.column) (texts.change_in word.text)
-  changes_by (before ++ change ∷ []) ws
+abbrev pub with_change : ask.Change → List ask.Change → List ask.Change
+with_change change before = before ++ change ∷ []
 
+-- the changes behind the first
 abbrev pub changes : ask.Change → Left → Result (List ask.Change × Left) Fault
-changes first left = do
-  all ← changes_by (first ∷ []) left.words
-  Ok (all, record { words = []; end = left.end })
+changes first left = gather texts.change_in with_change (first ∷ []) left
 
 -- `NAME CHANGE CHANGE`, of which there is one at least
 abbrev pub modify : Left → Result (ask.Body × Left) Fault
@@ -136,18 +138,22 @@ move left = do
   rdn ← reading texts.rdn_in BadName object.1
   moved object.0 rdn.0 (skipped (codes "drop") rdn.1)
 
--- the operation that a word names, with its arguments
+-- the operation that a word names, with its arguments: one that asks (X.511, sections 9 and 10) or one that changes (section 11)
+abbrev pub update_by : Word → Left → Result (ask.Body × Left) Fault
+update_by w left =
+    if same_octets w.text (codes "add") then add left
+    else if same_octets w.text (codes "remove") then remove left
+    else if same_octets w.text (codes "modify") then modify left
+    else if same_octets w.text (codes "move") then move left
+    else Err (BadWord w.column)
+
 abbrev pub operation_by : Word → Left → Result (ask.Body × Left) Fault
 operation_by w left =
     if same_octets w.text (codes "read") then read left
     else if same_octets w.text (codes "compare") then compare left
     else if same_octets w.text (codes "list") then list left
     else if same_octets w.text (codes "search") then search left
-    else if same_octets w.text (codes "add") then add left
-    else if same_octets w.text (codes "remove") then remove left
-    else if same_octets w.text (codes "modify") then modify left
-    else if same_octets w.text (codes "move") then move left
-    else Err (BadWord w.column)
+    else update_by w left
 
 abbrev pub operation : Left → Result (ask.Body × Left) Fault
 operation left = do
@@ -155,14 +161,6 @@ operation left = do
   operation_by w.0 w.1
 
 -- ---- controls: `nocopy`, `nochain` and `size=N`, in this order, each of which may lack
-
--- the next word, where it's UTF-8
-abbrev pub peeked_by : Option Word → Option Text
-peeked_by None = None
-peeked_by (Some w) = if is_utf8 w.text then Some w.text else None
-
-abbrev pub peeked : Left → Option Text
-peeked left = peeked_by (first_of left.words)
 
 abbrev pub sized_by : Option ℕ → Left → Option ℕ × Left
 sized_by None left = (None, left)
@@ -257,21 +255,25 @@ deliver names left = do
   nothing ← ended octets.1
   Ok (Delivers dsp.0 to.0 octets.0)
 
--- the kind that the first word tells
+-- the kind that the first word tells: what becomes of one agent, or of a pair, and all others
+abbrev pub outage_by : List Text → Word → Left → Result Asked Fault
+outage_by names w left =
+    if same_octets w.text (codes "down") then outage network.Down names left
+    else if same_octets w.text (codes "up") then outage network.Up names left
+    else if same_octets w.text (codes "refuse") then outage network.Refuse names left
+    else if same_octets w.text (codes "willing") then outage network.Willing names left
+    else if same_octets w.text (codes "cut") then pair network.Cut names left
+    else if same_octets w.text (codes "join") then pair network.Join names left
+    else Err (BadWord w.column)
+
 abbrev pub command_by : List Text → Word → Left → Result Asked Fault
 command_by names w left =
     if same_octets w.text (codes "at") then request names left
-    else if same_octets w.text (codes "down") then outage network.Down names left
-    else if same_octets w.text (codes "up") then outage network.Up names left
-    else if same_octets w.text (codes "cut") then pair network.Cut names left
-    else if same_octets w.text (codes "join") then pair network.Join names left
-    else if same_octets w.text (codes "refuse") then outage network.Refuse names left
-    else if same_octets w.text (codes "willing") then outage network.Willing names left
     else if same_octets w.text (codes "pull") then refresh false left
     else if same_octets w.text (codes "push") then refresh true left
     else if same_octets w.text (codes "lose") then lose left
     else if same_octets w.text (codes "deliver") then deliver names left
-    else Err (BadWord w.column)
+    else outage_by names w left
 
 abbrev pub command : List Text → Left → Result Asked Fault
 command names left = do

@@ -77,15 +77,16 @@ types_in t = if is_empty t then Some [] else all_of type_of_text (slice_split is
 abbrev pub attrs_in : Text → Option (List TypeRef)
 attrs_in t = if starts_with nat_eq t (codes "attrs=") then types_in (drop 6 t) else None
 
--- `T=value`
 abbrev pub value_in : TypeRef → Text → Option Value
 value_in kind t = result_ok (value_of_text kind t)
 
-abbrev pub valued : Text → TypeRef → Option (TypeRef × Value)
-valued t kind = option_map (λ v. (kind, v)) (value_in kind (after_first is_equals t))
+abbrev pub pair_for : Text → TypeRef → Option (TypeRef × Value)
+pair_for t kind = option_map (λ v. (kind, v)) (value_in kind t)
 
+-- `T=value`
 abbrev pub pair_in : Text → Option (TypeRef × Value)
-pair_in t = if list_any is_equals t then option_and_then (valued t) (type_of_text (before_first is_equals t)) else None
+pair_in t =
+    if list_any is_equals t then option_and_then (pair_for (after_first is_equals t)) (type_of_text (before_first is_equals t)) else None
 
 -- values with commas between them; a comma of a value itself is escaped
 abbrev pub values_in : TypeRef → Text → Option (List Value)
@@ -94,12 +95,13 @@ values_in kind t = all_of (value_in kind) (slice_split is_comma t)
 abbrev pub attribute_of : TypeRef → List Value → Attribute
 attribute_of kind values = record { kind = kind; values = map (offered kind) values }
 
--- `T=v,v`
 abbrev pub attribute_for : Text → TypeRef → Option Attribute
-attribute_for t kind = option_map (attribute_of kind) (values_in kind (after_first is_equals t))
+attribute_for t kind = option_map (attribute_of kind) (values_in kind t)
 
+-- `T=v,v`
 abbrev pub attribute_in : Text → Option Attribute
-attribute_in t = if list_any is_equals t then option_and_then (attribute_for t) (type_of_text (before_first is_equals t)) else None
+attribute_in t =
+    if list_any is_equals t then option_and_then (attribute_for (after_first is_equals t)) (type_of_text (before_first is_equals t)) else None
 
 -- `new:T=v,v`, `drop:T`, `put:T=v,v` and `cut:T=v,v`
 abbrev pub change_in : Text → Option Change

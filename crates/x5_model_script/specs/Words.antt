@@ -1,5 +1,5 @@
 -- The words of a script's line, and their columns (docs/FORMATS.md, script). The grammar is this project's own.
-use Rattle.std.specs.Prelude.{ℕ, ◌+◌, Bool, true, false, ◌==◌, if◌then◌else◌, List, [], ◌∷◌, length, drop, Option, None, Some, Result, Ok, Err}
+use Rattle.std.specs.Prelude.{ℕ, ◌+◌, Bool, true, false, ◌==◌, if◌then◌else◌, List, [], ◌∷◌, length, drop, Option, None, Some, option_and_then, Result, Ok, Err}
 use Rattle.std.specs.List.{slice_split}
 use Rattle.std.specs.Str.{is_utf8}
 use Rattle.std.specs.Str.Lossy.{utf8_valid_len}
@@ -59,6 +59,14 @@ next left = do
   w ← or_fault (BadWord left.end) (first_of left.words)
   word ← sound w
   Ok (word, passed left)
+
+-- octets that are UTF-8
+abbrev pub text_in : Text → Option Text
+text_in t = if is_utf8 t then Some t else None
+
+-- the next word, if one is left that is UTF-8
+abbrev pub peeked : Left → Option Text
+peeked left = option_and_then (λ w. text_in w.text) (first_of left.words)
 
 -- whether the next word is this one, which is then passed over
 abbrev pub stands : Text → Left → Bool

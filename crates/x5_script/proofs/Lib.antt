@@ -1,0 +1,5 @@
+pub mod Cursor
+pub mod WordLaws
+pub mod NumberLaws
+pub mod ValueLaws
+pub mod FaultLaws
