@@ -1,3 +1,4 @@
 pub mod Linked
+pub mod Slot
 pub mod Inside
 pub mod Changes
