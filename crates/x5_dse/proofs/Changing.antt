@@ -46,6 +46,28 @@ module _ (prefix : Name) (slots : Slots) (order : List NodeId) (row : IsRow slot
       (λ z i. let w = of_nodes prefix slots order row z i in subst (λ (n : Node). In n xs) (sym w.2) (f w.0 w.1))
       (λ z i. let w = g z i in subst (λ (n : Node). In n (all_nodes prefix slots order row)) (sym w.2) (in_nodes prefix slots order row w.0 w.1))
 
+-- ---- slots that hold the same but for entries
+
+module _ (slots others : Slots) (used_same : (m : NodeId) → is_used others m ≡ is_used slots m) (same_parent : (m : NodeId) → parent_at others m ≡ parent_at slots m)
+    (same_depth : (m : NodeId) → depth_at others m ≡ depth_at slots m) (same_rdn : (m : NodeId) → rdn_at others m ≡ rdn_at slots m) (order : List NodeId) (row : IsRow slots order) where
+  pub row_alike : IsRow others order
+  row_alike = record {
+    used = λ m. (λ i. used_same m ∙ (row.used m).0 i, λ u. (row.used m).1 (sym (used_same m) ∙ u));
+    first = same_depth top ∙ row.first;
+    above = λ m i. (
+      ap (is_used others) (same_parent m) ∙ used_same (parent_at slots m) ∙ (row.above m i).0,
+      same_depth m ∙ (row.above m i).1 ∙ ap (λ (n : ℕ). suc n) (sym (same_depth (parent_at slots m)) ∙ ap (depth_at others) (sym (same_parent m))),
+    );
+    in_order = subst (λ (xs : List Spot). ascending spot_below xs ≡ true) (sym (spots_alike order)) row.in_order;
+  }
+    where
+      spots_alike : (ids : List NodeId) → spots_of others ids ≡ spots_of slots ids
+      spots_alike [] = refl
+      spots_alike (m ∷ ids) = let p = same_parent m in let d = same_rdn m in let r = spots_alike ids in λ i. ((p i).0, key_of_rdn (d i)) ∷ r i
+
+  pub name_alike : (prefix : Name) (m : NodeId) → is_used slots m ≡ true → name_at prefix others m ≡ name_at prefix slots m
+  name_alike prefix m u = same_name prefix slots others order row (λ (k : NodeId). Unit {0}) (λ k v s. same_parent k) (λ k v s. same_depth k) (λ k v s. same_rdn k) (λ k i s. tt) m u tt
+
 -- ---- slots that hold the same
 
 module _ (slots others : Slots) (same : (m : NodeId) → slot_at others m ≡ slot_at slots m) (order : List NodeId) (row : IsRow slots order) where
@@ -53,17 +75,7 @@ module _ (slots others : Slots) (same : (m : NodeId) → slot_at others m ≡ sl
   used_same m = ap is_some (same m)
 
   pub row_same : IsRow others order
-  row_same = record {
-    used = λ m. (λ i. used_same m ∙ (row.used m).0 i, λ u. (row.used m).1 (sym (used_same m) ∙ u));
-    first = ap (λ (s : Option Slot). (held s).depth) (same top) ∙ row.first;
-    above = λ m i. subst (λ (s : Option Slot). (is_used others (held s).parent ≡ true) × ((held s).depth ≡ suc (depth_at others (held s).parent))) (sym (same m))
-        (used_same (parent_at slots m) ∙ (row.above m i).0, (row.above m i).1 ∙ ap (λ (s : Option Slot). suc (held s).depth) (sym (same (parent_at slots m))));
-    in_order = subst (λ (xs : List Spot). ascending spot_below xs ≡ true) (sym (spots_same order)) row.in_order;
-  }
-    where
-      spots_same : (ids : List NodeId) → spots_of others ids ≡ spots_of slots ids
-      spots_same [] = refl
-      spots_same (m ∷ ids) = let e = same m in let r = spots_same ids in λ i. ((held (e i)).parent.0, key_of_rdn (held (e i)).rdn) ∷ r i
+  row_same = row_alike slots others used_same (λ k. ap (λ (o : Option Slot). (held o).parent) (same k)) (λ k. ap (λ (o : Option Slot). (held o).depth) (same k)) (λ k. ap (λ (o : Option Slot). (held o).rdn) (same k)) order row
 
   pub nodes_same : (prefix : Name) → nodes_of prefix others order ≡ nodes_of prefix slots order
   nodes_same prefix =
@@ -72,6 +84,7 @@ module _ (slots others : Slots) (same : (m : NodeId) → slot_at others m ≡ sl
       (λ n i. let w = of_nodes prefix slots order row n i in (w.0, used_same w.0 ∙ w.1, w.2 ∙ sym (node_same w.0 w.1)))
     where
       node_same : (m : NodeId) → is_used slots m ≡ true → node_of prefix others m ≡ node_of prefix slots m
-      node_same m u = same_node prefix slots others order row (λ (k : NodeId). Unit {0})
-        (λ k v s. ap (λ (o : Option Slot). (held o).parent) (same k)) (λ k v s. ap (λ (o : Option Slot). (held o).depth) (same k)) (λ k v s. ap (λ (o : Option Slot). (held o).rdn) (same k))
-        (λ k i s. tt) m u tt (ap (λ (o : Option Slot). (held o).entry) (same m))
+      node_same m u =
+          let n = name_alike slots others used_same (λ k. ap (λ (o : Option Slot). (held o).parent) (same k)) (λ k. ap (λ (o : Option Slot). (held o).depth) (same k)) (λ k. ap (λ (o : Option Slot). (held o).rdn) (same k)) order row prefix m u in
+          let e = ap (λ (o : Option Slot). (held o).entry) (same m) in
+          λ i. record { id = m; named = record { name = n i; entry = e i } }

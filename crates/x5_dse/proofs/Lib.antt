@@ -12,3 +12,5 @@ pub mod Runs
 pub mod InOrder
 pub mod Putting
 pub mod Inserting
+pub mod Replacing
+pub mod Removing
