@@ -14,3 +14,6 @@ pub mod Putting
 pub mod Inserting
 pub mod Replacing
 pub mod Removing
+pub mod Renaming
+pub mod Moving
+pub mod ChildRuns

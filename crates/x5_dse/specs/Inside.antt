@@ -1,7 +1,7 @@
 -- How the nodes of a tree are kept: in each slot that is used an entry with its own RDN and the node just above, and the
 -- numbers of these slots in the order of the nodes above and then of their own RDNs; so what stands just below one node is
 -- one run. The prefix's entry is in the first slot.
-use Rattle.std.specs.Prelude.{◌≡◌, ◌↔◌, ℕ, zero, suc, ◌+◌, ◌-◌, ◌<◌, ◌≤◌, Bool, true, false, IsTrue, List, [], ◌∷◌, ◌++◌, length, map, take, slice_index_or}
+use Rattle.std.specs.Prelude.{◌≡◌, ◌↔◌, ℕ, zero, suc, ◌+◌, ◌-◌, ◌<◌, ◌≤◌, Bool, true, false, IsTrue, List, [], ◌∷◌, ◌++◌, length, map, take, remove, slice_index_or}
 use Rattle.std.specs.Option.{is_some}
 use Rattle.std.specs.Ordering.{is_lt, ordering_then, nat_cmp}
 use Rattle.std.specs.Vec.{vec_len, vec_capacity}
@@ -130,6 +130,19 @@ pub record IsSite (prefix : Name) (slots : Slots) (order : List NodeId) (name : 
   pub is_above : key_of (name_at prefix slots above) ≡ parent (key_of name)
   pub long : 0 < length name
   pub place : IsPlace (spots_of slots order) (above.0, slice_index_or (key_of name) (length name - 1) []) (Err at)
+
+-- another node stands above whose RDN has this key
+pub record IsOther (slots : Slots) (order : List NodeId) (node : NodeId) (rdn : KeyRdn) : Type 0 where
+  pub other : NodeId
+  pub there : In other order
+  pub differs : other ≡ node → ⊥
+  pub spot : spot_at slots other ≡ ((parent_at slots node).0, rdn)
+
+-- the place of a node, and the place where it goes with another RDN once it's taken from there
+pub record IsMove (slots : Slots) (order : List NodeId) (node : NodeId) (rdn : KeyRdn) (from to : ℕ) : Type 0 where
+  pub within : from < length order
+  pub is_at : (d : NodeId) → slice_index_or order from d ≡ node
+  pub goes : IsPlace (spots_of slots (remove order from)) ((parent_at slots node).0, rdn) (Err to)
 
 -- there is room for each number in both lists
 pub record HasRoom (a : Inside) : Type 0 where

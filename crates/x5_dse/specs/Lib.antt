@@ -2,3 +2,4 @@ pub mod Linked
 pub mod Slot
 pub mod Inside
 pub mod Changes
+pub mod Run

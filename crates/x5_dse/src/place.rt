@@ -1,19 +1,21 @@
 //! The places of nodes: by halves among those in order, and from RDN to RDN down from the prefix.
 
-ghost use Rattle.std.specs.Prelude.{◌≡◌, ◌↔◌, ◌<◌, true, false, length, IsTrue, MatchOption, MatchResult, map, [], slice_index_or, slice_set, vec_len, None};
+ghost use Rattle.std.specs.Prelude.{◌≡◌, ◌↔◌, ◌<◌, true, false, length, IsTrue, MatchOption, MatchResult, map, [], slice_index_or, slice_set, vec_len, None, IfOk};
 ghost use Rattle.std.specs.Bool.{MatchBool};
 ghost use Rattle.x5_model.specs.Members.{In};
 ghost use Rattle.x5_dse.specs.declared.node.NodeId.{NodeId};
 ghost use Rattle.x5_model.specs.Keys.{is_prefix};
 ghost use Rattle.x5_model.specs.Values.{key_of_pair, key_of};
 ghost use Rattle.x5_dse.specs.Changes.{NotInserted};
-ghost use Rattle.x5_dse.specs.Inside.{slot_at, is_used, held, spot_at, spots_of, spot_cmp, spot_below, nodes_of, IsPlace, IsRow, IsDown, IsSite, IsChild, IsStart, parent_at, top};
+ghost use Rattle.x5_dse.specs.Inside.{slot_at, is_used, held, spot_at, spots_of, spot_cmp, spot_below, nodes_of, IsPlace, IsRow, IsDown, IsSite, IsChild, IsStart, IsMove, IsOther, name_at, parent_at, top};
 ghost use Rattle.std.specs.Option.{option_map};
 ghost use Rattle.x5_dse.specs.Linked.{IsLowest, id_of, node_at, prefix_of};
 
 use crate::node::{Dse, DseFault, NodeId};
 use crate::order::compare_rdns;
+use std::alloc::Global;
 use std::cmp::Ordering;
+use x5_memory::NoMemory;
 use x5_names::{Name, Pair, Rdn};
 
 /// What the used slot holds.
@@ -242,5 +244,57 @@ pub(crate) fn take_out(slots: &mut Vec<Option<Dse>>, node: NodeId) -> Dse
     match slots[node.0].take() {
         Some(dse) => dse,
         None => unreachable!(),
+    }
+}
+
+/// The node's name: the prefix's, and the RDNs from there down.
+pub(crate) fn name_of(
+    alloc: Global,
+    prefix: &Name,
+    slots: &[Option<Dse>],
+    order: &[NodeId],
+    node: NodeId,
+) -> Result<Name, NoMemory>
+    requires row { IsRow slots.now order.now }
+    requires used { is_used slots.now node ≡ true }
+    ensures { IfOk result (λ name. name ≡ name_at prefix.now slots.now node) }
+{
+    let dse = held_at(slots, node);
+    if dse.depth == 0 {
+        return Ok(prefix.clone()?);
+    }
+    let mut name = name_of(alloc, prefix, slots, order, dse.parent)?;
+    name.push(alloc, dse.rdn(alloc)?)?;
+    Ok(name)
+}
+
+/// Where the node stands, and where it would go with these pairs once it's taken from there; none where another has them.
+pub(crate) fn move_of(
+    slots: &[Option<Dse>],
+    order: &[NodeId],
+    node: NodeId,
+    pairs: &[Pair],
+) -> Option<(usize, usize)>
+    requires row { IsRow slots.now order.now }
+    requires ordered { In node order.now }
+    ensures { MatchOption result (IsOther slots.now order.now node (map key_of_pair pairs.now)) (λ w. IsMove slots.now order.now node (map key_of_pair pairs.now) w.0 w.1) }
+{
+    let from = place_of_node(slots, order, node);
+    let above = held_at(slots, node).parent;
+    match place_of(slots, order, above, pairs) {
+        Ok(at) => {
+            if at == from {
+                Some((from, from))
+            } else {
+                None
+            }
+        }
+        Err(at) => {
+            if from < at {
+                Some((from, at - 1))
+            } else {
+                Some((from, at))
+            }
+        }
     }
 }

@@ -4,16 +4,17 @@ ghost use Rattle.std.specs.Prelude.{◌≡◌, ◌+◌, ◌<◌, ◌≤◌, ◌�
 ghost use Rattle.std.specs.Option.{option_map};
 ghost use Rattle.x5_model.specs.Keys.{is_prefix};
 ghost use Rattle.x5_model.specs.Values.{key_of};
-ghost use Rattle.x5_dse.specs.Linked.{IsLinked, IsLowest, entries_of, id_of, entry_in, name_in, node_at, node_with, is_first, is_live, prefix_of};
-ghost use Rattle.x5_dse.specs.Changes.{Inserted, NotInserted, Removed, NotRemoved, Replaced};
+ghost use Rattle.x5_dse.specs.Linked.{IsLinked, IsLowest, entries_of, id_of, entry_in, name_in, node_at, node_with, is_first, is_live, prefix_of, children_of};
+ghost use Rattle.x5_dse.specs.Changes.{Inserted, NotInserted, Removed, NotRemoved, Renamed, NotRenamed, Replaced};
 
+use crate::children::Children;
 use crate::node::{Dse, DseFault, NodeId, Own};
-use crate::place::{find_node, has_children, held_at, lowest_node, place_of_node, site_of, take_out};
+use crate::place::{find_node, has_children, held_at, lowest_node, move_of, name_of, place_of_node, run_of, site_of, take_out};
 use std::alloc::Global;
 use std::marker::Model;
 use x5_match::Entry;
 use x5_memory::NoMemory;
-use x5_names::Name;
+use x5_names::{Name, Rdn};
 
 /// The entries of one naming context, whose prefix is the first of them.
 #[derive(Debug, Drop)]
@@ -94,6 +95,23 @@ impl DseTree {
         ensures { option_map entry_in (node_with self.now.nodes node) ≡ Some result.now }
     {
         &held_at(&self.slots, node).entry
+    }
+
+    /// The name of the node's entry: each RDN as it is spelled there (X.501, section 9).
+    pub fn name(&self, alloc: Global, node: NodeId) -> Result<Name, NoMemory>
+        requires { IsTrue (is_live self.now.nodes node) }
+        ensures { IfOk result (λ name. option_map name_in (node_with self.now.nodes node) ≡ Some name) }
+    {
+        name_of(alloc, &self.prefix, &self.slots, &self.order, node)
+    }
+
+    /// The nodes just below the node, in the order of their keys. No memory.
+    pub fn children(&self, node: NodeId) -> Children<'_>
+        requires { IsTrue (is_live self.now.nodes node) }
+        ensures { result ≡ children_of self.now.nodes node }
+    {
+        let at = run_of(&self.slots, &self.order, node);
+        Children::new(&self.slots, &self.order, node, at)
     }
 
     /// Makes room for one entry more. After want of memory the entries are as they were.
@@ -182,5 +200,31 @@ impl DseTree {
             unreachable!();
         }
         Ok(held.entry)
+    }
+
+    /// Gives the node's entry another RDN and other attributes; what stands below it goes with it (X.511, section 11.4). The node is
+    /// another than the prefix's. No memory.
+    pub fn rename(&mut self, node: NodeId, rdn: Rdn, entry: Entry) -> Result<(), DseFault>
+        requires live { IsTrue (is_live self.old.nodes node) }
+        requires other { is_first self.old.nodes node ≡ false }
+        ensures ok { OnOk result (Renamed self.old node rdn entry self.new) }
+        ensures fault { IfErr result (λ fault. NotRenamed self.old.nodes node rdn fault) }
+        ensures err { OnErr result (self.new ≡ self.old) }
+    {
+        let Some((from, to)) = move_of(&self.slots, &self.order, node, rdn.pairs()) else {
+            return Err(DseFault::Exists);
+        };
+        self.order.remove(from);
+        if self.order.insert(to, node).is_err() {
+            unreachable!();
+        }
+        let held = take_out(&mut self.slots, node);
+        self.slots[node.0] = Some(Dse {
+            parent: held.parent,
+            depth: held.depth,
+            own: Own::Renamed(rdn),
+            entry,
+        });
+        Ok(())
     }
 }
