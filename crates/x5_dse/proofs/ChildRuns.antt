@@ -54,7 +54,7 @@ module _ {A : Type 0} (test : A → Bool) where
     where
       by : (b : Bool) → ascending below (map f (front_of test xs)) ≡ true → ascending below (map f (cond b (x ∷ front_of test xs) [])) ≡ true
       by true rest = cons_ascending below chain (f x) (map f (front_of test xs)) (λ z i. let w = of_map f z (front_of test xs) i in
-        first_below below chain (f x) z (map f xs) h (subst (λ (y : B). In y (map f xs)) (sym w.2) (in_map f w.0 xs (of_while w.0 xs w.1).0))) rest
+          first_below below chain (f x) z (map f xs) h (subst (λ (y : B). In y (map f xs)) (sym w.2) (in_map f w.0 xs (of_while w.0 xs w.1).0))) rest
       by false rest = refl
 
 drop_ascending : (n : ℕ) (xs : List Spot) → ascending spot_below xs ≡ true → ascending spot_below (drop n xs) ≡ true

@@ -73,12 +73,12 @@ module _ (prefix : Name) (slots : Slots) (order free : List NodeId) (kept : IsKe
       not_it : (m : NodeId) → is_used slots m ≡ true → key_in prefix slots order kept.row m ≡ key_of name → ⊥
       not_it m u e = elim (in_first m top order ((kept.row.used m).1 u)) [
         | inl p ↦ (let l = above_length in
-          let f : length (key_of prefix) ≡ length (key_of name) = ap length (sym (top_key prefix slots order kept.row) ∙ ap (key_in prefix slots order kept.row) (sym p) ∙ e) in
-          absurd (omega (arith, length-map name key_of_rdn, length-map prefix key_of_rdn)))
+            let f : length (key_of prefix) ≡ length (key_of name) = ap length (sym (top_key prefix slots order kept.row) ∙ ap (key_in prefix slots order kept.row) (sym p) ∙ e) in
+            absurd (omega (arith, length-map name key_of_rdn, length-map prefix key_of_rdn)))
         | inr i ↦ (let up = sym (child_parent prefix slots order kept.row m i) ∙ ap parent e ∙ sym site.is_above in
-          let same : parent_at slots m ≡ above = unique prefix slots order kept.row (parent_at slots m) above (kept.row.above m i).0 site.used up in
-          let own : key_of_rdn (rdn_at slots m) ≡ key_of_rdn (last_rdn name) = own_key m i e up in
-          child_missing slots order (above.0, key_of_rdn (last_rdn name)) place at m i (λ k. ((same k).0, own k)))
+            let same : parent_at slots m ≡ above = unique prefix slots order kept.row (parent_at slots m) above (kept.row.above m i).0 site.used up in
+            let own : key_of_rdn (rdn_at slots m) ≡ key_of_rdn (last_rdn name) = own_key m i e up in
+            child_missing slots order (above.0, key_of_rdn (last_rdn name)) place at m i (λ k. ((same k).0, own k)))
       ]
         where
           own_key : (m : NodeId) → In m order → key_in prefix slots order kept.row m ≡ key_of name → key_in prefix slots order kept.row (parent_at slots m) ≡ key_in prefix slots order kept.row above → key_of_rdn (rdn_at slots m) ≡ key_of_rdn (last_rdn name)

@@ -17,3 +17,4 @@ pub mod Removing
 pub mod Renaming
 pub mod Moving
 pub mod ChildRuns
+pub mod Callers

@@ -35,7 +35,7 @@ module _ (spots : List Spot) (from : ℕ) (within : from < length spots) (spot :
     (let l = length_without spots from within in omega arith),
     (λ k d l. subst (λ (x : Spot). spot_below x spot ≡ true) (sym (get_low spots from k d l within)) (subst (λ (x : Spot). spot_below (get_or spots k d) x ≡ true) (e d) (rising spots d k from h l within))),
     (λ k d l m. let n = length_without spots from within in
-      subst (λ (x : Spot). spot_below spot x ≡ true) (sym (get_high spots from k d l within)) (subst (λ (x : Spot). spot_below x (get_or spots (suc k) d) ≡ true) (e d) (rising spots d from (suc k) h (omega arith) (omega arith)))),
+        subst (λ (x : Spot). spot_below spot x ≡ true) (sym (get_high spots from k d l within)) (subst (λ (x : Spot). spot_below x (get_or spots (suc k) d) ≡ true) (e d) (rising spots d from (suc k) h (omega arith) (omega arith)))),
   )
 
   pub goes_up : (at : ℕ) → IsPlace spots spot (Err at) → from < at → IsPlace (without spots from) spot (Err (at - 1))
@@ -46,7 +46,7 @@ module _ (spots : List Spot) (from : ℕ) (within : from < length spots) (spot :
       | inr p ↦ subst (λ (x : Spot). spot_below x spot ≡ true) (sym (get_high spots from k d p within)) (w.1 (suc k) d (omega arith))
     ]),
     (λ k d m o. let n = length_without spots from within in
-      subst (λ (x : Spot). spot_below spot x ≡ true) (sym (get_high spots from k d (omega arith) within)) (w.2 (suc k) d (omega arith) (omega arith))),
+        subst (λ (x : Spot). spot_below spot x ≡ true) (sym (get_high spots from k d (omega arith) within)) (w.2 (suc k) d (omega arith) (omega arith))),
   )
 
   pub goes_down : (at : ℕ) → IsPlace spots spot (Err at) → at ≤ from → IsPlace (without spots from) spot (Err at)

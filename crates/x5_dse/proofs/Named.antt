@@ -200,8 +200,8 @@ module _ (prefix : Name) (slots : Slots) (order : List NodeId) (row : IsRow slot
   all_apart [] f h = tt
   all_apart (x ∷ xs) f h = (
     (λ z i. let w = of_map (node_of prefix slots) z xs i in
-      subst (λ (n : Node). (node_below (node_of prefix slots x) n ≡ true) ⊎ (node_below n (node_of prefix slots x) ≡ true)) (sym w.2)
-      (apart_keys x w.0 (f x here) (f w.0 (there w.1)) (λ e. h.0 (subst (λ (k : NodeId). In k xs) (sym e) w.1)))),
+        subst (λ (n : Node). (node_below (node_of prefix slots x) n ≡ true) ⊎ (node_below n (node_of prefix slots x) ≡ true)) (sym w.2)
+        (apart_keys x w.0 (f x here) (f w.0 (there w.1)) (λ e. h.0 (subst (λ (k : NodeId). In k xs) (sym e) w.1)))),
     all_apart xs (λ z i. f z (there i)) h.1,
   )
 

@@ -157,7 +157,7 @@ module _ (prefix : Name) (slots : Slots) (order : List NodeId) (row : IsRow slot
 
   pub name_kept : (m : NodeId) → is_used slots m ≡ true → name_at prefix others m ≡ name_at prefix slots m
   name_kept m u = same_name prefix slots others order row (λ (k : NodeId). Unit {0})
-    (λ k v t. ap (λ (o : Option Slot). (held o).parent) (keeps k v)) (λ k v t. ap (λ (o : Option Slot). (held o).depth) (keeps k v)) (λ k v t. ap (λ (o : Option Slot). (held o).rdn) (keeps k v)) (λ k i t. tt) m u tt
+      (λ k v t. ap (λ (o : Option Slot). (held o).parent) (keeps k v)) (λ k v t. ap (λ (o : Option Slot). (held o).depth) (keeps k v)) (λ k v t. ap (λ (o : Option Slot). (held o).rdn) (keeps k v)) (λ k i t. tt) m u tt
 
   node_kept : (m : NodeId) → is_used slots m ≡ true → node_of prefix others m ≡ node_of prefix slots m
   node_kept m u = let n = name_kept m u in let e = ap (λ (o : Option Slot). (held o).entry) (keeps m u) in λ i. record { id = m; named = record { name = n i; entry = e i } }

@@ -120,8 +120,8 @@ module _ (prefix : Name) (slots : Slots) (order free : List NodeId) (kept : IsKe
     used = λ m. (forth m, back m);
     first = ap (λ (o : Option Slot). (held o).depth) (keeps top not_top) ∙ row_was.first;
     above = λ m i. let j = of_removed m order place i in let p = parent_other m j in
-      subst (λ (o : Option Slot). (is_used others (held o).parent ≡ true) × ((held o).depth ≡ suc (depth_at others (held o).parent))) (sym (keeps m (other_in m i)))
-      (still (parent_at slots m) p (row_was.above m j).0, (row_was.above m j).1 ∙ ap (λ (o : Option Slot). suc (held o).depth) (sym (keeps (parent_at slots m) p)));
+        subst (λ (o : Option Slot). (is_used others (held o).parent ≡ true) × ((held o).depth ≡ suc (depth_at others (held o).parent))) (sym (keeps m (other_in m i)))
+        (still (parent_at slots m) p (row_was.above m j).0, (row_was.above m j).1 ∙ ap (λ (o : Option Slot). suc (held o).depth) (sym (keeps (parent_at slots m) p)));
     in_order = subst (λ (xs : List Spot). ascending spot_below xs ≡ true) (sym spots_less) (less_ascending spot_below spot_chain spot_never (spots_of slots order) place row_was.in_order);
   }
     where
@@ -163,11 +163,11 @@ module _ (prefix : Name) (slots : Slots) (order free : List NodeId) (kept : IsKe
       nodes_are prefix others shorter row (filter (λ (n : Node). not (has_id id n)) (nodes_of prefix slots order))
       (filter_ascending node_below node_chain (λ (n : Node). not (has_id id n)) (nodes_of prefix slots order) (nodes_ascending prefix slots order row_was))
       (λ m u. let h = other_now m u in let v = sym (ap is_some (keeps m h)) ∙ u in
-        subst (λ (n : Node). In n (filter (λ (n : Node). not (has_id id n)) (nodes_of prefix slots order))) (sym (node_kept m v h))
-        (in_filter (λ (n : Node). not (has_id id n)) (node_of prefix slots m) (nodes_of prefix slots order) (in_nodes prefix slots order row_was m v) (test_other m h)))
+      subst (λ (n : Node). In n (filter (λ (n : Node). not (has_id id n)) (nodes_of prefix slots order))) (sym (node_kept m v h))
+      (in_filter (λ (n : Node). not (has_id id n)) (node_of prefix slots m) (nodes_of prefix slots order) (in_nodes prefix slots order row_was m v) (test_other m h)))
       (λ n i. let w = of_filter (λ (n : Node). not (has_id id n)) n (nodes_of prefix slots order) i in let v = of_nodes prefix slots order row_was n w.0 in
-        let h : v.0.0 ≢ id.0 = λ e. let t : has_id id n ≡ true = ap (has_id id) v.2 ∙ (id_decides v.0 id).1 (same_id v.0 id e) in let f = not_true (has_id id n) w.1 in cc in
-        (v.0, still v.0 h v.1, v.2 ∙ sym (node_kept v.0 v.1 h)))
+      let h : v.0.0 ≢ id.0 = λ e. let t : has_id id n ≡ true = ap (has_id id) v.2 ∙ (id_decides v.0 id).1 (same_id v.0 id e) in let f = not_true (has_id id n) w.1 in cc in
+      (v.0, still v.0 h v.1, v.2 ∙ sym (node_kept v.0 v.1 h)))
 
   entry_test : (m : NodeId) → is_used slots m ≡ true → not (has_id id (node_of prefix slots m)) ≡ not (same_key (node_key (node_of prefix slots m)) (node_key (node_of prefix slots id)))
   entry_test m u = elim (same_or_other m id) [

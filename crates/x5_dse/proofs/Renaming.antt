@@ -56,7 +56,7 @@ pub apart_map : (f : Node → Node) (xs : List Node) → ascending node_below xs
 apart_map f [] h g = tt
 apart_map f (x ∷ xs) h g = (
   (λ z i. let w = of_map f z xs i in
-    subst (λ (n : Node). (node_below (f x) n ≡ true) ⊎ (node_below n (f x) ≡ true)) (sym w.2) (g x w.0 here (there w.1) (first_below node_below node_chain x w.0 xs h w.1))),
+      subst (λ (n : Node). (node_below (f x) n ≡ true) ⊎ (node_below n (f x) ≡ true)) (sym w.2) (g x w.0 here (there w.1) (first_below node_below node_chain x w.0 xs h w.1))),
   apart_map f xs (rest_ascending node_below node_chain x xs h) (λ a b i j l. g a b (there i) (there j) l),
 )
 
@@ -237,9 +237,9 @@ module _ (prefix : Name) (slots : Slots) (order free : List NodeId) (kept : IsKe
         (λ i. record { id = m; named = record { name = n i; entry = e i } })
         ∙ sym (ap (λ (b : Bool). record { id = m; named = choice m b (is_prefix (key_in prefix slots order was id) (key_in prefix slots order was m)) }) k))
     | inr h ↦ (let k : same_key (key_in prefix slots order was m) (key_in prefix slots order was id) ≡ false = elim (true_or_false (same_key (key_in prefix slots order was m) (key_in prefix slots order was id))) [
-        | inl q ↦ absurd (h (ap (λ (j : NodeId). j.0) (unique prefix slots order was m id u used ((key_decides (key_in prefix slots order was m) (key_in prefix slots order was id)).0 q))))
-        | inr q ↦ q
-      ] in
+      | inl q ↦ absurd (h (ap (λ (j : NodeId). j.0) (unique prefix slots order was m id u used ((key_decides (key_in prefix slots order was m) (key_in prefix slots order was id)).0 q))))
+      | inr q ↦ q
+    ] in
         let e = ap (λ (o : Option Slot). (held o).entry) (slot_other slots id m (Some s) h) in
         other_is m e (goes (depth_at slots m) m u refl)
         ∙ sym (ap (λ (b : Bool). record { id = m; named = choice m b (is_prefix (key_in prefix slots order was id) (key_in prefix slots order was m)) }) k))
@@ -263,11 +263,11 @@ module _ (prefix : Name) (slots : Slots) (order free : List NodeId) (kept : IsKe
       (sorted_ascending node_below node_chain (map (moved (node_of prefix slots id).named s.rdn s.entry) (nodes_of prefix slots order))
       (apart_map (moved (node_of prefix slots id).named s.rdn s.entry) (nodes_of prefix slots order) (nodes_ascending prefix slots order was) apart))
       (λ m u. let v = sym (used_but slots id s used m) ∙ u in
-        in_sorted node_below (node_of prefix others m) (map (moved (node_of prefix slots id).named s.rdn s.entry) (nodes_of prefix slots order))
-        (subst (λ (n : Node). In n (map (moved (node_of prefix slots id).named s.rdn s.entry) (nodes_of prefix slots order))) (sym (node_moved m v)) (in_map (moved (node_of prefix slots id).named s.rdn s.entry) (node_of prefix slots m) (nodes_of prefix slots order) (in_nodes prefix slots order was m v))))
+      in_sorted node_below (node_of prefix others m) (map (moved (node_of prefix slots id).named s.rdn s.entry) (nodes_of prefix slots order))
+      (subst (λ (n : Node). In n (map (moved (node_of prefix slots id).named s.rdn s.entry) (nodes_of prefix slots order))) (sym (node_moved m v)) (in_map (moved (node_of prefix slots id).named s.rdn s.entry) (node_of prefix slots m) (nodes_of prefix slots order) (in_nodes prefix slots order was m v))))
       (λ n i. let w = of_map (moved (node_of prefix slots id).named s.rdn s.entry) n (nodes_of prefix slots order) (of_sorted node_below n (map (moved (node_of prefix slots id).named s.rdn s.entry) (nodes_of prefix slots order)) i) in
-        let v = of_nodes prefix slots order was w.0 w.1 in
-        (v.0, used_but slots id s used v.0 ∙ v.1, w.2 ∙ ap (moved (node_of prefix slots id).named s.rdn s.entry) v.2 ∙ sym (node_moved v.0 v.1)))
+      let v = of_nodes prefix slots order was w.0 w.1 in
+      (v.0, used_but slots id s used v.0 ∙ v.1, w.2 ∙ ap (moved (node_of prefix slots id).named s.rdn s.entry) v.2 ∙ sym (node_moved v.0 v.1)))
     where
       apart : (a b : Node) → In a (nodes_of prefix slots order) → In b (nodes_of prefix slots order) → node_below a b ≡ true
           → (node_below (moved (node_of prefix slots id).named s.rdn s.entry a) (moved (node_of prefix slots id).named s.rdn s.entry b) ≡ true) ⊎ (node_below (moved (node_of prefix slots id).named s.rdn s.entry b) (moved (node_of prefix slots id).named s.rdn s.entry a) ≡ true)

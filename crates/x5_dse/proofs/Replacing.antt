@@ -96,7 +96,7 @@ module _ (prefix : Name) (slots : Slots) (order free : List NodeId) (kept : IsKe
       (ascending_keys (with_entry id s.entry) (nodes_of prefix slots order) (key_kept id s.entry) ∙ nodes_ascending prefix slots order kept.row)
       (λ m u. let v = sym (used_but slots id s used m) ∙ u in subst (λ (n : Node). In n (map (with_entry id s.entry) (nodes_of prefix slots order))) (sym (node_is m v)) (in_map (with_entry id s.entry) (node_of prefix slots m) (nodes_of prefix slots order) (in_nodes prefix slots order kept.row m v)))
       (λ n i. let w = of_map (with_entry id s.entry) n (nodes_of prefix slots order) i in let v = of_nodes prefix slots order kept.row w.0 w.1 in
-        (v.0, used_but slots id s used v.0 ∙ v.1, w.2 ∙ ap (with_entry id s.entry) v.2 ∙ sym (node_is v.0 v.1)))
+      (v.0, used_but slots id s used v.0 ∙ v.1, w.2 ∙ ap (with_entry id s.entry) v.2 ∙ sym (node_is v.0 v.1)))
 
   entry_is : (m : NodeId) → is_used slots m ≡ true → (with_entry id s.entry (node_of prefix slots m)).named ≡ (if same_key (node_key (node_of prefix slots m)) (node_key (node_of prefix slots id)) then record { name = name_at prefix slots id; entry = s.entry } else (node_of prefix slots m).named)
   entry_is m u = elim (same_or_other m id) [

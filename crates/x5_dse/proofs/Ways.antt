@@ -32,9 +32,10 @@ module _ (slots : Slots) (order : List NodeId) (row : IsRow slots order) (key : 
   pub step_down : (node c : NodeId) (i : ℕ) (r : KeyRdn) → In c order → spot_at slots c ≡ (node.0, r) → key_of (path_of slots node) ≡ take i key → i < length key → get_or key i [] ≡ r
       → (is_used slots c ≡ true) × (key_of (path_of slots c) ≡ take (i + 1) key)
   step_down node c i r m e way l q =
-      let same : parent_at slots c ≡ node = same_id (parent_at slots c) node (ap (λ (s : Spot). s.0) e) in
-      (order_used [] slots order row c m,
-        child_key [] slots order row c m ∙ (λ k. key_of (path_of slots (same k)) ++ (e k).1 ∷ []) ∙ ap (λ (k : Key). k ++ r ∷ []) way ∙ ap (λ (s : KeyRdn). take i key ++ s ∷ []) (sym q) ∙ sym (take_more key i [] l))
+      let same : parent_at slots c ≡ node = same_id (parent_at slots c) node (ap (λ (s : Spot). s.0) e) in (
+        order_used [] slots order row c m,
+        child_key [] slots order row c m ∙ (λ k. key_of (path_of slots (same k)) ++ (e k).1 ∷ []) ∙ ap (λ (k : Key). k ++ r ∷ []) way ∙ ap (λ (s : KeyRdn). take i key ++ s ∷ []) (sym q) ∙ sym (take_more key i [] l),
+      )
 
   pub stops : (node : NodeId) (i : ℕ) (r : KeyRdn) → is_used slots node ≡ true → key_of (path_of slots node) ≡ take i key → i < length key → get_or key i [] ≡ r → IsChild slots order (node.0, r) None → IsDown [] slots order key node i
   stops node i r u way l q none = record {

@@ -282,13 +282,7 @@ pub(crate) fn move_of(
     let from = place_of_node(slots, order, node);
     let above = held_at(slots, node).parent;
     match place_of(slots, order, above, pairs) {
-        Ok(at) => {
-            if at == from {
-                Some((from, from))
-            } else {
-                None
-            }
-        }
+        Ok(at) => { if at == from { Some((from, from)) } else { None } }
         Err(at) => {
             if from < at {
                 Some((from, at - 1))

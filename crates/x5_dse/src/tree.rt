@@ -3,13 +3,17 @@
 ghost use Rattle.std.specs.Prelude.{◌≡◌, ◌+◌, ◌<◌, ◌≤◌, ◌∷◌, [], true, false, length, IfOk, IfErr, OnOk, OnErr, IsTrue, Some, Err};
 ghost use Rattle.std.specs.Option.{option_map};
 ghost use Rattle.x5_model.specs.Keys.{is_prefix};
+ghost use Rattle.x5_model.specs.Words.{first_of};
 ghost use Rattle.x5_model.specs.Values.{key_of};
 ghost use Rattle.x5_dse.specs.Linked.{IsLinked, IsLowest, entries_of, id_of, entry_in, name_in, node_at, node_with, is_first, is_live, prefix_of, children_of};
 ghost use Rattle.x5_dse.specs.Changes.{Inserted, NotInserted, Removed, NotRemoved, Renamed, NotRenamed, Replaced};
 
 use crate::children::Children;
 use crate::node::{Dse, DseFault, NodeId, Own};
-use crate::place::{find_node, has_children, held_at, lowest_node, move_of, name_of, place_of_node, run_of, site_of, take_out};
+use crate::place::{
+    find_node, has_children, held_at, lowest_node, move_of, name_of, place_of_node, run_of,
+    site_of, take_out,
+};
 use std::alloc::Global;
 use std::marker::Model;
 use x5_match::Entry;
@@ -72,6 +76,14 @@ impl DseTree {
         ensures { result ≡ self.now.spare }
     {
         self.free.len()
+    }
+
+    /// The node of the prefix. No memory.
+    pub fn top(&self) -> NodeId
+        ensures { option_map id_of (first_of self.now.nodes) ≡ Some result }
+    {
+        let _ = &self.order;
+        NodeId(0)
     }
 
     /// The node of the name, whatever its spelling. No memory.

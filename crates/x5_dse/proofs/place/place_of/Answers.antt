@@ -37,6 +37,7 @@ loop-low-preserved c =
 
 pub returns-in-Equal : goal.returns-in-Equal
 returns-in-Equal c =
-    let l : c.loop-low.low + (c.loop-low.high - c.loop-low.low) / 2 < length c.args.order.now = omega arith in
-    (omega (arith, spots_length c.args.slots.now c.args.order.now),
-      λ d. spot_get c.args.slots.now c.args.order.now (c.loop-low.low + (c.loop-low.high - c.loop-low.low) / 2) top d l ∙ equal_spots (spot_at c.args.slots.now (slice_index_or c.args.order.now (c.loop-low.low + (c.loop-low.high - c.loop-low.low) / 2) top)) (c.args.above.0, map key_of_pair c.args.pairs.now) (sym c.compare_at.ensures ∙ c.in-Equal.is))
+    let l : c.loop-low.low + (c.loop-low.high - c.loop-low.low) / 2 < length c.args.order.now = omega arith in (
+      omega (arith, spots_length c.args.slots.now c.args.order.now),
+      λ d. spot_get c.args.slots.now c.args.order.now (c.loop-low.low + (c.loop-low.high - c.loop-low.low) / 2) top d l ∙ equal_spots (spot_at c.args.slots.now (slice_index_or c.args.order.now (c.loop-low.low + (c.loop-low.high - c.loop-low.low) / 2) top)) (c.args.above.0, map key_of_pair c.args.pairs.now) (sym c.compare_at.ensures ∙ c.in-Equal.is),
+    )

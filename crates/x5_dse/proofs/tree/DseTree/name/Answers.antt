@@ -24,6 +24,6 @@ returns c =
     let live : is_live (nodes_of c.self.inside.prefix c.self.inside.slots.items c.self.inside.order.items) c.args.node ≡ true = subst (λ (n : Nodes). is_live n.nodes c.args.node ≡ true) (sym c.self.view_is) c.requires in
     at_ok c.name_of.result (λ (n : Name). n ≡ name_at c.self.inside.prefix c.deref.result.now c.args.node) (λ (n : Name). option_map name_in (node_with c.args.self.now.nodes c.args.node) ≡ Some n)
     (λ n e. ap (λ (k : Nodes). option_map name_in (node_with k.nodes c.args.node)) (sym c.self.view_is)
-      ∙ ap (option_map name_in) (live_node c.self.inside.prefix c.self.inside.slots.items c.self.inside.order.items row c.args.node (live_used c.self.inside.prefix c.self.inside.slots.items c.self.inside.order.items row c.args.node live))
-      ∙ ap (λ (k : Name). Some k) (ap (λ (s : Slots). name_at c.self.inside.prefix s c.args.node) (sym c.deref.ensures.value) ∙ sym e))
+    ∙ ap (option_map name_in) (live_node c.self.inside.prefix c.self.inside.slots.items c.self.inside.order.items row c.args.node (live_used c.self.inside.prefix c.self.inside.slots.items c.self.inside.order.items row c.args.node live))
+    ∙ ap (λ (k : Name). Some k) (ap (λ (s : Slots). name_at c.self.inside.prefix s c.args.node) (sym c.deref.ensures.value) ∙ sym e))
     c.name_of.ensures
