@@ -1,17 +1,14 @@
 -- A tree of one entry is kept, and so is a tree with one free slot more.
-use Rattle.std.proofs.Common.{◌≡◌, ℕ, zero, suc, ◌+◌, ◌<◌, Bool, true, false, ◌||◌, inl, inr, List, [], ◌∷◌, ◌++◌, length, get_or, refl, sym, ap, subst, ◌∙◌, arith, Option, Some, None, length-append}
+use Rattle.std.proofs.Common.{◌≡◌, ℕ, zero, suc, ◌+◌, ◌<◌, Bool, true, false, inl, inr, List, [], ◌∷◌, ◌++◌, length, get_or, refl, sym, ap, subst, ◌∙◌, arith, Option, Some, None, length-append}
 use Rattle.std.specs.Option.{is_some}
 use Rattle.x5_model.specs.Members.{In, here}
-use Rattle.x5_model.specs.Keys.{same_key, parent}
-use Rattle.x5_model.specs.Entries.{Named}
-use Rattle.x5_model.proofs.KeyLaws.{key_decides}
-use Rattle.x5_model.proofs.Lists.{in_first, in_either, in_left, in_right, and_true, or_left}
-use Rattle.x5_model_tree.specs.Tree.{key_at, is_there}
+use Rattle.x5_model.proofs.Lists.{in_first, in_either, in_left, in_right}
 use Rattle.x5_dse.specs.declared.node.NodeId.{NodeId}
-use Rattle.x5_dse.specs.Linked.{Node, IsLinked}
-use Rattle.x5_dse.specs.Inside.{is_used, nodes_of, IsKept}
-use Rattle.x5_dse.proofs.Slots.{Slots, same_id, same_or_other, used_within, same_nodes}
-use Rattle.x5_dse.proofs.Kept.{once_push}
+use Rattle.x5_dse.specs.Slot.{Slot}
+use Rattle.x5_dse.specs.Inside.{Slots, top, slot_at, is_used, IsRow, IsKept}
+use Rattle.x5_dse.proofs.Ids.{same_id, same_or_other, used_within}
+use Rattle.x5_dse.proofs.Members.{once_push}
+use Rattle.x5_dse.proofs.Changing.{row_same}
 
 pub push_none : {A : Type 0} (xs : List (Option A)) (k : ℕ) → get_or (xs ++ None ∷ []) k None ≡ get_or xs k None
 push_none [] zero = refl
@@ -19,19 +16,18 @@ push_none [] (suc k) = refl
 push_none (x ∷ xs) zero = refl
 push_none (x ∷ xs) (suc k) = push_none xs k
 
-pub grown_nodes : (slots : Slots) (order : List NodeId) → nodes_of (slots ++ None ∷ []) order ≡ nodes_of slots order
-grown_nodes slots order = same_nodes slots (slots ++ None ∷ []) order (λ m i. push_none slots m.0)
+pub grown_same : (slots : Slots) (m : NodeId) → slot_at (slots ++ None ∷ []) m ≡ slot_at slots m
+grown_same slots m = push_none slots m.0
 
 pub grown : (slots : Slots) (order free : List NodeId) (next : NodeId) → next.0 ≡ length slots → IsKept slots order free → IsKept (slots ++ None ∷ []) order (free ++ next ∷ [])
 grown slots order free next e kept = record {
-  used = λ m. (λ i. same m ∙ (kept.used m).0 i, λ q. (kept.used m).1 (sym (same m) ∙ q));
+  row = row_same slots (slots ++ None ∷ []) (grown_same slots) order kept.row;
   others = λ m. (out m, of m);
   once = once_push next free kept.once (λ i. let l : next.0 < length slots = ((kept.others next).0 i).0 in omega arith);
-  linked = subst (λ (ns : List Node). IsLinked ns) (sym (grown_nodes slots order)) kept.linked;
 }
   where
     same : (m : NodeId) → is_used (slots ++ None ∷ []) m ≡ is_used slots m
-    same m = ap is_some (push_none slots m.0)
+    same m = ap is_some (grown_same slots m)
 
     long : length (slots ++ None ∷ []) ≡ length slots + 1
     long = length-append slots (None ∷ [])
@@ -58,24 +54,28 @@ grown slots order free next e kept = record {
       | inr h ↦ in_left m free (next ∷ []) ((kept.others m).1 ((let l : m.0 < length (slots ++ None ∷ []) = w.0 in omega (arith, long)), sym (same m) ∙ w.1))
     ]
 
-pub one_kept : (e : Named) → IsKept (Some e ∷ []) (record { 0 = 0 } ∷ []) []
-one_kept e = record {
-  used = λ m. (forth m, back m m.0 refl);
+pub one_kept : (s : Slot) → s.depth ≡ 0 → IsKept (Some s ∷ []) [] []
+one_kept s e = record {
+  row = record {
+    used = λ m. (forth m, back m m.0 refl);
+    first = e;
+    above = λ m i. elim i [ ];
+    in_order = refl;
+  };
   others = λ m. ((λ i. elim i [ ]), λ w. absurd (none m m.0 refl w.0 w.1));
   once = tt;
-  linked = record { filled = refl; in_order = refl; above = and_true (same_key (key_at e) (key_at e) || is_there (e ∷ []) (parent (key_at e))) true (or_left (same_key (key_at e) (key_at e)) (is_there (e ∷ []) (parent (key_at e))) ((key_decides (key_at e) (key_at e)).1 refl)) refl };
 }
   where
-    forth : (m : NodeId) → In m (record { 0 = 0 } ∷ []) → is_used (Some e ∷ []) m ≡ true
-    forth m i = elim (in_first m (record { 0 = 0 }) [] i) [
-      | inl p ↦ subst (λ (k : NodeId). is_used (Some e ∷ []) k ≡ true) (sym p) refl
+    forth : (m : NodeId) → In m (top ∷ []) → is_used (Some s ∷ []) m ≡ true
+    forth m i = elim (in_first m top [] i) [
+      | inl p ↦ subst (λ (k : NodeId). is_used (Some s ∷ []) k ≡ true) (sym p) refl
       | inr j ↦ elim j [ ]
     ]
 
-    back : (m : NodeId) (n : ℕ) → m.0 ≡ n → is_used (Some e ∷ []) m ≡ true → In m (record { 0 = 0 } ∷ [])
-    back m zero p q = subst (λ (k : NodeId). In m (k ∷ [])) (same_id m (record { 0 = 0 }) p) here
-    back m (suc n) p q = absurd (let r : is_used (Some e ∷ []) m ≡ false = ap (λ (k : ℕ). is_some (get_or (Some e ∷ []) k None)) p in cc)
+    back : (m : NodeId) (n : ℕ) → m.0 ≡ n → is_used (Some s ∷ []) m ≡ true → In m (top ∷ [])
+    back m zero p q = subst (λ (k : NodeId). In m (k ∷ [])) (same_id m top p) here
+    back m (suc n) p q = absurd (let r : is_used (Some s ∷ []) m ≡ false = ap (λ (k : ℕ). is_some (get_or (Some s ∷ []) k None)) p in cc)
 
-    none : (m : NodeId) (n : ℕ) → m.0 ≡ n → m.0 < 1 → is_used (Some e ∷ []) m ≡ false → ⊥
-    none m zero p l q = let r : is_used (Some e ∷ []) m ≡ true = ap (λ (k : ℕ). is_some (get_or (Some e ∷ []) k None)) p in cc
+    none : (m : NodeId) (n : ℕ) → m.0 ≡ n → m.0 < 1 → is_used (Some s ∷ []) m ≡ false → ⊥
+    none m zero p l q = let r : is_used (Some s ∷ []) m ≡ true = ap (λ (k : ℕ). is_some (get_or (Some s ∷ []) k None)) p in cc
     none m (suc n) p l q = omega arith

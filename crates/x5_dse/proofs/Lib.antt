@@ -1,7 +1,20 @@
-mod Comparing
-mod Places
-mod Slots
-mod Parents
-mod Putting
-mod Kept
-mod Growing
+pub mod Comparing
+pub mod Spots
+pub mod Ids
+pub mod Parents
+pub mod Lasts
+pub mod Named
+pub mod Ways
+pub mod Changing
+pub mod Members
+pub mod Growing
+pub mod Runs
+pub mod InOrder
+pub mod Putting
+pub mod Inserting
+pub mod Replacing
+pub mod Removing
+pub mod Renaming
+pub mod Moving
+pub mod ChildRuns
+pub mod Callers

@@ -1,56 +1,41 @@
--- What one more node makes of nodes in order: where it goes, which entries there are then, and that they stay linked.
-use Rattle.std.proofs.Common.{◌≡◌, ℕ, zero, suc, ◌<◌, ◌≤◌, Bool, true, false, cond, not, ◌&&◌, ◌⊎◌, inl, inr, List, [], ◌∷◌, ◌++◌, length, get_or, take, drop, refl, sym, ap, subst, ◌∙◌, arith}
-use Rattle.x5_model.specs.Words.{is_empty, ascending, insert_sorted}
-use Rattle.x5_model.specs.Members.{In, here, there}
+-- What one more entry makes of the nodes: where it goes, which entries there are then, and that all is kept.
+use Rattle.std.proofs.Common.{◌≡◌, ◌≢◌, ℕ, zero, suc, ◌+◌, ◌-◌, ◌<◌, ◌≤◌, Bool, true, false, cond, ◌&&◌, ◌⊎◌, inl, inr, List, [], ◌∷◌, ◌++◌, length, map, take, drop, set, get_or, refl, sym, ap, subst, ◌∙◌, arith, Option, Some, None, Err}
+use Rattle.std.proofs.lemmas.List.{length-map, length-take, length-set, get_or-map}
+use Rattle.std.specs.Option.{is_some}
+use Rattle.x5_model.specs.Words.{ascending, insert_sorted}
+use Rattle.x5_model.specs.Members.{In, Once, here, there}
 use Rattle.x5_model.specs.Keys.{Key, same_key, key_below, parent}
-use Rattle.x5_model.specs.Entries.{Named}
-use Rattle.x5_model.proofs.KeyLaws.{key_decides}
-use Rattle.x5_model.proofs.Lists.{either_true, or_left, or_right, in_first, in_either, in_left, in_right, in_map, of_map, any_in, of_any, none_of, of_all, all_in}
-use Rattle.x5_model.proofs.Ascending.{AllApart, rest_ascending, first_below, of_insert, new_in_insert, old_in_insert, insert_ascending, sorted_ascending, of_sorted, in_sorted, keys_apart}
+use Rattle.x5_model.specs.Values.{Name, Rdn, key_of_rdn, key_of, last_rdn}
+use Rattle.x5_model.specs.Entries.{Entry, Named}
+use Rattle.x5_model.proofs.Lists.{true_or_false, in_first, in_either, in_left, in_right, in_map, none_of}
+use Rattle.x5_model.proofs.Ascending.{AllApart, first_below, rest_ascending, of_insert, new_in_insert, old_in_insert, insert_ascending, sorted_ascending, of_sorted, in_sorted, keys_apart}
 use Rattle.x5_model_tree.specs.Tree.{key_at, named_below, sorted_entries, is_there}
 use Rattle.x5_model_tree.proofs.Order.{named_chain, one_list_of_entries}
 use Rattle.x5_dse.specs.declared.node.NodeId.{NodeId}
-use Rattle.x5_dse.specs.Linked.{Node, named_of, entries_of, node_key, node_below, prefix_of, is_placed, IsLinked}
-use Rattle.x5_dse.specs.Inside.{node_of, nodes_of}
-use Rattle.x5_dse.proofs.Places.{node_chain, node_never}
-use Rattle.x5_dse.proofs.Slots.{Slots}
-use Rattle.x5_dse.proofs.Parents.{short_parent, parent_below}
-
--- ---- where it goes
-
-abbrev step : Node → Node → List Node → Bool → List Node
-step x y ys b = cond b (y ∷ insert_sorted node_below x ys) (x ∷ y ∷ ys)
-
-pub insert_at : (x : Node) (xs : List Node) (i : ℕ) → i ≤ length xs → ((k : ℕ) (d : Node) → k < i → node_below (get_or xs k d) x ≡ true)
-    → ((k : ℕ) (d : Node) → i ≤ k → k < length xs → node_below x (get_or xs k d) ≡ true) → take i xs ++ x ∷ drop i xs ≡ insert_sorted node_below x xs
-insert_at x [] zero l f g = refl
-insert_at x [] (suc i) l f g = absurd (omega arith)
-insert_at x (y ∷ ys) zero l f g = sym (ap (step x y ys) (no (node_below y x) refl))
-  where
-    no : (b : Bool) → node_below y x ≡ b → node_below y x ≡ false
-    no true e = absurd (node_never x (node_chain x y x (g 0 y (omega arith) (omega arith)) e))
-    no false e = e
-insert_at x (y ∷ ys) (suc i) l f g =
-    ap (λ (zs : List Node). y ∷ zs) (insert_at x ys i (omega arith) (λ k d m. f (suc k) d (omega arith)) (λ k d m n. g (suc k) d (omega arith) (omega arith)))
-    ∙ sym (ap (step x y ys) (f 0 y (omega arith)))
-
-pub nodes_insert : (slots : Slots) (order : List NodeId) (i : ℕ) (id : NodeId) → nodes_of slots (take i order ++ id ∷ drop i order) ≡ take i (nodes_of slots order) ++ node_of slots id ∷ drop i (nodes_of slots order)
-nodes_insert slots order zero id = refl
-nodes_insert slots [] (suc i) id = refl
-nodes_insert slots (m ∷ order) (suc i) id = ap (λ (zs : List Node). node_of slots m ∷ zs) (nodes_insert slots order i id)
+use Rattle.x5_dse.specs.Linked.{Node, Nodes, named_of, entries_of, node_key, node_below, node_at, is_live}
+use Rattle.x5_dse.specs.Changes.{Inserted, entry_below}
+use Rattle.x5_dse.specs.Slot.{Slot}
+use Rattle.x5_dse.specs.Inside.{Slots, Spot, top, slot_at, is_used, held, parent_at, depth_at, rdn_at, entry_of, path, name_at, node_of, nodes_of, spot_at, spots_of, spot_below, IsPlace, IsRow, IsKept, IsSite}
+use Rattle.x5_dse.proofs.Ids.{same_id, same_or_other, slot_same, slot_other}
+use Rattle.x5_dse.proofs.Spots.{spot_chain, spot_never, child_missing}
+use Rattle.x5_dse.proofs.Members.{in_inserted, new_inserted, old_inserted, once_front, once_end}
+use Rattle.x5_dse.proofs.InOrder.{put_ascending, map_insert, same_map}
+use Rattle.x5_dse.proofs.Lasts.{last_is}
+use Rattle.x5_dse.proofs.Named.{node_chain, key_in, all_nodes, top_used, order_used, key_length, top_key, child_name, child_parent, of_nodes, in_nodes, nodes_ascending, apart_keys, found, absent_if, live_used}
+use Rattle.x5_dse.proofs.Changing.{same_name, same_node, nodes_are}
 
 -- ---- its entries
 
-entries_insert : (x : Node) (xs : List Node) → entries_of (insert_sorted node_below x xs) ≡ insert_sorted named_below x.named (entries_of xs)
+pub entries_insert : (x : Node) (xs : List Node) → entries_of (insert_sorted node_below x xs) ≡ insert_sorted named_below x.named (entries_of xs)
 entries_insert x [] = refl
 entries_insert x (y ∷ ys) = by (node_below y x) refl (entries_insert x ys)
   where
     by : (b : Bool) → node_below y x ≡ b → entries_of (insert_sorted node_below x ys) ≡ insert_sorted named_below x.named (entries_of ys) → entries_of (insert_sorted node_below x (y ∷ ys)) ≡ insert_sorted named_below x.named (entries_of (y ∷ ys))
     by true e rest =
-        ap (λ (b : Bool). entries_of (step x y ys b)) e ∙ ap (λ (zs : List Named). y.named ∷ zs) rest
+        ap (λ (b : Bool). entries_of (cond b (y ∷ insert_sorted node_below x ys) (x ∷ y ∷ ys))) e ∙ ap (λ (zs : List Named). y.named ∷ zs) rest
         ∙ sym (ap (λ (b : Bool). cond b (y.named ∷ insert_sorted named_below x.named (entries_of ys)) (x.named ∷ y.named ∷ entries_of ys)) e)
     by false e rest =
-        ap (λ (b : Bool). entries_of (step x y ys b)) e
+        ap (λ (b : Bool). entries_of (cond b (y ∷ insert_sorted node_below x ys) (x ∷ y ∷ ys))) e
         ∙ sym (ap (λ (b : Bool). cond b (y.named ∷ insert_sorted named_below x.named (entries_of ys)) (x.named ∷ y.named ∷ entries_of ys)) e)
 
 abbrev Apart : Named → Named → Type 0
@@ -99,75 +84,137 @@ entries_ascending [] = refl
 entries_ascending (x ∷ []) = refl
 entries_ascending (x ∷ y ∷ ys) = ap (λ (b : Bool). node_below x y && b) (entries_ascending (y ∷ ys))
 
--- ---- it stands apart
-
-pub there_of : (es : List Named) (key : Key) → is_there es key ≡ true → (e : Named) × In e es × (key_at e ≡ key)
-there_of es key h = let w = of_any (λ e. same_key (key_at e) key) es h in (w.0, w.1, (key_decides (key_at w.0) key).0 w.2)
-
-pub is_there_by : (es : List Named) (key : Key) (e : Named) → In e es → key_at e ≡ key → is_there es key ≡ true
-is_there_by es key e i p = any_in (λ e. same_key (key_at e) key) e es i ((key_decides (key_at e) key).1 p)
-
 pub apart_from : (es : List Named) (new : Named) → is_there es (key_at new) ≡ false → (z : Named) → In z es → Apart new z
 apart_from es new h z i =
     flipped z new (keys_apart (key_at z) (key_at new) (none_of (λ e. same_key (key_at e) (key_at new)) z es h i))
 
-module _ (x : Node) (xs : List Node) (linked : IsLinked xs) (absent : is_there (entries_of xs) (node_key x) ≡ false) (below : is_there (entries_of xs) (parent (node_key x)) ≡ true) where
-  apart : (z : Node) → In z xs → (node_below x z ≡ true) ⊎ (node_below z x ≡ true)
-  apart z i = apart_from (entries_of xs) x.named absent z.named (in_map named_of z xs i)
+-- ---- an entry is put into a slot that isn't used
 
-  pub put_entries : entries_of (insert_sorted node_below x xs) ≡ sorted_entries (entries_of xs ++ x.named ∷ [])
-  put_entries =
-      entries_insert x xs
-      ∙ put_is_sorted x.named (entries_of xs) (sym (entries_ascending xs) ∙ linked.in_order) (apart_from (entries_of xs) x.named absent)
+module _ (prefix : Name) (slots : Slots) (order : List NodeId) (row : IsRow slots order) (id : NodeId) (s : Slot) (place : ℕ) (unused : is_used slots id ≡ false) (within : id.0 < length slots)
+    (above_used : is_used slots s.parent ≡ true) (deep : s.depth ≡ suc (depth_at slots s.parent)) (at : IsPlace (spots_of slots order) (s.parent.0, key_of_rdn s.rdn) (Err place)) where
+  abbrev others : Slots
+  others = set slots id.0 (Some s)
 
-  -- its name has RDNs, and so its parent stands before it
-  long : (n : ℕ) → length (node_key x) ≡ n → 0 < n
-  long zero e = absurd (let p : is_there (entries_of xs) (node_key x) ≡ true = subst (λ (k : Key). is_there (entries_of xs) k ≡ true) (short_parent (node_key x) e) below in cc)
-  long (suc n) e = omega arith
+  abbrev longer : List NodeId
+  longer = take place order ++ id ∷ drop place order
 
-  parent_first : key_below (parent (node_key x)) (node_key x) ≡ true
-  parent_first = parent_below (node_key x) (long (length (node_key x)) refl)
+  other : (m : NodeId) → is_used slots m ≡ true → m.0 ≢ id.0
+  other m u e = let q : is_used slots m ≡ false = ap (is_used slots) (same_id m id e) ∙ unused in cc
 
-  first_stays : (y : Node) (ys : List Node) → xs ≡ y ∷ ys → node_below y x ≡ true
-  first_stays y ys p =
-      let w = there_of (entries_of xs) (parent (node_key x)) below in
-      let v = of_map named_of w.0 xs w.1 in
-      let key : node_key v.0 ≡ parent (node_key x) = sym (ap key_at v.2) ∙ w.2 in
-      let under : key_below (node_key v.0) (node_key x) ≡ true = subst (λ (k : Key). key_below k (node_key x) ≡ true) (sym key) parent_first in
-      elim (in_first v.0 y ys (subst (λ (zs : List Node). In v.0 zs) p v.1)) [
-        | inl q ↦ subst (λ (n : Node). node_below n x ≡ true) q under
-        | inr j ↦ node_chain y v.0 x (first_below node_below node_chain y v.0 ys (subst (λ (zs : List Node). ascending node_below zs ≡ true) p linked.in_order) j) under
-      ]
+  keeps : (m : NodeId) → is_used slots m ≡ true → slot_at others m ≡ slot_at slots m
+  keeps m u = slot_other slots id m (Some s) (other m u)
 
-  same_prefix : (zs : List Node) → xs ≡ zs → prefix_of (insert_sorted node_below x zs) ≡ prefix_of zs
-  same_prefix [] p = absurd (let q : not (is_empty xs) ≡ false = ap (λ (ys : List Node). not (is_empty ys)) p in let r = linked.filled in cc)
-  same_prefix (y ∷ ys) p = ap (λ (b : Bool). prefix_of (step x y ys b)) (first_stays y ys p)
+  still : (m : NodeId) → is_used slots m ≡ true → is_used others m ≡ true
+  still m u = ap is_some (keeps m u) ∙ u
 
-  still_there : (key : Key) → is_there (entries_of xs) key ≡ true → is_there (entries_of (insert_sorted node_below x xs)) key ≡ true
-  still_there key h =
-      let w = there_of (entries_of xs) key h in
-      let v = of_map named_of w.0 xs w.1 in
-      is_there_by (entries_of (insert_sorted node_below x xs)) key v.0.named (in_map named_of v.0 (insert_sorted node_below x xs) (old_in_insert node_below v.0 x xs v.1)) (sym (ap key_at v.2) ∙ w.2)
+  now : slot_at others id ≡ Some s
+  now = slot_same slots id (Some s) within
 
-  placed : (n : Node) → In n (insert_sorted node_below x xs) → is_placed (insert_sorted node_below x xs) n ≡ true
-  placed n i = elim (of_insert node_below n x xs i) [
-    | inl p ↦ or_right (same_key (node_key n) (prefix_of (insert_sorted node_below x xs))) (is_there (entries_of (insert_sorted node_below x xs)) (parent (node_key n)))
-        (still_there (parent (node_key n)) (subst (λ (m : Node). is_there (entries_of xs) (parent (node_key m)) ≡ true) (sym p) below))
-    | inr j ↦ elim (either_true (same_key (node_key n) (prefix_of xs)) (is_there (entries_of xs) (parent (node_key n))) (of_all (is_placed xs) n xs linked.above j)) [
-      | inl e ↦ or_left (same_key (node_key n) (prefix_of (insert_sorted node_below x xs))) (is_there (entries_of (insert_sorted node_below x xs)) (parent (node_key n)))
-          (subst (λ (k : Key). same_key (node_key n) k ≡ true) (sym (same_prefix xs refl)) e)
-      | inr e ↦ or_right (same_key (node_key n) (prefix_of (insert_sorted node_below x xs))) (is_there (entries_of (insert_sorted node_below x xs)) (parent (node_key n)))
-          (still_there (parent (node_key n)) e)
-    ]
-  ]
+  used_now : is_used others id ≡ true
+  used_now = ap is_some now
 
-  pub put_linked : IsLinked (insert_sorted node_below x xs)
-  put_linked = record {
-    filled = not_empty (insert_sorted node_below x xs) (new_in_insert node_below x xs);
-    in_order = insert_ascending node_below node_chain x xs apart linked.in_order;
-    above = all_in (is_placed (insert_sorted node_below x xs)) (insert_sorted node_below x xs) placed;
+  abbrev Steps : Option Slot → Type 0
+  Steps o = (is_used others (held o).parent ≡ true) × ((held o).depth ≡ suc (depth_at others (held o).parent))
+
+  spot_kept : (m : NodeId) → In m order → spot_at others m ≡ spot_at slots m
+  spot_kept m i = ap (λ (o : Option Slot). ((held o).parent.0, key_of_rdn (held o).rdn)) (keeps m (order_used prefix slots order row m i))
+
+  pub put_row : IsRow others longer
+  put_row = record {
+    used = λ m. (forth m, back m);
+    first = ap (λ (o : Option Slot). (held o).depth) (keeps top (top_used prefix slots order row)) ∙ row.first;
+    above = λ m i. elim (in_inserted id m order place i) [
+      | inl p ↦ subst (λ (k : NodeId). Steps (slot_at others k)) (sym p) (subst Steps (sym now) (still s.parent above_used, deep ∙ ap (λ (o : Option Slot). suc (held o).depth) (sym (keeps s.parent above_used))))
+      | inr j ↦ subst Steps (sym (keeps m (order_used prefix slots order row m j)))
+          (still (parent_at slots m) (row.above m j).0, (row.above m j).1 ∙ ap (λ (o : Option Slot). suc (held o).depth) (sym (keeps (parent_at slots m) (row.above m j).0)))
+    ];
+    in_order = subst (λ (xs : List Spot). ascending spot_below xs ≡ true) (sym spots_put) (put_ascending spot_below spot_chain spot_never (s.parent.0, key_of_rdn s.rdn) (spots_of slots order) place at.0 at.1 at.2 row.in_order);
   }
     where
-      not_empty : (zs : List Node) → In x zs → not (is_empty zs) ≡ true
-      not_empty [] i = elim i [ ]
-      not_empty (z ∷ zs) i = refl
+      forth : (m : NodeId) → In m (top ∷ longer) → is_used others m ≡ true
+      forth m i = elim (in_first m top longer i) [
+        | inl p ↦ subst (λ (k : NodeId). is_used others k ≡ true) (sym p) (still top (top_used prefix slots order row))
+        | inr j ↦ elim (in_inserted id m order place j) [
+          | inl p ↦ subst (λ (k : NodeId). is_used others k ≡ true) (sym p) used_now
+          | inr k ↦ still m (order_used prefix slots order row m k)
+        ]
+      ]
+
+      back : (m : NodeId) → is_used others m ≡ true → In m (top ∷ longer)
+      back m e = elim (same_or_other m id) [
+        | inl p ↦ there (subst (λ (k : NodeId). In k longer) (sym p) (new_inserted id order place))
+        | inr h ↦ elim (in_first m top order ((row.used m).1 (sym (ap is_some (slot_other slots id m (Some s) h)) ∙ e))) [
+          | inl p ↦ subst (λ (k : NodeId). In k (top ∷ longer)) (sym p) here
+          | inr j ↦ there (old_inserted id m order place j)
+        ]
+      ]
+
+      spots_put : spots_of others longer ≡ take place (spots_of slots order) ++ (s.parent.0, key_of_rdn s.rdn) ∷ drop place (spots_of slots order)
+      spots_put =
+          map_insert (spot_at others) id order place
+          ∙ ap (λ (xs : List Spot). take place xs ++ spot_at others id ∷ drop place xs) (same_map (spot_at others) (spot_at slots) order spot_kept)
+          ∙ ap (λ (o : Option Slot). take place (spots_of slots order) ++ ((held o).parent.0, key_of_rdn (held o).rdn) ∷ drop place (spots_of slots order)) now
+
+  pub name_kept : (m : NodeId) → is_used slots m ≡ true → name_at prefix others m ≡ name_at prefix slots m
+  name_kept m u = same_name prefix slots others order row (λ (k : NodeId). Unit {0})
+      (λ k v t. ap (λ (o : Option Slot). (held o).parent) (keeps k v)) (λ k v t. ap (λ (o : Option Slot). (held o).depth) (keeps k v)) (λ k v t. ap (λ (o : Option Slot). (held o).rdn) (keeps k v)) (λ k i t. tt) m u tt
+
+  node_kept : (m : NodeId) → is_used slots m ≡ true → node_of prefix others m ≡ node_of prefix slots m
+  node_kept m u = let n = name_kept m u in let e = ap (λ (o : Option Slot). (held o).entry) (keeps m u) in λ i. record { id = m; named = record { name = n i; entry = e i } }
+
+  pub new_node : node_of prefix others id ≡ record { id = id; named = entry_below (node_of prefix slots s.parent) s.rdn s.entry }
+  new_node =
+      let n = child_name prefix others longer put_row id (new_inserted id order place)
+      ∙ ap (λ (o : Option Slot). name_at prefix others (held o).parent ++ (held o).rdn ∷ []) now ∙ ap (λ (k : Name). k ++ s.rdn ∷ []) (name_kept s.parent above_used) in
+      let e = ap (λ (o : Option Slot). (held o).entry) now in
+      λ i. record { id = id; named = record { name = n i; entry = e i } }
+
+  pub put_nodes : nodes_of prefix others longer ≡ insert_sorted node_below (node_of prefix others id) (nodes_of prefix slots order)
+  put_nodes =
+      nodes_are prefix others longer put_row (insert_sorted node_below (node_of prefix others id) (nodes_of prefix slots order))
+      (insert_ascending node_below node_chain (node_of prefix others id) (nodes_of prefix slots order) apart (nodes_ascending prefix slots order row)) forth back
+    where
+      apart : (z : Node) → In z (nodes_of prefix slots order) → (node_below (node_of prefix others id) z ≡ true) ⊎ (node_below z (node_of prefix others id) ≡ true)
+      apart z i =
+          let w = of_nodes prefix slots order row z i in
+          subst (λ (n : Node). (node_below (node_of prefix others id) n ≡ true) ⊎ (node_below n (node_of prefix others id) ≡ true)) (node_kept w.0 w.1 ∙ sym w.2)
+          (apart_keys prefix others longer put_row id w.0 used_now (still w.0 w.1) (λ e. other w.0 w.1 (ap (λ (k : NodeId). k.0) (sym e))))
+
+      forth : (m : NodeId) → is_used others m ≡ true → In (node_of prefix others m) (insert_sorted node_below (node_of prefix others id) (nodes_of prefix slots order))
+      forth m u = elim (same_or_other m id) [
+        | inl p ↦ subst (λ (k : NodeId). In (node_of prefix others k) (insert_sorted node_below (node_of prefix others id) (nodes_of prefix slots order))) (sym p) (new_in_insert node_below (node_of prefix others id) (nodes_of prefix slots order))
+        | inr h ↦ (let v : is_used slots m ≡ true = sym (ap is_some (slot_other slots id m (Some s) h)) ∙ u in
+            subst (λ (n : Node). In n (insert_sorted node_below (node_of prefix others id) (nodes_of prefix slots order))) (sym (node_kept m v))
+            (old_in_insert node_below (node_of prefix slots m) (node_of prefix others id) (nodes_of prefix slots order) (in_nodes prefix slots order row m v)))
+      ]
+
+      back : (n : Node) → In n (insert_sorted node_below (node_of prefix others id) (nodes_of prefix slots order)) → (m : NodeId) × (is_used others m ≡ true) × (n ≡ node_of prefix others m)
+      back n i = elim (of_insert node_below n (node_of prefix others id) (nodes_of prefix slots order) i) [
+        | inl p ↦ (id, used_now, p)
+        | inr j ↦ (let w = of_nodes prefix slots order row n j in (w.0, still w.0 w.1, w.2 ∙ sym (node_kept w.0 w.1)))
+      ]
+
+  pub put_kept : (free rest : List NodeId) → IsKept slots order free → free ≡ rest ++ id ∷ [] → IsKept others longer rest
+  put_kept free rest kept popped = record {
+    row = put_row;
+    others = λ m. (out m, of m);
+    once = once_front id rest (subst (λ (ns : List NodeId). Once ns) popped kept.once);
+  }
+    where
+      long : length others ≡ length slots
+      long = length-set slots id.0 (Some s)
+
+      out : (m : NodeId) → In m rest → (m.0 < length others) × (is_used others m ≡ false)
+      out m i =
+          let w = (kept.others m).0 (subst (λ (ns : List NodeId). In m ns) (sym popped) (in_left m rest (id ∷ []) i)) in
+          let h : m.0 ≢ id.0 = λ e. once_end id rest (subst (λ (ns : List NodeId). Once ns) popped kept.once) (subst (λ (k : NodeId). In k rest) (same_id m id e) i) in
+          (subst (λ (n : ℕ). m.0 < n) (sym long) w.0, ap is_some (slot_other slots id m (Some s) h) ∙ w.1)
+
+      of : (m : NodeId) → (m.0 < length others) × (is_used others m ≡ false) → In m rest
+      of m w = elim (same_or_other m id) [
+        | inl p ↦ absurd (let e : is_used others m ≡ true = subst (λ (k : NodeId). is_used others k ≡ true) (sym p) used_now in let u = w.1 in cc)
+        | inr h ↦ elim (in_either m rest (id ∷ []) (subst (λ (ns : List NodeId). In m ns) popped ((kept.others m).1 (subst (λ (n : ℕ). m.0 < n) long w.0, sym (ap is_some (slot_other slots id m (Some s) h)) ∙ w.1)))) [
+          | inl j ↦ j
+          | inr j ↦ elim (in_first m id [] j) [ inl p ↦ absurd (h (ap (λ (k : NodeId). k.0) p)) | inr k ↦ elim k [ ] ]
+        ]
+      ]

@@ -1,3 +1,5 @@
 pub mod Linked
+pub mod Slot
 pub mod Inside
 pub mod Changes
+pub mod Run

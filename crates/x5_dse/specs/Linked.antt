@@ -1,10 +1,12 @@
 -- The entries of one naming context as a list, and what makes such a list (X.501, section 7: the directory information tree).
 -- The number of a node, by which an entry is known while it's there, is this project's own.
-use Rattle.std.specs.Prelude.{ℕ, Bool, false, not, ◌||◌, ◌==◌, IsTrue, List, map}
-use Rattle.std.specs.List.{find, list_all, list_any}
+use Rattle.std.specs.Prelude.{◌≡◌, ℕ, ◌≤◌, Bool, true, false, not, ◌||◌, ◌==◌, IsTrue, List, length, map}
+use Rattle.std.specs.List.{find, filter, list_all, list_any}
 use Rattle.std.specs.declared.option.Option.{Option}
+use Rattle.std.specs.declared.option.Option.TheVariants.{Some}
+use Rattle.x5_model.specs.Members.{In}
 use Rattle.x5_model.specs.Words.{is_empty, first_of, in_option, ascending}
-use Rattle.x5_model.specs.Keys.{Key, root, same_key, parent}
+use Rattle.x5_model.specs.Keys.{Key, root, same_key, is_prefix, is_child, parent}
 use Rattle.x5_model.specs.Values.{Name}
 use Rattle.x5_model.specs.Entries.{Entry, Named}
 use Rattle.x5_model_tree.specs.Tree.{key_at, named_below, is_there}
@@ -56,6 +58,13 @@ node_with nodes id = find (has_id id) nodes
 abbrev pub is_live : List Node → NodeId → Bool
 is_live nodes id = list_any (has_id id) nodes
 
+-- the lowest node on the way to a name: of those whose names are prefixes of it the one with the longest
+pub record IsLowest (nodes : List Node) (key : Key) (id : NodeId) : Type 0 where
+  pub node : Node
+  pub there : node_with nodes id ≡ Some node
+  pub is_above : is_prefix (node_key node) key ≡ true
+  pub longest : (other : Node) → In other nodes → is_prefix (node_key other) key ≡ true → length (node_key other) ≤ length (node_key node)
+
 -- the first of the nodes, which holds the prefix of the context
 abbrev pub prefix_of : List Node → Key
 prefix_of nodes = in_option root node_key (first_of nodes)
@@ -73,3 +82,11 @@ pub record IsLinked (nodes : List Node) : Type 0 where
   pub filled : IsTrue (not (is_empty nodes))
   pub in_order : IsTrue (ascending node_below nodes)
   pub above : IsTrue (list_all (is_placed nodes) nodes)
+
+-- the key of a node's entry
+abbrev pub key_with : List Node → NodeId → Key
+key_with nodes id = in_option root node_key (node_with nodes id)
+
+-- what stands just below a node, in the order of keys
+abbrev pub children_of : List Node → NodeId → List NodeId
+children_of nodes id = map id_of (filter (λ n. is_child (key_with nodes id) (node_key n)) nodes)

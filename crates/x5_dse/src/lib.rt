@@ -2,10 +2,14 @@
 //! the directory information tree; section 8: entries).
 #![tactic(auto)]
 
+mod children;
 mod node;
 mod order;
 mod place;
+#[cfg(test)]
+mod tests;
 mod tree;
 
+pub use children::Children;
 pub use node::{DseFault, NodeId};
 pub use tree::DseTree;

@@ -1,13 +1,13 @@
-//! The order of names, by their RDNs.
+//! The order of RDNs.
 
 ghost use Rattle.std.specs.Prelude.{◌≡◌};
 ghost use Rattle.std.specs.Cmp.Lexicographic.{slice_cmp};
 ghost use Rattle.std.specs.Prelude.{map};
-ghost use Rattle.x5_model.specs.Keys.{pair_cmp, key_cmp};
-ghost use Rattle.x5_model.specs.Values.{key_of_pair, key_of};
+ghost use Rattle.x5_model.specs.Keys.{pair_cmp};
+ghost use Rattle.x5_model.specs.Values.{key_of_pair};
 
 use std::cmp::Ordering;
-use x5_names::{Pair, Rdn};
+use x5_names::Pair;
 
 /// The order of pairs: by type numbers, and then by normal values.
 fn compare_pairs(a: &Pair, b: &Pair) -> Ordering
@@ -20,7 +20,7 @@ fn compare_pairs(a: &Pair, b: &Pair) -> Ordering
 }
 
 /// The order of the RDNs of these pairs: pair by pair, a beginning first.
-fn compare_rdns(a: &[Pair], b: &[Pair]) -> Ordering
+pub(crate) fn compare_rdns(a: &[Pair], b: &[Pair]) -> Ordering
     ensures { result ≡ slice_cmp pair_cmp (map key_of_pair a.now) (map key_of_pair b.now) }
 {
     for (i, pair) in a.iter().enumerate() {
@@ -28,26 +28,6 @@ fn compare_rdns(a: &[Pair], b: &[Pair]) -> Ordering
             return Ordering::Greater;
         }
         let order = compare_pairs(pair, &b[i]);
-        if order.is_ne() {
-            return order;
-        }
-    }
-    if a.len() == b.len() {
-        Ordering::Equal
-    } else {
-        Ordering::Less
-    }
-}
-
-/// The order of the names of these RDNs: RDN by RDN, a prefix first (X.501, section 9: names; the order is this project's own).
-pub(crate) fn compare(a: &[Rdn], b: &[Rdn]) -> Ordering
-    ensures { result ≡ key_cmp (key_of a.now) (key_of b.now) }
-{
-    for (i, rdn) in a.iter().enumerate() {
-        if i == b.len() {
-            return Ordering::Greater;
-        }
-        let order = compare_rdns(rdn.pairs(), b[i].pairs());
         if order.is_ne() {
             return order;
         }

@@ -1,64 +1,61 @@
-//! The place of a name among nodes in order, by halves.
+//! The places of nodes: by halves among those in order, and from RDN to RDN down from the prefix.
 
-ghost use Rattle.std.specs.Prelude.{◌≡◌, ◌<◌, ◌≤◌, ℕ, true, length, IsTrue, slice_index_or};
-ghost use Rattle.std.specs.Option.{option_map};
-ghost use Rattle.x5_model.specs.Keys.{key_cmp, parent};
+ghost use Rattle.std.specs.Prelude.{◌≡◌, ◌↔◌, ◌<◌, true, false, length, IsTrue, MatchOption, MatchResult, map, [], slice_index_or, slice_set, vec_len, None, IfOk};
+ghost use Rattle.std.specs.Bool.{MatchBool};
 ghost use Rattle.x5_model.specs.Members.{In};
-ghost use Rattle.x5_model.specs.Values.{key_of};
-ghost use Rattle.x5_model.specs.Words.{ascending};
-ghost use Rattle.x5_model_tree.specs.Tree.{is_there};
-ghost use Rattle.x5_dse.specs.Linked.{Node, id_of, entries_of, node_key, node_below, node_at};
-ghost use Rattle.x5_dse.specs.Inside.{slot_at, is_used, held, nodes_of, IsPlace};
 ghost use Rattle.x5_dse.specs.declared.node.NodeId.{NodeId};
+ghost use Rattle.x5_model.specs.Keys.{is_prefix};
+ghost use Rattle.x5_model.specs.Values.{key_of_pair, key_of};
+ghost use Rattle.x5_dse.specs.Changes.{NotInserted};
+ghost use Rattle.x5_dse.specs.Inside.{slot_at, is_used, held, spot_at, spots_of, spot_cmp, spot_below, nodes_of, IsPlace, IsRow, IsDown, IsSite, IsChild, IsStart, IsMove, IsOther, name_at, parent_at, top};
+ghost use Rattle.std.specs.Option.{option_map};
+ghost use Rattle.x5_dse.specs.Linked.{IsLowest, id_of, node_at, prefix_of};
 
-use crate::node::{Dse, NodeId};
-use crate::order::compare;
+use crate::node::{Dse, DseFault, NodeId};
+use crate::order::compare_rdns;
+use std::alloc::Global;
 use std::cmp::Ordering;
-use x5_names::{Name, Rdn};
+use x5_memory::NoMemory;
+use x5_names::{Name, Pair, Rdn};
 
 /// What the used slot holds.
-pub(crate) fn named_at(slots: &[Option<Dse>], node: NodeId) -> &Dse
+pub(crate) fn held_at(slots: &[Option<Dse>], node: NodeId) -> &Dse
     requires { is_used slots.now node ≡ true }
     ensures { result.now ≡ held (slot_at slots.now node) }
 {
     match &slots[node.0] {
-        Some(named) => named,
+        Some(dse) => dse,
         None => unreachable!(),
     }
 }
 
-/// The RDNs of the name just above; the root's are the root's.
-pub(crate) fn rdns_above(name: &Name) -> &[Rdn]
-    ensures { key_of result.now ≡ parent (key_of name.now) }
+/// How the node stands to one with this node above and these pairs.
+fn compare_at(slots: &[Option<Dse>], node: NodeId, above: NodeId, pairs: &[Pair]) -> Ordering
+    requires { is_used slots.now node ≡ true }
+    ensures { result ≡ spot_cmp (spot_at slots.now node) (above.0, map key_of_pair pairs.now) }
 {
-    let rdns = name.rdns();
-    &rdns[..rdns.len().saturating_sub(1)]
+    let dse = held_at(slots, node);
+    dse.parent
+        .0
+        .cmp(&above.0)
+        .then(compare_rdns(dse.pairs(), pairs))
 }
 
-/// How the name of the node at the place stands to the name of the RDNs.
-fn compare_at(slots: &[Option<Dse>], order: &[NodeId], at: usize, rdns: &[Rdn]) -> Ordering
-    requires within { at < length order.now }
-    requires used { (id : NodeId) → In id order.now → is_used slots.now id ≡ true }
-    ensures { (d : Node) → result ≡ key_cmp (node_key (slice_index_or (nodes_of slots.now order.now) at d)) (key_of rdns.now) }
-{
-    compare(named_at(slots, order[at]).name.rdns(), rdns)
-}
-
-/// The place of the name of these RDNs, or where it would go.
+/// The place of what has this node above and these pairs, or where it would go.
 pub(crate) fn place_of(
     slots: &[Option<Dse>],
     order: &[NodeId],
-    rdns: &[Rdn],
+    above: NodeId,
+    pairs: &[Pair],
 ) -> Result<usize, usize>
-    requires used { (id : NodeId) → In id order.now → is_used slots.now id ≡ true }
-    requires in_order { IsTrue (ascending node_below (nodes_of slots.now order.now)) }
-    ensures { IsPlace (nodes_of slots.now order.now) (key_of rdns.now) result }
+    requires { IsRow slots.now order.now }
+    ensures { IsPlace (spots_of slots.now order.now) (above.0, map key_of_pair pairs.now) result }
 {
     let mut low = 0;
     let mut high = order.len();
     while low < high {
         let middle = low + (high - low) / 2;
-        match compare_at(slots, order, middle, rdns) {
+        match compare_at(slots, order[middle], above, pairs) {
             Ordering::Less => low = middle + 1,
             Ordering::Greater => high = middle,
             Ordering::Equal => return Ok(middle),
@@ -67,26 +64,231 @@ pub(crate) fn place_of(
     Err(low)
 }
 
-/// The node of the name of these RDNs.
-pub(crate) fn node_of(slots: &[Option<Dse>], order: &[NodeId], rdns: &[Rdn]) -> Option<NodeId>
-    requires used { (id : NodeId) → In id order.now → is_used slots.now id ≡ true }
-    requires in_order { IsTrue (ascending node_below (nodes_of slots.now order.now)) }
-    ensures { result ≡ option_map id_of (node_at (nodes_of slots.now order.now) (key_of rdns.now)) }
+/// The node that has this node above and these pairs.
+fn child_of(
+    slots: &[Option<Dse>],
+    order: &[NodeId],
+    above: NodeId,
+    pairs: &[Pair],
+) -> Option<NodeId>
+    requires { IsRow slots.now order.now }
+    ensures { IsChild slots.now order.now (above.0, map key_of_pair pairs.now) result }
 {
-    match place_of(slots, order, rdns) {
+    match place_of(slots, order, above, pairs) {
         Ok(at) => Some(order[at]),
         Err(_) => None,
     }
 }
 
-/// Whether the name of these RDNs is there.
-pub(crate) fn has_name(slots: &[Option<Dse>], order: &[NodeId], rdns: &[Rdn]) -> bool
-    requires used { (id : NodeId) → In id order.now → is_used slots.now id ≡ true }
-    requires in_order { IsTrue (ascending node_below (nodes_of slots.now order.now)) }
-    ensures { result ≡ is_there (entries_of (nodes_of slots.now order.now)) (key_of rdns.now) }
+/// How far down from the prefix the RDNs lead: the lowest node on the way, and how many of them it has.
+fn descend(slots: &[Option<Dse>], order: &[NodeId], rdns: &[Rdn]) -> (NodeId, usize)
+    requires { IsRow slots.now order.now }
+    ensures { IsDown [] slots.now order.now (key_of rdns.now) result.0 result.1 }
 {
-    match place_of(slots, order, rdns) {
-        Ok(_) => true,
-        Err(_) => false,
+    let mut node = NodeId(0);
+    for (i, rdn) in rdns.iter().enumerate() {
+        match child_of(slots, order, node, rdn.pairs()) {
+            Some(child) => node = child,
+            None => return (node, i),
+        }
+    }
+    (node, rdns.len())
+}
+
+/// The lowest node on the way to the name, and how many RDNs of the name it has; none where the name isn't below the prefix.
+pub(crate) fn way_to(
+    prefix: &Name,
+    slots: &[Option<Dse>],
+    order: &[NodeId],
+    name: &Name,
+) -> Option<(NodeId, usize)>
+    requires { IsRow slots.now order.now }
+    ensures { MatchOption result (is_prefix (key_of prefix.now) (key_of name.now) ≡ false) (λ w. IsDown prefix.now slots.now order.now (key_of name.now) w.0 w.1) }
+{
+    if !prefix.is_prefix(name) {
+        return None;
+    }
+    let count = prefix.len();
+    let (node, below) = descend(slots, order, &name.rdns()[count..]);
+    Some((node, count + below))
+}
+
+/// The node of the name.
+pub(crate) fn find_node(
+    prefix: &Name,
+    slots: &[Option<Dse>],
+    order: &[NodeId],
+    name: &Name,
+) -> Option<NodeId>
+    requires { IsRow slots.now order.now }
+    ensures { result ≡ option_map id_of (node_at (nodes_of prefix.now slots.now order.now) (key_of name.now)) }
+{
+    match way_to(prefix, slots, order, name) {
+        Some((node, count)) => {
+            if count == name.len() {
+                Some(node)
+            } else {
+                None
+            }
+        }
+        None => None,
+    }
+}
+
+/// The lowest node on the way to the name.
+pub(crate) fn lowest_node(
+    prefix: &Name,
+    slots: &[Option<Dse>],
+    order: &[NodeId],
+    name: &Name,
+) -> NodeId
+    requires row { IsRow slots.now order.now }
+    requires below { is_prefix (prefix_of (nodes_of prefix.now slots.now order.now)) (key_of name.now) ≡ true }
+    ensures { IsLowest (nodes_of prefix.now slots.now order.now) (key_of name.now) result }
+{
+    match way_to(prefix, slots, order, name) {
+        Some((node, _)) => node,
+        None => unreachable!(),
+    }
+}
+
+/// The node just above the name, and the place at which the name's node would go.
+pub(crate) fn site_of(
+    prefix: &Name,
+    slots: &[Option<Dse>],
+    order: &[NodeId],
+    name: &Name,
+) -> Result<(NodeId, usize), DseFault>
+    requires { IsRow slots.now order.now }
+    ensures { MatchResult result (λ s. IsSite prefix.now slots.now order.now name.now s.0 s.1) (λ fault. NotInserted (nodes_of prefix.now slots.now order.now) (key_of name.now) fault) }
+{
+    match way_to(prefix, slots, order, name) {
+        Some((node, count)) => site_on_way(prefix, slots, order, name, node, count),
+        None => Err(DseFault::NoParent),
+    }
+}
+
+/// The same where the way to the name is known.
+fn site_on_way(
+    prefix: &Name,
+    slots: &[Option<Dse>],
+    order: &[NodeId],
+    name: &Name,
+    node: NodeId,
+    count: usize,
+) -> Result<(NodeId, usize), DseFault>
+    requires row { IsRow slots.now order.now }
+    requires way { IsDown prefix.now slots.now order.now (key_of name.now) node count }
+    ensures { MatchResult result (λ s. IsSite prefix.now slots.now order.now name.now s.0 s.1) (λ fault. NotInserted (nodes_of prefix.now slots.now order.now) (key_of name.now) fault) }
+{
+    if count == name.len() {
+        return Err(DseFault::Exists);
+    }
+    if count + 1 < name.len() {
+        return Err(DseFault::NoParent);
+    }
+    let last = &name.rdns()[count];
+    match place_of(slots, order, node, last.pairs()) {
+        Ok(_) => unreachable!(),
+        Err(place) => Ok((node, place)),
+    }
+}
+
+/// Where the run of what stands just below the node begins.
+pub(crate) fn run_of(slots: &[Option<Dse>], order: &[NodeId], node: NodeId) -> usize
+    requires { IsRow slots.now order.now }
+    ensures { IsStart (spots_of slots.now order.now) node result }
+{
+    match place_of(slots, order, node, &[]) {
+        Ok(at) => at,
+        Err(at) => at,
+    }
+}
+
+/// Whether the node at the place stands just below the node.
+pub(crate) fn is_below_at(slots: &[Option<Dse>], order: &[NodeId], node: NodeId, at: usize) -> bool
+    requires { IsRow slots.now order.now }
+    ensures { IsTrue result ↔ ((at < length order.now) × (parent_at slots.now (slice_index_or order.now at top) ≡ node)) }
+{
+    at < order.len() && held_at(slots, order[at]).parent == node
+}
+
+/// Whether anything stands just below the node.
+pub(crate) fn has_children(slots: &[Option<Dse>], order: &[NodeId], node: NodeId) -> bool
+    requires { IsRow slots.now order.now }
+    ensures { MatchBool result ((c : NodeId) × In c order.now × (parent_at slots.now c ≡ node)) ((c : NodeId) → In c order.now → parent_at slots.now c ≡ node → ⊥) }
+{
+    is_below_at(slots, order, node, run_of(slots, order, node))
+}
+
+/// The place of the node.
+pub(crate) fn place_of_node(slots: &[Option<Dse>], order: &[NodeId], node: NodeId) -> usize
+    requires row { IsRow slots.now order.now }
+    requires ordered { In node order.now }
+    ensures { (result < length order.now) × ((d : NodeId) → slice_index_or order.now result d ≡ node) }
+{
+    let dse = held_at(slots, node);
+    match place_of(slots, order, dse.parent, dse.pairs()) {
+        Ok(at) => at,
+        Err(_) => unreachable!(),
+    }
+}
+
+/// What the slot held, which is free afterwards.
+pub(crate) fn take_out(slots: &mut Vec<Option<Dse>>, node: NodeId) -> Dse
+    requires { is_used slots.old.items node ≡ true }
+    ensures held { result ≡ held (slot_at slots.old.items node) }
+    ensures slots { slots.new.items ≡ slice_set slots.old.items node.0 None }
+    ensures len { vec_len slots.new ≡ vec_len slots.old }
+{
+    match slots[node.0].take() {
+        Some(dse) => dse,
+        None => unreachable!(),
+    }
+}
+
+/// The node's name: the prefix's, and the RDNs from there down.
+pub(crate) fn name_of(
+    alloc: Global,
+    prefix: &Name,
+    slots: &[Option<Dse>],
+    order: &[NodeId],
+    node: NodeId,
+) -> Result<Name, NoMemory>
+    requires row { IsRow slots.now order.now }
+    requires used { is_used slots.now node ≡ true }
+    ensures { IfOk result (λ name. name ≡ name_at prefix.now slots.now node) }
+{
+    let dse = held_at(slots, node);
+    if dse.depth == 0 {
+        return Ok(prefix.clone()?);
+    }
+    let mut name = name_of(alloc, prefix, slots, order, dse.parent)?;
+    name.push(alloc, dse.rdn(alloc)?)?;
+    Ok(name)
+}
+
+/// Where the node stands, and where it would go with these pairs once it's taken from there; none where another has them.
+pub(crate) fn move_of(
+    slots: &[Option<Dse>],
+    order: &[NodeId],
+    node: NodeId,
+    pairs: &[Pair],
+) -> Option<(usize, usize)>
+    requires row { IsRow slots.now order.now }
+    requires ordered { In node order.now }
+    ensures { MatchOption result (IsOther slots.now order.now node (map key_of_pair pairs.now)) (λ w. IsMove slots.now order.now node (map key_of_pair pairs.now) w.0 w.1) }
+{
+    let from = place_of_node(slots, order, node);
+    let above = held_at(slots, node).parent;
+    match place_of(slots, order, above, pairs) {
+        Ok(at) => { if at == from { Some((from, from)) } else { None } }
+        Err(at) => {
+            if from < at {
+                Some((from, at - 1))
+            } else {
+                Some((from, at))
+            }
+        }
     }
 }

@@ -1,16 +1,19 @@
 //! The tree of an agent's entries of one naming context.
 
-ghost use Rattle.std.specs.Prelude.{◌≡◌, ◌+◌, ◌<◌, ◌≤◌, ◌∷◌, [], true, length, IfOk, IfErr, OnOk, OnErr, IsTrue, Some, Err};
+ghost use Rattle.std.specs.Prelude.{◌≡◌, ◌+◌, ◌<◌, ◌≤◌, ◌∷◌, [], true, false, length, IfOk, IfErr, OnOk, OnErr, IsTrue, Some, Err};
 ghost use Rattle.std.specs.Option.{option_map};
-ghost use Rattle.x5_model.specs.Keys.{parent};
+ghost use Rattle.x5_model.specs.Keys.{is_prefix};
+ghost use Rattle.x5_model.specs.Words.{first_of};
 ghost use Rattle.x5_model.specs.Values.{key_of};
-ghost use Rattle.x5_model_tree.specs.Tree.{key_at, is_there};
-ghost use Rattle.x5_dse.specs.Linked.{IsLinked, entries_of, id_of, entry_in, name_in, node_at, node_with, is_live};
-ghost use Rattle.x5_dse.specs.Changes.{Inserted, NotInserted};
-ghost use Rattle.x5_dse.specs.Inside.{IsPlace};
+ghost use Rattle.x5_dse.specs.Linked.{IsLinked, IsLowest, entries_of, id_of, entry_in, name_in, node_at, node_with, is_first, is_live, prefix_of, children_of};
+ghost use Rattle.x5_dse.specs.Changes.{Inserted, NotInserted, Removed, NotRemoved, Renamed, NotRenamed, Replaced};
 
-use crate::node::{Dse, DseFault, NodeId};
-use crate::place::{has_name, named_at, node_of, place_of, rdns_above};
+use crate::children::Children;
+use crate::node::{Dse, DseFault, NodeId, Own};
+use crate::place::{
+    find_node, has_children, held_at, lowest_node, move_of, name_of, place_of_node, run_of,
+    site_of, take_out,
+};
 use std::alloc::Global;
 use std::marker::Model;
 use x5_match::Entry;
@@ -20,6 +23,7 @@ use x5_names::{Name, Rdn};
 /// The entries of one naming context, whose prefix is the first of them.
 #[derive(Debug, Drop)]
 pub struct DseTree {
+    prefix: Name,
     slots: Vec<Option<Dse>>,
     order: Vec<NodeId>,
     free: Vec<NodeId>,
@@ -43,14 +47,20 @@ impl DseTree {
         ensures { IfOk result (λ tree. entries_of tree.nodes ≡ record { name = prefix; entry = entry } ∷ []) }
     {
         let mut slots = Vec::with_capacity(alloc, 1)?;
-        let mut order = Vec::with_capacity(alloc, 1)?;
+        let order = Vec::with_capacity(alloc, 1)?;
         let free = Vec::with_capacity(alloc, 1)?;
         slots.push(Some(Dse {
-            name: prefix,
+            parent: NodeId(0),
+            depth: 0,
+            own: Own::Last(Name::root(alloc)),
             entry,
         }))?;
-        order.push(NodeId(0))?;
-        Ok(DseTree { slots, order, free })
+        Ok(DseTree {
+            prefix,
+            slots,
+            order,
+            free,
+        })
     }
 
     /// How many entries there are. No memory.
@@ -58,7 +68,7 @@ impl DseTree {
         ensures same { result ≡ length self.now.nodes }
         ensures linked { IsLinked self.now.nodes }
     {
-        self.order.len()
+        self.order.len() + 1
     }
 
     /// How many entries can be added without memory. No memory.
@@ -68,26 +78,27 @@ impl DseTree {
         self.free.len()
     }
 
-    /// The place of the name of these RDNs among the nodes, or where it would go.
-    fn place(&self, rdns: &[Rdn]) -> Result<usize, usize>
-        ensures place { IsPlace self.now.nodes (key_of rdns.now) result }
-        ensures linked { IsLinked self.now.nodes }
+    /// The node of the prefix. No memory.
+    pub fn top(&self) -> NodeId
+        ensures { option_map id_of (first_of self.now.nodes) ≡ Some result }
     {
-        place_of(&self.slots, &self.order, rdns)
-    }
-
-    /// Whether the name of these RDNs is there.
-    fn has(&self, rdns: &[Rdn]) -> bool
-        ensures { result ≡ is_there (entries_of self.now.nodes) (key_of rdns.now) }
-    {
-        has_name(&self.slots, &self.order, rdns)
+        let _ = &self.order;
+        NodeId(0)
     }
 
     /// The node of the name, whatever its spelling. No memory.
     pub fn find(&self, name: &Name) -> Option<NodeId>
         ensures { result ≡ option_map id_of (node_at self.now.nodes (key_of name.now)) }
     {
-        node_of(&self.slots, &self.order, name.rdns())
+        find_node(&self.prefix, &self.slots, &self.order, name)
+    }
+
+    /// The lowest node on the way to the name. No memory.
+    pub fn lowest(&self, name: &Name) -> NodeId
+        requires { is_prefix (prefix_of self.now.nodes) (key_of name.now) ≡ true }
+        ensures { IsLowest self.now.nodes (key_of name.now) result }
+    {
+        lowest_node(&self.prefix, &self.slots, &self.order, name)
     }
 
     /// The entry of the node. No memory.
@@ -95,15 +106,24 @@ impl DseTree {
         requires { IsTrue (is_live self.now.nodes node) }
         ensures { option_map entry_in (node_with self.now.nodes node) ≡ Some result.now }
     {
-        &named_at(&self.slots, node).entry
+        &held_at(&self.slots, node).entry
     }
 
-    /// The name of the node's entry, as it is spelled there. No memory.
-    pub fn name(&self, node: NodeId) -> &Name
+    /// The name of the node's entry: each RDN as it is spelled there (X.501, section 9).
+    pub fn name(&self, alloc: Global, node: NodeId) -> Result<Name, NoMemory>
         requires { IsTrue (is_live self.now.nodes node) }
-        ensures { option_map name_in (node_with self.now.nodes node) ≡ Some result.now }
+        ensures { IfOk result (λ name. option_map name_in (node_with self.now.nodes node) ≡ Some name) }
     {
-        &named_at(&self.slots, node).name
+        name_of(alloc, &self.prefix, &self.slots, &self.order, node)
+    }
+
+    /// The nodes just below the node, in the order of their keys. No memory.
+    pub fn children(&self, node: NodeId) -> Children<'_>
+        requires { IsTrue (is_live self.now.nodes node) }
+        ensures { result ≡ children_of self.now.nodes node }
+    {
+        let at = run_of(&self.slots, &self.order, node);
+        Children::new(&self.slots, &self.order, node, at)
     }
 
     /// Makes room for one entry more. After want of memory the entries are as they were.
@@ -113,8 +133,8 @@ impl DseTree {
         ensures err { OnErr result (self.new.spare ≡ self.old.spare) }
     {
         let next = NodeId(self.slots.len());
-        self.order.reserve(self.free.len() + 1)?;
-        self.free.reserve(self.order.len() + 1)?;
+        self.order.reserve(self.free.len() + 2)?;
+        self.free.reserve(self.order.len() + 2)?;
         self.slots.push(None)?;
         if self.free.push(next).is_err() {
             unreachable!();
@@ -134,37 +154,89 @@ impl DseTree {
         Ok(())
     }
 
-    /// Puts the entry at its place, with a spare node.
-    fn put(&mut self, place: usize, new: Dse) -> NodeId
-        requires room { 0 < self.old.spare }
-        requires place { IsPlace self.old.nodes (key_at new) (Err place) }
-        requires below { is_there (entries_of self.old.nodes) (parent (key_at new)) ≡ true }
-        ensures { Inserted self.old new result self.new }
-    {
-        let Some(node) = self.free.pop() else {
-            unreachable!()
-        };
-        self.slots[node.0] = Some(new);
-        if self.order.insert(place, node).is_err() {
-            unreachable!();
-        }
-        node
-    }
-
     /// Adds the entry of the name, below the one just above it (X.511, section 11.1). No memory: it needs `spare`.
     pub fn insert(&mut self, name: Name, entry: Entry) -> Result<NodeId, DseFault>
         requires { 0 < self.old.spare }
-        ensures ok { IfOk result (λ id. Inserted self.old (record { name = name; entry = entry }) id self.new) }
+        ensures ok { IfOk result (λ id. Inserted self.old name entry id self.new) }
         ensures fault { IfErr result (λ fault. NotInserted self.old.nodes (key_of name) fault) }
         ensures err { OnErr result (self.new ≡ self.old) }
     {
-        let place = match self.place(name.rdns()) {
-            Ok(_) => return Err(DseFault::Exists),
-            Err(place) => place,
+        let (parent, place) = site_of(&self.prefix, &self.slots, &self.order, &name)?;
+        let depth = name.len() - self.prefix.len();
+        let Some(node) = self.free.pop() else {
+            unreachable!()
         };
-        if !self.has(rdns_above(&name)) {
-            return Err(DseFault::NoParent);
+        self.slots[node.0] = Some(Dse {
+            parent,
+            depth,
+            own: Own::Last(name),
+            entry,
+        });
+        if self.order.insert(place, node).is_err() {
+            unreachable!();
         }
-        Ok(self.put(place, Dse { name, entry }))
+        Ok(node)
+    }
+
+    /// Replaces the node's entry, and answers the one that was there (X.511, section 11.3). No memory.
+    pub fn replace(&mut self, node: NodeId, entry: Entry) -> Entry
+        requires { IsTrue (is_live self.old.nodes node) }
+        ensures { Replaced self.old node entry result self.new }
+    {
+        let held = take_out(&mut self.slots, node);
+        self.slots[node.0] = Some(Dse {
+            parent: held.parent,
+            depth: held.depth,
+            own: held.own,
+            entry,
+        });
+        held.entry
+    }
+
+    /// Removes the node's entry, which is a leaf other than the prefix's, and answers it (X.511, section 11.2). Its node is spare
+    /// then. No memory.
+    pub fn remove(&mut self, node: NodeId) -> Result<Entry, DseFault>
+        requires live { IsTrue (is_live self.old.nodes node) }
+        requires other { is_first self.old.nodes node ≡ false }
+        ensures ok { IfOk result (λ entry. Removed self.old node entry self.new) }
+        ensures fault { IfErr result (λ fault. NotRemoved self.old.nodes node fault) }
+        ensures err { OnErr result (self.new ≡ self.old) }
+    {
+        if has_children(&self.slots, &self.order, node) {
+            return Err(DseFault::NotLeaf);
+        }
+        let place = place_of_node(&self.slots, &self.order, node);
+        self.order.remove(place);
+        let held = take_out(&mut self.slots, node);
+        if self.free.push(node).is_err() {
+            unreachable!();
+        }
+        Ok(held.entry)
+    }
+
+    /// Gives the node's entry another RDN and other attributes; what stands below it goes with it (X.511, section 11.4). The node is
+    /// another than the prefix's. No memory.
+    pub fn rename(&mut self, node: NodeId, rdn: Rdn, entry: Entry) -> Result<(), DseFault>
+        requires live { IsTrue (is_live self.old.nodes node) }
+        requires other { is_first self.old.nodes node ≡ false }
+        ensures ok { OnOk result (Renamed self.old node rdn entry self.new) }
+        ensures fault { IfErr result (λ fault. NotRenamed self.old.nodes node rdn fault) }
+        ensures err { OnErr result (self.new ≡ self.old) }
+    {
+        let Some((from, to)) = move_of(&self.slots, &self.order, node, rdn.pairs()) else {
+            return Err(DseFault::Exists);
+        };
+        self.order.remove(from);
+        if self.order.insert(to, node).is_err() {
+            unreachable!();
+        }
+        let held = take_out(&mut self.slots, node);
+        self.slots[node.0] = Some(Dse {
+            parent: held.parent,
+            depth: held.depth,
+            own: Own::Renamed(rdn),
+            entry,
+        });
+        Ok(())
     }
 }

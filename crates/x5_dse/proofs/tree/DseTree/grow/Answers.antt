@@ -3,9 +3,9 @@ use Rattle.std.proofs.Common.{◌≡◌, ◌+◌, ◌++◌, Bool, true, not, [],
 use Rattle.std.specs.Vec.{vec_len}
 use Rattle.x5_dse.specs.declared.node.NodeId.{NodeId}
 use Rattle.x5_dse.specs.Linked.{Nodes}
-use Rattle.x5_dse.specs.Inside.{nodes_of, IsKept}
-use Rattle.x5_dse.proofs.Slots.{Slots}
-use Rattle.x5_dse.proofs.Growing.{grown, grown_nodes}
+use Rattle.x5_dse.specs.Inside.{Slots, nodes_of, IsKept}
+use Rattle.x5_dse.proofs.Changing.{nodes_same}
+use Rattle.x5_dse.proofs.Growing.{grown, grown_same}
 use Rattle.x5_dse.proofs.tree.DseTree.grow.Goals as goal
 
 pub invariant_of-self-2 : goal.invariant_of-self-2
@@ -31,6 +31,6 @@ invariant_of-self-2 c =
 
 pub returns-clause-nodes : goal.returns-clause-nodes
 returns-clause-nodes c =
-    (λ i. nodes_of (c.in_ok-push.ensures.items i) (c.in_ok-reserve.ensures.items i))
-    ∙ grown_nodes c.self.inside.slots.items c.self.inside.order.items
+    (λ i. nodes_of c.self.inside.prefix (c.in_ok-push.ensures.items i) (c.in_ok-reserve.ensures.items i))
+    ∙ nodes_same c.self.inside.slots.items (c.self.inside.slots.items ++ None ∷ []) (grown_same c.self.inside.slots.items) c.self.inside.order.items c.self.invariant.0.row c.self.inside.prefix
     ∙ ap (λ (n : Nodes). n.nodes) c.self.view_is

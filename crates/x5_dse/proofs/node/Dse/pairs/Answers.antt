@@ -1,0 +1,12 @@
+-- The last member of a list is the one before its end.
+use Rattle.std.proofs.Common.{◌≡◌, zero, suc, ◌<◌, ◌-◌, List, [], ◌∷◌, length, get_or, refl, sym, ap, ◌∙◌, arith}
+use Rattle.x5_model.specs.Values.{Rdn, Name, last_rdn}
+use Rattle.x5_dse.specs.Slot.{Slot, own_rdn}
+use Rattle.x5_dse.specs.declared.node.Own.{Own}
+use Rattle.x5_dse.proofs.Lasts.{last_is}
+use Rattle.x5_dse.proofs.node.Dse.pairs.Goals as goal
+
+pub returns-in-len1-up : goal.returns-in-len1-up
+returns-in-len1-up c =
+    let l : 0 < length c.rdns.result.now = (let m = c.in-len1-up.len_at_least in omega arith) in
+    c.pairs.ensures ∙ c.last-item.is ∙ last_is c.rdns.result.now c.last-item.result l ∙ ap last_rdn c.rdns.ensures ∙ sym (ap own_rdn c.in-Last.is) ∙ ap (λ (s : Slot). s.rdn) c.self.view_is

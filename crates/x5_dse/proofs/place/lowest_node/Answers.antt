@@ -1,0 +1,17 @@
+-- The way to a name below the prefix ends at the lowest node on it.
+use Rattle.std.proofs.Common.{◌≡◌, true, false, subst}
+use Rattle.x5_model.specs.Keys.{Key, is_prefix}
+use Rattle.x5_model.specs.Values.{key_of}
+use Rattle.x5_dse.proofs.Named.{prefix_key}
+use Rattle.x5_dse.proofs.Ways.{is_lowest}
+use Rattle.x5_dse.proofs.place.lowest_node.Goals as goal
+
+pub unreachable-requires : goal.unreachable-requires
+unreachable-requires c =
+    let outside : is_prefix (key_of c.args.prefix.now) (key_of c.args.name.now) ≡ false = c.in-None.ensures in
+    let inside : is_prefix (key_of c.args.prefix.now) (key_of c.args.name.now) ≡ true =
+    subst (λ (k : Key). is_prefix k (key_of c.args.name.now) ≡ true) (prefix_key c.args.prefix.now c.args.slots.now c.args.order.now c.requires.row) c.requires.below in
+    cc
+
+pub returns : goal.returns
+returns c = is_lowest c.args.prefix.now c.args.slots.now c.args.order.now c.requires.row (key_of c.args.name.now) c.in-Some.node c.in-Some.field-0-1 c.in-Some.ensures
