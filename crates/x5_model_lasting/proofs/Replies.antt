@@ -30,8 +30,7 @@ use Rattle.x5_model_run.specs.Placed.{is_long, RightReply}
 use Rattle.x5_model_run.proofs.Growing.{all_grow}
 use Rattle.x5_model_serve.specs.Answering.{is_service, is_unavailable}
 use Rattle.x5_model_serve.specs.Claims.{Grows}
-use Rattle.x5_model_serve.specs.Induction.{RightStays}
-use Rattle.x5_model_lasting.specs.Lasting.{ResultStays, TellerStays, IsSilent, Unaltered, RightLasts}
+use Rattle.x5_model_lasting.specs.Lasting.{RightStays, ResultStays, TellerStays, IsSilent, Unaltered, RightLasts}
 use Rattle.x5_model_lasting.proofs.Lines.{grown, some_more, heard_stays, untried_stays, lost_stays, blocked_stays}
 
 -- ---- results

@@ -3,6 +3,8 @@
 use Rattle.std.specs.Prelude.{◌≡◌, ℕ, ◌⊎◌, true, IsTrue, List, [], ◌∷◌, ◌++◌}
 use Rattle.std.specs.List.{list_all}
 use Rattle.std.specs.declared.option.Option.{Option}
+use Rattle.std.specs.declared.option.Option.TheVariants.{Some}
+use Rattle.x5_model.specs.Words.{first_of}
 use Rattle.x5_model.specs.Members.{In}
 use Rattle.x5_model.specs.References.{Reference}
 use Rattle.x5_model.specs.Answers.{Reply}
@@ -16,8 +18,11 @@ use Rattle.x5_model_run.specs.Blocked.{Asked}
 use Rattle.x5_model_run.specs.Thorough.{is_served}
 use Rattle.x5_model_serve.specs.Serving.{Hand, hand, line_for, carried_for, next_line, with_line, with_accepted, is_spent}
 use Rattle.x5_model_serve.specs.Claims.{Grows, asked_line, is_settled_line, Accepted, depth_at, AtHand, Keeps, MayTake, Apart, AskedSoFar, NotedSoFar, OnlyBy, HeardRight, AtMaster}
-use Rattle.x5_model_serve.specs.Induction.{IsLineOf}
 use Rattle.x5_model_lasting.specs.Lasting.{Unaltered, SameLines, Lasts}
+
+-- the line of the message at hand
+abbrev pub IsLineOf : Hand → Journal → Line → Type 0
+IsLineOf k i e = first_of (settled (depth_at k) i.lines) ≡ Some e
 
 -- what stands above the message of an opener is the same
 abbrev pub SameAbove : Hand → Journal → Journal → Type 0

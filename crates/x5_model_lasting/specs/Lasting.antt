@@ -1,6 +1,6 @@
 -- What is said of messages and replies stays said where lines are added to a journal (X.518, sections 10 and 17 to 20):
 -- who was heard, asked in vain or passed; what is lost; which reply is right; which line is served and settled.
-use Rattle.std.specs.Prelude.{◌≡◌, ℕ, ◌≤◌, ◌⊎◌, Bool, true, false, IsTrue, List, [], length}
+use Rattle.std.specs.Prelude.{◌≡◌, ℕ, ◌≤◌, ◌⊎◌, Bool, true, false, IsTrue, List, [], ◌∷◌, length}
 use Rattle.std.specs.List.{list_all}
 use Rattle.std.specs.declared.option.Option.TheVariants.{Some}
 use Rattle.x5_model.specs.Members.{In}
@@ -98,6 +98,12 @@ Unaltered p q reply i j =
     (length j.accepted ≡ length i.accepted)
     ⊎ (((reply ≡ Answered Changed) × (is_update q.message.request.body ≡ true))
     ⊎ (IsSilent reply j × ((x : DirError) → told (λ key. false) (tree_at p) q.message ≡ Refuses x → ⊥)))
+
+-- What is right stays right where a line is added.
+abbrev pub RightStays : Type 0
+RightStays =
+    (p : Point) (s : Scene) (q : Asked) (j : Journal) (l : Line) (spent : Bool) (reply : Reply)
+    → RightReply p s q j spent reply → RightReply p s q (record j { lines = l ∷ j.lines }) spent reply
 
 -- A right reply stays right where lines are added, and accepting agents, if what it says of these stays. With the same
 -- accepting agents no more is asked (`RightStays` of x5_model_serve is this for one line): that a reply was lost

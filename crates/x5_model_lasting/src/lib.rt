@@ -2,8 +2,7 @@
 //! the theorems.
 #![tactic(auto)]
 
-ghost use Rattle.x5_model_serve.specs.Induction.{RightStays};
-ghost use Rattle.x5_model_lasting.specs.Lasting.{HeardStays, SomeLineStays, InVainStays, ClearedStays, PassedStays, TakenStays, UntriedStays, LostStays, BlockedStays, ResultStays, TellerStays, RightLasts, AcceptingStays, LineLeavesThem, AcceptedStays, DoneStays, NotDoneStays, ServedStays, ServedItselfStays, SettledStays, FinishedStays, ThoroughStays, FinishedIsThorough};
+ghost use Rattle.x5_model_lasting.specs.Lasting.{HeardStays, SomeLineStays, InVainStays, ClearedStays, PassedStays, TakenStays, UntriedStays, LostStays, BlockedStays, ResultStays, TellerStays, RightStays, RightLasts, AcceptingStays, LineLeavesThem, AcceptedStays, DoneStays, NotDoneStays, ServedStays, ServedItselfStays, SettledStays, FinishedStays, ThoroughStays, FinishedIsThorough};
 ghost use Rattle.x5_model_lasting.specs.Keeping.{KeepsLasts, SpentStays, AtHandStays, AtMasterStays, MayTakeStays, AskedStays, AskedApart, NotedStays, ReplyStays, CalmStays, KeepsItself, KeepsBoth, KeepsLost, KeepsSent, KeepsAccepting, AskedSent, OnlyOneSent, OnlyByBoth};
 
 /// Who was heard, asked in vain, cleared or passed is so still, what was taken is taken, and what blocks a reference blocks it

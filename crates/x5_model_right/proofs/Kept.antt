@@ -22,16 +22,20 @@ use Rattle.x5_model_joins.proofs.Backs.{numbers}
 use Rattle.x5_model_verdicts.proofs.At.{of_settled}
 use Rattle.x5_model_serve.specs.Serving.{Hand, is_spent}
 use Rattle.x5_model_serve.specs.Claims.{Accepted, AtHand, Keeps, MayTake, NotedSoFar, Grows, depth_at, last_number, is_due_line, is_settled_line, is_finished, is_served_itself, takes_itself}
+use Rattle.x5_model_lasting.proofs.Lines as lasting
+use Rattle.x5_model_lasting.proofs.Lines.{some_line_stays}
+use Rattle.x5_model_lasting.proofs.Composes.{grows_both}
+use Rattle.x5_model_lasting.proofs.Finishing.{is_at_most}
 use Rattle.x5_model_right.specs.Kept.{AtOnce, ReadsOnly, AcceptedSince, KeepsAll, Rests, is_sent_to}
-
-pub is_at_most : (a b : ℕ) → nat_le a b ≡ true → a ≤ b
-is_at_most a b e = elim (leb_tells a b) [ inl t ↦ t.1 | inr f ↦ (let x = f.0 in cc) ]
 
 -- ---- what is said of lines stays said where lines were added
 
-pub some_stays : (test : Line → List Line → Bool) (new lines : List Line) → some_line test lines ≡ true → some_line test (new ++ lines) ≡ true
-some_stays test [] lines e = e
-some_stays test (x ∷ new) lines e = or_right (test x (new ++ lines)) (some_line test (new ++ lines)) (some_stays test new lines e)
+abbrev of_lines : List Line → Journal
+of_lines lines = record { lines = lines; accepted = [] }
+
+pub some_stays : (test : Line → List Line → Bool) (new lines : List Line) → some_line test lines ≡ true
+    → some_line test (new ++ lines) ≡ true
+some_stays test new lines = some_line_stays test (of_lines lines) (of_lines (new ++ lines)) (new, refl)
 
 pub sent_to_stays : (new lines : List Line) (number : ℕ) (from : Option ℕ) (r : Reference) (a : ℕ) → is_sent_to lines number from r a ≡ true → is_sent_to (new ++ lines) number from r a ≡ true
 sent_to_stays new lines number from r a e = some_stays (λ x before. asks_by r a x && (same_sender x.sender from && opened_by number before x)) new lines e
@@ -44,30 +48,21 @@ sent_by_stays new lines l sender r e = by (first_of r.agents) e
     by None f = refl
     by (Some a) f = some_stays (λ e before. asks_by r a e && (same_sender e.sender sender && opened_by l.number before e)) new lines f
 
-pub taken_stays : (s : Scene) (new lines : List Line) (l : Line) (r : Reference) → is_taken s lines l r ≡ true → is_taken s (new ++ lines) l r ≡ true
-taken_stays s new lines l r e = by (sends_itself s l r) e
-  where
-    by : (b : Bool) → (if b then is_sent_by lines l (Some l.receiver) r else not (sender_follows s l) || is_sent_by lines l l.sender r) ≡ true
-        → (if b then is_sent_by (new ++ lines) l (Some l.receiver) r else not (sender_follows s l) || is_sent_by (new ++ lines) l l.sender r) ≡ true
-    by true f = sent_by_stays new lines l (Some l.receiver) r f
-    by false f = elim (either_true (not (sender_follows s l)) (is_sent_by lines l l.sender r) f) [
-      | inl g ↦ or_left (not (sender_follows s l)) (is_sent_by (new ++ lines) l l.sender r) g
-      | inr g ↦ or_right (not (sender_follows s l)) (is_sent_by (new ++ lines) l l.sender r) (sent_by_stays new lines l l.sender r g)
-    ]
+pub taken_stays : (s : Scene) (new lines : List Line) (l : Line) (r : Reference) → is_taken s lines l r ≡ true
+    → is_taken s (new ++ lines) l r ≡ true
+taken_stays s new lines l r = lasting.taken_stays s l r (of_lines lines) (of_lines (new ++ lines)) (new, refl)
 
-pub vain_stays : (s : Scene) (new lines : List Line) (o : Line) (r : Reference) (a : ℕ) → is_in_vain s lines o r a ≡ true → is_in_vain s (new ++ lines) o r a ≡ true
-vain_stays s [] lines o r a e = e
-vain_stays s (x ∷ new) lines o r a e = vain_grows s (new ++ lines) x o r a (vain_stays s new lines o r a e)
+pub vain_stays : (s : Scene) (new lines : List Line) (o : Line) (r : Reference) (a : ℕ) → is_in_vain s lines o r a ≡ true
+    → is_in_vain s (new ++ lines) o r a ≡ true
+vain_stays s new lines o r a = lasting.vain_stays s o r a (of_lines lines) (of_lines (new ++ lines)) (new, refl)
 
-pub cleared_stays : (s : Scene) (new lines : List Line) (number : ℕ) (r : Reference) (a : ℕ) → is_cleared s lines number r a ≡ true → is_cleared s (new ++ lines) number r a ≡ true
-cleared_stays s new lines number r a e =
-    let b = both_true _ _ e in and_true _ _ (some_stays _ new lines b.0) b.1
+pub cleared_stays : (s : Scene) (new lines : List Line) (number : ℕ) (r : Reference) (a : ℕ)
+    → is_cleared s lines number r a ≡ true → is_cleared s (new ++ lines) number r a ≡ true
+cleared_stays s new lines number r a = lasting.cleared_stays s number r a (of_lines lines) (of_lines (new ++ lines)) (new, refl)
 
-pub passed_stays : (s : Scene) (new lines : List Line) (o : Line) (r : Reference) (a : ℕ) → is_passed s lines o r a ≡ true → is_passed s (new ++ lines) o r a ≡ true
-passed_stays s new lines o r a e = elim (either_true (is_in_vain s lines o r a) _ e) [
-  | inl v ↦ or_left _ _ (vain_stays s new lines o r a v)
-  | inr v ↦ (let b = both_true _ _ v in or_right (is_in_vain s (new ++ lines) o r a) _ (and_true _ _ b.0 (cleared_stays s new lines o.number r a b.1)))
-]
+pub passed_stays : (s : Scene) (new lines : List Line) (o : Line) (r : Reference) (a : ℕ) → is_passed s lines o r a ≡ true
+    → is_passed s (new ++ lines) o r a ≡ true
+passed_stays s new lines o r a = lasting.passed_stays s o r a (of_lines lines) (of_lines (new ++ lines)) (new, refl)
 
 -- a line that may be the accepting one by more lines may by fewer
 pub may_before : (s : Scene) (lines new : List Line) (a : ℕ) (e : Line) → may_accept s (new ++ lines) a e ≡ true → may_accept s lines a e ≡ true
@@ -166,9 +161,6 @@ module _ (p : Point) (s : Scene) (j l : Journal) (new : List Line) (lines_are : 
 assoc : (us vs ws : List Line) → (us ++ vs) ++ ws ≡ us ++ (vs ++ ws)
 assoc [] vs ws = refl
 assoc (u ∷ us) vs ws = ap (λ zs. u ∷ zs) (assoc us vs ws)
-
-pub grows_both : (i j l : Journal) → Grows i j → Grows j l → Grows i l
-grows_both i j l a b = (b.0 ++ a.0, b.1 ∙ ap (λ (xs : List Line). b.0 ++ xs) a.1 ∙ sym (assoc b.0 a.0 i.lines))
 
 pub longer : (i j : Journal) → Grows i j → length i.lines ≤ length j.lines
 longer i j g = (let more : length j.lines ≡ length g.0 + length i.lines = ap length g.1 ∙ length-append g.0 i.lines in omega (arith, more))

@@ -48,7 +48,8 @@ use Rattle.x5_model_right.specs.Kept.{Ground, Comes}
 use Rattle.x5_model_right.specs.Journeys.{NeededAgents}
 use Rattle.x5_model_right.specs.Claim.{ServedRight}
 use Rattle.x5_model_right.specs.Served.{Loops, IsLong, Unfit, Refused, IsNowhere}
-use Rattle.x5_model_right.proofs.Kept.{is_at_most, unchanged, line_there}
+use Rattle.x5_model_lasting.proofs.Finishing.{is_at_most}
+use Rattle.x5_model_right.proofs.Kept.{unchanged, line_there}
 use Rattle.x5_model_right.proofs.Journeys.{sound, placed_here, line_placed, agent_here}
 use Rattle.x5_model_right.proofs.Adding.{update_no_read}
 use Rattle.x5_model_right.proofs.Finding.{looked, found_same, found_is, able}

@@ -35,7 +35,8 @@ use Rattle.x5_model_right.specs.Journeys.{NeededAgents}
 use Rattle.x5_model_right.specs.Claim.{MayFollow}
 use Rattle.x5_model_right.specs.Served.{Goes, GoesWide}
 use Rattle.x5_model_right.specs.Sent.{Referral, WideReferral}
-use Rattle.x5_model_right.proofs.Kept.{is_at_most, settled_stays, line_there}
+use Rattle.x5_model_lasting.proofs.Finishing.{is_at_most}
+use Rattle.x5_model_right.proofs.Kept.{settled_stays, line_there}
 use Rattle.x5_model_right.proofs.Journeys.{sound, by_causes, line_placed}
 use Rattle.x5_model_right.proofs.Adding.{query_asks, read_asks}
 use Rattle.x5_model_right.proofs.Messages.{read_kept}

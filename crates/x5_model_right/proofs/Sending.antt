@@ -24,7 +24,9 @@ use Rattle.x5_model_serve.specs.Claims.{AtHand, MayTake, AskedSoFar, OnlyBy, dep
 use Rattle.x5_model_verdicts.proofs.Below.{same_number}
 use Rattle.x5_model_right.specs.Kept.{Ground, KeepsAll, Rests, asks_update, is_sent_to}
 use Rattle.x5_model_right.specs.Journeys.{NeededAgents}
-use Rattle.x5_model_right.proofs.Kept.{is_at_most, some_stays, sent_to_stays, passed_stays, grows_both}
+use Rattle.x5_model_lasting.proofs.Composes.{grows_both}
+use Rattle.x5_model_lasting.proofs.Finishing.{is_at_most}
+use Rattle.x5_model_right.proofs.Kept.{some_stays, sent_to_stays, passed_stays}
 use Rattle.x5_model_right.proofs.Adding.{no_carrier, query_asks, deeper, listed, accepting_same}
 
 -- ---- tests of one line

@@ -51,7 +51,8 @@ use Rattle.x5_model_bounds.proofs.Probing.{probes_pay}
 use Rattle.x5_model_bounds.proofs.Searching.{parts_pay}
 use Rattle.x5_model_bounds.proofs.Top.{never_spent}
 use Rattle.x5_model_bounds.proofs.Walk.{serving_pays}
-use Rattle.x5_model_right.proofs.Kept.{is_at_most, old_line, some_stays}
+use Rattle.x5_model_lasting.proofs.Finishing.{is_at_most}
+use Rattle.x5_model_right.proofs.Kept.{old_line, some_stays}
 use Rattle.x5_model_right.proofs.Messages.{lost_settled}
 use Rattle.x5_model_right.proofs.Sending.{served_alone}
 use Rattle.x5_model_right.proofs.Adding.{some_is, in_reverse}

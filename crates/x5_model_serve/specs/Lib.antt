@@ -6,4 +6,3 @@ pub mod Framing
 pub mod Following
 pub mod Claims
 pub mod Licensing
-pub mod Induction
