@@ -7,8 +7,6 @@ mod feeder;
 mod header;
 mod laws;
 mod reader;
-#[cfg(test)]
-mod tests;
 mod writer;
 
 pub use crate::element::{BerFault, Tlv, read_tlv};

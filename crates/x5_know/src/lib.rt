@@ -8,8 +8,6 @@ mod key;
 mod names;
 mod network;
 mod start;
-#[cfg(test)]
-mod tests;
 
 pub use agreements::{Agreement, AgreementList};
 pub use described::{Described, DescribedAgent, DescribedAgents, KindList};

@@ -7,8 +7,6 @@ mod entry;
 mod filter;
 mod matching;
 mod parse;
-#[cfg(test)]
-mod tests;
 mod truth;
 
 pub use copies::copied;

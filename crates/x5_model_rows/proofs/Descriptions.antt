@@ -1,21 +1,19 @@
 -- Worlds that no file describes, each near the base world, which one does: a name whose text and key part, and other things
 -- that a reader refuses. And what is printed of exclusions and numbers.
-use Rattle.std.specs.Prelude.{◌≡◌, true, false, List, [], ◌∷◌, ◌++◌}
+use Rattle.std.specs.Prelude.{◌≡◌, true, false, [], ◌∷◌, ◌++◌}
 use Rattle.std.specs.Str.{chars}
-use Rattle.std.specs.declared.option.Option.TheVariants.{Some}
 use Rattle.std.proofs.Common.{refl}
 use Rattle.caseless.proofs.Computing.{caseless}
 use lib.Chars.{codes}
 use lib.Utf8.{encode}
-use Rattle.x5_model.specs.Values.{Rdn, Name, Known, Unknown}
+use Rattle.x5_model.specs.Values.{Name, Unknown}
 use Rattle.x5_model.specs.Types.{is_type}
 use Rattle.x5_model.specs.Normal.{folded}
-use Rattle.x5_model.specs.Entries.{Named}
-use Rattle.x5_model_tree.specs.World.{Context, Network, World}
+use Rattle.x5_model_tree.specs.World.{World}
 use Rattle.x5_model_tree.specs.Described.{is_stored, is_stored_world, is_kept, is_agent_name, is_reference, are_listed, has_network}
 use Rattle.x5_model_output.specs.Output.{attribute_problem, operation_word, exclusions_text}
-use Rattle.x5_model_rows.proofs.Literals.{rdn, under, text, one, class, named}
-use Rattle.x5_model_rows.proofs.BaseWorld.{nl, lab_rdn, shop_rdn, nl_context, acme, to_acme, alpha, beta, gamma, delta, epsilon, first_agreement, no_outages, world_of, base_world}
+use Rattle.x5_model_rows.proofs.Literals.{rdn, text, one, class, named}
+use Rattle.x5_model_rows.proofs.BaseWorld.{nl, lab_rdn, shop_rdn, nl_context, to_acme, alpha, beta, gamma, delta, epsilon, first_agreement, no_outages, world_of, base_world}
 
 -- printed `/C=ZZ`, and compared as `/C=NL`
 abbrev forged : Name

@@ -22,3 +22,6 @@ pub mod Starred
 pub mod Outputs
 pub mod Descriptions
 pub mod Serving
+pub mod Stepping
+pub mod Refusals
+pub mod Texts

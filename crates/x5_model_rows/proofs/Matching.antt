@@ -83,6 +83,16 @@ in_the_middle = refl
 pub out_of_order : matches_parts (parts None (codes "l" ∷ codes "a" ∷ []) None) (codes "banal") ≡ false
 out_of_order = refl
 
+-- two middle parts don't overlap, and the initial part stands at the front
+pub middles_overlapping : matches_parts (parts None (codes "aa" ∷ codes "aa" ∷ []) None) (codes "aaa") ≡ false
+middles_overlapping = refl
+
+pub middles_apart : matches_parts (parts None (codes "aa" ∷ codes "aa" ∷ []) None) (codes "aaaa") ≡ true
+middles_apart = refl
+
+pub not_at_the_front : matches_parts (parts (Some (codes "b")) [] None) (codes "ab") ≡ false
+not_at_the_front = refl
+
 -- the last part doesn't overlap a middle one
 pub no_room : matches_parts (parts None (codes "ab" ∷ []) (Some (codes "b"))) (codes "aab") ≡ false
 no_room = refl

@@ -5,6 +5,7 @@
 ghost use Rattle.x5_model_run.specs.Right.{AnswersRight};
 ghost use Rattle.x5_model_star.specs.Runs.{RightAndWhole};
 ghost use Rattle.x5_model_settled.specs.Settled.{LinesAreSettled, RunsAreSettled, LinesAreRight, RunsAreRight};
+ghost use Rattle.x5_model_settled.specs.Runs.{AgentsRunIsRun, AgentsPrintRun};
 
 /// Every line of a run is a setting of a user's request to an agent of the world, and so is every line that was led to without
 /// moving contexts (X.501, section 22).
@@ -19,4 +20,11 @@ pub fn running()
     ensures lines { LinesAreRight }
     ensures runs { RunsAreRight AnswersRight }
     ensures whole { RunsAreRight RightAndWhole }
+{}
+
+/// A script that agents carry out is a run: each answer is right, and no message is left out; and what is printed of it is the
+/// output of such a run.
+pub fn carrying_out()
+    ensures runs { AgentsRunIsRun }
+    ensures prints { AgentsPrintRun }
 {}

@@ -1,8 +1,8 @@
 mod Rows
-mod Laws
-mod SetLaws
-mod StringLaws
-mod BitLaws
-mod Places
-mod Soundness
-mod Values
+pub mod Laws
+pub mod SetLaws
+pub mod StringLaws
+pub mod BitLaws
+pub mod Places
+pub mod Soundness
+pub mod Values

@@ -68,6 +68,11 @@ abbrev pub number_octets : ℤ → List ℕ
 number_octets (pos n) = unsigned (without_zeros (to_be_bytes w64 n))
 number_octets (negsuc n) = map (λ o. 255 - o) (unsigned (without_zeros (to_be_bytes w64 n)))
 
+-- a number that has eight octets at most
+abbrev pub is_short_number : ℤ → Bool
+is_short_number (pos n) = nat_lt n (2 ^ 63)
+is_short_number (negsuc n) = nat_lt n (2 ^ 63)
+
 abbrev pub number : (ℤ → Bool) → Leaf (List ℕ)
 number test = record { reads = λ octets. in_option None tested (number_of octets); writes = writes }
   where
@@ -75,7 +80,7 @@ number test = record { reads = λ octets. in_option None tested (number_of octet
     tested k = where_so (test k) (Number k)
 
     writes : Node → Option (List ℕ)
-    writes (Number k) = where_so (test k) (number_octets k)
+    writes (Number k) = where_so (is_short_number k && test k) (number_octets k)
     writes n = None
 
 abbrev pub any_number : ℤ → Bool
@@ -175,6 +180,10 @@ cells os = None
 abbrev pub is_character : ℕ → Bool
 is_character c = nat_lt c 55296 || (nat_lt 57343 c && nat_lt c 1114112)
 
+-- octets of UTF-8, which are those of their characters
+abbrev pub are_characters : List ℕ → Bool
+are_characters text = list_all is_character (chars text) && same_octets (encode_utf8_all (chars text)) text
+
 abbrev pub universal_string : Leaf (List ℕ)
 universal_string = record { reads = λ octets. in_option None checked (cells octets); writes = writes }
   where
@@ -182,7 +191,7 @@ universal_string = record { reads = λ octets. in_option None checked (cells oct
     checked cs = where_so (list_all is_character cs && is_length (encode_utf8_all cs)) (Text (encode_utf8_all cs))
 
     writes : Node → Option (List ℕ)
-    writes (Text text) = where_so (is_length text) (flat_map (to_be_bytes w32) (chars text))
+    writes (Text text) = where_so (are_characters text && is_length text) (flat_map (to_be_bytes w32) (chars text))
     writes n = None
 
 -- an agent's name: a letter, then letters, digits and hyphens, 32 in all at most, and not the user

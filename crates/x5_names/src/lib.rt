@@ -3,8 +3,6 @@
 
 mod keys;
 mod spelled;
-#[cfg(test)]
-mod tests;
 
 pub use keys::{Key, KeyPair, KeyRdn};
 pub use spelled::{Name, Pair, Rdn};

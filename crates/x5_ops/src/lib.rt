@@ -13,8 +13,6 @@ mod reading;
 mod references;
 mod requests;
 mod statics;
-#[cfg(test)]
-mod tests;
 
 pub use agents::{AgentId, AgentList, AgentName, AgentNameList, AgentNames, MOST_AGENTS};
 pub use answers::{

@@ -5,8 +5,6 @@ mod fault;
 mod memory;
 mod port;
 mod real;
-#[cfg(test)]
-mod tests;
 
 pub use fault::{Failed, FileFault};
 pub use memory::{MemoryFiles, MemorySink};

@@ -6,8 +6,6 @@ mod order;
 mod refreshes;
 mod replies;
 mod report;
-#[cfg(test)]
-mod tests;
 mod words;
 
 pub use report::{LineOutcome, block};

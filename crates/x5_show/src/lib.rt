@@ -3,8 +3,6 @@
 
 mod check;
 mod print;
-#[cfg(test)]
-mod tests;
 
 ghost use Rattle.std.specs.Prelude.{IfOk};
 ghost use Rattle.x5_show.specs.Show.{Shows};

@@ -8,8 +8,6 @@ mod kinds;
 mod names;
 mod normalise;
 mod oid;
-#[cfg(test)]
-mod tests;
 mod texts;
 mod values;
 

@@ -2,8 +2,6 @@
 //! loop detection).
 #![tactic(auto)]
 
-#[cfg(test)]
-mod tests;
 mod trace;
 
 pub use trace::{MOST_ITEMS, push, repeats};

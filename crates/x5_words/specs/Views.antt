@@ -1,5 +1,4 @@
 -- What the words that were read stand for.
-use Rattle.std.specs.Prelude.{ℕ, List}
 use Rattle.x5_words.specs.Forms as forms
 use Rattle.x5_words.specs.declared.words.Files.{Files}
 use Rattle.x5_words.specs.declared.words.Words.{Words}

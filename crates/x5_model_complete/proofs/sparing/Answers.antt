@@ -1,0 +1,13 @@
+use Rattle.x5_model_run.specs.Right.{AnswersRight}
+use Rattle.x5_model_star.specs.Runs.{RightAndWhole}
+use Rattle.x5_model_complete.proofs.Complete.{lines_are_spared, runs_are_spared}
+use Rattle.x5_model_complete.proofs.sparing.Goals as goal
+
+pub returns-clause-lines : goal.returns-clause-lines
+returns-clause-lines c = lines_are_spared
+
+pub returns-clause-runs : goal.returns-clause-runs
+returns-clause-runs c = runs_are_spared AnswersRight
+
+pub returns-clause-whole : goal.returns-clause-whole
+returns-clause-whole c = runs_are_spared RightAndWhole

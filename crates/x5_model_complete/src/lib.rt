@@ -1,0 +1,24 @@
+//! What a user is answered over consistent knowledge where nothing is in the way, and which errors he never gets. Each function
+//! here does nothing; its clauses are the theorems.
+#![tactic(auto)]
+
+ghost use Rattle.x5_model_run.specs.Right.{AnswersRight};
+ghost use Rattle.x5_model_star.specs.Runs.{RightAndWhole};
+ghost use Rattle.x5_model_complete.specs.Complete.{LinesAreComplete, RunsAreComplete, LinesAreSpared, RunsAreSpared};
+
+/// With every agent up and willing, no pair cut, nothing to be lost and chaining allowed, a request's answer is a result that
+/// leaves nothing unexplored, `changed` where the one tree takes the update, or the one tree's own error (X.518, sections 17
+/// to 21).
+pub fn completing()
+    ensures lines { LinesAreComplete }
+    ensures runs { RunsAreComplete AnswersRight }
+    ensures whole { RunsAreComplete RightAndWhole }
+{}
+
+/// Whatever is in the way, the one service error that comes to a user is `unavailable`: none of invalidReference,
+/// unableToProceed, loopDetected and administrativeLimitExceeded does (X.511, section 12.8).
+pub fn sparing()
+    ensures lines { LinesAreSpared }
+    ensures runs { RunsAreSpared AnswersRight }
+    ensures whole { RunsAreSpared RightAndWhole }
+{}

@@ -1,0 +1,4 @@
+pub mod Local
+pub mod Found
+pub mod Doing
+pub mod Done

@@ -1,0 +1,17 @@
+pub mod Stored
+pub mod Kept
+pub mod Totals
+pub mod Growing
+pub mod Steps
+pub mod Loops
+pub mod Knowing
+pub mod Givens
+pub mod Entries
+pub mod Gathering
+pub mod References
+pub mod Contexts
+pub mod Agents
+pub mod Networks
+pub mod Agreements
+pub mod Worlds
+pub mod Readings

@@ -1,0 +1,246 @@
+//! Blocks as the documented runs print them, of values built by hand.
+use jiff::civil::Date;
+use std::alloc::Global;
+use std::test::Fail;
+use x5_know::Start;
+use x5_ops::{
+    AccessList, AccessPoint, AgentName, Answer, EntryInfo, EntryList, Fate, Journal, Line, Listed,
+    Moment, Name, Outcome, Progress, Rdn, RdnList, RefType, Reference, ReferenceList, Refreshed,
+    Reply, Source, SourceList,
+};
+use x5_report::{LineOutcome, block};
+use x5_syntax::Text;
+
+fn agent(alloc: Global, text: &str) -> Result<AgentName, Fail> {
+    Ok(AgentName::new(Text::new(alloc, text)?))
+}
+
+fn name(alloc: Global, text: &str) -> Result<Name, Fail> {
+    Ok(Name::parse(alloc, text)?)
+}
+
+fn access(alloc: Global, text: &str) -> Result<AccessList, Fail> {
+    let agent = agent(alloc, text)?;
+    let point = AccessPoint { agent, copy: false };
+    Ok(Listed::from_vec(vec![in alloc; point]?))
+}
+
+/// The RDN of the text alone; none for no text.
+fn rdns(alloc: Global, text: &str) -> Result<RdnList, Fail> {
+    if text.is_empty() {
+        return Ok(Listed::new(alloc));
+    }
+    let rdn = Rdn::parse(alloc, text)?;
+    Ok(Listed::from_vec(vec![in alloc; rdn]?))
+}
+
+/// A reference to what one agent has below Acme, less one RDN if there is a text.
+fn below(
+    alloc: Global,
+    kind: RefType,
+    text: &str,
+    excluded: &str,
+    tried: bool,
+) -> Result<Reference, Fail> {
+    let target = name(alloc, "/C=NL/O=Acme")?;
+    let agents = access(alloc, text)?;
+    let exclusions = rdns(alloc, excluded)?;
+    let progress = Progress::Completed;
+    Ok(Reference {
+        target,
+        progress,
+        kind,
+        agents,
+        exclusions,
+        tried,
+    })
+}
+
+fn add_reference(
+    alloc: Global,
+    references: &mut ReferenceList,
+    kind: RefType,
+    text: &str,
+    excluded: &str,
+    tried: bool,
+) -> Result<(), Fail> {
+    references.push(below(alloc, kind, text, excluded, tried)?)?;
+    Ok(())
+}
+
+/// Unexplored references, not in the order in which they are printed.
+fn unexplored(alloc: Global) -> Result<ReferenceList, Fail> {
+    let mut references = Listed::new(alloc);
+    add_reference(
+        alloc,
+        &mut references,
+        RefType::NonSpecific,
+        "Gamma",
+        "OU=Shop",
+        true,
+    )?;
+    add_reference(
+        alloc,
+        &mut references,
+        RefType::Subordinate,
+        "Gamma",
+        "",
+        false,
+    )?;
+    add_reference(
+        alloc,
+        &mut references,
+        RefType::NonSpecific,
+        "Delta",
+        "",
+        true,
+    )?;
+    Ok(references)
+}
+
+fn source(
+    alloc: Global,
+    context: &str,
+    text: &str,
+    moment: Option<Moment>,
+) -> Result<Source, Fail> {
+    let context = name(alloc, context)?;
+    let agent = agent(alloc, text)?;
+    Ok(Source {
+        context,
+        agent,
+        moment,
+    })
+}
+
+fn add_source(
+    alloc: Global,
+    sources: &mut SourceList,
+    context: &str,
+    text: &str,
+    moment: Option<Moment>,
+) -> Result<(), Fail> {
+    sources.push(source(alloc, context, text, moment)?)?;
+    Ok(())
+}
+
+/// Sources, the later context first.
+fn sources(alloc: Global) -> Result<SourceList, Fail> {
+    let mut sources = Listed::new(alloc);
+    add_source(alloc, &mut sources, "/C=NL/O=Acme/OU=Shop", "Delta", None)?;
+    add_source(
+        alloc,
+        &mut sources,
+        "/C=NL/O=Acme",
+        "Epsilon",
+        Some(Moment(1)),
+    )?;
+    Ok(sources)
+}
+
+/// A copy of an entry of which nothing is shown.
+fn entries(alloc: Global) -> Result<EntryList, Fail> {
+    let name = name(alloc, "/C=NL/O=Acme/CN=Desk")?;
+    let attributes = Listed::new(alloc);
+    let entry = EntryInfo {
+        name,
+        copy: true,
+        attributes,
+    };
+    Ok(Listed::from_vec(vec![in alloc; entry]?))
+}
+
+fn outcome(alloc: Global) -> Result<Outcome, Fail> {
+    let unexplored = unexplored(alloc)?;
+    Ok(Outcome {
+        limited: true,
+        unexplored,
+    })
+}
+
+fn found(alloc: Global) -> Result<LineOutcome, Fail> {
+    let entries = entries(alloc)?;
+    let sources = sources(alloc)?;
+    let outcome = outcome(alloc)?;
+    let found = Answer::Found {
+        entries,
+        sources,
+        outcome,
+    };
+    Ok(LineOutcome::Answered(Reply::Done(found)))
+}
+
+/// The first second of 1993.
+fn start() -> Option<Start> {
+    match Date::new(1993, 1, 1) {
+        Ok(date) => Start::new(date, 0),
+        Err(_) => None,
+    }
+}
+
+/// A journal of these messages, of which nobody accepted one.
+fn journal(alloc: Global, lines: Vec<Line>) -> Journal {
+    Journal {
+        lines: Listed::from_vec(lines),
+        accepted: Listed::new(alloc),
+    }
+}
+
+/// What is printed for line 2 of a world that starts with 1993.
+fn printed(alloc: Global, journal: &Journal, outcome: &LineOutcome) -> Result<Text, Fail> {
+    let start = start().ok_or("no start")?;
+    Ok(block(alloc, &start, 2, journal, outcome)?)
+}
+
+/// What is printed of the search without messages.
+fn search(alloc: Global) -> Result<Text, Fail> {
+    let outcome = found(alloc)?;
+    printed(alloc, &journal(alloc, Vec::new(alloc)), &outcome)
+}
+
+#[test]
+fn a_search_prints_sources_and_what_is_unexplored_in_order(rt: HostRuntime) -> Result<(), Fail> {
+    let alloc = rt.alloc();
+    let text = search(alloc)?;
+    assert_eq!(rt;
+        text.as_str(),
+        "#2\nfound 1\nentry /C=NL/O=Acme/CN=Desk copy\nsource /C=NL/O=Acme Epsilon 19930101000001Z\nsource /C=NL/O=Acme/OU=Shop Delta now\nunexplored subordinate /C=NL/O=Acme done Gamma\nunexplored nonSpecific /C=NL/O=Acme done Delta tried\nunexplored nonSpecific /C=NL/O=Acme done Gamma less OU=Shop tried\nlimit sizeLimitExceeded\n"
+    );
+    Ok(())
+}
+
+/// A request for a refresh.
+fn asked(alloc: Global) -> Result<Line, Fail> {
+    let from = agent(alloc, "Epsilon")?;
+    let to = agent(alloc, "Beta")?;
+    Ok(Line::Dis {
+        from,
+        to,
+        operation: 1,
+        agreement: 1,
+        fate: Fate::Sent,
+    })
+}
+
+/// What is printed of a refresh with one message.
+fn refresh(alloc: Global, number: u32, refreshed: Refreshed) -> Result<Text, Fail> {
+    let lines = vec![in alloc; asked(alloc)?]?;
+    let outcome = LineOutcome::Refreshed(number, refreshed);
+    printed(alloc, &journal(alloc, lines), &outcome)
+}
+
+#[test]
+fn a_refresh_prints_its_messages_and_what_became_of_it(rt: HostRuntime) -> Result<(), Fail> {
+    let alloc = rt.alloc();
+    let total = refresh(alloc, 1, Refreshed::Total(Moment(1), 2))?;
+    assert_eq!(rt;
+        total.as_str(),
+        "#2\ndis Epsilon Beta requestShadowUpdate 1 sent\nrefreshed 1 total 19930101000001Z 2\n"
+    );
+    let lost = refresh(alloc, 7, Refreshed::Lost)?;
+    assert_eq!(rt;
+        lost.as_str(),
+        "#2\ndis Epsilon Beta requestShadowUpdate 1 sent\nunrefreshed 7\n"
+    );
+    Ok(())
+}

@@ -1,0 +1,102 @@
+//! Names compared by their keys, and each call once with ample memory.
+use std::alloc::Global;
+use std::cmp::Ordering;
+use std::test::Fail;
+use x5_names::{Name, Rdn};
+use x5_syntax::{Text, TypeRef};
+
+fn name(alloc: Global, text: &str) -> Result<Name, Fail> {
+    Ok(Name::parse(alloc, text)?)
+}
+
+/// How the keys of two names lie, and whether they're the same.
+fn compared(alloc: Global, one: &str, other: &str) -> Result<(Ordering, bool), Fail> {
+    let one = name(alloc, one)?;
+    let other = name(alloc, other)?;
+    Ok((one.cmp_key(&other), one.is_same(&other)))
+}
+
+#[test]
+fn names_are_compared_but_for_spelling(rt: HostRuntime) -> Result<(), Fail> {
+    let alloc = rt.alloc();
+    for (one, other, wanted) in [
+        ("/C=NL", "/c=nl", (Ordering::Equal, true)),
+        (
+            "/CN=Stra\u{df}e",
+            "/2.5.4.3=\\20STRASSE",
+            (Ordering::Equal, true),
+        ),
+        ("/OU=b+CN=a  b", "/CN=A b+ou=B", (Ordering::Equal, true)),
+        ("/C=NL", "/C=NL/O=a", (Ordering::Less, false)),
+        ("/CN=b", "/SN=a", (Ordering::Less, false)),
+        ("/CN=ab", "/CN=a", (Ordering::Greater, false)),
+    ] {
+        assert_eq!(rt; compared(alloc, one, other)?, wanted, "{one} {other}");
+    }
+    Ok(())
+}
+
+fn printed(alloc: Global, name: &Name) -> Result<Text, Fail> {
+    Ok(name.text(alloc)?)
+}
+
+fn above(alloc: Global, text: &str) -> Result<Name, Fail> {
+    let name = name(alloc, text)?;
+    Ok(name.parent(alloc)?)
+}
+
+fn top(alloc: Global, text: &str) -> Result<Name, Fail> {
+    let name = name(alloc, text)?;
+    if name.len() == 0 {
+        return Ok(name);
+    }
+    Ok(name.first(alloc, 1)?)
+}
+
+fn rdn(alloc: Global, text: &str) -> Result<Rdn, Fail> {
+    Ok(Rdn::parse(alloc, text)?)
+}
+
+fn grown(alloc: Global, text: &str, last: &str) -> Result<Name, Fail> {
+    let mut name = name(alloc, text)?;
+    name.push(alloc, rdn(alloc, last)?)?;
+    Ok(name)
+}
+
+#[test]
+fn names_are_taken_apart_and_put_together(rt: HostRuntime) -> Result<(), Fail> {
+    let alloc = rt.alloc();
+    let found = printed(alloc, &above(alloc, "/C=NL/O=Example/CN=a\\2fb")?)?;
+    assert_eq!(rt; found.as_str(), "/C=NL/O=Example");
+    let found = printed(alloc, &top(alloc, "/C=NL/O=Example")?)?;
+    assert_eq!(rt; found.as_str(), "/C=NL");
+    let found = printed(alloc, &grown(alloc, "/C=NL/O=Example", "cn=A\\2fB")?)?;
+    assert_eq!(rt; found.as_str(), "/C=NL/O=Example/CN=A\\2fB");
+    Ok(())
+}
+
+fn type_printed(alloc: Global, text: &str) -> Result<Text, Fail> {
+    let found = TypeRef::parse(alloc, text)?.ok_or("a type")?;
+    Ok(found.text(alloc)?)
+}
+
+fn rdn_printed(alloc: Global, text: &str) -> Result<Text, Fail> {
+    let rdn = rdn(alloc, text)?;
+    Ok(rdn.text(alloc)?)
+}
+
+#[test]
+fn types_and_rdns_are_printed(rt: HostRuntime) -> Result<(), Fail> {
+    let alloc = rt.alloc();
+    for (text, wanted) in [
+        ("TELEPHONEnumber", "telephoneNumber"),
+        ("2.5.4.3", "CN"),
+        ("1.3.6.1", "1.3.6.1"),
+    ] {
+        let found = type_printed(alloc, text)?;
+        assert_eq!(rt; found.as_str(), wanted);
+    }
+    let found = rdn_printed(alloc, "ou=R & D+2.5.4.3=a\\2fb")?;
+    assert_eq!(rt; found.as_str(), "CN=a\\2fb+OU=R\\20&\\20D");
+    Ok(())
+}
