@@ -1,5 +1,6 @@
 -- The parts of one kind, merged by halves, are merged in their order.
-use Rattle.std.proofs.Common.{◌≡◌, ℕ, Bool, true, false, ◌&&◌, ◌||◌, ◌⊎◌, inl, inr, List, [], ◌∷◌, ◌++◌, map, refl, sym, ap, subst, ◌∙◌}
+use Rattle.std.proofs.Common.{◌≡◌, ℕ, Bool, true, false, ◌&&◌, ◌||◌, ◌⊎◌, inl, inr, List, [], ◌∷◌, ◌++◌, map, refl, sym, ap, subst, ◌∙◌, Result, Ok, Err}
+use Rattle.std.specs.Result.{IfOk}
 use Rattle.std.proofs.lemmas.List.{map-append}
 use Rattle.std.specs.List.{list_all}
 use Rattle.x5_model.specs.Answers as model
@@ -76,6 +77,13 @@ module _ (xs ys : List Answer) (alike : are_alike (xs ++ ys) ≡ true) where
               find_halves (map (answer_view names) xs) (map (answer_view names) ys) (answer_view names a) (answer_view names b)
               (all_map (answer_view names) found is_find (find_view names) xs ∙ w.0) (all_map (answer_view names) found is_find (find_view names) ys ∙ w.1) (m.merge names) (n.merge names))
         ]
+
+pub if_halves : {E : Type 0} (xs ys parts : List Answer) (a b : Answer) (r : Result Answer E) → xs ++ ys ≡ parts → are_alike parts ≡ true → IsMergeOf xs a → IsMergeOf ys b
+    → IfOk r (λ w. (names : List (List ℕ)) → answer_view names w ≡ merged (answer_view names a) (answer_view names b))
+    → IfOk r (λ w. (is_list w ≡ is_list a) × (is_find w ≡ is_find a)) → IfOk r (λ w. IsMergeOf parts w)
+if_halves xs ys parts a b (Ok w) all alike m n e k =
+    subst (λ (ps : List Answer). IsMergeOf ps w) all (halves xs ys (subst (λ (ps : List Answer). are_alike ps ≡ true) (sym all) alike) a b m n w e k)
+if_halves xs ys parts a b (Err x) all alike m n e k = tt
 
 -- one answer is its own merge
 pub alone : (a : Answer) → IsMergeOf (a ∷ []) a

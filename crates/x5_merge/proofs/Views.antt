@@ -1,11 +1,11 @@
 -- What answers stand for: a join of the code's members stands for the join of what they stand for.
-use Rattle.std.proofs.Common.{◌≡◌, ℕ, Bool, true, false, cond, not, ◌&&◌, ◌||◌, List, [], ◌∷◌, ◌++◌, map, refl, sym, ap, ◌∙◌}
-use Rattle.std.proofs.lemmas.List.{map-append}
+use Rattle.std.proofs.Common.{◌≡◌, ℕ, Bool, true, false, cond, not, ◌&&◌, ◌||◌, List, [], ◌∷◌, ◌++◌, map, take, length, nat_lt, refl, sym, ap, ◌∙◌, Some}
+use Rattle.std.proofs.lemmas.List.{map-append, length-map, take-map}
 use Rattle.std.specs.List.{filter, list_any}
 use Rattle.x5_model.specs.Words.{insert_sorted, sorted}
 use Rattle.x5_model.specs.Answers as model
 use Rattle.x5_model.specs.Values.{key_of}
-use Rattle.x5_model_serve.specs.Answering.{before_sub, before_info, joined, merged}
+use Rattle.x5_model_serve.specs.Answering.{before_sub, before_info, joined, merged, limited_answer}
 use Rattle.x5_ops.specs.AnswerViews.{sub_view, info_view, source_view, outcome_view, answer_view}
 use Rattle.x5_ops.specs.ReferenceViews.{reference_view}
 use Rattle.x5_ops.specs.declared.references.Reference.{Reference}
@@ -72,3 +72,19 @@ pub finds_merged : (xs ys zs : List EntryInfo) (s t u : List Source) (o p q : Ou
     → (names : List (List ℕ)) → answer_view names (answers.Found zs u q) ≡ merged (answer_view names (answers.Found xs s o)) (answer_view names (answers.Found ys t p))
 finds_merged xs ys zs s t u o p q e f g names =
     λ i. model.Found ((ap (map info_view) e ∙ joined_map before_info info_view xs ys) i) ((ap (map (source_view names)) f ∙ map-append (source_view names) s t) i) (both_views names o p q g i)
+
+limited_outcome : (names : List (List ℕ)) (o q : Outcome) (n len long : ℕ) → q ≡ record { limited = o.limited || nat_lt n len; unexplored = o.unexplored } → len ≡ long
+    → outcome_view names q ≡ record { limited = o.limited || nat_lt n long; unexplored = map (reference_view names) o.unexplored }
+limited_outcome names o q n len long e l =
+    ap (outcome_view names) e ∙ (λ i. record { limited = o.limited || nat_lt n (l i); unexplored = map (reference_view names) o.unexplored })
+
+-- the first members stand for the first of what all stand for
+pub list_limited : (xs ts : List Sub) (s : List Source) (o q : Outcome) (n len : ℕ) → len ≡ length xs → ts ≡ take n xs → q ≡ record { limited = o.limited || nat_lt n len; unexplored = o.unexplored }
+    → (names : List (List ℕ)) → answer_view names (answers.Listed ts s q) ≡ limited_answer (Some n) (answer_view names (answers.Listed xs s o))
+list_limited xs ts s o q n len l t e names =
+    λ i. model.Listed ((ap (map sub_view) t ∙ sym (take-map sub_view n xs)) i) (map (source_view names) s) (limited_outcome names o q n len (length (map sub_view xs)) e (l ∙ sym (length-map xs sub_view)) i)
+
+pub find_limited : (xs ts : List EntryInfo) (s : List Source) (o q : Outcome) (n len : ℕ) → len ≡ length xs → ts ≡ take n xs → q ≡ record { limited = o.limited || nat_lt n len; unexplored = o.unexplored }
+    → (names : List (List ℕ)) → answer_view names (answers.Found ts s q) ≡ limited_answer (Some n) (answer_view names (answers.Found xs s o))
+find_limited xs ts s o q n len l t e names =
+    λ i. model.Found ((ap (map info_view) t ∙ sym (take-map info_view n xs)) i) (map (source_view names) s) (limited_outcome names o q n len (length (map info_view xs)) e (l ∙ sym (length-map xs info_view)) i)
