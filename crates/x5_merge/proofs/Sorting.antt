@@ -84,7 +84,7 @@ module _ {A : Type 0} (lt : A → A → Bool) (weak : IsStrictWeakOrder lt) wher
       let t : ties lt x y ≡ true = tie x y (not_above x y ys s (first_in x xs (y ∷ ys) (f x))) (not_above y x xs r (first_in y ys (x ∷ xs) (sym (f y)))) in
       let e : x ≡ y = same_head x y xs ys t (f x) in
       let rest : xs ≡ ys = one_outcome xs ys r.1 s.1 (λ q. same_rest (ties lt q x) x (filter (ties lt q) xs) (filter (ties lt q) ys)
-          (f q ∙ ap (λ (z : A). cond (ties lt q z) (z ∷ filter (ties lt q) ys) (filter (ties lt q) ys)) (sym e))) in
+      (f q ∙ ap (λ (z : A). cond (ties lt q z) (z ∷ filter (ties lt q) ys) (filter (ties lt q) ys)) (sym e))) in
       λ i. e i ∷ rest i
 
   -- ---- sorting
@@ -212,9 +212,9 @@ module _ {A : Type 0} (lt : A → A → Bool) (weak : IsStrictWeakOrder lt) wher
       one_outcome (joined lt (joined lt xs ys) zs) (joined lt xs (joined lt ys zs))
       (sorted_rising (joined lt xs ys ++ fresh_of (joined lt xs ys) zs)) (sorted_rising (xs ++ fresh_of xs (joined lt ys zs)))
       (λ q.
-          class_joined q (joined lt xs ys) zs ∙ ap (λ (us : List A). chosen us (filter (ties lt q) zs)) (class_joined q xs ys)
-          ∙ chosen_three (filter (ties lt q) xs) (filter (ties lt q) ys) (filter (ties lt q) zs)
-          ∙ sym (class_joined q xs (joined lt ys zs) ∙ ap (chosen (filter (ties lt q) xs)) (class_joined q ys zs)))
+      class_joined q (joined lt xs ys) zs ∙ ap (λ (us : List A). chosen us (filter (ties lt q) zs)) (class_joined q xs ys)
+      ∙ chosen_three (filter (ties lt q) xs) (filter (ties lt q) ys) (filter (ties lt q) zs)
+      ∙ sym (class_joined q xs (joined lt ys zs) ∙ ap (chosen (filter (ties lt q) xs)) (class_joined q ys zs)))
 
   -- it is nothing to a join whether the earlier part was sorted before
   pub joined_sorted : (xs ys : List A) → sorted lt (sorted lt xs ++ fresh_of (sorted lt xs) ys) ≡ joined lt xs ys

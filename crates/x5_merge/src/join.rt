@@ -23,7 +23,9 @@ fn has_key<T: Member>(members: &[T], other: &T) -> bool
     requires { Rising (below_by T.key) members.now }
     ensures { result ≡ list_any (λ m. ties (below_by T.key) m other.now) members.now }
 {
-    members.binary_search_by(|member| member.compare(other)).is_ok()
+    members
+        .binary_search_by(|member| member.compare(other))
+        .is_ok()
 }
 
 /// Drops what has the key of an earlier member.

@@ -20,6 +20,6 @@ returns g c =
     let known : c.deref.result.now ≡ sorted (below_by g.T.Member.key) c.args.earlier.items = c.deref.ensures.value ∙ first in
     c.in_ok-put_in_order-2.ensures
     ∙ ap (sorted (below_by g.T.Member.key))
-        (c.in_ok-append.ensures.items
-        ∙ (λ i. first i ++ (c.drop_known.ensures ∙ ap (λ xs. filter (λ y. not (list_any (λ x. ties (below_by g.T.Member.key) x y) xs)) c.args.later.items) known) i))
+    (c.in_ok-append.ensures.items
+    ∙ (λ i. first i ++ (c.drop_known.ensures ∙ ap (λ xs. filter (λ y. not (list_any (λ x. ties (below_by g.T.Member.key) x y) xs)) c.args.later.items) known) i))
     ∙ joined_sorted (below_by g.T.Member.key) (ranks_by key_cmp_total g.T.Member.key) c.args.earlier.items c.args.later.items

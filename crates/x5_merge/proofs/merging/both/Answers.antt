@@ -17,8 +17,8 @@ returns-in_ok-both_outcomes-in-Listed-Listed-clause-merged c =
     c.from_vec.ensures ∙ c.in_ok-joined-in-Listed-Listed.ensures
     ∙ (λ i. model.joined (below_by (λ (a : Sub). key_of (a.rdn ∷ []))) (c.into_vec.ensures i) (c.into_vec-in-Listed-Listed.ensures i)) in
     λ names.
-        lists_merged w.subs w.more c.from_vec.result w.sources w.others c.in_ok-appended-in-Listed-Listed.field-0 w.outcome w.other c.in_ok-both_outcomes-in-Listed-Listed.field-0 e c.in_ok-appended-in-Listed-Listed.ensures c.in_ok-both_outcomes-in-Listed-Listed.ensures names
-        ∙ (λ i. model.merged (answer_view names (sym w.is-0 i)) (answer_view names (sym w.is-1 i)))
+    lists_merged w.subs w.more c.from_vec.result w.sources w.others c.in_ok-appended-in-Listed-Listed.field-0 w.outcome w.other c.in_ok-both_outcomes-in-Listed-Listed.field-0 e c.in_ok-appended-in-Listed-Listed.ensures c.in_ok-both_outcomes-in-Listed-Listed.ensures names
+    ∙ (λ i. model.merged (answer_view names (sym w.is-0 i)) (answer_view names (sym w.is-1 i)))
 
 pub returns-in_ok-both_outcomes-in-Found-Found-clause-merged :
     goal.returns-in_ok-both_outcomes-in-Found-Found-clause-merged
@@ -28,5 +28,5 @@ returns-in_ok-both_outcomes-in-Found-Found-clause-merged c =
     c.from_vec-in-Found-Found.ensures ∙ c.in_ok-joined-in-Found-Found.ensures
     ∙ (λ i. model.joined (below_by (λ (a : EntryInfo). key_of a.name)) (c.into_vec-in-Found-Found.ensures i) (c.into_vec-in-Found-Found-2.ensures i)) in
     λ names.
-        finds_merged w.entries w.more c.from_vec-in-Found-Found.result w.sources w.others c.in_ok-appended-in-Found-Found.field-0 w.outcome w.other c.in_ok-both_outcomes-in-Found-Found.field-0 e c.in_ok-appended-in-Found-Found.ensures c.in_ok-both_outcomes-in-Found-Found.ensures names
-        ∙ (λ i. model.merged (answer_view names (sym w.is-0 i)) (answer_view names (sym w.is-1 i)))
+    finds_merged w.entries w.more c.from_vec-in-Found-Found.result w.sources w.others c.in_ok-appended-in-Found-Found.field-0 w.outcome w.other c.in_ok-both_outcomes-in-Found-Found.field-0 e c.in_ok-appended-in-Found-Found.ensures c.in_ok-both_outcomes-in-Found-Found.ensures names
+    ∙ (λ i. model.merged (answer_view names (sym w.is-0 i)) (answer_view names (sym w.is-1 i)))
