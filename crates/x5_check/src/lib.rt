@@ -1,0 +1,4 @@
+//! Whether what the agents of a world know is consistent, by the ten conditions; and if it isn't, the first breach.
+#![tactic(auto)]
+
+mod table;
