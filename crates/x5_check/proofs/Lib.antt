@@ -1,1 +1,4 @@
 pub mod Sought
+pub mod Tables
+pub mod Steps
+pub mod Held

@@ -1,2 +1,5 @@
 pub mod Rows
 pub mod RowOrder
+pub mod Views
+pub mod Numbers
+pub mod Kinds
