@@ -52,7 +52,7 @@ any_both false test xs = any_same (λ x. test x && false) (λ x. false) xs (λ x
     and_nothing true = refl
     and_nothing false = refl
 
-and_any : {A : Type 0} (b : Bool) (test : A → Bool) (xs : List A) → list_any (λ x. b && test x) xs ≡ (b && list_any test xs)
+pub and_any : {A : Type 0} (b : Bool) (test : A → Bool) (xs : List A) → list_any (λ x. b && test x) xs ≡ (b && list_any test xs)
 and_any true test xs = refl
 and_any false test xs = none_any xs
 

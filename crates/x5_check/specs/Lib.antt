@@ -3,3 +3,4 @@ pub mod RowOrder
 pub mod Views
 pub mod Numbers
 pub mod Kinds
+pub mod Parts

@@ -62,7 +62,7 @@ fn members_in<'a>(alloc: Global, context: &'a ContextSpec) -> Result<Table<'a>, 
     for nssr in context.nssr.as_slice() {
         rows = with_members(rows, nssr)?;
     }
-    Table::new(rows)
+    Table::sorted(rows)
 }
 
 impl<'a> Held<'a> {

@@ -27,7 +27,7 @@ fn prefixes_by_place<'a>(alloc: Global, held: &'a [Held<'a>]) -> Result<Table<'a
     for (place, context) in held.iter().enumerate() {
         rows.push(Row::new(context.pin(), place))?;
     }
-    Table::new(rows)
+    Table::sorted(rows)
 }
 
 /// The prefixes of the contexts, with their masters.
@@ -38,7 +38,7 @@ fn prefixes_by_master<'a>(alloc: Global, held: &'a [Held<'a>]) -> Result<Table<'
     for context in held {
         rows.push(Row::new(context.pin(), context.master().0 as usize))?;
     }
-    Table::new(rows)
+    Table::sorted(rows)
 }
 
 /// What stands just above the contexts' prefixes, with the contexts' masters; the root has nothing above it.
@@ -51,7 +51,7 @@ fn parents_by_master<'a>(alloc: Global, held: &'a [Held<'a>]) -> Result<Table<'a
             rows.push(Row::new(context.above(), context.master().0 as usize))?;
         }
     }
-    Table::new(rows)
+    Table::sorted(rows)
 }
 
 /// All these rows, and the entries' names with the number.
@@ -77,7 +77,7 @@ fn entries_by_place<'a>(alloc: Global, held: &'a [Held<'a>]) -> Result<Table<'a>
     for (place, context) in held.iter().enumerate() {
         rows = with_entries(rows, context.entries(), place)?;
     }
-    Table::new(rows)
+    Table::sorted(rows)
 }
 
 /// The entries of the contexts, with the contexts' masters.
@@ -88,7 +88,7 @@ fn entries_by_master<'a>(alloc: Global, held: &'a [Held<'a>]) -> Result<Table<'a
     for context in held {
         rows = with_entries(rows, context.entries(), context.master().0 as usize)?;
     }
-    Table::new(rows)
+    Table::sorted(rows)
 }
 
 /// All these rows, and the names that the references give with the number.
@@ -117,7 +117,7 @@ fn references_by_agent<'a>(
     for agent in agents {
         rows = with_references(rows, agent.subordinate(), agent.id().0 as usize)?;
     }
-    Table::new(rows)
+    Table::sorted(rows)
 }
 
 /// The contexts of the agreements, with their consumers.
@@ -131,7 +131,7 @@ fn contexts_by_consumer<'a>(
     for agreement in agreements {
         rows.push(Row::new(agreement.context.key(), agreement.consumer.0 as usize))?;
     }
-    Table::new(rows)
+    Table::sorted(rows)
 }
 
 /// The agents and contexts of a world, with tables in which things are found by their keys.

@@ -3,8 +3,18 @@
 
 mod agents;
 mod contexts;
+mod endless_superiors;
+mod false_agreement;
+mod false_member;
+mod false_reference;
+mod false_shadow;
 mod inconsistency;
 mod known;
+mod longer_pin;
+mod missing_parent;
+mod repeated_prefix;
 mod table;
+mod unknown_below;
+mod unknown_top;
 
 pub use inconsistency::{Inconsistency, Shown};

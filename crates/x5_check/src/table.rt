@@ -94,7 +94,7 @@ impl<'a> Model for Table<'a> {
 
 impl<'a> Table<'a> {
     /// The table of these rows.
-    pub(crate) fn new(rows: Vec<Row<'a>>) -> Result<Table<'a>, NoMemory>
+    pub(crate) fn sorted(rows: Vec<Row<'a>>) -> Result<Table<'a>, NoMemory>
         ensures { IfOk result (λ table. keyed.numbers_of table ≡ keyed.numbers_of rows.entry.items) }
     {
         let mut rows = rows;

@@ -7,4 +7,4 @@ use Rattle.x5_check.proofs.known.contexts_by_consumer.Goals as goal
 
 pub returns : goal.returns
 returns c =
-    tabled _ _ _ _ c.new.ensures (grown (λ (m : Agreement). keyed (m.consumer) (agreement_key m)) c.args.agreements.now c.loop-agreement.agreement-index c.loop-agreement.rows.items _ c.loop-agreement-test.false c.loop-agreement.invariant) (contexts_by_consumer c.args.agreements.now)
+    tabled _ _ _ _ c.sorted.ensures (grown (λ (m : Agreement). keyed (m.consumer) (agreement_key m)) c.args.agreements.now c.loop-agreement.agreement-index c.loop-agreement.rows.items _ c.loop-agreement-test.false c.loop-agreement.invariant) (contexts_by_consumer c.args.agreements.now)

@@ -7,4 +7,4 @@ use Rattle.x5_check.proofs.known.parents_by_master.Goals as goal
 
 pub returns : goal.returns
 returns c =
-    tabled _ _ _ _ c.new.ensures (grown (λ (m : Mastered). keyed (m.master) (above_key m)) c.args.held.now c.loop-context.context-index c.loop-context.rows.items _ c.loop-context-test.false c.loop-context.invariant) (parents_by_master c.args.held.now)
+    tabled _ _ _ _ c.sorted.ensures (grown (λ (m : Mastered). keyed (m.master) (above_key m)) c.args.held.now c.loop-context.context-index c.loop-context.rows.items _ c.loop-context-test.false c.loop-context.invariant) (parents_by_master c.args.held.now)

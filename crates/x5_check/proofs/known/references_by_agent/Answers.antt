@@ -8,4 +8,4 @@ use Rattle.x5_check.proofs.known.references_by_agent.Goals as goal
 
 pub returns : goal.returns
 returns c =
-    tabled _ _ _ _ c.new.ensures (grown (λ (m : ℕ × Agent). keyed (m.0) (reference_keys m)) c.args.agents.now c.loop-agent.agent-index c.loop-agent.rows.items _ c.loop-agent-test.false c.loop-agent.invariant) (references_by_agent c.args.agents.now)
+    tabled _ _ _ _ c.sorted.ensures (grown (λ (m : ℕ × Agent). keyed (m.0) (reference_keys m)) c.args.agents.now c.loop-agent.agent-index c.loop-agent.rows.items _ c.loop-agent-test.false c.loop-agent.invariant) (references_by_agent c.args.agents.now)
