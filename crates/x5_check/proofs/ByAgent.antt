@@ -1,10 +1,12 @@
 -- Agents by their places: what the tables say of an agent's number is said of that agent.
-use Rattle.std.proofs.Common.{◌≡◌, ℕ, zero, suc, ◌+◌, ◌<◌, ◌≤◌, Bool, true, false, not, ◌&&◌, ◌||◌, ◌==◌, List, [], ◌∷◌, ◌++◌, map, length, get_or, Option, Some, None, refl, sym, ap, subst, ◌∙◌, arith}
+use Rattle.std.proofs.Common.{◌≡◌, ℕ, zero, suc, ◌+◌, ◌<◌, ◌≤◌, Bool, true, false, not, ◌&&◌, ◌||◌, ◌==◌, List, [], ◌∷◌, ◌++◌, map, length, get_or, Option, Some, None, Bor, if◌then◌else◌, refl, sym, ap, subst, ◌∙◌, arith}
 use Rattle.std.specs.Prelude.{slice_get}
 use Rattle.std.specs.Cmp.{both_ways}
-use Rattle.std.specs.List.{list_any, flat_map, enumerate_from}
+use Rattle.std.specs.List.{list_any, flat_map, find, enumerate_from}
+use Rattle.std.specs.Option.{option_map}
+use Rattle.std.specs.Slice.{IsItemAt}
 use Rattle.x5_model.specs.Members.{In, here, there}
-use Rattle.x5_model.specs.Words.{some_and, when}
+use Rattle.x5_model.specs.Words.{some_and, in_option, when}
 use Rattle.x5_model.specs.Keys.{Key, same_key, parent, is_child}
 use Rattle.x5_model.proofs.KeyLaws.{key_decides}
 use Rattle.x5_model.proofs.Lists.{in_first}
@@ -12,11 +14,11 @@ use Rattle.x5_model.proofs.Prefixes.{child_decides}
 use Rattle.x5_model_tree.specs.World.{Context, Agent, World}
 use Rattle.x5_model.specs.Entries.{Named}
 use Rattle.x5_model_tree.specs.Tree.{key_at, is_there}
-use Rattle.x5_model_tree.specs.Masters.{Mastered, pin_of, numbered, mastered, masters, master_of, agent_at, is_first_level}
+use Rattle.x5_model_tree.specs.Masters.{Mastered, pin_of, numbered, mastered, masters, master_among, master_of, agent_at, superior_of, is_first_level}
 use Rattle.x5_model_tree.specs.Consistent.{breach, AgentPrinted, NamePrinted, in_nssr, refers_to, child_of_own, unknown_below}
 use Rattle.x5_check.specs.Numbers.{referrers_in, owners_in}
 use Rattle.x5_check.specs.Parts.{unknown_part}
-use Rattle.x5_check.proofs.Places.{got}
+use Rattle.x5_check.proofs.Places.{got, item_got, item_lacking}
 use Rattle.x5_check.proofs.Tables.{any_flat, any_map, any_same, and_any, at_number}
 
 -- ---- agents with their places
@@ -139,3 +141,26 @@ unknown_together w p =
         let at = in_at a (numbered w) i in
         let e = refers_at w a.0 a.1 (pin_of p) (agent_got w at.0 a at.1) in
         λ j. flat_map (λ c. when (is_there c.entries (parent (pin_of p)) && not (masters w a.0 (pin_of p) || (e j || some_and (in_nssr c (parent (pin_of p))) (master_of w (pin_of p))))) (breach 6 (AgentPrinted a.0) (NamePrinted p.context.prefix))) a.1.contexts
+
+-- ---- superiors
+
+pub superior_got : (w : World) (agents : List (ℕ × Agent)) (i : ℕ) (r : Option (Bor (ℕ × Agent))) (x : Bor (ℕ × Agent)) → agents ≡ numbered w → IsItemAt agents i r → r ≡ Some x → x.now.1.superior ≡ superior_of w i
+superior_got w agents i r x e h f =
+    let g : slice_get (numbered w) i ≡ Some x.now = subst (λ (xs : List (ℕ × Agent)). slice_get xs i ≡ Some x.now) e (item_got agents i r x h f) in
+    sym (ap (in_option None (λ (a : Agent). a.superior)) (number_of w i x.now g))
+
+pub superior_lacking : (w : World) (agents : List (ℕ × Agent)) (i : ℕ) (r : Option (Bor (ℕ × Agent))) → agents ≡ numbered w → IsItemAt agents i r → r ≡ None → None ≡ superior_of w i
+superior_lacking w agents i r e h f =
+    let g : slice_get (numbered w) i ≡ None = subst (λ (xs : List (ℕ × Agent)). slice_get xs i ≡ None) e (item_lacking agents i r h f) in
+    sym (ap (in_option None (λ (a : Agent). a.superior)) (no_number w i g))
+
+-- ---- masters
+
+master_by : (b : Bool) (m : Mastered) (rest : Option ℕ) (found : Option Mastered) → rest ≡ option_map (λ n. n.master) found → (if b then Some m.master else rest) ≡ option_map (λ n. n.master) (if b then Some m else found)
+master_by true m rest found h = refl
+master_by false m rest found h = h
+
+pub master_found : (ms : List Mastered) (pin : Key) → master_among ms pin ≡ option_map (λ m. m.master) (find (λ m. same_key (pin_of m) pin) ms)
+master_found [] pin = refl
+master_found (m ∷ ms) pin =
+    master_by (same_key (pin_of m) pin) m (master_among ms pin) (find (λ n. same_key (pin_of n) pin) ms) (master_found ms pin)

@@ -5,3 +5,4 @@ pub mod Held
 pub mod Places
 pub mod ByAgent
 pub mod Unfit
+pub mod Longer

@@ -1,9 +1,10 @@
 -- The place of the first member that passes a test: what it says of the list.
-use Rattle.std.proofs.Common.{◌≡◌, ℕ, zero, suc, ◌+◌, ◌<◌, ◌≤◌, Bool, true, false, ◌||◌, nat_lt, if◌then◌else◌, ◌⊎◌, inl, inr, List, [], ◌∷◌, ◌++◌, take, drop, length, get_or, Option, Some, None, refl, sym, ap, subst, ◌∙◌, arith}
+use Rattle.std.proofs.Common.{◌≡◌, ℕ, zero, suc, ◌+◌, ◌<◌, ◌≤◌, Bool, true, false, ◌||◌, nat_lt, if◌then◌else◌, ◌⊎◌, inl, inr, List, [], ◌∷◌, ◌++◌, take, drop, length, get_or, Option, Some, None, Bor, refl, sym, ap, subst, ◌∙◌, arith}
 use Rattle.std.specs.Prelude.{slice_get}
 use Rattle.std.specs.Cmp.{both_ways}
 use Rattle.std.specs.List.{list_any, flat_map, find}
 use Rattle.std.specs.Option.{MatchOption, is_some, option_map}
+use Rattle.std.specs.Slice.{IsItemAt}
 use Rattle.std.proofs.lemmas.List.{drop_all}
 use Rattle.x5_model.specs.Words.{some_and, first_of, when}
 use Rattle.x5_model.proofs.Lists.{true_or_false, either_true, or_left, or_right}
@@ -23,6 +24,21 @@ pub got_below : {A : Type 0} (xs : List A) (i : ℕ) (x : A) → slice_get xs i 
 got_below [] i x e = cc
 got_below (y ∷ xs) zero x e = omega arith
 got_below (y ∷ xs) (suc i) x e = let h = got_below xs i x e in omega arith
+
+-- what `get` gives
+pub item_at : {A : Type 0} (xs : List A) (i : ℕ) (r : Option (Bor A)) (x : Bor A) → IsItemAt xs i r → r ≡ Some x → (i < length xs) × (x.now ≡ get_or xs i x.now)
+item_at xs i None x h e = cc
+item_at {A} xs i (Some y) x h e = let q : y ≡ x = cc in subst (λ (z : Bor A). (i < length xs) × (z.now ≡ get_or xs i z.now)) q (h.3.0, h.1)
+
+pub no_item : {A : Type 0} (xs : List A) (i : ℕ) (r : Option (Bor A)) → IsItemAt xs i r → r ≡ None → length xs ≤ i
+no_item xs i None h e = h.3
+no_item xs i (Some y) h e = cc
+
+pub item_got : {A : Type 0} (xs : List A) (i : ℕ) (r : Option (Bor A)) (x : Bor A) → IsItemAt xs i r → r ≡ Some x → slice_get xs i ≡ Some x.now
+item_got xs i r x h e = let w = item_at xs i r x h e in got xs i x.now w.0 w.1
+
+pub item_lacking : {A : Type 0} (xs : List A) (i : ℕ) (r : Option (Bor A)) → IsItemAt xs i r → r ≡ None → slice_get xs i ≡ None
+item_lacking xs i r h e = got_none xs i (no_item xs i r h e)
 
 less_or_not : (m n : ℕ) → (m < n) ⊎ (n ≤ m)
 less_or_not m n = grind arith
@@ -84,9 +100,6 @@ module _ {A : Type 0} (test : A → Bool) where
   place_any xs (Some n) h = sym (it_passes xs n h.0)
 
   -- the first member that passes stands there
-  found_at : (b : Bool) (x : A) (rest : Option A) → test x ≡ b → b ≡ true → (if test x then Some x else rest) ≡ Some x
-  found_at b x rest e f = ap (λ (t : Bool). if t then Some x else rest) (e ∙ f)
-
   pub place_find : (xs : List A) (n : ℕ) → IsPlace test xs (Some n) → find test xs ≡ slice_get xs n
   place_find [] n h = refl
   place_find (x ∷ xs) zero h = ap (λ (t : Bool). if t then Some x else find test xs) h.0
@@ -98,13 +111,13 @@ module _ {A : Type 0} (test : A → Bool) where
   place_none (x ∷ xs) h = ap (λ (t : Bool). if t then Some x else find test xs) (h 0) ∙ place_none xs (λ n. h (suc n))
 
   -- what is told of it is told first
+  first_by : (b : Bool) (x : A) (xs : List A) {X : Type 0} (told : A → X) → first_of (flat_map (λ y. when (test y) (told y)) xs) ≡ option_map told (find test xs) → first_of (when b (told x) ++ flat_map (λ y. when (test y) (told y)) xs) ≡ option_map told (if b then Some x else find test xs)
+  first_by true x xs told h = refl
+  first_by false x xs told h = h
+
   first_passing : (xs : List A) {X : Type 0} (told : A → X) → first_of (flat_map (λ x. when (test x) (told x)) xs) ≡ option_map told (find test xs)
   first_passing [] told = refl
-  first_passing (x ∷ xs) told = by (test x)
-    where
-      by : (b : Bool) → first_of (when b (told x) ++ flat_map (λ y. when (test y) (told y)) xs) ≡ option_map told (if b then Some x else find test xs)
-      by true = refl
-      by false = first_passing xs told
+  first_passing (x ∷ xs) told = first_by (test x) x xs told (first_passing xs told)
 
   pub place_told : (xs : List A) {X : Type 0} (told : A → X) (n : ℕ) (x : A) → IsPlace test xs (Some n) → slice_get xs n ≡ Some x → Some (told x) ≡ first_of (flat_map (λ y. when (test y) (told y)) xs)
   place_told xs told n x h e =

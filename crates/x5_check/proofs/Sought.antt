@@ -19,6 +19,7 @@ use Rattle.x5_model.proofs.KeyLaws.{key_decides, key_itself, equal_keys, key_cmp
 use Rattle.x5_model.proofs.Lists.{true_or_false, either_true, both_true, and_true}
 use Rattle.x5_check.specs.Rows.{KeyRow, same_row, row_cmp, Numbers, numbers_of, IsNext}
 use Rattle.x5_check.specs.RowOrder.{row_cmp_total}
+use Rattle.x5_check.proofs.Places.{item_at, no_item}
 
 -- ---- rows
 
@@ -204,18 +205,10 @@ split_of view key from r place h e =
     let p : IsBinarySearchResult (λ y. row_cmp y (key, from)) view (Err place) = subst (λ (o : Result ℕ ℕ). IsBinarySearchResult (λ y. row_cmp y (key, from)) view o) e h.position in
     p (searchable view (key, from) h.sorted)
 
-some_item : (xs : List KeyRow) (i : ℕ) (r : Option (Bor KeyRow)) (x : Bor KeyRow) → IsItemAt xs i r → r ≡ Some x → (i < length xs) × (x.now ≡ get_or xs i x.now)
-some_item xs i None x h e = cc
-some_item xs i (Some y) x h e = let q : y ≡ x = cc in subst (λ (z : Bor KeyRow). (i < length xs) × (z.now ≡ get_or xs i z.now)) q (h.3.0, h.1)
-
-no_item : (xs : List KeyRow) (i : ℕ) (r : Option (Bor KeyRow)) → IsItemAt xs i r → r ≡ None → length xs ≤ i
-no_item xs i None h e = h.3
-no_item xs i (Some y) h e = cc
-
 -- or where the next number is
 module _ (view items : List KeyRow) (key : Key) (from : ℕ) (r : Result ℕ ℕ) (place : ℕ) (h : IsSought view key from r) (e : r ≡ Err place) (f : items ≡ view) (got : Option (Bor KeyRow)) (item : IsItemAt items place got) where
   item_of : (row : Bor KeyRow) → got ≡ Some row → (place < length view) × (row.now ≡ get_or view place row.now)
-  item_of row g = subst (λ (xs : List KeyRow). (place < length xs) × (row.now ≡ get_or xs place row.now)) f (some_item items place got row item g)
+  item_of row g = subst (λ (xs : List KeyRow). (place < length xs) × (row.now ≡ get_or xs place row.now)) f (item_at items place got row item g)
 
   pub sought_next : (row : Bor KeyRow) (x : KeyRow) → got ≡ Some row → x ≡ row.now → same_key x.0 key ≡ true → (numbers_of view key x.1 ≡ true) × (from ≤ x.1) × ((m : ℕ) → from ≤ m → m < x.1 → numbers_of view key m ≡ false)
   sought_next row x g n s =

@@ -38,11 +38,11 @@ pub first_now : {X : Type 0} (xs ys : List X) (b : X) → first_of xs ≡ Some b
 first_now [] ys b e = cc
 first_now (x ∷ xs) ys b e = e
 
-nothing_told : {T X : Type 0} (view : T → X) (told : Option T) (xs : List X) → option_map view told ≡ first_of xs → is_some told ≡ false → first_of xs ≡ None
+pub nothing_told : {T X : Type 0} (view : T → X) (told : Option T) (xs : List X) → option_map view told ≡ first_of xs → is_some told ≡ false → first_of xs ≡ None
 nothing_told view None xs e h = sym e
 nothing_told view (Some t) xs e h = cc
 
-something_told : {T X : Type 0} (view : T → X) (told : Option T) (xs ys : List X) → option_map view told ≡ first_of xs → is_some told ≡ true → first_of (xs ++ ys) ≡ option_map view told
+pub something_told : {T X : Type 0} (view : T → X) (told : Option T) (xs ys : List X) → option_map view told ≡ first_of xs → is_some told ≡ true → first_of (xs ++ ys) ≡ option_map view told
 something_told view None xs ys e h = cc
 something_told view (Some t) xs ys e h = first_now xs ys (view t) (sym e)
 

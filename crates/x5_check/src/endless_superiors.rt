@@ -44,12 +44,17 @@ fn endless_of(
     ensures { Tells result (endless_part known.now agent.now) }
 {
     match agent.superior() {
-        Some(superior) if !ends(known, MOST_HOPS, Some(superior)) => Ok(Some(Inconsistency {
-            condition: 9,
-            first: Shown::Agent(agent.id()),
-            second: Shown::Agent(superior),
-        })),
-        _ => Ok(None),
+        None => Ok(None),
+        Some(superior) => {
+            if ends(known, MOST_HOPS, Some(superior)) {
+                return Ok(None);
+            }
+            Ok(Some(Inconsistency {
+                condition: 9,
+                first: Shown::Agent(agent.id()),
+                second: Shown::Agent(superior),
+            }))
+        }
     }
 }
 

@@ -10,6 +10,7 @@ ghost use Rattle.x5_check.specs.Views.{Tells};
 use crate::agents::{FileReference, Numbered};
 use crate::inconsistency::{Inconsistency, Shown};
 use crate::known::Known;
+use crate::unknown_top::is_at_top;
 use std::alloc::Global;
 use x5_memory::NoMemory;
 use x5_names::Key;
@@ -28,7 +29,7 @@ fn is_child_of_own(
     if count == 0 {
         return Ok(false);
     }
-    if count == 1 && agent.superior().is_none() {
+    if is_at_top(agent, pin) {
         return Ok(true);
     }
     let above = pin.first(alloc, count - 1)?;

@@ -68,7 +68,7 @@ fn unknown_below_of(
     known: &Known<'_>,
     below: &Held<'_>,
 ) -> Result<Option<Inconsistency>, NoMemory>
-    ensures { Tells result (flat_map (unknown_part known.now below.now) (masters.mastered known.now)) }
+    ensures { Tells result (flat_map (λ a. flat_map (λ c. model.unknown_below known.now a.0 a.1 c below.now) a.1.contexts) (masters.numbered known.now)) }
 {
     let held = known.held();
     let mut from = 0;

@@ -2,7 +2,7 @@
 
 ghost use Rattle.std.specs.Prelude.{◌≡◌, Some, ◌||◌, ◌&&◌, ◌==◌, length};
 ghost use Rattle.std.specs.List.{flat_map};
-ghost use Rattle.x5_model_tree.specs.Masters.{mastered, masters, agent_at, pin_of, is_first_level};
+ghost use Rattle.x5_model_tree.specs.Masters.{mastered, masters, agent_at, is_first_level};
 ghost use Rattle.x5_model_tree.specs.Consistent.{breaches_8, unknown_top, refers_to};
 ghost use Rattle.x5_check.specs.Views.{Tells};
 
@@ -21,11 +21,11 @@ pub(crate) fn masters_or_refers(known: &Known<'_>, agent: &Numbered<'_>, pin: &K
     known.masters(agent.id(), pin) || known.refers(agent.id(), pin)
 }
 
-/// Whether the agent is first-level, and the context's prefix of one RDN. No memory.
-fn is_at_top(agent: &Numbered<'_>, context: &Held<'_>) -> bool
-    ensures { result ≡ (is_first_level agent.now.1 && (length (pin_of context.now) == 1)) }
+/// Whether the agent is first-level, and the pin of one RDN. No memory.
+pub(crate) fn is_at_top(agent: &Numbered<'_>, pin: &Key) -> bool
+    ensures { result ≡ (is_first_level agent.now.1 && (length pin.now == 1)) }
 {
-    agent.superior().is_none() && context.pin().len() == 1
+    agent.superior().is_none() && pin.len() == 1
 }
 
 /// What is told of the agent and the context.
@@ -37,7 +37,7 @@ fn unknown_top_of(
     requires { agent_at known.now agent.now.0 ≡ Some agent.now.1 }
     ensures { Tells result (unknown_top known.now agent.now.0 agent.now.1 context.now) }
 {
-    if !is_at_top(agent, context) || masters_or_refers(known, agent, context.pin()) {
+    if !is_at_top(agent, context.pin()) || masters_or_refers(known, agent, context.pin()) {
         return Ok(None);
     }
     Ok(Some(Inconsistency {

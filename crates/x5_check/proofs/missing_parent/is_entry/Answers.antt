@@ -11,5 +11,5 @@ use Rattle.x5_check.proofs.missing_parent.is_entry.Goals as goal
 pub returns : goal.returns
 returns c =
     c.is_some.ensures
-    ∙ place_any (λ (m : Mastered). is_there m.context.entries c.args.key.now) (mastered c.args.known.now) c.next_with_entry.result (place_of_next _ _ _ c.next_with_entry.ensures)
+    ∙ place_any (λ (m : Mastered). is_there m.context.entries c.args.key.now) (mastered c.args.known.now) c.next_with_entry.result (place_of_next (λ (m : Mastered). is_there m.context.entries c.args.key.now) (mastered c.args.known.now) c.next_with_entry.result c.next_with_entry.ensures)
     ∙ sym (any_flat (λ (e : Named). same_key (key_at e) c.args.key.now) (λ (m : Mastered). m.context.entries) (mastered c.args.known.now))
