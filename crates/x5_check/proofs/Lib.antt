@@ -6,3 +6,5 @@ pub mod Places
 pub mod ByAgent
 pub mod Unfit
 pub mod Longer
+pub mod Below
+pub mod Whole

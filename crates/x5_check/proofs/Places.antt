@@ -15,6 +15,12 @@ got [] i x lt e = absurd (omega arith)
 got (y ∷ xs) zero x lt e = ap Some (sym e)
 got (y ∷ xs) (suc i) x lt e = got xs i x (omega arith) e
 
+-- an item is the same by each default
+pub same_item : {A : Type 0} (xs : List A) (i : ℕ) (d f : A) → i < length xs → get_or xs i d ≡ get_or xs i f
+same_item [] i d f lt = absurd (omega arith)
+same_item (y ∷ xs) zero d f lt = refl
+same_item (y ∷ xs) (suc i) d f lt = same_item xs i d f (omega arith)
+
 pub got_none : {A : Type 0} (xs : List A) (i : ℕ) → length xs ≤ i → slice_get xs i ≡ None
 got_none [] i le = refl
 got_none (y ∷ xs) zero le = absurd (omega arith)
@@ -40,7 +46,7 @@ item_got xs i r x h e = let w = item_at xs i r x h e in got xs i x.now w.0 w.1
 pub item_lacking : {A : Type 0} (xs : List A) (i : ℕ) (r : Option (Bor A)) → IsItemAt xs i r → r ≡ None → slice_get xs i ≡ None
 item_lacking xs i r h e = got_none xs i (no_item xs i r h e)
 
-less_or_not : (m n : ℕ) → (m < n) ⊎ (n ≤ m)
+pub less_or_not : (m n : ℕ) → (m < n) ⊎ (n ≤ m)
 less_or_not m n = grind arith
 
 -- a test that nothing passes

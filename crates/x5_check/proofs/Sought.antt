@@ -19,7 +19,7 @@ use Rattle.x5_model.proofs.KeyLaws.{key_decides, key_itself, equal_keys, key_cmp
 use Rattle.x5_model.proofs.Lists.{true_or_false, either_true, both_true, and_true}
 use Rattle.x5_check.specs.Rows.{KeyRow, same_row, row_cmp, Numbers, numbers_of, IsNext}
 use Rattle.x5_check.specs.RowOrder.{row_cmp_total}
-use Rattle.x5_check.proofs.Places.{item_at, no_item}
+use Rattle.x5_check.proofs.Places.{item_at, no_item, same_item}
 
 -- ---- rows
 
@@ -87,11 +87,6 @@ not_there x xs f =
       | inr e ↦ e
     ]
 
-same_place : (xs : List KeyRow) (i : ℕ) (d f : KeyRow) → i < length xs → get_or xs i d ≡ get_or xs i f
-same_place [] i d f h = absurd (omega arith)
-same_place (y ∷ xs) zero d f h = refl
-same_place (y ∷ xs) (suc i) d f h = same_place xs i d f (omega arith)
-
 -- ---- what is found
 
 module _ (rows : List KeyRow) (sorted : IsSorted row_cmp rows) (key : Key) (from : ℕ) where
@@ -140,7 +135,7 @@ module _ (rows : List KeyRow) (sorted : IsSorted row_cmp rows) (key : Key) (from
       not_less : (x : KeyRow) (j : ℕ) → place ≤ j → j < length rows → get_or rows j x ≡ x → row_cmp x row ≡ Less → ⊥
       not_less x j b l e less =
           let far : is_lt (row_cmp (get_or rows j x) (get_or rows place x)) ≡ false = sorted_far (λ a c. is_lt (row_cmp a c)) (ranks_by row_cmp_total (λ (r : KeyRow). r)) rows sorted place j x b l in
-          let one : get_or rows place x ≡ row = same_place rows place x row in' ∙ sym is in
+          let one : get_or rows place x ≡ row = same_item rows place x row in' ∙ sym is in
           let two : is_lt (row_cmp x row) ≡ false = subst (λ (r : KeyRow). is_lt (row_cmp x r) ≡ false) one (subst (λ (r : KeyRow). is_lt (row_cmp r (get_or rows place x)) ≡ false) e far) in
           let three : is_lt (row_cmp x row) ≡ true = ap is_lt less in
           cc
@@ -213,12 +208,12 @@ module _ (view items : List KeyRow) (key : Key) (from : ℕ) (r : Result ℕ ℕ
   pub sought_next : (row : Bor KeyRow) (x : KeyRow) → got ≡ Some row → x ≡ row.now → same_key x.0 key ≡ true → (numbers_of view key x.1 ≡ true) × (from ≤ x.1) × ((m : ℕ) → from ≤ m → m < x.1 → numbers_of view key m ≡ false)
   sought_next row x g n s =
       let w = item_of row g in
-      its_number view h.sorted key from place (split_of view key from r place h e) x w.0 (n ∙ w.1 ∙ sym (same_place view place x row.now w.0)) s
+      its_number view h.sorted key from place (split_of view key from r place h e) x w.0 (n ∙ w.1 ∙ sym (same_item view place x row.now w.0)) s
 
   pub sought_other : (row : Bor KeyRow) (x : KeyRow) → got ≡ Some row → x ≡ row.now → same_key x.0 key ≡ false → (n : ℕ) → from ≤ n → numbers_of view key n ≡ false
   sought_other row x g n s =
       let w = item_of row g in
-      other_key view h.sorted key from place (split_of view key from r place h e) x w.0 (n ∙ w.1 ∙ sym (same_place view place x row.now w.0)) s
+      other_key view h.sorted key from place (split_of view key from r place h e) x w.0 (n ∙ w.1 ∙ sym (same_item view place x row.now w.0)) s
 
   pub sought_none : got ≡ None → (n : ℕ) → from ≤ n → numbers_of view key n ≡ false
   sought_none g =

@@ -29,13 +29,13 @@ endless_part w a = in_option [] (endless w a.0) a.1.superior
 abbrev pub unsupplied_part : World → Agreement → List Inconsistency
 unsupplied_part w g = when (not (is_supplied w g)) (breach 10 (AgreementPrinted g.number) (NamePrinted g.context))
 
-abbrev pub shadow_part : World → Specific → ℕ → ℕ → List Inconsistency
-shadow_part w k place s =
-    unfit_at ◌==◌ (λ a. a) (λ a. consumes w a (key_of k.pin)) (λ a. breach 5 (NamePrinted k.pin) (AgentPrinted a)) k.access.shadows place s
+abbrev pub shadow_part : World → Specific → List ℕ → ℕ → ℕ → List Inconsistency
+shadow_part w k shadows place s =
+    unfit_at ◌==◌ (λ a. a) (λ a. consumes w a (key_of k.pin)) (λ a. breach 5 (NamePrinted k.pin) (AgentPrinted a)) shadows place s
 
-abbrev pub member_part : World → Mastered → Nssr → ℕ → ℕ → List Inconsistency
-member_part w m n place s =
-    unfit_at ◌==◌ (λ a. a) (λ a. not (a == m.master) && masters_below w a (key_of n.at)) (λ a. breach 7 (NamePrinted (name_of_nssr m.context n)) (AgentPrinted a)) n.agents place s
+abbrev pub member_part : World → Mastered → Nssr → List ℕ → ℕ → ℕ → List Inconsistency
+member_part w m n agents place s =
+    unfit_at ◌==◌ (λ a. a) (λ a. not (a == m.master) && masters_below w a (key_of n.at)) (λ a. breach 7 (NamePrinted (name_of_nssr m.context n)) (AgentPrinted a)) agents place s
 
 -- of a context that has the entry above a pin: its master doesn't know the pin
 abbrev pub knows_at : World → Mastered → Mastered → Bool

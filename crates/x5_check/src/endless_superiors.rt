@@ -17,7 +17,7 @@ use x5_ops::AgentId;
 const MOST_HOPS: u8 = 16;
 
 /// The superior of the agent, if it has one. No memory.
-fn superior_of_agent(known: &Known<'_>, agent: AgentId) -> Option<AgentId>
+fn superior_of_agent(known: &Known<'_, '_, '_>, agent: AgentId) -> Option<AgentId>
     ensures { result ≡ superior_of known.now agent }
 {
     match known.agents().get(agent.0 as usize) {
@@ -27,7 +27,7 @@ fn superior_of_agent(known: &Known<'_>, agent: AgentId) -> Option<AgentId>
 }
 
 /// Whether the chain of superiors from the agent on ends within so many hops. No memory.
-fn ends(known: &Known<'_>, hops: u8, agent: Option<AgentId>) -> bool
+fn ends(known: &Known<'_, '_, '_>, hops: u8, agent: Option<AgentId>) -> bool
     ensures { result ≡ ends_within known.now hops agent }
 {
     match agent {
@@ -38,7 +38,7 @@ fn ends(known: &Known<'_>, hops: u8, agent: Option<AgentId>) -> bool
 
 /// What is told of the agent.
 fn endless_of(
-    known: &Known<'_>,
+    known: &Known<'_, '_, '_>,
     agent: &Numbered<'_>,
 ) -> Result<Option<Inconsistency>, NoMemory>
     ensures { Tells result (endless_part known.now agent.now) }
@@ -59,7 +59,7 @@ fn endless_of(
 }
 
 /// The first agent whose superiors don't end: the agent, and its superior.
-pub(crate) fn endless_superiors(known: &Known<'_>) -> Result<Option<Inconsistency>, NoMemory>
+pub(crate) fn endless_superiors(known: &Known<'_, '_, '_>) -> Result<Option<Inconsistency>, NoMemory>
     ensures { Tells result (breaches_9 known.now) }
 {
     let agents = known.agents();

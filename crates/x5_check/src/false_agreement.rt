@@ -27,7 +27,7 @@ fn consumes_by(agreement: &Agreement, agent: AgentId, context: &Key) -> bool
 }
 
 /// From which agent the agent's copy of the context comes: the supplier of the first agreement that gives it one. No memory.
-fn supplier_of_copy(known: &Known<'_>, agent: AgentId, context: &Key) -> Option<AgentId>
+fn supplier_of_copy(known: &Known<'_, '_, '_>, agent: AgentId, context: &Key) -> Option<AgentId>
     ensures { result ≡ masters.supplier_of known.now agent context.now }
 {
     let agreements = known.agreements();
@@ -40,7 +40,7 @@ fn supplier_of_copy(known: &Known<'_>, agent: AgentId, context: &Key) -> Option<
 }
 
 /// By how many agreements the agent consumes the context. No memory.
-fn times_consumed(known: &Known<'_>, agent: AgentId, context: &Key) -> usize
+fn times_consumed(known: &Known<'_, '_, '_>, agent: AgentId, context: &Key) -> usize
     ensures { result ≡ length (filter (masters.is_consumer agent context.now) known.now.agreements) }
 {
     let agreements = known.agreements();
@@ -55,7 +55,7 @@ fn times_consumed(known: &Known<'_>, agent: AgentId, context: &Key) -> usize
 
 /// Whether the chain of suppliers from the agent on leads to the context's master within so many hops. No memory.
 fn is_supplied_within(
-    known: &Known<'_>,
+    known: &Known<'_, '_, '_>,
     hops: u8,
     context: &Key,
     agent: Option<AgentId>,
@@ -78,7 +78,7 @@ fn is_supplied_within(
 }
 
 /// Whether the agreement supplies its consumer. No memory.
-fn supplies(known: &Known<'_>, agreement: &Agreement) -> bool
+fn supplies(known: &Known<'_, '_, '_>, agreement: &Agreement) -> bool
     ensures { result ≡ model.is_supplied known.now agreement.now }
 {
     let context = agreement.context.key();
@@ -89,7 +89,7 @@ fn supplies(known: &Known<'_>, agreement: &Agreement) -> bool
 
 /// What is told of the agreement.
 fn false_agreement_of(
-    known: &Known<'_>,
+    known: &Known<'_, '_, '_>,
     agreement: &Agreement,
 ) -> Result<Option<Inconsistency>, NoMemory>
     ensures { Tells result (unsupplied_part known.now agreement.now) }
@@ -105,7 +105,7 @@ fn false_agreement_of(
 }
 
 /// The first agreement that is false: its number, and its context.
-pub(crate) fn false_agreement(known: &Known<'_>) -> Result<Option<Inconsistency>, NoMemory>
+pub(crate) fn false_agreement(known: &Known<'_, '_, '_>) -> Result<Option<Inconsistency>, NoMemory>
     ensures { Tells result (model.breaches_10 known.now) }
 {
     let agreements = known.agreements();

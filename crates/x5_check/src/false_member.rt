@@ -35,17 +35,17 @@ fn name_of<'a>(context: &'a Held<'_>, nssr: &'a Nssr) -> &'a Name
 
 /// What is told of the agent at the place.
 fn false_member_at(
-    known: &Known<'_>,
+    known: &Known<'_, '_, '_>,
     context: &Held<'_>,
     nssr: &Nssr,
+    agents: &[AgentId],
     place: usize,
     agent: AgentId,
 ) -> Result<Option<Inconsistency>, NoMemory>
-    requires { place ≤ length nssr.now.agents }
-    ensures { Tells result (member_part known.now context.now (nssr_view nssr.now) place agent) }
+    requires { place ≤ length agents.now }
+    ensures { Tells result (member_part known.now context.now (nssr_view nssr.now) agents.now place agent) }
 {
-    let before = &nssr.agents.as_slice()[..place];
-    if !is_among(before, agent)
+    if !is_among(&agents[..place], agent)
         && agent != context.master()
         && known.masters_below(agent, nssr.at.key())
     {
@@ -60,7 +60,7 @@ fn false_member_at(
 
 /// What is told of the NSSR.
 fn false_members_of(
-    known: &Known<'_>,
+    known: &Known<'_, '_, '_>,
     context: &Held<'_>,
     nssr: &Nssr,
 ) -> Result<Option<Inconsistency>, NoMemory>
@@ -68,7 +68,7 @@ fn false_members_of(
 {
     let agents = nssr.agents.as_slice();
     for (place, agent) in agents.iter().enumerate() {
-        let told = false_member_at(known, context, nssr, place, *agent)?;
+        let told = false_member_at(known, context, nssr, agents, place, *agent)?;
         if told.is_some() {
             return Ok(told);
         }
@@ -78,7 +78,7 @@ fn false_members_of(
 
 /// What is told of the context.
 fn false_members_in(
-    known: &Known<'_>,
+    known: &Known<'_, '_, '_>,
     context: &Held<'_>,
 ) -> Result<Option<Inconsistency>, NoMemory>
     ensures { Tells result (flat_map (false_members known.now context.now) context.now.context.nssrs) }
@@ -95,7 +95,7 @@ fn false_members_in(
 
 /// The first context with a false NSSR, its first one, and the first of that one's agents that stood there before, is the context's
 /// master or masters nothing just below: the entry's name as the context has it, and that agent.
-pub(crate) fn false_member(known: &Known<'_>) -> Result<Option<Inconsistency>, NoMemory>
+pub(crate) fn false_member(known: &Known<'_, '_, '_>) -> Result<Option<Inconsistency>, NoMemory>
     ensures { Tells result (breaches_7 known.now) }
 {
     let held = known.held();

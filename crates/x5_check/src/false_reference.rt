@@ -18,7 +18,7 @@ use x5_names::Key;
 /// Whether the pin is a child of an entry that the agent masters, or of the root at a first-level agent.
 fn is_child_of_own(
     alloc: Global,
-    known: &Known<'_>,
+    known: &Known<'_, '_, '_>,
     agent: &Numbered<'_>,
     pin: &Key,
 ) -> Result<bool, NoMemory>
@@ -39,7 +39,7 @@ fn is_child_of_own(
 /// Whether the reference is right.
 fn is_right_reference(
     alloc: Global,
-    known: &Known<'_>,
+    known: &Known<'_, '_, '_>,
     agent: &Numbered<'_>,
     reference: &FileReference<'_>,
 ) -> Result<bool, NoMemory>
@@ -59,7 +59,7 @@ fn is_right_reference(
 /// What is told of the reference.
 fn false_reference_of(
     alloc: Global,
-    known: &Known<'_>,
+    known: &Known<'_, '_, '_>,
     agent: &Numbered<'_>,
     reference: &FileReference<'_>,
 ) -> Result<Option<Inconsistency>, NoMemory>
@@ -79,7 +79,7 @@ fn false_reference_of(
 /// What is told of the agent.
 fn false_references_of(
     alloc: Global,
-    known: &Known<'_>,
+    known: &Known<'_, '_, '_>,
     agent: &Numbered<'_>,
 ) -> Result<Option<Inconsistency>, NoMemory>
     requires { agent_at known.now agent.now.0 ≡ Some agent.now.1 }
@@ -98,7 +98,7 @@ fn false_references_of(
 /// The first agent with a false reference, and its first one, of either kind: the agent, and the name that the reference gives.
 pub(crate) fn false_reference(
     alloc: Global,
-    known: &Known<'_>,
+    known: &Known<'_, '_, '_>,
 ) -> Result<Option<Inconsistency>, NoMemory>
     ensures { Tells result (breaches_4 known.now) }
 {

@@ -21,16 +21,16 @@ pub(crate) fn is_among(agents: &[AgentId], agent: AgentId) -> bool
 
 /// What is told of the shadow agent at the place.
 fn false_shadow_at(
-    known: &Known<'_>,
+    known: &Known<'_, '_, '_>,
     reference: &FileReference<'_>,
+    shadows: &[AgentId],
     place: usize,
     shadow: AgentId,
 ) -> Result<Option<Inconsistency>, NoMemory>
-    requires { place ≤ length (specific_of reference.now).access.shadows }
-    ensures { Tells result (shadow_part known.now (specific_of reference.now) place shadow) }
+    requires { place ≤ length shadows.now }
+    ensures { Tells result (shadow_part known.now (specific_of reference.now) shadows.now place shadow) }
 {
-    let before = &reference.access().shadows.as_slice()[..place];
-    if !is_among(before, shadow) && known.consumes(shadow, reference.pin().key()) {
+    if !is_among(&shadows[..place], shadow) && known.consumes(shadow, reference.pin().key()) {
         return Ok(None);
     }
     Ok(Some(Inconsistency {
@@ -42,14 +42,14 @@ fn false_shadow_at(
 
 /// What is told of the reference.
 fn false_shadows_of(
-    known: &Known<'_>,
+    known: &Known<'_, '_, '_>,
     reference: &FileReference<'_>,
 ) -> Result<Option<Inconsistency>, NoMemory>
     ensures { Tells result (false_shadows known.now (specific_of reference.now)) }
 {
     let shadows = reference.access().shadows.as_slice();
     for (place, shadow) in shadows.iter().enumerate() {
-        let told = false_shadow_at(known, reference, place, *shadow)?;
+        let told = false_shadow_at(known, reference, shadows, place, *shadow)?;
         if told.is_some() {
             return Ok(told);
         }
@@ -59,7 +59,7 @@ fn false_shadows_of(
 
 /// What is told of the agent.
 fn false_shadows_at(
-    known: &Known<'_>,
+    known: &Known<'_, '_, '_>,
     agent: &Numbered<'_>,
 ) -> Result<Option<Inconsistency>, NoMemory>
     ensures { Tells result (flat_map (λ r. false_shadows known.now (specific_of r)) (references agent.now.1)) }
@@ -76,7 +76,7 @@ fn false_shadows_at(
 
 /// The first agent with a reference that has a false shadow agent, its first such reference, and the first of that one's shadow
 /// agents that stood there before or isn't a consumer: the reference's name, and that shadow agent.
-pub(crate) fn false_shadow(known: &Known<'_>) -> Result<Option<Inconsistency>, NoMemory>
+pub(crate) fn false_shadow(known: &Known<'_, '_, '_>) -> Result<Option<Inconsistency>, NoMemory>
     ensures { Tells result (breaches_5 known.now) }
 {
     let agents = known.agents();

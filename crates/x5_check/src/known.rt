@@ -20,7 +20,7 @@ use x5_names::Key;
 use x5_ops::{AgentId, Named, Specific};
 
 /// The prefixes of the contexts, with the contexts' places.
-fn prefixes_by_place<'a>(alloc: Global, held: &'a [Held<'a>]) -> Result<Table<'a>, NoMemory>
+fn prefixes_by_place<'h>(alloc: Global, held: &'h [Held<'_>]) -> Result<Table<'h>, NoMemory>
     ensures { IfOk result (λ t. numbers_of t ≡ prefix_places held.now) }
 {
     let mut rows = Vec::new(alloc);
@@ -31,7 +31,7 @@ fn prefixes_by_place<'a>(alloc: Global, held: &'a [Held<'a>]) -> Result<Table<'a
 }
 
 /// The prefixes of the contexts, with their masters.
-fn prefixes_by_master<'a>(alloc: Global, held: &'a [Held<'a>]) -> Result<Table<'a>, NoMemory>
+fn prefixes_by_master<'h>(alloc: Global, held: &'h [Held<'_>]) -> Result<Table<'h>, NoMemory>
     ensures { IfOk result (λ t. numbers_of t ≡ masters_in held.now) }
 {
     let mut rows = Vec::new(alloc);
@@ -42,7 +42,7 @@ fn prefixes_by_master<'a>(alloc: Global, held: &'a [Held<'a>]) -> Result<Table<'
 }
 
 /// What stands just above the contexts' prefixes, with the contexts' masters; the root has nothing above it.
-fn parents_by_master<'a>(alloc: Global, held: &'a [Held<'a>]) -> Result<Table<'a>, NoMemory>
+fn parents_by_master<'h>(alloc: Global, held: &'h [Held<'_>]) -> Result<Table<'h>, NoMemory>
     ensures { IfOk result (λ t. numbers_of t ≡ masters_below_in held.now) }
 {
     let mut rows = Vec::new(alloc);
@@ -70,7 +70,7 @@ fn with_entries<'a>(
 }
 
 /// The entries of the contexts, with the contexts' places.
-fn entries_by_place<'a>(alloc: Global, held: &'a [Held<'a>]) -> Result<Table<'a>, NoMemory>
+fn entries_by_place<'h>(alloc: Global, held: &'h [Held<'_>]) -> Result<Table<'h>, NoMemory>
     ensures { IfOk result (λ t. numbers_of t ≡ entry_places held.now) }
 {
     let mut rows = Vec::new(alloc);
@@ -81,7 +81,7 @@ fn entries_by_place<'a>(alloc: Global, held: &'a [Held<'a>]) -> Result<Table<'a>
 }
 
 /// The entries of the contexts, with the contexts' masters.
-fn entries_by_master<'a>(alloc: Global, held: &'a [Held<'a>]) -> Result<Table<'a>, NoMemory>
+fn entries_by_master<'h>(alloc: Global, held: &'h [Held<'_>]) -> Result<Table<'h>, NoMemory>
     ensures { IfOk result (λ t. numbers_of t ≡ owners_in held.now) }
 {
     let mut rows = Vec::new(alloc);
@@ -107,10 +107,10 @@ fn with_references<'a>(
 }
 
 /// The pins of the agents' subordinate references, with the agents.
-fn references_by_agent<'a>(
+fn references_by_agent<'g>(
     alloc: Global,
-    agents: &'a [Numbered<'a>],
-) -> Result<Table<'a>, NoMemory>
+    agents: &'g [Numbered<'_>],
+) -> Result<Table<'g>, NoMemory>
     ensures { IfOk result (λ t. numbers_of t ≡ referrers_in agents.now) }
 {
     let mut rows = Vec::new(alloc);
@@ -136,20 +136,20 @@ fn contexts_by_consumer<'a>(
 
 /// The agents and contexts of a world, with tables in which things are found by their keys.
 #[derive(Drop)]
-pub(crate) struct Known<'a> {
-    world: &'a Described,
-    agents: &'a [Numbered<'a>],
-    held: &'a [Held<'a>],
-    prefixes: Table<'a>,
-    entries: Table<'a>,
-    masters: Table<'a>,
-    owners: Table<'a>,
-    above: Table<'a>,
-    referrers: Table<'a>,
-    consumers: Table<'a>,
+pub(crate) struct Known<'w, 'g, 'h> {
+    world: &'w Described,
+    agents: &'g [Numbered<'w>],
+    held: &'h [Held<'w>],
+    prefixes: Table<'h>,
+    entries: Table<'h>,
+    masters: Table<'h>,
+    owners: Table<'h>,
+    above: Table<'h>,
+    referrers: Table<'g>,
+    consumers: Table<'w>,
 }
 
-impl<'a> Model for Known<'a> {
+impl<'w, 'g, 'h> Model for Known<'w, 'g, 'h> {
     ghost use Rattle.std.specs.Prelude.{◌≡◌};
     ghost use Rattle.x5_model_tree.specs.World as model;
     ghost use Rattle.x5_model_tree.specs.Masters.{numbered, mastered};
@@ -164,14 +164,14 @@ impl<'a> Model for Known<'a> {
     ghost invariant = { λ k. (k.agents.now ≡ numbered (world_view k.world.now)) × (k.held.now ≡ mastered (world_view k.world.now)) × (numbers_of k.prefixes ≡ prefix_places (mastered (world_view k.world.now))) × (numbers_of k.entries ≡ entry_places (mastered (world_view k.world.now))) × (numbers_of k.masters ≡ masters_in (mastered (world_view k.world.now))) × (numbers_of k.owners ≡ owners_in (mastered (world_view k.world.now))) × (numbers_of k.above ≡ masters_below_in (mastered (world_view k.world.now))) × (numbers_of k.referrers ≡ referrers_in (numbered (world_view k.world.now))) × (numbers_of k.consumers ≡ consumers_in (world_view k.world.now).agreements) };
 }
 
-impl<'a> Known<'a> {
+impl<'w, 'g, 'h> Known<'w, 'g, 'h> {
     /// The world with its tables.
     pub(crate) fn new(
         alloc: Global,
-        world: &'a Described,
-        agents: &'a [Numbered<'a>],
-        held: &'a [Held<'a>],
-    ) -> Result<Known<'a>, NoMemory>
+        world: &'w Described,
+        agents: &'g [Numbered<'w>],
+        held: &'h [Held<'w>],
+    ) -> Result<Known<'w, 'g, 'h>, NoMemory>
         requires agents { agents.now ≡ numbered (world_view world.now) }
         requires held { held.now ≡ mastered (world_view world.now) }
         ensures { IfOk result (λ known. known ≡ world_view world.now) }
@@ -191,14 +191,14 @@ impl<'a> Known<'a> {
     }
 
     /// The agents with their places. No memory.
-    pub(crate) fn agents(&self) -> &[Numbered<'a>]
+    pub(crate) fn agents(&self) -> &[Numbered<'w>]
         ensures { result.now ≡ numbered self.now }
     {
         self.agents
     }
 
     /// The contexts in file order. No memory.
-    pub(crate) fn held(&self) -> &[Held<'a>]
+    pub(crate) fn held(&self) -> &[Held<'w>]
         ensures { result.now ≡ mastered self.now }
     {
         self.held

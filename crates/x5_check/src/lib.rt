@@ -2,6 +2,7 @@
 #![tactic(auto)]
 
 mod agents;
+mod conditions;
 mod contexts;
 mod endless_superiors;
 mod false_agreement;
@@ -14,7 +15,10 @@ mod longer_pin;
 mod missing_parent;
 mod repeated_prefix;
 mod table;
+#[cfg(test)]
+mod tests;
 mod unknown_below;
 mod unknown_top;
 
+pub use conditions::check;
 pub use inconsistency::{Inconsistency, Shown};

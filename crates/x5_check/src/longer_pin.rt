@@ -28,7 +28,7 @@ fn earlier_of(a: Option<usize>, b: Option<usize>) -> Option<usize>
 /// The place of the first context whose prefix is a prefix of the entry's name, and longer than that of the entry's own context.
 fn first_longer(
     alloc: Global,
-    known: &Known<'_>,
+    known: &Known<'_, '_, '_>,
     context: &Held<'_>,
     entry: &Named,
 ) -> Result<Option<usize>, NoMemory>
@@ -46,7 +46,7 @@ fn first_longer(
 /// What is told of the entry.
 fn longer_pin_of(
     alloc: Global,
-    known: &Known<'_>,
+    known: &Known<'_, '_, '_>,
     context: &Held<'_>,
     entry: &Named,
 ) -> Result<Option<Inconsistency>, NoMemory>
@@ -68,7 +68,7 @@ fn longer_pin_of(
 /// What is told of the context.
 fn longer_pins_of(
     alloc: Global,
-    known: &Known<'_>,
+    known: &Known<'_, '_, '_>,
     context: &Held<'_>,
 ) -> Result<Option<Inconsistency>, NoMemory>
     ensures { Tells result (flat_map (λ e. flat_map (model.longer_pin context.now e) (mastered known.now)) context.now.context.entries) }
@@ -86,7 +86,7 @@ fn longer_pins_of(
 /// The first context that has an entry with a longer pin, its first such entry, and the first such pin: the entry's name and the pin.
 pub(crate) fn longer_pin(
     alloc: Global,
-    known: &Known<'_>,
+    known: &Known<'_, '_, '_>,
 ) -> Result<Option<Inconsistency>, NoMemory>
     ensures { Tells result (model.breaches_3 known.now) }
 {

@@ -17,14 +17,14 @@ use x5_memory::NoMemory;
 use x5_names::Key;
 
 /// Whether the key is an entry's. No memory.
-fn is_entry(known: &Known<'_>, key: &Key) -> bool
+fn is_entry(known: &Known<'_, '_, '_>, key: &Key) -> bool
     ensures { result ≡ is_there (all_entries known.now) key.now }
 {
     known.next_with_entry(key, 0).is_some()
 }
 
 /// Whether the key is an entry's or the root's. No memory.
-fn is_entry_or_root(known: &Known<'_>, key: &Key) -> bool
+fn is_entry_or_root(known: &Known<'_, '_, '_>, key: &Key) -> bool
     ensures { result ≡ is_there_or_root (all_entries known.now) key.now }
 {
     key.len() == 0 || is_entry(known, key)
@@ -33,7 +33,7 @@ fn is_entry_or_root(known: &Known<'_>, key: &Key) -> bool
 /// What is told of the context.
 fn missing_parent_of(
     alloc: Global,
-    known: &Known<'_>,
+    known: &Known<'_, '_, '_>,
     context: &Held<'_>,
 ) -> Result<Option<Inconsistency>, NoMemory>
     ensures { Tells result (missing_parent_part known.now context.now) }
@@ -51,7 +51,7 @@ fn missing_parent_of(
 /// The first context whose prefix has no parent: the prefix, and the name above it.
 pub(crate) fn missing_parent(
     alloc: Global,
-    known: &Known<'_>,
+    known: &Known<'_, '_, '_>,
 ) -> Result<Option<Inconsistency>, NoMemory>
     ensures { Tells result (breaches_2 known.now) }
 {

@@ -15,7 +15,7 @@ use x5_memory::NoMemory;
 use x5_names::Key;
 
 /// Whether a context before the place has this prefix. No memory.
-fn stands_before(known: &Known<'_>, prefix: &Key, place: usize) -> bool
+fn stands_before(known: &Known<'_, '_, '_>, prefix: &Key, place: usize) -> bool
     ensures { result ≡ list_any (λ m. same_key (pin_of m) prefix.now) (take place (mastered known.now)) }
 {
     match known.next_with_prefix(prefix, 0) {
@@ -26,7 +26,7 @@ fn stands_before(known: &Known<'_>, prefix: &Key, place: usize) -> bool
 
 /// What is told of the context at the place.
 fn repeated_at(
-    known: &Known<'_>,
+    known: &Known<'_, '_, '_>,
     place: usize,
     context: &Held<'_>,
 ) -> Result<Option<Inconsistency>, NoMemory>
@@ -43,7 +43,7 @@ fn repeated_at(
 }
 
 /// The first context whose prefix an earlier one has: the prefix, and the agent.
-pub(crate) fn repeated_prefix(known: &Known<'_>) -> Result<Option<Inconsistency>, NoMemory>
+pub(crate) fn repeated_prefix(known: &Known<'_, '_, '_>) -> Result<Option<Inconsistency>, NoMemory>
     ensures { Tells result (breaches_1 known.now) }
 {
     let held = known.held();

@@ -18,7 +18,7 @@ use x5_names::Key;
 use x5_ops::AgentId;
 
 /// The master of the pin; of two, the first in file order. No memory.
-fn master_of_pin(known: &Known<'_>, pin: &Key) -> Option<AgentId>
+fn master_of_pin(known: &Known<'_, '_, '_>, pin: &Key) -> Option<AgentId>
     ensures { result ≡ masters.master_of known.now pin.now }
 {
     match known.next_with_prefix(pin, 0) {
@@ -31,7 +31,7 @@ fn master_of_pin(known: &Known<'_>, pin: &Key) -> Option<AgentId>
 }
 
 /// Whether the master of the context knows the other context's prefix, which is just below one of its entries. No memory.
-fn knows_below(known: &Known<'_>, below: &Held<'_>, context: &Held<'_>) -> bool
+fn knows_below(known: &Known<'_, '_, '_>, below: &Held<'_>, context: &Held<'_>) -> bool
     ensures { result ≡ knows_at known.now below.now context.now }
 {
     let agent = context.master();
@@ -46,7 +46,7 @@ fn knows_below(known: &Known<'_>, below: &Held<'_>, context: &Held<'_>) -> bool
 
 /// What is told of a pin and a context that has the entry above it.
 fn unknown_below_in(
-    known: &Known<'_>,
+    known: &Known<'_, '_, '_>,
     below: &Held<'_>,
     context: &Held<'_>,
 ) -> Result<Option<Inconsistency>, NoMemory>
@@ -65,14 +65,16 @@ fn unknown_below_in(
 
 /// What is told of the pin.
 fn unknown_below_of(
-    known: &Known<'_>,
+    known: &Known<'_, '_, '_>,
     below: &Held<'_>,
 ) -> Result<Option<Inconsistency>, NoMemory>
     ensures { Tells result (flat_map (λ a. flat_map (λ c. model.unknown_below known.now a.0 a.1 c below.now) a.1.contexts) (masters.numbered known.now)) }
 {
     let held = known.held();
+    let count = held.len();
     let mut from = 0;
     while let Some(place) = known.next_with_entry(below.above(), from) {
+        prove!(place < count);
         let told = unknown_below_in(known, below, &held[place])?;
         if told.is_some() {
             return Ok(told);
@@ -83,7 +85,7 @@ fn unknown_below_of(
 }
 
 /// The first pin that some master of its parent's context lacks, and the first such master: that master, and the pin.
-pub(crate) fn unknown_below(known: &Known<'_>) -> Result<Option<Inconsistency>, NoMemory>
+pub(crate) fn unknown_below(known: &Known<'_, '_, '_>) -> Result<Option<Inconsistency>, NoMemory>
     ensures { Tells result (model.breaches_6 known.now) }
 {
     let held = known.held();

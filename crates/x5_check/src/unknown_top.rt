@@ -14,7 +14,7 @@ use x5_memory::NoMemory;
 use x5_names::Key;
 
 /// Whether the agent masters the pin or has a subordinate reference to it. No memory.
-pub(crate) fn masters_or_refers(known: &Known<'_>, agent: &Numbered<'_>, pin: &Key) -> bool
+pub(crate) fn masters_or_refers(known: &Known<'_, '_, '_>, agent: &Numbered<'_>, pin: &Key) -> bool
     requires { agent_at known.now agent.now.0 ≡ Some agent.now.1 }
     ensures { result ≡ (masters known.now agent.now.0 pin.now || refers_to agent.now.1 pin.now) }
 {
@@ -30,7 +30,7 @@ pub(crate) fn is_at_top(agent: &Numbered<'_>, pin: &Key) -> bool
 
 /// What is told of the agent and the context.
 fn unknown_top_of(
-    known: &Known<'_>,
+    known: &Known<'_, '_, '_>,
     agent: &Numbered<'_>,
     context: &Held<'_>,
 ) -> Result<Option<Inconsistency>, NoMemory>
@@ -49,7 +49,7 @@ fn unknown_top_of(
 
 /// What is told of the agent.
 fn unknown_tops_of(
-    known: &Known<'_>,
+    known: &Known<'_, '_, '_>,
     agent: &Numbered<'_>,
 ) -> Result<Option<Inconsistency>, NoMemory>
     requires { agent_at known.now agent.now.0 ≡ Some agent.now.1 }
@@ -66,7 +66,7 @@ fn unknown_tops_of(
 }
 
 /// The first first-level agent that doesn't know a pin of one RDN, and the first such pin: the agent, and the pin.
-pub(crate) fn unknown_top(known: &Known<'_>) -> Result<Option<Inconsistency>, NoMemory>
+pub(crate) fn unknown_top(known: &Known<'_, '_, '_>) -> Result<Option<Inconsistency>, NoMemory>
     ensures { Tells result (breaches_8 known.now) }
 {
     let agents = known.agents();

@@ -9,11 +9,11 @@ use Rattle.x5_check.proofs.false_member.false_members_of.Goals as goal
 
 pub returns-then-is_some : goal.returns-then-is_some
 returns-then-is_some c =
-    stop_unfit ◌==◌ (λ (a : ℕ). a) (λ a. not (a == c.args.context.now.master) && masters_below c.args.known.now a (key_of c.args.nssr.now.at)) (λ (a : ℕ). breach 7 (NamePrinted (name_of_nssr c.args.context.now.context (nssr_view c.args.nssr.now))) (AgentPrinted a)) breach_view c.as_slice-agents.result.now c.loop-place.place _ c.loop-place.invariant c.in_ok-told.told c.agent-item.result c.loop-place-test.true c.agent-item.is c.in_ok-told.ensures (sym c.is_some.ensures ∙ c.if-is_some.true)
+    stop_unfit ◌==◌ (λ (a : ℕ). a) (λ a. not (a == c.args.context.now.master) && masters_below c.args.known.now a (key_of c.args.nssr.now.at)) (λ (a : ℕ). breach 7 (NamePrinted (name_of_nssr c.args.context.now.context (nssr_view c.args.nssr.now))) (AgentPrinted a)) breach_view c.as_slice-agents.result.now c.loop-place.place _ c.loop-place.invariant c.in_ok-told.told c.index-agents-place.result c.loop-place-test.true c.index-agents-place.is c.in_ok-told.ensures (sym c.is_some.ensures ∙ c.if-is_some.true)
 
 pub loop-place-preserved : goal.loop-place-preserved
 loop-place-preserved c =
-    pass_unfit ◌==◌ (λ (a : ℕ). a) (λ a. not (a == c.args.context.now.master) && masters_below c.args.known.now a (key_of c.args.nssr.now.at)) (λ (a : ℕ). breach 7 (NamePrinted (name_of_nssr c.args.context.now.context (nssr_view c.args.nssr.now))) (AgentPrinted a)) breach_view c.as_slice-agents.result.now c.loop-place.place _ c.loop-place.invariant c.in_ok-told.told c.agent-item.result c.loop-place-test.true c.agent-item.is c.in_ok-told.ensures (sym c.is_some.ensures ∙ c.if-is_some.false)
+    pass_unfit ◌==◌ (λ (a : ℕ). a) (λ a. not (a == c.args.context.now.master) && masters_below c.args.known.now a (key_of c.args.nssr.now.at)) (λ (a : ℕ). breach 7 (NamePrinted (name_of_nssr c.args.context.now.context (nssr_view c.args.nssr.now))) (AgentPrinted a)) breach_view c.as_slice-agents.result.now c.loop-place.place _ c.loop-place.invariant c.in_ok-told.told c.index-agents-place.result c.loop-place-test.true c.index-agents-place.is c.in_ok-told.ensures (sym c.is_some.ensures ∙ c.if-is_some.false)
 
 pub returns : goal.returns
 returns c =
