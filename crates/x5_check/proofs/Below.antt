@@ -29,9 +29,9 @@ module _ (w : World) (p : Mastered) (key : Key) (is : key ≡ parent (pin_of p))
 
     pub holder_there : place < length (mastered w)
     holder_there = elim (less_or_not place (length (mastered w))) [
-        | inl lt ↦ lt
-        | inr le ↦ absurd (let f : entry_places (mastered w) key place ≡ false = ap (some_and (λ (x : Mastered). is_there x.context.entries key)) (got_none (mastered w) place le) in let t : entry_places (mastered w) key place ≡ true = h.0 in cc)
-      ]
+      | inl lt ↦ lt
+      | inr le ↦ absurd (let f : entry_places (mastered w) key place ≡ false = ap (some_and (λ (x : Mastered). is_there x.context.entries key)) (got_none (mastered w) place le) in let t : entry_places (mastered w) key place ≡ true = h.0 in cc)
+    ]
 
     pub holder_has : (m : Mastered) → m ≡ get_or (mastered w) place m → is_there m.context.entries (parent (pin_of p)) ≡ true
     holder_has m e =

@@ -57,5 +57,5 @@ pub longer_more : (ms : List Mastered) (m : Mastered) (e : Named) (count : ℕ) 
 longer_more ms m e count key found next s low high h n =
     let lt : count < length (key_at e) = subst (λ (k : Key). count < length k) s high in
     let at : IsPlace (λ p. same_key (pin_of p) (take (count + 1) (key_at e))) ms next =
-        place_of_next (λ (p : Mastered). same_key (pin_of p) (take (count + 1) (key_at e))) ms next (subst (λ (k : Key). IsNext (prefix_places ms) (take (count + 1) k) 0 next) s n) in
+    place_of_next (λ (p : Mastered). same_key (pin_of p) (take (count + 1) (key_at e))) ms next (subst (λ (k : Key). IsNext (prefix_places ms) (take (count + 1) k) 0 next) s n) in
     place_same (λ (p : Mastered). is_longer_within count m e p || same_key (pin_of p) (take (count + 1) (key_at e))) (λ p. is_longer_within (count + 1) m e p) ms (earlier found next) (λ p. one_length (length (pin_of m)) count (pin_of p) (key_at e) low lt) (place_join (λ (p : Mastered). is_longer_within count m e p) (λ p. same_key (pin_of p) (take (count + 1) (key_at e))) ms found next h at)

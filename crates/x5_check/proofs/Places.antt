@@ -189,6 +189,6 @@ pass_over f (x ∷ xs) (suc n) (suc p) le h =
 
 pub nothing_left : {A X : Type 0} (f : A → List X) (xs : List A) (from : ℕ) → ((n : ℕ) (x : A) → from ≤ n → slice_get xs n ≡ Some x → f x ≡ []) → flat_map f (drop from xs) ≡ []
 nothing_left {A} f xs from h = elim (less_or_not from (length xs)) [
-    | inl lt ↦ pass_over f xs from (length xs) (omega arith) (λ n x a b e. h n x a e) ∙ ap (λ (l : List A). flat_map f l) (drop_all (length xs) xs (omega arith))
-    | inr le ↦ ap (λ (l : List A). flat_map f l) (drop_all from xs le)
-  ]
+  | inl lt ↦ pass_over f xs from (length xs) (omega arith) (λ n x a b e. h n x a e) ∙ ap (λ (l : List A). flat_map f l) (drop_all (length xs) xs (omega arith))
+  | inr le ↦ ap (λ (l : List A). flat_map f l) (drop_all from xs le)
+]

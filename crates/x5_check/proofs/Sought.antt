@@ -107,11 +107,11 @@ module _ (rows : List KeyRow) (sorted : IsSorted row_cmp rows) (key : Key) (from
     -- a row of this key with a number that isn't less stands behind
     behind : (m j : ℕ) → from ≤ m → j < length rows → get_or rows j (key, m) ≡ (key, m) → place ≤ j
     behind m j h l e = elim (split_at) [
-        | inl b ↦ absurd (let s : row_cmp (get_or rows j (key, m)) (key, from) ≡ Less = split.0 j (key, m) (omega arith) b in
-            let t : row_cmp (key, m) (key, from) ≡ Less = subst (λ (r : KeyRow). row_cmp r (key, from) ≡ Less) e s in
-            let u : m < from = less_number key m from t in omega arith)
-        | inr b ↦ b
-      ]
+      | inl b ↦ absurd (let s : row_cmp (get_or rows j (key, m)) (key, from) ≡ Less = split.0 j (key, m) (omega arith) b in
+          let t : row_cmp (key, m) (key, from) ≡ Less = subst (λ (r : KeyRow). row_cmp r (key, from) ≡ Less) e s in
+          let u : m < from = less_number key m from t in omega arith)
+      | inr b ↦ b
+    ]
       where
         split_at : (j < place) ⊎ (place ≤ j)
         split_at = grind arith

@@ -157,7 +157,12 @@ pub(crate) fn contexts_of<'a>(
 {
     let mut held = Vec::new(alloc);
     for (place, agent) in world.agents.as_slice().iter().enumerate() {
-        held = with_contexts(alloc, held, AgentId(place as u8), agent.spec.contexts.as_slice())?;
+        held = with_contexts(
+            alloc,
+            held,
+            AgentId(place as u8),
+            agent.spec.contexts.as_slice(),
+        )?;
     }
     Ok(held)
 }

@@ -59,7 +59,9 @@ fn endless_of(
 }
 
 /// The first agent whose superiors don't end: the agent, and its superior.
-pub(crate) fn endless_superiors(known: &Known<'_, '_, '_>) -> Result<Option<Inconsistency>, NoMemory>
+pub(crate) fn endless_superiors(
+    known: &Known<'_, '_, '_>,
+) -> Result<Option<Inconsistency>, NoMemory>
     ensures { Tells result (breaches_9 known.now) }
 {
     let agents = known.agents();

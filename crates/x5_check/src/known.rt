@@ -107,10 +107,7 @@ fn with_references<'a>(
 }
 
 /// The pins of the agents' subordinate references, with the agents.
-fn references_by_agent<'g>(
-    alloc: Global,
-    agents: &'g [Numbered<'_>],
-) -> Result<Table<'g>, NoMemory>
+fn references_by_agent<'g>(alloc: Global, agents: &'g [Numbered<'_>]) -> Result<Table<'g>, NoMemory>
     ensures { IfOk result (λ t. numbers_of t ≡ referrers_in agents.now) }
 {
     let mut rows = Vec::new(alloc);

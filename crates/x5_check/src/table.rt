@@ -68,9 +68,7 @@ impl<'a> Ord for Row<'a> {
     ghost matches_eq = { row_ties };
 
     fn cmp(&self, other: &Row<'a>) -> Ordering {
-        self.key
-            .cmp(other.key)
-            .then(self.number.cmp(&other.number))
+        self.key.cmp(other.key).then(self.number.cmp(&other.number))
     }
 }
 

@@ -8,11 +8,13 @@ use crate::{Inconsistency, Shown, check};
 use jiff::civil::Date;
 use std::alloc::Global;
 use std::test::Fail;
-use x5_know::{AgentNames, Agreement, AgreementList, Described, DescribedAgent, NetworkState, Start};
+use x5_know::{
+    AgentNames, Agreement, AgreementList, Described, DescribedAgent, KindList, NetworkState, Start,
+};
 use x5_names::Name;
 use x5_ops::{
-    Access, AgentId, AgentList, AgentName, AgentSpec, ContextSpec, ContextSpecList, Cross, Entry,
-    Listed, Named, Nssr, Specific,
+    Access, AgentId, AgentList, AgentName, AgentSpec, ContextSpec, ContextSpecList, Cross,
+    CrossList, Entry, Listed, Named, Nssr, Specific, SpecificList,
 };
 use x5_syntax::Text;
 
@@ -83,43 +85,83 @@ fn access(alloc: Global, text: &str) -> Result<Access, Fail> {
 /// An agent: its superior, its contexts and its references.
 type Row<'a> = (&'a str, &'a str, &'a str);
 
-/// The agent of the row.
-fn described(alloc: Global, row: Row<'_>) -> Result<DescribedAgent, Fail> {
-    let mut crosses = Listed::new(alloc);
-    let mut specific = Listed::new(alloc);
-    let mut cross = Listed::new(alloc);
-    for word in row.2.split(' ') {
-        let (name, numbers) = word.split_once(':').unwrap_or((word, ""));
-        if let Some(pin) = name.strip_prefix("s") {
-            crosses.push(false)?;
-            specific.push(Specific {
-                context: Name::root(alloc),
-                pin: Name::parse(alloc, pin)?,
-                access: access(alloc, numbers)?,
-            })?;
-        }
-        if let Some(pin) = name.strip_prefix("x") {
-            crosses.push(true)?;
-            cross.push(Cross {
-                pin: Name::parse(alloc, pin)?,
-                access: access(alloc, numbers)?,
-            })?;
+/// The subordinate reference of the word, if it's one.
+fn specific(alloc: Global, word: &str) -> Result<Option<Specific>, Fail> {
+    let (name, numbers) = word.split_once(':').unwrap_or((word, ""));
+    match name.strip_prefix("s") {
+        Some(pin) => Ok(Some(Specific {
+            context: Name::root(alloc),
+            pin: Name::parse(alloc, pin)?,
+            access: access(alloc, numbers)?,
+        })),
+        None => Ok(None),
+    }
+}
+
+/// The cross reference of the word, if it's one.
+fn cross(alloc: Global, word: &str) -> Result<Option<Cross>, Fail> {
+    let (name, numbers) = word.split_once(':').unwrap_or((word, ""));
+    match name.strip_prefix("x") {
+        Some(pin) => Ok(Some(Cross {
+            pin: Name::parse(alloc, pin)?,
+            access: access(alloc, numbers)?,
+        })),
+        None => Ok(None),
+    }
+}
+
+/// The subordinate references among the words.
+fn specifics(alloc: Global, text: &str) -> Result<SpecificList, Fail> {
+    let mut references = Listed::new(alloc);
+    for word in text.split(' ') {
+        if let Some(reference) = specific(alloc, word)? {
+            references.push(reference)?;
         }
     }
-    let superior = if row.0.is_empty() {
-        None
-    } else {
-        Some(AgentId(row.0.parse()?))
-    };
+    Ok(references)
+}
+
+/// The cross references among the words.
+fn crosses(alloc: Global, text: &str) -> Result<CrossList, Fail> {
+    let mut references = Listed::new(alloc);
+    for word in text.split(' ') {
+        if let Some(reference) = cross(alloc, word)? {
+            references.push(reference)?;
+        }
+    }
+    Ok(references)
+}
+
+/// Of which kind the words are.
+fn kinds(alloc: Global, text: &str) -> Result<KindList, Fail> {
+    let mut kinds = Listed::new(alloc);
+    for word in text.split(' ') {
+        if !word.is_empty() {
+            kinds.push(word.starts_with('x'))?;
+        }
+    }
+    Ok(kinds)
+}
+
+/// The agent of the number, if there is one.
+fn superior(text: &str) -> Result<Option<AgentId>, Fail> {
+    if text.is_empty() {
+        return Ok(None);
+    }
+    Ok(Some(AgentId(text.parse()?)))
+}
+
+/// The agent of the row.
+fn described(alloc: Global, row: Row<'_>) -> Result<DescribedAgent, Fail> {
     Ok(DescribedAgent {
+        crosses: kinds(alloc, row.2)?,
         spec: AgentSpec {
+            superior: superior(row.0)?,
             name: AgentName::new(Text::new(alloc, "Agent")?),
-            superior,
+            cross: crosses(alloc, row.2)?,
+            specific: specifics(alloc, row.2)?,
             contexts: contexts(alloc, row.1)?,
-            specific,
-            cross,
         },
-        crosses,
     })
 }
 
@@ -181,11 +223,13 @@ fn told(alloc: Global, rows: &[Row<'_>], text: &str) -> Result<String, Fail> {
     if world.agents.len() > 256 {
         return Err("too many agents".into());
     }
-    let Some(Inconsistency {
-        condition,
-        first,
-        second,
-    }) = check(alloc, &world)?
+    let Some(
+        Inconsistency {
+            condition,
+            first,
+            second,
+        },
+    ) = check(alloc, &world)?
     else {
         return Ok(String::new(alloc));
     };
@@ -202,16 +246,36 @@ fn the_first_breach_is_told(rt: HostRuntime) -> Result<(), Fail> {
     let none = ("0", "", "");
     for (rows, text, want) in [
         ([known, acme, none], "7:1:2:/C=NL/O=a", ""),
-        ([top, ("0", "/C=nl", ""), ("0", "/C=NL", "")], "", "1 /C=nl 1"),
-        ([("", "/C=NL/O=b;/C=NL/O=a", ""), none, none], "", "2 /C=NL/O=b /C=NL"),
         (
-            [("", "/C=NL /C=NL/O=b /C=NL/O=A", ""), acme, ("0", "/C=NL/O=b", "")],
+            [top, ("0", "/C=nl", ""), ("0", "/C=NL", "")],
+            "",
+            "1 /C=nl 1",
+        ),
+        (
+            [("", "/C=NL/O=b;/C=NL/O=a", ""), none, none],
+            "",
+            "2 /C=NL/O=b /C=NL",
+        ),
+        (
+            [
+                ("", "/C=NL /C=NL/O=b /C=NL/O=A", ""),
+                acme,
+                ("0", "/C=NL/O=b", ""),
+            ],
             "",
             "3 /C=NL/O=b /C=NL/O=b",
         ),
-        ([("", "/C=NL", "x/C=NL/O=b:1 s/C=NL/O=a:1"), none, none], "", "4 0 /C=NL/O=b"),
+        (
+            [("", "/C=NL", "x/C=NL/O=b:1 s/C=NL/O=a:1"), none, none],
+            "",
+            "4 0 /C=NL/O=b",
+        ),
         ([top, ("0", "", "s/C=NL:0"), none], "", "4 1 /C=NL"),
-        ([("", "/C=NL", "s/C=NL/O=a:1,2,0"), acme, none], "", "5 /C=NL/O=a 2"),
+        (
+            [("", "/C=NL", "s/C=NL/O=a:1,2,0"), acme, none],
+            "",
+            "5 /C=NL/O=a 2",
+        ),
         (
             [("", "/C=NL", "s/C=NL/O=a:1,2,2"), acme, none],
             "7:1:2:/C=NL/O=a",
@@ -224,7 +288,11 @@ fn the_first_breach_is_told(rt: HostRuntime) -> Result<(), Fail> {
         ),
         ([("", "/C=NL @2,0", ""), none, none], "", "7 /C=NL 2"),
         ([("", "/C=NL @1,1", ""), acme, none], "", "7 /C=NL 1"),
-        ([("", "/C=NL;/C=DE", ""), ("", "", ""), none], "", "8 1 /C=NL"),
+        (
+            [("", "/C=NL;/C=DE", ""), ("", "", ""), none],
+            "",
+            "8 1 /C=NL",
+        ),
         ([("1", "", ""), ("0", "", ""), ("", "", "")], "", "9 0 1"),
         ([top, none, none], "7:1:2:/C=NL 5:0:0:/C=NL", "10 #7 /C=NL"),
     ] {

@@ -18,7 +18,7 @@ returns-in_default-get c =
 pub returns : goal.returns
 returns c =
     let there : slice_get (mastered c.args.known.now) c.in-Some.place ≡ Some c.in-Some-get.longer.now =
-        subst (λ (xs : List Mastered). slice_get xs c.in-Some.place ≡ Some c.in-Some-get.longer.now) c.held.ensures (item_got c.held.result.now c.in-Some.place c.get.result c.in-Some-get.longer c.get.ensures.lookup c.in-Some-get.is) in
+    subst (λ (xs : List Mastered). slice_get xs c.in-Some.place ≡ Some c.in-Some-get.longer.now) c.held.ensures (item_got c.held.result.now c.in-Some.place c.get.result c.in-Some-get.longer c.get.ensures.lookup c.in-Some-get.is) in
     let entry : c.in_ok-clone.field-0 ≡ c.args.entry.now.name = c.in_ok-clone.ensures.cases ∙ (λ i. (c.entry.view_is i).name) in
     let pin : c.in_ok-clone-2.field-0 ≡ c.in-Some-get.longer.now.context.prefix = c.in_ok-clone-2.ensures.cases ∙ c.prefix.ensures in
     (λ i. Some (breach 3 (NamePrinted (entry i)) (NamePrinted (pin i))))

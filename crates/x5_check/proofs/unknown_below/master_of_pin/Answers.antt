@@ -12,7 +12,7 @@ pub returns-in-Some-get : goal.returns-in-Some-get
 returns-in-Some-get c =
     let here = place_of_next (λ (m : Mastered). same_key (pin_of m) c.args.pin.now) (mastered c.args.known.now) (Some c.in-Some.place) c.in-Some.ensures in
     let there : slice_get (mastered c.args.known.now) c.in-Some.place ≡ Some c.in-Some-get.context.now =
-        subst (λ (xs : List Mastered). slice_get xs c.in-Some.place ≡ Some c.in-Some-get.context.now) c.held.ensures (item_got c.held.result.now c.in-Some.place c.get.result c.in-Some-get.context c.get.ensures.lookup c.in-Some-get.is) in
+    subst (λ (xs : List Mastered). slice_get xs c.in-Some.place ≡ Some c.in-Some-get.context.now) c.held.ensures (item_got c.held.result.now c.in-Some.place c.get.result c.in-Some-get.context c.get.ensures.lookup c.in-Some-get.is) in
     ap (λ (n : ℕ). Some n) c.master.ensures
     ∙ sym (master_found (mastered c.args.known.now) c.args.pin.now ∙ ap (option_map (λ (m : Mastered). m.master)) (place_find (λ (m : Mastered). same_key (pin_of m) c.args.pin.now) (mastered c.args.known.now) c.in-Some.place here ∙ there))
 
