@@ -1,5 +1,5 @@
 -- The contexts that have the entry above a pin: between one and the next nothing is told.
-use Rattle.std.proofs.Common.{◌≡◌, ℕ, ◌<◌, ◌≤◌, Bool, true, false, not, ◌&&◌, inl, inr, List, [], drop, length, get_or, Option, Some, None, refl, sym, ap, subst, ◌∙◌, arith}
+use Rattle.std.proofs.Common.{◌≡◌, ℕ, ◌<◌, true, false, not, ◌&&◌, inl, inr, [], drop, length, get_or, Some, None, sym, ap, subst, ◌∙◌}
 use Rattle.std.specs.Prelude.{slice_get}
 use Rattle.std.specs.List.{flat_map}
 use Rattle.x5_model.specs.Words.{some_and, when}
@@ -7,7 +7,7 @@ use Rattle.x5_model.specs.Keys.{Key, parent}
 use Rattle.x5_model_tree.specs.World.{World}
 use Rattle.x5_model_tree.specs.Tree.{is_there}
 use Rattle.x5_model_tree.specs.Masters.{Mastered, pin_of, mastered}
-use Rattle.x5_model_tree.specs.Consistent.{Inconsistency, breach, AgentPrinted, NamePrinted}
+use Rattle.x5_model_tree.specs.Consistent.{breach, AgentPrinted, NamePrinted}
 use Rattle.x5_check.specs.Rows.{IsNext}
 use Rattle.x5_check.specs.Numbers.{entry_places}
 use Rattle.x5_check.specs.Parts.{knows_at, unknown_part}

@@ -1,5 +1,5 @@
 -- Agents by their places: what the tables say of an agent's number is said of that agent.
-use Rattle.std.proofs.Common.{◌≡◌, ℕ, zero, suc, ◌+◌, ◌<◌, ◌≤◌, Bool, true, false, not, ◌&&◌, ◌||◌, ◌==◌, List, [], ◌∷◌, ◌++◌, map, length, get_or, Option, Some, None, Bor, if◌then◌else◌, refl, sym, ap, subst, ◌∙◌, arith}
+use Rattle.std.proofs.Common.{◌≡◌, ℕ, zero, suc, ◌+◌, ◌<◌, Bool, true, false, not, ◌&&◌, ◌||◌, ◌==◌, List, [], ◌∷◌, ◌++◌, map, length, get_or, Option, Some, None, Bor, if◌then◌else◌, refl, sym, ap, subst, ◌∙◌, arith}
 use Rattle.std.specs.Prelude.{slice_get}
 use Rattle.std.specs.Cmp.{both_ways}
 use Rattle.std.specs.List.{list_any, flat_map, find, enumerate_from}
@@ -9,7 +9,6 @@ use Rattle.x5_model.specs.Members.{In, here, there}
 use Rattle.x5_model.specs.Words.{some_and, in_option, when}
 use Rattle.x5_model.specs.Keys.{Key, same_key, parent, is_child}
 use Rattle.x5_model.proofs.KeyLaws.{key_decides}
-use Rattle.x5_model.proofs.Lists.{in_first}
 use Rattle.x5_model.proofs.Prefixes.{child_decides}
 use Rattle.x5_model_tree.specs.World.{Context, Agent, World}
 use Rattle.x5_model.specs.Entries.{Named}

@@ -1,5 +1,5 @@
 -- The contexts of all agents.
-use Rattle.std.proofs.Common.{◌≡◌, ℕ, ◌+◌, ◌<◌, List, ◌∷◌, ◌++◌, map, drop, length, get_or, sym, ap, ◌∙◌, append_assoc}
+use Rattle.std.proofs.Common.{◌≡◌, ℕ, ◌+◌, ◌<◌, List, ◌++◌, map, drop, length, get_or, sym, ap, ◌∙◌, append_assoc}
 use Rattle.x5_model_tree.specs.Masters.{Mastered}
 use Rattle.x5_ops.specs.KnowledgeViews.{context_view}
 use Rattle.x5_know.specs.WorldView.{described_agent_view}

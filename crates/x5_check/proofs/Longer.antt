@@ -1,5 +1,5 @@
 -- The search for longer pins, length by length: one length more brings the first context whose prefix is that of the name.
-use Rattle.std.proofs.Common.{◌≡◌, ℕ, ◌+◌, ◌<◌, ◌≤◌, Bool, true, false, ◌&&◌, ◌||◌, nat_lt, nat_le, ◌⊎◌, inl, inr, List, take, length, Option, refl, sym, ap, subst, ◌∙◌, arith, length-take}
+use Rattle.std.proofs.Common.{◌≡◌, ℕ, ◌+◌, ◌<◌, ◌≤◌, true, ◌&&◌, ◌||◌, nat_lt, nat_le, ◌⊎◌, inl, inr, List, take, length, Option, sym, ap, subst, ◌∙◌, arith, length-take}
 use Rattle.std.specs.Cmp.{both_ways}
 use Rattle.x5_model.specs.Keys.{Key, IsPrefix, same_key, is_prefix}
 use Rattle.x5_model.specs.Entries.{Named}

@@ -1,5 +1,5 @@
 -- The place of the first member that passes a test: what it says of the list.
-use Rattle.std.proofs.Common.{◌≡◌, ℕ, zero, suc, ◌+◌, ◌<◌, ◌≤◌, Bool, true, false, ◌||◌, nat_lt, if◌then◌else◌, ◌⊎◌, inl, inr, List, [], ◌∷◌, ◌++◌, take, drop, length, get_or, Option, Some, None, Bor, refl, sym, ap, subst, ◌∙◌, arith}
+use Rattle.std.proofs.Common.{◌≡◌, ℕ, zero, suc, ◌<◌, ◌≤◌, Bool, true, false, ◌||◌, nat_lt, if◌then◌else◌, ◌⊎◌, inl, inr, List, [], ◌∷◌, ◌++◌, take, drop, length, get_or, Option, Some, None, Bor, refl, sym, ap, subst, ◌∙◌, arith}
 use Rattle.std.specs.Prelude.{slice_get}
 use Rattle.std.specs.Cmp.{both_ways}
 use Rattle.std.specs.List.{list_any, flat_map, find}
@@ -7,7 +7,7 @@ use Rattle.std.specs.Option.{MatchOption, is_some, option_map}
 use Rattle.std.specs.Slice.{IsItemAt}
 use Rattle.std.proofs.lemmas.List.{drop_all}
 use Rattle.x5_model.specs.Words.{some_and, first_of, when}
-use Rattle.x5_model.proofs.Lists.{true_or_false, either_true, or_left, or_right}
+use Rattle.x5_model.proofs.Lists.{either_true, or_left, or_right}
 use Rattle.x5_check.specs.Parts.{IsPlace, earlier}
 
 pub got : {A : Type 0} (xs : List A) (i : ℕ) (x : A) → i < length xs → x ≡ get_or xs i x → slice_get xs i ≡ Some x

@@ -1,8 +1,8 @@
 -- What a search by halves finds among rows in order: the row itself, or the place behind which all rows are greater; so the
 -- next number of a key stands there or nowhere.
-use Rattle.std.proofs.Common.{◌≡◌, ℕ, zero, suc, ◌<◌, ◌≤◌, Bool, true, false, ◌&&◌, ◌==◌, ◌⊎◌, inl, inr, List, [], ◌∷◌, length, get_or, Option, Some, None, Bor, refl, sym, ap, subst, ◌∙◌, arith}
+use Rattle.std.proofs.Common.{◌≡◌, ℕ, suc, ◌<◌, ◌≤◌, true, false, ◌==◌, ◌⊎◌, inl, inr, List, [], ◌∷◌, length, get_or, Option, Some, None, Bor, refl, sym, ap, subst, ◌∙◌, arith}
 use Rattle.std.specs.Bool.{Decides}
-use Rattle.std.specs.List.{list_any, Contains}
+use Rattle.std.specs.List.{list_any}
 use Rattle.std.specs.List.Sorted.{IsSorted, IsPermutation, IsPartitionPoint, IsNonDecreasingBy, IsSearchInRange, IsBinarySearchResult}
 use Rattle.std.specs.declared.result.Result.{Result}
 use Rattle.std.specs.declared.result.Result.TheVariants.{Ok, Err}
@@ -11,13 +11,12 @@ use Rattle.std.specs.Slice.{IsItemAt}
 use Rattle.std.specs.declared.cmp.Ordering.{Ordering}
 use Rattle.std.specs.declared.cmp.Ordering.TheVariants.{Less, Equal, Greater}
 use Rattle.std.specs.Ordering.{is_lt, ordering_then, ordering_index, ordering_reverse, nat_cmp}
-use Rattle.std.specs.Cmp.{IsTotalOrder}
-use Rattle.std.proofs.lemmas.List.Folds.{list_any_at, list_any_none}
+use Rattle.std.proofs.lemmas.List.Folds.{list_any_at}
 use Rattle.std.proofs.lemmas.List.Sorted.{list_any-IsPermutation, searchable_from_sorted, sorted_far, ranks_by}
 use Rattle.x5_model.specs.Keys.{Key, same_key, key_cmp}
 use Rattle.x5_model.proofs.KeyLaws.{key_decides, key_itself, equal_keys, key_cmp_total}
 use Rattle.x5_model.proofs.Lists.{true_or_false, either_true, both_true, and_true}
-use Rattle.x5_check.specs.Rows.{KeyRow, same_row, row_cmp, Numbers, numbers_of, IsNext}
+use Rattle.x5_check.specs.Rows.{KeyRow, same_row, row_cmp, numbers_of}
 use Rattle.x5_check.specs.RowOrder.{row_cmp_total}
 use Rattle.x5_check.proofs.Places.{item_at, no_item, same_item}
 

@@ -1,7 +1,6 @@
 -- Which keys have which numbers by the rows that the tables are made of: a row is found exactly where a member with its number
 -- has its key.
-use Rattle.std.proofs.Common.{◌≡◌, ℕ, zero, suc, ◌+◌, ◌<◌, Bool, true, false, not, ◌&&◌, ◌||◌, ◌==◌, List, [], ◌∷◌, ◌++◌, map, drop, length, ◌≤◌, refl, sym, ap, subst, ◌∙◌, arith, Option, Some, None}
-use Rattle.std.specs.Bool.{Decides}
+use Rattle.std.proofs.Common.{◌≡◌, ℕ, zero, suc, ◌+◌, ◌<◌, Bool, true, false, not, ◌&&◌, ◌||◌, ◌==◌, List, [], ◌∷◌, ◌++◌, map, drop, length, ◌≤◌, refl, sym, ap, subst, ◌∙◌, arith}
 use Rattle.std.specs.Cmp.{both_ways}
 use Rattle.std.specs.declared.result.Result.{Result}
 use Rattle.std.specs.Result.{IfOk}
@@ -17,7 +16,7 @@ use Rattle.x5_model.proofs.Prefixes.{child_decides}
 use Rattle.x5_model_tree.specs.World.{Specific, Nssr, Context, Agent, Agreement}
 use Rattle.x5_model_tree.specs.Tree.{key_at, is_there}
 use Rattle.x5_model_tree.specs.Masters.{Mastered, pin_of, is_consumer}
-use Rattle.x5_model_tree.specs.Consistent.{in_nssr, refers_to}
+use Rattle.x5_model_tree.specs.Consistent.{refers_to}
 use Rattle.x5_check.specs.Rows.{KeyRow, same_row, Numbers, numbers_of}
 use Rattle.x5_check.specs.Numbers.{keyed, rows_by, numbers_by, prefix_key, entry_keys, above_key, reference_keys, agreement_key, prefix_places, entry_places, masters_in, owners_in, masters_below_in, referrers_in, consumers_in, members_of, member_rows}
 use Rattle.x5_check.proofs.Steps.{append_nothing}

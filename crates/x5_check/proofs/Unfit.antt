@@ -1,5 +1,5 @@
 -- The steps of a loop that looks for a member that stood there before, or isn't fit.
-use Rattle.std.proofs.Common.{◌≡◌, ℕ, ◌+◌, ◌<◌, ◌≤◌, Bool, true, false, not, ◌||◌, List, [], ◌∷◌, ◌++◌, map, take, drop, length, get_or, reverse, refl, sym, ap, ◌∙◌, Option, Some, None}
+use Rattle.std.proofs.Common.{◌≡◌, ℕ, ◌+◌, ◌<◌, ◌≤◌, Bool, true, false, not, ◌||◌, List, [], ◌∷◌, ◌++◌, map, take, drop, length, get_or, reverse, sym, ap, ◌∙◌, Option, None}
 use Rattle.std.specs.List.{list_any}
 use Rattle.std.specs.Option.{is_some, option_map}
 use Rattle.std.proofs.lemmas.List.{drop_all, take_more, reverse-append, map-append}

@@ -1,7 +1,7 @@
 -- What the first breach says of the world: there is none exactly where its knowledge is consistent, and it's the first of the first
 -- condition that fails.
-use Rattle.std.proofs.Common.{◌≡◌, ◌↔◌, Option, Some, None, refl, sym, ap, ◌∙◌}
-use Rattle.std.specs.Option.{IsNone, IfSome, option_map, is_some}
+use Rattle.std.proofs.Common.{◌≡◌, ◌↔◌, Option, Some, None, refl, sym, ◌∙◌}
+use Rattle.std.specs.Option.{IsNone, IfSome}
 use Rattle.std.specs.Result.{IfOk}
 use Rattle.std.specs.declared.result.Result.{Result}
 use Rattle.std.specs.declared.result.Result.TheVariants.{Ok, Err}

@@ -1,12 +1,12 @@
 -- Which keys have which numbers in the tables that `check` looks things up in: the keys of what belongs to each member of a
 -- list, with the member's number; and what the tables say of a world.
-use Rattle.std.specs.Prelude.{ℕ, Bool, not, ◌&&◌, ◌==◌, List, [], ◌∷◌, map, slice_get}
+use Rattle.std.specs.Prelude.{ℕ, not, ◌&&◌, ◌==◌, List, [], ◌∷◌, map, slice_get}
 use Rattle.std.specs.List.{list_any, flat_map, enumerate_from}
 use Rattle.x5_model.specs.Words.{some_and, is_empty, when}
 use Rattle.x5_model.specs.Keys.{Key, same_key, parent, is_child}
 use Rattle.x5_model.specs.Values.{key_of}
 use Rattle.x5_model_tree.specs.World.{Specific, Nssr, Context, Agent, Agreement}
-use Rattle.x5_model_tree.specs.Tree.{key_at, keys_of, is_there}
+use Rattle.x5_model_tree.specs.Tree.{keys_of, is_there}
 use Rattle.x5_model_tree.specs.Masters.{Mastered, pin_of, is_consumer}
 use Rattle.x5_model_tree.specs.Consistent.{in_nssr, refers_to}
 use Rattle.x5_check.specs.Rows.{KeyRow, Numbers}

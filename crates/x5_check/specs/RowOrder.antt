@@ -1,13 +1,13 @@
 -- What the impls of `PartialEq`, `Eq`, `PartialOrd` and `Ord` owe of the order of rows, from the laws of keys.
-use Rattle.std.specs.Prelude.{◌≡◌, ℕ, Bool}
+use Rattle.std.specs.Prelude.{◌≡◌}
 use Rattle.std.proofs.Common.{rules}
 use Rattle.std.specs.Cmp.{IsTotalOrder, IsPartialEquivalence, IsEquivalence, IsPartialOrder, nat_cmp_total, on_total, then_total, partial_order_from_own_ties}
 use Rattle.std.specs.Cmp.Rules.{comparing}
 use Rattle.std.specs.Cmp.Lexicographic.{lists_per, lists_equiv}
 use Rattle.x5_names.specs.KeyOrder.{same_pair_laws, same_pair_equivalence}
 use Rattle.std.specs.Ordering.{as_partial_cmp, eq_by_cmp}
-use Rattle.x5_model.specs.Keys.{same_key, key_cmp}
-use Rattle.x5_model.proofs.KeyLaws.{key_cmp_total, key_ties, key_decides}
+use Rattle.x5_model.specs.Keys.{same_key}
+use Rattle.x5_model.proofs.KeyLaws.{key_cmp_total, key_ties}
 use Rattle.x5_check.specs.Rows.{KeyRow, same_row, row_cmp}
 
 key_laws : IsPartialEquivalence same_key

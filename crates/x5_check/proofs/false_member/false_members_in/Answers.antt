@@ -8,7 +8,7 @@ use Rattle.x5_ops.specs.KnowledgeViews.{nssr_view}
 use Rattle.x5_ops.specs.declared.knowledge.Nssr.{Nssr}
 use Rattle.x5_check.specs.Views.{breach_view}
 use Rattle.x5_check.proofs.ByAgent.{flat_mapped}
-use Rattle.x5_check.proofs.Steps.{pass, stop}
+use Rattle.x5_check.proofs.Steps.{stop}
 use Rattle.x5_check.proofs.false_member.false_members_in.Goals as goal
 
 pub loop-nssr-init : goal.loop-nssr-init

@@ -1,5 +1,5 @@
 -- Nothing is told before the first member that stood there before or isn't fit.
-use Rattle.std.proofs.Common.{◌==◌, ◌&&◌, not, true, ℕ, sym, ◌∙◌}
+use Rattle.std.proofs.Common.{◌==◌, ◌&&◌, not, ℕ, sym, ◌∙◌}
 use Rattle.x5_model.specs.Values.{key_of}
 use Rattle.x5_model_tree.specs.Consistent.{breach, NamePrinted, AgentPrinted, masters_below, name_of_nssr}
 use Rattle.x5_ops.specs.KnowledgeViews.{nssr_view}

@@ -1,5 +1,5 @@
 -- By the table of what agents master, where the pin isn't of one RDN at a first-level agent.
-use Rattle.std.proofs.Common.{◌≡◌, ◌<◌, ◌-◌, ℕ, length, take, sym, ap, ◌∙◌, arith}
+use Rattle.std.proofs.Common.{◌<◌, ◌-◌, ℕ, length, take, sym, ap, ◌∙◌, arith}
 use Rattle.x5_model_tree.specs.Masters.{mastered}
 use Rattle.x5_check.specs.Numbers.{owners_in}
 use Rattle.x5_check.proofs.ByAgent.{root_is_no_child, child_of_entry}

@@ -1,4 +1,4 @@
-use Rattle.std.proofs.Common.{◌≡◌, ◌==◌, ◌&&◌, not, true, drop}
+use Rattle.std.proofs.Common.{◌≡◌, ◌==◌, drop}
 use Rattle.x5_model.specs.Words.{first_of, unfit}
 use Rattle.x5_model.specs.Values.{key_of}
 use Rattle.x5_model_tree.specs.Masters.{consumes}

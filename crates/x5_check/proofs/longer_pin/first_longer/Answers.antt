@@ -1,8 +1,8 @@
 -- One length more.
-use Rattle.std.proofs.Common.{◌≡◌, ℕ, ◌<◌, ◌≤◌, ◌+◌, length, take, Option, sym, ap, subst, ◌∙◌}
+use Rattle.std.proofs.Common.{ℕ, ◌<◌, ◌≤◌, ◌+◌, length, Option, sym, ap, subst, ◌∙◌}
 use Rattle.x5_model.specs.Keys.{Key}
 use Rattle.x5_model.specs.Values.{key_of}
-use Rattle.x5_model_tree.specs.Masters.{mastered, pin_of}
+use Rattle.x5_model_tree.specs.Masters.{mastered}
 use Rattle.x5_check.specs.Rows.{IsNext}
 use Rattle.x5_check.specs.Numbers.{prefix_places}
 use Rattle.x5_check.specs.Parts.{IsPlace, is_longer_within}

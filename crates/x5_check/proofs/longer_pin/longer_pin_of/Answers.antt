@@ -1,5 +1,5 @@
 -- The first context whose prefix is longer, or there is none.
-use Rattle.std.proofs.Common.{◌≡◌, ℕ, List, Option, Some, None, subst, sym, ap, ◌∙◌}
+use Rattle.std.proofs.Common.{◌≡◌, ℕ, List, Option, Some, None, subst, ◌∙◌}
 use Rattle.std.specs.Prelude.{slice_get}
 use Rattle.x5_model_tree.specs.Masters.{Mastered, mastered}
 use Rattle.x5_model_tree.specs.Consistent.{breach, NamePrinted}

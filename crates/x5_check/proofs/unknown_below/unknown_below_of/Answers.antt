@@ -1,6 +1,5 @@
 -- From one context that has the entry above the pin to the next.
-use Rattle.std.proofs.Common.{◌≡◌, ◌<◌, ℕ, List, Some, None, length, get_or, drop, subst, sym, ap, ◌∙◌, arith}
-use Rattle.std.specs.List.{flat_map}
+use Rattle.std.proofs.Common.{◌≡◌, ◌<◌, List, length, get_or, subst, sym, ap, ◌∙◌, arith}
 use Rattle.x5_model.specs.Words.{first_of}
 use Rattle.x5_model_tree.specs.Consistent.{Inconsistency}
 use Rattle.x5_model_tree.specs.Masters.{Mastered, mastered}
