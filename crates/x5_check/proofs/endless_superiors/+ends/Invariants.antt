@@ -1,0 +1,4 @@
+use Rattle.x5_check.proofs.endless_superiors.+ends.Given as goal
+
+abbrev pub decreases-ends : goal.decreases-ends
+decreases-ends l = l.hops

@@ -1,0 +1,7 @@
+use Rattle.x5_model_tree.specs.Masters.{mastered}
+use Rattle.x5_check.specs.Parts.{IsPlace, is_longer_within}
+use Rattle.x5_check.proofs.longer_pin.first_longer.Given as goal
+
+abbrev pub invariant-loop-count : goal.invariant-loop-count
+invariant-loop-count l =
+    IsPlace (is_longer_within l.count l.context l.entry) (mastered l.known) l.found

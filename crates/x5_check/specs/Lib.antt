@@ -1,0 +1,6 @@
+pub mod Rows
+pub mod RowOrder
+pub mod Views
+pub mod Numbers
+pub mod Kinds
+pub mod Parts
