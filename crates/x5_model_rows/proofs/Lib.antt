@@ -23,5 +23,7 @@ pub mod Outputs
 pub mod Descriptions
 pub mod Serving
 pub mod Stepping
+pub mod Parting
+pub mod Printing
 pub mod Refusals
 pub mod Texts

@@ -20,7 +20,7 @@ use Rattle.x5_model_rows.proofs.Losing.{read_description}
 use Rattle.x5_model_rows.proofs.Running.{the_script, the_blocks}
 
 -- a moment is a second after the start
-abbrev moment : ℕ → Text
+abbrev pub moment : ℕ → Text
 moment m = codes "1993010100000" ++ decimal m ++ codes "Z"
 
 pub agent_down : run_text base_world moment (Changes (Down 2) ∷ Asks 0 from_nl ∷ []) (Set ∷ Replies nl_journal (Answered (Found (bare nl ∷ bare acme ∷ bare desk ∷ bare shop ∷ bare ada ∷ []) (now nl 0 ∷ now acme 1 ∷ now shop 3 ∷ []) (left_out (in_vain NonSpecific acme Done (2 ∷ []) ∷ [])))) ∷ []) ≡ codes "knowledge consistent\n#1\nset\n#2\nmsg user Alpha search start t=0 /C=NL sent\nmsg Alpha Beta search done t=1 /C=NL/O=Acme sent\nmsg Beta Gamma search done t=2 /C=NL/O=Acme lost\nmsg Beta Delta search done t=2 /C=NL/O=Acme sent\nfound 5\nentry /C=NL\nentry /C=NL/O=Acme\nentry /C=NL/O=Acme/CN=Desk\nentry /C=NL/O=Acme/OU=Shop\nentry /C=NL/O=Acme/OU=Shop/CN=Ada\nsource /C=NL Alpha now\nsource /C=NL/O=Acme Beta now\nsource /C=NL/O=Acme/OU=Shop Delta now\nunexplored nonSpecific /C=NL/O=Acme done Gamma tried\n"
