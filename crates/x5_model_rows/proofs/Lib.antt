@@ -23,5 +23,6 @@ pub mod Outputs
 pub mod Descriptions
 pub mod Serving
 pub mod Stepping
+pub mod Parting
 pub mod Refusals
 pub mod Texts
