@@ -4,8 +4,6 @@
 mod command;
 mod line;
 mod operations;
-#[cfg(test)]
-mod tests;
 mod texts;
 mod tokens;
 mod words;

@@ -1,9 +1,9 @@
 //! Each kind of line, and each fault with its column.
-use crate::{Command, ScriptFault, parse_line};
 use std::alloc::Global;
 use std::test::Fail;
 use x5_know::{AgentNames, MOST_AGENTS};
 use x5_ops::AgentName;
+use x5_script::{Command, ScriptFault, parse_line};
 use x5_syntax::Text;
 
 /// The names of two agents.
