@@ -15,8 +15,6 @@ mod longer_pin;
 mod missing_parent;
 mod repeated_prefix;
 mod table;
-#[cfg(test)]
-mod tests;
 mod unknown_below;
 mod unknown_top;
 

@@ -1,6 +1,8 @@
-//! Tests of requests, changes, traces, moments and lines of scripts through their public calls. Nothing stands on it.
+//! Tests of requests, changes, traces, moments, lines of scripts and the check of knowledge through their public calls. Nothing stands on it.
 #![tactic(auto)]
 
+#[cfg(test)]
+mod checks;
 #[cfg(test)]
 mod lines;
 #[cfg(test)]
