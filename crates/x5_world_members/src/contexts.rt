@@ -1,0 +1,127 @@
+//! The naming contexts of an agent.
+
+ghost use Rattle.std.specs.Prelude.{◌≡◌, [], map};
+ghost use Rattle.serde_json.specs.View.{view, items_view};
+ghost use Rattle.x5_model_world.specs.ContextText as model;
+ghost use Rattle.x5_ops.specs.KnowledgeViews.{context_view};
+ghost use Rattle.x5_world_members.specs.Paths.{path_of};
+ghost use Rattle.x5_world_members.specs.Views.{Reads};
+
+use crate::counts::{Counts, with_entries};
+use crate::entries::entries_behind;
+use crate::fault::LoadFault;
+use crate::json::{list_if_any, members_at, only, some_at};
+use crate::names::entry_name_at;
+use crate::nssrs::{Nssrs, nssrs_behind};
+use crate::place::Place;
+use serde_json::Value;
+use std::alloc::Global;
+use std::marker::Model;
+use x5_know::AgentNames;
+use x5_ops::{ContextSpec, ContextSpecList, NssrList};
+
+/// Contexts of an agent so far, and what the file uses of the limits so far. The references of a context aren't told to which
+/// context they belong: that is left the root.
+#[derive(Drop)]
+pub struct Contexts {
+    pub(crate) contexts: Vec<ContextSpec>,
+    pub(crate) counts: Counts,
+}
+
+impl Model for Contexts {
+    ghost use Rattle.std.specs.Prelude.{map};
+    ghost use Rattle.x5_model_world.specs.ContextText as model;
+    ghost use Rattle.x5_ops.specs.KnowledgeViews.{context_view};
+
+    ghost Value = { model.Contexts };
+
+    ghost view = { λ c. record { contexts = map context_view c.contexts.items; counts = c.counts } };
+}
+
+impl Contexts {
+    /// No contexts yet, where the file uses so much. No memory.
+    pub fn new(alloc: Global, counts: Counts) -> Contexts
+        ensures { result ≡ record { contexts = []; counts = counts } }
+    {
+        Contexts {
+            contexts: Vec::new(alloc),
+            counts,
+        }
+    }
+
+    /// What the file uses so far. No memory.
+    pub fn counts(&self) -> Counts
+        ensures { result ≡ self.now.counts }
+    {
+        self.counts
+    }
+
+    /// The contexts as a list. No memory.
+    pub fn into_list(self) -> ContextSpecList
+        ensures { map context_view result ≡ self.contexts }
+    {
+        let Contexts {
+            contexts,
+            counts: _,
+        } = self;
+        ContextSpecList::from_vec(contexts)
+    }
+}
+
+/// The contexts with one more, which an object describes.
+fn context_behind(
+    alloc: Global,
+    names: &AgentNames,
+    place: &Place<'_>,
+    before: Contexts,
+    value: &Value,
+) -> Result<Contexts, LoadFault>
+    ensures { Reads (λ c. c) result (model.context_behind names.now (path_of place.now) before (view value.now)) }
+{
+    let members = members_at(alloc, place, value)?;
+    let prefix = entry_name_at(alloc, place, "prefix", value)?;
+    let items = some_at(alloc, place, "entries", value)?;
+    let Contexts {
+        mut contexts,
+        counts,
+    } = before;
+    let used = with_entries(alloc, place, counts.entries, items)?;
+    let entries = entries_behind(alloc, &Place::Member(place, "entries"), &prefix, items)?;
+    let list = list_if_any(alloc, place, "nssr", value)?;
+    let none = Nssrs {
+        nssrs: Vec::new(alloc),
+        listed: counts.nssr_agents,
+    };
+    let here = Place::Member(place, "nssr");
+    let found = nssrs_behind(alloc, names, &here, &entries, none, list)?;
+    only(alloc, place, &["prefix", "entries", "nssr"], members)?;
+    let Nssrs { nssrs, listed } = found;
+    contexts.push(ContextSpec {
+        prefix,
+        entries: entries.into_list(),
+        nssr: NssrList::from_vec(nssrs),
+    })?;
+    let counts = Counts {
+        contexts: counts.contexts,
+        entries: used,
+        nssr_agents: listed,
+    };
+    Ok(Contexts { contexts, counts })
+}
+
+/// The contexts with all that a list describes.
+pub fn contexts_behind(
+    alloc: Global,
+    names: &AgentNames,
+    place: &Place<'_>,
+    before: Contexts,
+    items: &[Value],
+) -> Result<Contexts, LoadFault>
+    ensures { Reads (λ c. c) result (model.contexts_behind names.now (path_of place.now) 0 before (items_view items.now)) }
+{
+    let mut contexts = before;
+    for (i, item) in items.iter().enumerate() {
+        contexts = context_behind(alloc, names, &Place::Item(&*place, i), contexts, item)?;
+    }
+    Ok(contexts)
+}

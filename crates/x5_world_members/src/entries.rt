@@ -1,0 +1,184 @@
+//! The entries of a context, each behind its parent.
+
+ghost use Rattle.std.specs.Prelude.{◌≡◌, [], ◌∷◌, ◌++◌, map, IfOk, OnOk};
+ghost use Rattle.std.specs.List.{find, list_any};
+ghost use Rattle.std.specs.Option.{option_copied};
+ghost use Rattle.serde_json.specs.View.{view, items_view};
+ghost use Rattle.x5_model.specs.Keys.{same_key};
+ghost use Rattle.x5_model.specs.Values.{key_of};
+ghost use Rattle.x5_model.specs.Words.{is_empty as is_empty_list};
+ghost use Rattle.x5_model_tree.specs.Tree.{key_at};
+ghost use Rattle.x5_model_world.specs.ContextText as model;
+ghost use Rattle.x5_world_members.specs.Paths.{path_of};
+ghost use Rattle.x5_world_members.specs.Views.{Reads};
+
+use crate::entry::entry_given;
+use crate::fault::LoadFault;
+use crate::given::given_behind;
+use crate::json::{list_at, members_at, only};
+use crate::names::{entry_name_at, last_rdn};
+use crate::place::Place;
+use serde_json::Value;
+use std::alloc::Global;
+use std::marker::Model;
+use x5_memory::NoMemory;
+use x5_names::Name;
+use x5_ops::{Named, NamedList};
+
+/// Entries in the order of the file, which are found by their keys.
+#[derive(Drop)]
+pub(crate) struct Entries {
+    entries: Vec<Named>,
+}
+
+impl Model for Entries {
+    ghost use Rattle.std.specs.Prelude.{List};
+    ghost use Rattle.x5_model.specs.Entries as model;
+
+    ghost Value = { List model.Named };
+
+    ghost view = { λ e. e.entries.items };
+}
+
+/// Whether one of the entries has the name's key.
+fn is_there(entries: &[Named], name: &Name) -> bool
+    ensures { result ≡ list_any (λ e. same_key (key_of name.now) (key_at e)) entries.now }
+{
+    entries.iter().any(|entry| name.is_same(&entry.name))
+}
+
+/// The first entry that has the name's key.
+fn entry_at<'a>(entries: &'a [Named], name: &Name) -> Option<&'a Named>
+    ensures { option_copied result ≡ find (λ e. same_key (key_of name.now) (key_at e)) entries.now }
+{
+    entries.iter().find(|entry| name.is_same(&entry.name))
+}
+
+impl Entries {
+    /// No entries yet. No memory.
+    fn new(alloc: Global) -> Entries
+        ensures { result ≡ [] }
+    {
+        Entries {
+            entries: Vec::new(alloc),
+        }
+    }
+
+    /// Whether there are no entries yet.
+    fn is_empty(&self) -> bool
+        ensures { result ≡ is_empty_list self.now }
+    {
+        let entries = self.entries.as_slice();
+        entries.is_empty()
+    }
+
+    /// Whether one of the entries has the name's key.
+    pub(crate) fn has(&self, name: &Name) -> bool
+        ensures { result ≡ model.has_key (map key_at self.now) (key_of name.now) }
+    {
+        is_there(self.entries.as_slice(), name)
+    }
+
+    /// The first entry that has the name's key.
+    fn at(&self, name: &Name) -> Option<&Named>
+        ensures { option_copied result ≡ find (λ e. same_key (key_of name.now) (key_at e)) self.now }
+    {
+        entry_at(self.entries.as_slice(), name)
+    }
+
+    /// Adds an entry at the end.
+    fn push(&mut self, entry: Named) -> Result<(), NoMemory>
+        ensures { OnOk result (self.new ≡ self.old ++ entry ∷ []) }
+    {
+        self.entries.push(entry)?;
+        Ok(())
+    }
+
+    /// The entries as a list. No memory.
+    pub(crate) fn into_list(self) -> NamedList
+        ensures { result ≡ self }
+    {
+        let Entries { entries } = self;
+        NamedList::from_vec(entries)
+    }
+}
+
+/// The name of an entry below its parent's, if its parent is one of these.
+fn below_parent(alloc: Global, before: &Entries, own: &Name) -> Result<Option<Name>, NoMemory>
+    ensures { IfOk result (λ o. o ≡ model.below_parent before.now own.now) }
+{
+    let above = own.parent(alloc)?;
+    match before.at(&above) {
+        Some(parent) => {
+            let rdn = last_rdn(alloc, own)?;
+            let name = parent.name.below(alloc, &rdn)?;
+            Ok(Some(name))
+        }
+        None => Ok(None),
+    }
+}
+
+/// The whole name of an entry that stands behind these in the context of the prefix, if it may stand there.
+fn whole_name(
+    alloc: Global,
+    prefix: &Name,
+    before: &Entries,
+    own: &Name,
+) -> Result<Option<Name>, NoMemory>
+    ensures { IfOk result (λ o. o ≡ model.whole_name prefix.now before.now own.now) }
+{
+    if !before.is_empty() {
+        return below_parent(alloc, before, own);
+    }
+    if own.is_same(prefix) {
+        let name = prefix.clone()?;
+        return Ok(Some(name));
+    }
+    Ok(None)
+}
+
+/// The entries with one more, which an object describes.
+fn entry_behind(
+    alloc: Global,
+    place: &Place<'_>,
+    prefix: &Name,
+    before: Entries,
+    value: &Value,
+) -> Result<Entries, LoadFault>
+    ensures { Reads (λ e. e) result (model.entry_behind (path_of place.now) prefix.now before (view value.now)) }
+{
+    let members = members_at(alloc, place, value)?;
+    let own = entry_name_at(alloc, place, "name", value)?;
+    if before.has(&own) {
+        return Err(Place::Member(place, "name").bad_shape(alloc));
+    }
+    let Some(name) = whole_name(alloc, prefix, &before, &own)? else {
+        return Err(Place::Member(place, "name").bad_shape(alloc));
+    };
+    let texts = list_at(alloc, place, "attrs", value)?;
+    let given = given_behind(alloc, &Place::Member(place, "attrs"), texts)?;
+    let rdn = last_rdn(alloc, &own)?;
+    let Some(entry) = entry_given(alloc, &rdn, given)? else {
+        return Err(place.bad_shape(alloc));
+    };
+    only(alloc, place, &["name", "attrs"], members)?;
+    let mut entries = before;
+    entries.push(Named { name, entry })?;
+    Ok(entries)
+}
+
+/// The entries of the context of the prefix, which a list describes.
+pub(crate) fn entries_behind(
+    alloc: Global,
+    place: &Place<'_>,
+    prefix: &Name,
+    items: &[Value],
+) -> Result<Entries, LoadFault>
+    ensures { Reads (λ e. e) result (model.entries_behind (path_of place.now) 0 prefix.now [] (items_view items.now)) }
+{
+    let mut entries = Entries::new(alloc);
+    for (i, item) in items.iter().enumerate() {
+        entries = entry_behind(alloc, &Place::Item(&*place, i), prefix, entries, item)?;
+    }
+    Ok(entries)
+}
