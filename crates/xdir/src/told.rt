@@ -1,6 +1,4 @@
 // A sink that keeps the beginning of what it took, so that a refusal can be told in words besides.
-ghost use Rattle.std.specs.Prelude.{◌≡◌};
-
 use x5_port::{Failed, Sink};
 
 /// How many octets are kept: no line of a refusal that a person reads is longer.
@@ -35,19 +33,19 @@ impl<K: Sink + Drop> ToldSink<K> {
         let text = str::from_utf8(kept).unwrap_or("");
         text.split('\n').next().unwrap_or("")
     }
+}
 
-    // Keeps the octets for which there is room.
-    fn keep(&mut self, piece: &[u8])
-        ensures { self.new.sink ≡ self.old.sink }
-    {
-        for octet in piece {
-            if self.count >= KEPT {
-                return;
-            }
-            self.first[self.count] = *octet;
-            self.count += 1;
+// Keeps the octets behind those that are kept already, as far as there is room, and answers how many are kept then.
+fn keep(first: &mut [u8; KEPT], kept: usize, piece: &[u8]) -> usize {
+    let mut count = kept;
+    for octet in piece {
+        if count >= KEPT {
+            return count;
         }
+        first[count] = *octet;
+        count += 1;
     }
+    count
 }
 
 impl<K: Sink + Drop> Sink for ToldSink<K> {
@@ -61,7 +59,7 @@ impl<K: Sink + Drop> Sink for ToldSink<K> {
 
     fn put(&mut self, piece: &[u8]) -> Result<usize, Failed> {
         let count = self.sink.put(piece)?;
-        self.keep(&piece[..count]);
+        self.count = keep(&mut self.first, self.count, &piece[..count]);
         Ok(count)
     }
 }
