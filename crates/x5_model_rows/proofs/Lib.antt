@@ -24,6 +24,5 @@ pub mod Descriptions
 pub mod Serving
 pub mod Stepping
 pub mod Parting
-pub mod Printing
 pub mod Refusals
 pub mod Texts

@@ -23,7 +23,7 @@ use Rattle.x5_model_rows.proofs.BaseWorld.{base_world, nl, acme, desk, lab, jan,
 use Rattle.x5_model_rows.proofs.Messages.{asks, passes, journal, did, point, now, info, bare, copied, shows, whole_outcome, left_out}
 use Rattle.x5_model_rows.proofs.Messages as messages
 use Rattle.x5_model_rows.proofs.Resolution.{at_first, compare_country}
-use Rattle.x5_model_rows.proofs.Searching.{the_sources, from_nl, shop_known_down, below_acme, less_journal, less_shop, list_acme, list_journal, sub_at, smit_below, smit_journal, beta_cut_off, twice_journal}
+use Rattle.x5_model_rows.proofs.Searching.{the_sources, acme_reference, from_nl, shop_known_down, below_acme, less_journal, less_shop, list_acme, list_journal, sub_at, smit_below, smit_journal, beta_cut_off, twice_journal}
 use Rattle.x5_model_rows.proofs.Shadowing as shadowing
 use Rattle.x5_model_rows.proofs.Shadowing.{first_did, put_gears, gears_journal, third_line, fourth_line, read_description, description_at_epsilon, as_of_first, at_master, master_journal, new_name, add_new, new_at_beta, new_journal, beta_down, below_journal, read_new, unknown_journal, read_master, acme_journal}
 use Rattle.x5_model_rows.proofs.Stepping as stepping
@@ -177,13 +177,14 @@ after_list = point base_world (did Nothing 3 ∷ [])
 abbrev pub country_refused : Reply
 country_refused = Failed (AttributeProblem invalid_attribute_syntax (Known 6))
 
-pub country_served : IsServed after_list 0 compare_country (journal (asks 4 0 compare_country Sent ∷ [])) country_refused
+pub country_served : IsServed after_list 0 compare_country (journal (asks 4 0 compare_country Sent ∷ []))
+    country_refused
 country_served =
     answers country_refused refl
     (refused (AttributeProblem invalid_attribute_syntax (Known 6)) refl refl refl refl)
 
--- Who is called Smit, asked of Epsilon, whose copy isn't refreshed: up to Alpha, and by parts. Each agent that is asked
--- is a source, also where it finds nobody.
+-- Who is called Smit, asked of Epsilon, whose copy isn't refreshed: up to Alpha, and by parts. Each context that is
+-- looked into is a source, also where nobody is found there.
 abbrev pub found_nobody : ℕ → Name → Answer
 found_nobody a context = Found [] (now context a ∷ []) whole_outcome
 
@@ -200,9 +201,6 @@ jan_of_beta = found_jan (now acme 1 ∷ now lab 2 ∷ now shop 3 ∷ [])
 
 abbrev pub jan_of_all : Answer
 jan_of_all = found_jan the_sources
-
-abbrev pub acme_reference : Reference
-acme_reference = reference acme Done Subordinate (1 ∷ 4 ∷ [])
 
 pub smit_served : IsServed at_first 4 (smit_below []) smit_journal (Answered jan_of_all)
 smit_served =
@@ -273,8 +271,8 @@ not_as_of_now j i s f d =
     cc
 
 -- The master takes a change that its copies lack.
-pub gears_served : IsServed (point base_world (first_did ∷ [])) 1 put_gears gears_journal (Answered Changed)
-gears_served =
+pub gears_taken : IsServed (point base_world (first_did ∷ [])) 1 put_gears gears_journal (Answered Changed)
+gears_taken =
     answers (Answered Changed) refl
     (updates _ _ (record { unlooped = refl; short = refl; fresh = refl; unrefused = refl; fit = refl }) refl refl
     (does _ refl refl))
@@ -314,9 +312,11 @@ new_served =
     (clear 3 (probed 5 3) refl
     (clear 2 (probed 4 2) refl no_probe
     (sends 2 (probed 4 2) (probed 4 2) refl refl
-    (stuck (record { unlooped = refl; short = refl; fresh = refl; unrefused = refl; fit = refl }) refl) (final _ refl)))
+    (stuck (record { unlooped = refl; short = refl; fresh = refl; unrefused = refl; fit = refl }) refl)
+    (final _ refl)))
     (sends 3 (probed 5 3) (probed 5 3) refl refl
-    (stuck (record { unlooped = refl; short = refl; fresh = refl; unrefused = refl; fit = refl }) refl) (final _ refl)))))
+    (stuck (record { unlooped = refl; short = refl; fresh = refl; unrefused = refl; fit = refl }) refl)
+    (final _ refl)))))
 
 -- Then Beta is down, and Alpha asks Epsilon. For a search of what is just below Acme that answers by its copy, and asks
 -- the agents of the NSSR that the copy has.
