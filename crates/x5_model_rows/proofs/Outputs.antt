@@ -1,5 +1,6 @@
 -- What worked examples print, whole: each request is served as agents do it, step by step, and each octet of the output
--- is that of the script's blocks, in order. By x5_model_settled such a script is a run whose answers are right.
+-- is that of the script's blocks, in order. That such a script is a run whose answers are right, where knowledge is
+-- consistent, is a theorem of x5_model_settled.
 use Rattle.std.specs.Prelude.{ℕ, true, false, List, [], ◌∷◌, ◌++◌}
 use Rattle.std.specs.List.{concat}
 use Rattle.std.specs.declared.option.Option.TheVariants.{None, Some}
