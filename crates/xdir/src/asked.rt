@@ -21,7 +21,9 @@ impl<F: Files + Drop> AskedFiles<F> {
     }
 
     /// The other files.
-    pub fn files(&self) -> &F {
+    pub fn files(&self) -> &F
+        ensures { result.now ≡ self.now.files }
+    {
         &self.files
     }
 

@@ -1,4 +1,6 @@
 // What the line of a refusal means, in words: where the file is wrong, and what is wrong there.
+ghost use Rattle.std.specs.Prelude.{◌≡◌};
+
 use std::fmt::{self, Display, Formatter};
 
 // Where to read on: a section of this page.
@@ -12,7 +14,9 @@ pub struct Explained<'a> {
 
 impl<'a> Explained<'a> {
     /// The words for this line.
-    pub fn new(line: &'a str) -> Explained<'a> {
+    pub fn new(line: &'a str) -> Explained<'a>
+        ensures { result.line ≡ line.entry }
+    {
         Explained { line }
     }
 }

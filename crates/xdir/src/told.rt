@@ -1,4 +1,6 @@
 // A sink that keeps the beginning of what it took, so that a refusal can be told in words besides.
+ghost use Rattle.std.specs.Prelude.{◌≡◌};
+
 use x5_port::{Failed, Sink};
 
 /// How many octets are kept: no line of a refusal that a person reads is longer.
@@ -14,7 +16,9 @@ pub struct ToldSink<K> {
 
 impl<K: Sink + Drop> ToldSink<K> {
     /// This sink; nothing is kept yet.
-    pub fn new(sink: K) -> ToldSink<K> {
+    pub fn new(sink: K) -> ToldSink<K>
+        ensures { result.sink ≡ sink }
+    {
         ToldSink {
             sink,
             first: [0; KEPT],
@@ -23,7 +27,9 @@ impl<K: Sink + Drop> ToldSink<K> {
     }
 
     /// The other sink.
-    pub fn sink(&self) -> &K {
+    pub fn sink(&self) -> &K
+        ensures { result.now ≡ self.now.sink }
+    {
         &self.sink
     }
 
