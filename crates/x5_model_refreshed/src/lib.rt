@@ -1,0 +1,14 @@
+//! What the line after a refresh finds. The function here does nothing; its clauses are the theorems.
+#![tactic(auto)]
+
+ghost use Rattle.x5_model_refreshed.specs.Refreshed.{CopyIsStamped, OtherStampsStay, MasterIsCopied, CopyIsCopied, AllElseStays};
+
+/// After a refresh the consumer's copy is what its supplier had as of the stamp, and all else is as it was (X.525, section 7:
+/// shadowed information).
+pub fn refreshing()
+    ensures stamped { CopyIsStamped }
+    ensures others { OtherStampsStay }
+    ensures master { MasterIsCopied }
+    ensures copy { CopyIsCopied }
+    ensures rest { AllElseStays }
+{}
