@@ -1,0 +1,5 @@
+pub mod Pins
+pub mod Listing
+pub mod Copied
+pub mod Texts
+pub mod Dates
