@@ -1,3 +1,5 @@
 pub mod Items
 pub mod LastRdn
 pub mod Lookups
+pub mod Placed
+pub mod Owned

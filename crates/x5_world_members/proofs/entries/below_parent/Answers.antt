@@ -16,10 +16,12 @@ returns-in-Some c =
     ∙ ap (λ (n : Name). Some (n ++ c.in_ok-rdn-in-Some.rdn ∷ [])) (ap (λ (e : Named). e.name) c.parent-in-Some.view_is)
     ∙ ap (λ (r : Rdn). Some (c.in-Some.parent.now.name ++ r ∷ [])) c.in_ok-rdn-in-Some.ensures
     ∙ ap (option_map (λ (e : Named). e.name ++ last_rdn own ∷ [])) c.in-Some.ensures
-    ∙ ap (λ (k : Key). option_map (λ (e : Named). e.name ++ last_rdn own ∷ []) (find (λ (e : Named). same_key k (key_at e)) c.args.before.now)) (ap key_of c.in_ok-above.ensures ∙ above_key own)
+    ∙ ap (λ (k : Key). option_map (λ (e : Named). e.name ++ last_rdn own ∷ [])
+        (find (λ (e : Named). same_key k (key_at e)) c.args.before.now)) (ap key_of c.in_ok-above.ensures ∙ above_key own)
 
 pub returns : goal.returns
 returns c =
     let own = c.args.own.now in
     ap (option_map (λ (e : Named). e.name ++ last_rdn own ∷ [])) c.in-None.ensures
-    ∙ ap (λ (k : Key). option_map (λ (e : Named). e.name ++ last_rdn own ∷ []) (find (λ (e : Named). same_key k (key_at e)) c.args.before.now)) (ap key_of c.in_ok-above.ensures ∙ above_key own)
+    ∙ ap (λ (k : Key). option_map (λ (e : Named). e.name ++ last_rdn own ∷ [])
+        (find (λ (e : Named). same_key k (key_at e)) c.args.before.now)) (ap key_of c.in_ok-above.ensures ∙ above_key own)

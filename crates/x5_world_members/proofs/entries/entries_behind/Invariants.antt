@@ -6,4 +6,5 @@ use Rattle.x5_world_members.proofs.entries.entries_behind.Given as goal
 
 abbrev pub invariant-loop-i : goal.invariant-loop-i
 invariant-loop-i l =
-    model.entries_behind (path_of l.place) l.i l.prefix l.entries (items_view (drop l.i l.items)) ≡ model.entries_behind (path_of l.place) 0 l.prefix [] (items_view l.items)
+    model.entries_behind (path_of l.place) l.i l.prefix l.entries (items_view (drop l.i l.items))
+    ≡ model.entries_behind (path_of l.place) 0 l.prefix [] (items_view l.items)

@@ -4,4 +4,5 @@ use Rattle.x5_model_world.specs.EntryTexts as model
 use Rattle.x5_world_members.proofs.entry.with_all.Given as goal
 
 abbrev pub invariant-loop-one : goal.invariant-loop-one
-invariant-loop-one l = model.with_all l.entry (into_iter_items l.one-iterator) ≡ model.with_all l.fn.entry l.fn.given.items
+invariant-loop-one l =
+    model.with_all l.entry (into_iter_items l.one-iterator) ≡ model.with_all l.fn.entry l.fn.given.items

@@ -6,4 +6,5 @@ use Rattle.x5_world_members.proofs.given.given_behind.Given as goal
 
 abbrev pub invariant-loop-i : goal.invariant-loop-i
 invariant-loop-i l =
-    model.given_behind (path_of l.place) l.i l.given.items (items_view (drop l.i l.items)) ≡ model.given_behind (path_of l.place) 0 [] (items_view l.items)
+    model.given_behind (path_of l.place) l.i l.given.items (items_view (drop l.i l.items))
+    ≡ model.given_behind (path_of l.place) 0 [] (items_view l.items)

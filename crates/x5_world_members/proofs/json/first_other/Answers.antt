@@ -5,7 +5,10 @@ use Rattle.x5_world_members.proofs.json.first_other.Goals as goal
 
 pub returns-in-Some : goal.returns-in-Some
 returns-in-Some c =
-    ap Some c.as_str.ensures.value ∙ ap (option_map string_bytes) c.in-Some.ensures ∙ sym (first_by_key c.args.names.now c.args.members.now.entries)
+    ap Some c.as_str.ensures.value
+    ∙ ap (option_map string_bytes) c.in-Some.ensures
+    ∙ sym (first_by_key c.args.names.now c.args.members.now.entries)
 
 pub returns-in-None : goal.returns-in-None
-returns-in-None c = ap (option_map string_bytes) c.in-None.ensures ∙ sym (first_by_key c.args.names.now c.args.members.now.entries)
+returns-in-None c =
+    ap (option_map string_bytes) c.in-None.ensures ∙ sym (first_by_key c.args.names.now c.args.members.now.entries)

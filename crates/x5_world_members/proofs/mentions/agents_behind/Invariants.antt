@@ -6,4 +6,5 @@ use Rattle.x5_world_members.proofs.mentions.agents_behind.Given as goal
 
 abbrev pub invariant-loop-i : goal.invariant-loop-i
 invariant-loop-i l =
-    model.agents_behind l.names (path_of l.place) l.i l.agents (items_view (drop l.i l.items)) ≡ model.agents_behind l.names (path_of l.place) 0 [] (items_view l.items)
+    model.agents_behind l.names (path_of l.place) l.i l.agents (items_view (drop l.i l.items))
+    ≡ model.agents_behind l.names (path_of l.place) 0 [] (items_view l.items)

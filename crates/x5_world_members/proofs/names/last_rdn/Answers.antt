@@ -11,4 +11,6 @@ returns-in_ok-clone-in-Some c =
 
 pub returns-in-None : goal.returns-in-None
 returns-in-None c =
-    c.new-in-None.ensures ∙ c.new.ensures.items ∙ sym (none_by_place c.args.name.now (sym c.last.ensures ∙ ap option_copied c.in-None.is))
+    c.new-in-None.ensures
+    ∙ c.new.ensures.items
+    ∙ sym (none_by_place c.args.name.now (sym c.last.ensures ∙ ap option_copied c.in-None.is))
