@@ -4,6 +4,7 @@
 mod command;
 mod line;
 mod operations;
+mod script;
 #[cfg(test)]
 mod tests;
 mod texts;
@@ -12,3 +13,4 @@ mod words;
 
 pub use command::{Command, ScriptFault};
 pub use line::parse_line;
+pub use script::{ScriptRefusal, read_script};

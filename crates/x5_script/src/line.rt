@@ -1,6 +1,7 @@
 //! A line of a script: what it asks for, or its first fault.
-ghost use Rattle.std.specs.Prelude.{◌≡◌, ◌≤◌, map, length};
+ghost use Rattle.std.specs.Prelude.{◌≡◌, ◌≤◌, IfOk, length};
 ghost use Rattle.x5_model_script.specs.Lines as lines;
+ghost use Rattle.x5_model_script.specs.Named.{AreNamed};
 ghost use Rattle.x5_model_script.specs.Texts as texts;
 ghost use Rattle.x5_model_script.specs.Words as model;
 ghost use Rattle.x5_ops.specs.RequestViews.{controls_view};
@@ -277,7 +278,8 @@ fn read_words(alloc: Global, line: &[u8], agents: &AgentNames) -> Result<Command
 /// What a line asks for, without its line feed: an empty line and one that begins with `#` ask for nothing. Else the first fault
 /// from the left; but a line of more than 4,096 octets is too long, whatever it holds. After want of memory nothing is said of it.
 pub fn parse_line(alloc: Global, line: &[u8], agents: &AgentNames) -> Result<Command, ScriptFault>
-    ensures { ReadsLine result agents.now line.now }
+    ensures reads { ReadsLine result agents.now line.now }
+    ensures named { IfOk result (λ command. AreNamed agents.now (command_view command)) }
 {
     if line.len() > MOST_OCTETS {
         return Err(ScriptFault::LineTooLong);
