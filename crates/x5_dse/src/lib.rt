@@ -9,7 +9,9 @@ mod place;
 #[cfg(test)]
 mod tests;
 mod tree;
+mod walk;
 
 pub use children::Children;
 pub use node::{DseFault, NodeId};
 pub use tree::DseTree;
+pub use walk::Walk;
