@@ -12,4 +12,6 @@ pub mod Oids
 pub mod Leaves
 pub mod Reading
 pub mod Spelled
+pub mod Closing
+pub mod Texts
 mod Examples
