@@ -15,6 +15,7 @@ pub struct RealFiles<R> {
     runtime: R,
     faults: u64,
     failed: Option<String>,
+    reason: Option<ErrorKind>,
 }
 
 impl<R: rt::Files + Drop> RealFiles<R> {
@@ -28,22 +29,45 @@ impl<R: rt::Files + Drop> RealFiles<R> {
             runtime,
             faults: 0,
             failed: None,
+            reason: None,
         }
     }
 
-    fn octets_of(&self, alloc: Global, name: &str, limit: usize) -> Result<Vec<u8>, FileFault>
+    /// What the system said of the last call that was answered `Failed`, where it said anything. No memory.
+    pub fn reason(&self) -> Option<ErrorKind>
+        ensures { result ≡ self.now.reason }
+    {
+        self.reason
+    }
+
+    // The octets of the file; or else why not, and what the system says of it.
+    fn octets_of(
+        &self,
+        alloc: Global,
+        name: &str,
+        limit: usize,
+        reason: &mut Option<ErrorKind>,
+    ) -> Result<Vec<u8>, FileFault>
         ensures { IfOk result (λ octets. length octets.items ≤ limit) }
     {
-        let Ok(mut file) = File::open(&self.runtime, name) else {
-            return Err(FileFault::Failed);
-        };
-        read_up_to(alloc, &mut file, limit)
+        match File::open(&self.runtime, name) {
+            Ok(mut file) => read_up_to(alloc, &mut file, limit, reason),
+            Err(error) => {
+                *reason = Some(error.kind());
+                Err(FileFault::Failed)
+            }
+        }
     }
 }
 
 // The octets of a reader to its end, unless they are more than the limit. It reads at most one octet
 // more than that.
-fn read_up_to<R: Read>(alloc: Global, reader: &mut R, limit: usize) -> Result<Vec<u8>, FileFault>
+fn read_up_to<R: Read>(
+    alloc: Global,
+    reader: &mut R,
+    limit: usize,
+    reason: &mut Option<ErrorKind>,
+) -> Result<Vec<u8>, FileFault>
     ensures { IfOk result (λ octets. length octets.items ≤ limit) }
 {
     let mut octets = Vec::new(alloc);
@@ -60,7 +84,10 @@ fn read_up_to<R: Read>(alloc: Global, reader: &mut R, limit: usize) -> Result<Ve
             Ok(count) if count > room => return Err(FileFault::TooLong),
             Ok(count) => octets.extend_from_slice(&chunk[..count])?,
             Err(error) if error.kind() == ErrorKind::Interrupted => {}
-            Err(_) => return Err(FileFault::Failed),
+            Err(error) => {
+                *reason = Some(error.kind());
+                return Err(FileFault::Failed);
+            }
         }
     }
     Err(FileFault::Failed)
@@ -84,10 +111,12 @@ impl<R: rt::Files + Drop> Files for RealFiles<R> {
         limit: usize,
     ) -> Result<Vec<u8>, FileFault> {
         let kept = String::from_str(alloc, name)?;
-        let outcome = self.octets_of(alloc, name, limit);
+        let mut reason = None;
+        let outcome = self.octets_of(alloc, name, limit, &mut reason);
         if matches!(outcome, Err(FileFault::Failed)) {
             self.faults = raised(self.faults);
             self.failed = Some(kept);
+            self.reason = reason;
         }
         outcome
     }
@@ -102,6 +131,7 @@ impl<R: rt::Files + Drop> Files for RealFiles<R> {
 pub struct RealSink<W> {
     writer: W,
     faults: u64,
+    is_closed: bool,
 }
 
 impl<W: Write + Drop> RealSink<W> {
@@ -111,19 +141,34 @@ impl<W: Write + Drop> RealSink<W> {
     pub fn new(writer: W) -> RealSink<W>
         ensures { IsUnwritten result }
     {
-        RealSink { writer, faults: 0 }
+        RealSink {
+            writer,
+            faults: 0,
+            is_closed: false,
+        }
+    }
+
+    /// Whether nobody reads any more what is written: a pipe was closed. No memory.
+    pub fn is_closed(&self) -> bool
+        ensures { result ≡ self.now.is_closed }
+    {
+        self.is_closed
     }
 }
 
-// Writes a first part of a piece that isn't empty, and answers how many octets that is; 0 is a fault.
-fn write_some<W: Write>(writer: &mut W, piece: &[u8]) -> usize
+// Writes a first part of a piece that isn't empty, and answers how many octets that is; 0 is a fault. A pipe that is closed is
+// noted.
+fn write_some<W: Write>(writer: &mut W, piece: &[u8], is_closed: &mut bool) -> usize
     ensures { result ≤ length piece.now }
 {
     for _ in 0..u64::MAX {
         match writer.write(piece) {
             Ok(count) => return count,
             Err(error) if error.kind() == ErrorKind::Interrupted => {}
-            Err(_) => return 0,
+            Err(error) => {
+                *is_closed = error.kind() == ErrorKind::BrokenPipe;
+                return 0;
+            }
         }
     }
     0
@@ -142,7 +187,7 @@ impl<W: Write + Drop> Sink for RealSink<W> {
         if piece.is_empty() {
             return Ok(0);
         }
-        let count = write_some(&mut self.writer, piece);
+        let count = write_some(&mut self.writer, piece, &mut self.is_closed);
         if count == 0 {
             self.faults = raised(self.faults);
             return Err(Failed);

@@ -20,6 +20,11 @@ impl<F: Files + Drop> AskedFiles<F> {
         AskedFiles { files, asked: None }
     }
 
+    /// The other files.
+    pub fn files(&self) -> &F {
+        &self.files
+    }
+
     /// The name that was asked for last.
     pub fn asked(&self) -> Option<&str>
         ensures { option_copied result ≡ option_map string_bytes self.now.asked }

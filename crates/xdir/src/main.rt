@@ -2,18 +2,22 @@
 #![tactic(auto)]
 
 mod asked;
+mod explained;
 mod made;
 mod refusals;
 mod run;
 mod show;
 #[cfg(test)]
 mod tests;
+mod told;
 mod top;
 
 use asked::AskedFiles;
+use explained::Explained;
 use std::io::{self, ErrorKind};
 use std::process::ExitCode;
 use std::{env, rt};
+use told::ToldSink;
 use top::{MOST_OCTETS, Status, xdir};
 use x5_port::{RealFiles, RealSink};
 
@@ -28,12 +32,17 @@ WORLD, SCRIPT and FILE are names of files, N is a number below 2^32. README.md h
 fn main(rt: HostRuntime) -> ExitCode {
     let words = match words_of(&rt) {
         Ok(words) => words,
-        Err(status) => return ended(&rt, status, ""),
+        Err(status) => return ended(&rt, status, "", ""),
     };
     let mut files = AskedFiles::new(RealFiles::new(&rt));
-    let mut out = RealSink::new(io::writer(&rt));
+    let mut out = ToldSink::new(RealSink::new(io::writer(&rt)));
     let status = xdir(rt.alloc(), &words, &mut files, &mut out);
-    ended(&rt, status, files.asked().unwrap_or(""))
+    let name = files.asked().unwrap_or("");
+    match status {
+        Status::ReadFault => unread(&rt, name, files.files().reason()),
+        Status::WriteFault if out.sink().is_closed() => ExitCode::from(status as u8),
+        _ => ended(&rt, status, name, out.line()),
+    }
 }
 
 // The words after the program's name. One that isn't UTF-8 is a faulty command line.
@@ -52,10 +61,24 @@ fn words_of<R: rt::Env + AllocGlobal>(rt: &R) -> Result<Vec<String>, Status> {
     Ok(words)
 }
 
-// Says on standard error what was wrong, and gives the status. `name` is that of the last file read.
-fn ended<R: Eprint>(rt: &R, status: Status, name: &str) -> ExitCode {
+// Says on standard error which file couldn't be read, and why, where the system says so.
+fn unread<R: Eprint>(rt: &R, name: &str, reason: Option<ErrorKind>) -> ExitCode {
+    let _ = match reason {
+        Some(reason) => eprintln!(rt; "xdir: can't read the file {name}: {reason}"),
+        None => eprintln!(rt; "xdir: can't read the file {name}"),
+    };
+    ExitCode::from(Status::ReadFault as u8)
+}
+
+// Says on standard error what was wrong, and gives the status. `name` is that of the last file read, and `line` the first that was
+// printed.
+fn ended<R: Eprint>(rt: &R, status: Status, name: &str, line: &str) -> ExitCode {
     let _ = match status {
-        Status::Done | Status::Refused => Ok(()),
+        Status::Done => Ok(()),
+        Status::Refused => eprintln!(rt;
+            "xdir: {name}: {} (docs/FORMATS.md, 'Common refusals')",
+            Explained::new(line)
+        ),
         Status::Usage => eprintln!(rt; "{USAGE}"),
         Status::ReadFault => eprintln!(rt; "xdir: can't read the file {name}"),
         Status::TooLong => eprintln!(rt;
@@ -63,7 +86,9 @@ fn ended<R: Eprint>(rt: &R, status: Status, name: &str) -> ExitCode {
         ),
         Status::WriteFault => eprintln!(rt; "xdir: can't write to standard output"),
         Status::NoMemory => eprintln!(rt; "xdir: out of memory"),
-        Status::Inconsistent => eprintln!(rt; "xdir: the knowledge doesn't hold together"),
+        Status::Inconsistent => eprintln!(rt;
+            "xdir: {name}: the knowledge isn't consistent (docs/FORMATS.md, 'Conditions of consistent knowledge')"
+        ),
     };
     ExitCode::from(status as u8)
 }
