@@ -4,6 +4,7 @@ pub mod Outcomes
 pub mod Run
 pub mod Steps
 pub mod Shown
+pub mod Checked
 pub mod Made
 pub mod Forms
 pub mod Blocks

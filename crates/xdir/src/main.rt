@@ -2,7 +2,9 @@
 #![tactic(auto)]
 
 mod asked;
+mod check;
 mod explained;
+mod knowledge;
 mod made;
 mod refusals;
 mod run;
@@ -24,6 +26,7 @@ use x5_port::{RealFiles, RealSink};
 // The forms that are taken so far, one a line.
 const USAGE: &str = "usage:
   xdir run WORLD SCRIPT
+  xdir check WORLD
   xdir gen N world
   xdir gen N script
   xdir show FILE

@@ -9,6 +9,7 @@ ghost use Rattle.xdir.specs.Run.{IsWorldLine, Reads, StopsAtWorld, Writes};
 ghost use Rattle.xdir.specs.Steps.{Prints, ReadsFile, WritesScript, WritesScriptFile, WritesLine};
 ghost use Rattle.xdir.specs.Words.{form_in, is_made};
 
+use crate::check::check_file;
 use crate::made::{print_made_script, print_made_world};
 use crate::refusals::{NO_STAR, NOT_JSON, refused_line};
 use crate::run::print_run;
@@ -69,12 +70,11 @@ pub fn xdir<F: Files, K: Sink>(
         Some(Words::Run(names, false)) => {
             run_files(alloc, names.world, names.script, files, out)
         }
+        Some(Words::Check(name)) => check_file(alloc, name, files, out),
         Some(Words::GenWorld(number)) => print_made_world(alloc, number, out),
         Some(Words::GenScript(number)) => print_made_script(alloc, number, out),
         Some(Words::Show(name)) => show_file(alloc, name, files, out),
-        Some(Words::Run(_, true) | Words::Check(_) | Words::Tree(_) | Words::GenRun(_)) | None => {
-            Status::Usage
-        }
+        Some(Words::Run(_, true) | Words::Tree(_) | Words::GenRun(_)) | None => { Status::Usage }
     }
 }
 
@@ -103,7 +103,7 @@ fn run_files<F: Files, K: Sink>(
 }
 
 /// Prints the line of a file that isn't taken.
-fn put_refusal<K: Sink>(line: &str, out: &mut K) -> Status
+pub fn put_refusal<K: Sink>(line: &str, out: &mut K) -> Status
     ensures { WritesLine result line.now (K.octets out.old) (K.octets out.new) (K.fault_count out.old) (K.fault_count out.new) }
 {
     match put_all(out, line.as_bytes()) {
