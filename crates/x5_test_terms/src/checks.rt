@@ -52,6 +52,14 @@ fn world(alloc: Global, superior: Option<AgentId>) -> Result<Described, Fail> {
     })
 }
 
+/// The number of the agent, if it's one.
+fn number_of(shown: &Shown) -> u8 {
+    match shown {
+        Shown::Agent(agent) => agent.0,
+        _ => 255,
+    }
+}
+
 /// The condition that fails first and the agents that it names, 0 where none does.
 fn told(alloc: Global, superior: Option<AgentId>) -> Result<(u8, u8, u8), Fail> {
     let world = world(alloc, superior)?;
@@ -60,14 +68,11 @@ fn told(alloc: Global, superior: Option<AgentId>) -> Result<(u8, u8, u8), Fail> 
     }
     match check(alloc, &world)? {
         None => Ok((0, 0, 0)),
-        Some(breach) => match (breach.first, breach.second) {
-            (Shown::Agent(first), Shown::Agent(second)) => Ok((
-                breach.condition,
-                first.0,
-                second.0,
-            )),
-            _ => Err("other values".into()),
-        },
+        Some(breach) => Ok((
+            breach.condition,
+            number_of(&breach.first),
+            number_of(&breach.second),
+        )),
     }
 }
 
