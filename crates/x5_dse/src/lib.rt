@@ -6,8 +6,6 @@ mod children;
 mod node;
 mod order;
 mod place;
-#[cfg(test)]
-mod tests;
 mod tree;
 
 pub use children::Children;

@@ -6,8 +6,6 @@ mod lookup;
 mod posting;
 mod postings;
 mod room;
-#[cfg(test)]
-mod tests;
 
 pub use lookup::NodeList;
 pub use postings::Postings;

@@ -5,8 +5,6 @@ mod join;
 mod limiting;
 mod member;
 mod merging;
-#[cfg(test)]
-mod tests;
 
 pub use limiting::limit;
 pub use merging::{PartList, merge};

@@ -1,6 +1,6 @@
 //! Ten entries below one, added in three orders, then removed, renamed and added again: they stand in the order of keys each time.
 
-use super::*;
+use x5_dse::DseTree;
 use std::alloc::Global;
 use std::test::Fail;
 use x5_match::Entry;

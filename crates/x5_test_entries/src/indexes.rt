@@ -1,6 +1,6 @@
 //! What no clause says: that ample memory suffices, on each public call's way.
 
-use crate::{NodeList, Postings, Room};
+use x5_index::{NodeList, Postings, Room};
 use std::alloc::Global;
 use std::test::Fail;
 use x5_match::{Entry, Filter, Stored, StoredList, StoredValue, StoredValueList};

@@ -3,7 +3,7 @@
 ghost use Rattle.std.specs.Prelude.{◌≡◌, true, IfOk};
 ghost use Rattle.x5_merge.specs.Merging.{is_list};
 
-use crate::{limit, merge};
+use x5_merge::{limit, merge};
 use std::alloc::Global;
 use std::test::Fail;
 use x5_names::Rdn;

@@ -1,7 +1,7 @@
 -- A node that was found is live.
 use Rattle.x5_model.specs.Values.{key_of}
 use Rattle.x5_dse.proofs.Callers.{found_live}
-use Rattle.x5_dse.proofs.tests.stand.Goals as goal
+use Rattle.x5_test_entries.proofs.entries.stand.Goals as goal
 
 pub children-children-requires : goal.children-children-requires
 children-children-requires c = found_live c.args.tree.now.nodes (key_of c.in_ok-named.named) c.in-Some.node c.in-Some.ensures

@@ -2,7 +2,7 @@
 use Rattle.std.proofs.Common.{List, sym, ap, subst, ◌∙◌, arith}
 use Rattle.x5_index.specs.Index.{Posting, is_there, IsEntryAt}
 use Rattle.x5_index.proofs.Laws.{absent_elsewhere, entry_elsewhere}
-use Rattle.x5_index.proofs.tests.some_nodes.Goals as goal
+use Rattle.x5_test_entries.proofs.indexes.some_nodes.Goals as goal
 
 pub add-requires-2 : goal.add-requires-2
 add-requires-2 c =
