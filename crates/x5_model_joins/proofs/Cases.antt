@@ -16,7 +16,6 @@ use Rattle.x5_model.specs.Problems.{unavailable}
 use Rattle.x5_model.proofs.KeyLaws.{key_decides}
 use Rattle.x5_model.specs.Statics.{fault_of}
 use Rattle.x5_model.proofs.Lists.{both_true, either_true, or_left, or_right, in_first, in_left, in_right, of_map, of_filter, any_in, of_any}
-use Rattle.x5_model.proofs.Ascending.{in_sorted}
 use Rattle.x5_model_tree.specs.Tree.{Tree, key_at, keys_of, part, is_there, is_there_or_root}
 use Rattle.x5_model_tree.specs.Ask.{Refuses}
 use Rattle.x5_model_run.specs.Journal.{Line, Journal, depth, is_done, is_wide, same_progress}
@@ -40,6 +39,7 @@ use Rattle.x5_model_serve.specs.Claims.{line_at, asked_line, SoFar, serving_of, 
 use Rattle.x5_model_parts.proofs.Parting.{target_fits}
 use Rattle.x5_model_parts.proofs.Joining.{sight, View, the_view, asks}
 use Rattle.x5_model_theory.proofs.Following.{query_of}
+use Rattle.x5_model_joins.proofs.Walked.{in_the_rest}
 use Rattle.x5_model_joins.proofs.Following.{no_update_below}
 use Rattle.x5_model_joins.proofs.Keeping.{at_most, queries_keep}
 use Rattle.x5_model_joins.proofs.Replacing.{part_asks, needed_done}
@@ -189,7 +189,7 @@ part_unavailable p s most from o rs a b r u i j l loop one rest at may so =
       n.whole,
       n.by,
       elim n.taken [
-        | inl t ↦ unavailable_is_gathered p s most from (line_at o at.line.number) j l b r u rest n.begins (in_sorted taken_before r (rest_needs p (line_at o at.line.number)) n.needed) n.second.grows n.second.licensed n.so t
+        | inl t ↦ unavailable_is_gathered p s most from (line_at o at.line.number) j l b r u rest n.begins (in_the_rest p (line_at o at.line.number) n.begins r n.needed) n.second.grows n.second.licensed n.so t
         | inr x ↦ (let e = x.0 in cc)
       ],
     )
@@ -200,7 +200,7 @@ part_answered p s most from o rs a b c r i j l loop one rest at may so =
       n.whole,
       n.by,
       elim n.taken [
-        | inl t ↦ part_is_gathered p s most from (line_at o at.line.number) j l b c r rest n.begins (in_sorted taken_before r (rest_needs p (line_at o at.line.number)) n.needed) n.second.grows n.second.licensed n.so t
+        | inl t ↦ part_is_gathered p s most from (line_at o at.line.number) j l b c r rest n.begins (in_the_rest p (line_at o at.line.number) n.begins r n.needed) n.second.grows n.second.licensed n.so t
         | inr x ↦ (let e = x.0 in cc)
       ],
     )
