@@ -18,7 +18,7 @@ use Rattle.x5_model_run.specs.Journal.{is_done}
 use Rattle.x5_model_run.specs.Holdings.{Held, Holdings, usable_agents, held_at, served}
 use Rattle.x5_model_run.specs.Needs.{reference, others, subset_of, evaluated, answers_root, below_needs, wide_needs, in_scope, treated_below, part_needs}
 use Rattle.x5_model_serve.proofs.Walks.{of_rest}
-use Rattle.x5_model_serve.specs.Answering.{to_follow, reply_from, local_part, with_unexplored, limited_answer, rest_of_parts, taken_before}
+use Rattle.x5_model_serve.specs.Answering.{to_follow, reply_from, local_part, with_unexplored, limited_answer, rest_of_parts}
 use Rattle.x5_model_serve.specs.Serving.{is_final}
 
 -- ---- lists in order have the same members

@@ -23,13 +23,12 @@ use Rattle.x5_model_run.specs.Placed.{fits, is_query_below}
 use Rattle.x5_model_parts.specs.Parts.{BeginsHere}
 use Rattle.x5_model_serve.proofs.Walks.{of_rest}
 use Rattle.x5_model_serve.specs.Finding.{Found, Here, CopyHere, Root, Nowhere, Stuck, by_first, in_own, in_copy, at_pin, resolved, found_by, find, IsLooked}
-use Rattle.x5_model_serve.specs.Answering.{rest_of_parts, taken_before}
+use Rattle.x5_model_serve.specs.Answering.{rest_of_parts}
 use Rattle.x5_model_serve.specs.Serving.{Hand, line_for, begins_parts}
 use Rattle.x5_model_serve.specs.Claims.{Setting}
 use Rattle.x5_model_bounds.specs.Costs.{total, left_of, parts_cost, probes_cost, whole_cost}
 use Rattle.x5_model_bounds.specs.Bounds.{Ready, Payable, asks_of, cost_of, PartsPay}
 use Rattle.x5_model_bounds.proofs.Unables.{false_true}
-use Rattle.x5_model_bounds.proofs.Parting.{of_sorted}
 use Rattle.x5_model_bounds.proofs.Whole.{serving_small}
 use Rattle.x5_model_bounds.proofs.Going.{some_subset, sound_by}
 use Rattle.x5_model_bounds.proofs.Sums.{total_in}

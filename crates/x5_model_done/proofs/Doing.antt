@@ -3,11 +3,11 @@
 -- replies can be taken up by whoever hears it: where it says that somebody is unavailable it names a reference, and
 -- it leaves nothing to be followed. And while a list or search is served nothing is accepted, so its agents hold what
 -- they held.
-use Rattle.std.proofs.Common.{◌≡◌, ◌≤◌, ℕ, zero, suc, ◌+◌, ◌==◌, nat_le, Bool, true, false, not, ◌&&◌, ◌⊎◌, inl, inr, List, [], ◌∷◌, ◌++◌, length, append_assoc, refl, sym, ap, subst, ◌∙◌, Option, Some, None, Ok, Err, cond, arith}
+use Rattle.std.proofs.Common.{◌≡◌, ◌≤◌, ℕ, zero, suc, ◌+◌, nat_le, Bool, true, false, not, ◌&&◌, ◌⊎◌, inl, inr, List, [], ◌∷◌, ◌++◌, length, append_assoc, refl, sym, ap, subst, ◌∙◌, Option, Some, None, Ok, Err, cond, arith}
 use Rattle.std.specs.Option.{is_some, is_none}
 use Rattle.std.proofs.lemmas.Bool.Decides.{leb_tells}
 use Rattle.std.proofs.lemmas.List.{append-nil, length-append}
-use Rattle.x5_model.specs.Words.{has, is_empty, in_option, when}
+use Rattle.x5_model.specs.Words.{is_empty, in_option, when}
 use Rattle.x5_model.specs.Keys.{parent}
 use Rattle.x5_model.specs.Values.{Name, key_of}
 use Rattle.x5_model.specs.Entries.{Named}
@@ -23,21 +23,17 @@ use Rattle.x5_model_run.specs.Network.{Fate, Lost, NoReply, Sent}
 use Rattle.x5_model_run.specs.Journal.{Line, Journal, item_of, is_wide}
 use Rattle.x5_model_run.specs.Holdings.{Held, Copy, Holdings, held_at, known_pin, ground_at}
 use Rattle.x5_model_run.specs.Needs.{others, nssr_at, resolves, subset_of, new_name, is_refused_here, probe_by, probe_from, probe_of, probe_at_master, probe_due, probe_needs, due_probes}
-use Rattle.x5_model_run.specs.Chain.{Scene, is_user, is_probe, asks_part, part_body, request_for}
+use Rattle.x5_model_run.specs.Chain.{Scene, is_probe, asks_part, part_body, request_for}
 use Rattle.x5_model_run.specs.Placed.{fits, is_query_below}
 use Rattle.x5_model_theory.proofs.Following.{query_of}
-use Rattle.x5_model_serve.specs.Committed.{committed}
 use Rattle.x5_model_serve.specs.Finding as finding
 use Rattle.x5_model_serve.specs.Finding.{IsLooked, find}
 use Rattle.x5_model_serve.specs.Answering.{reply_from, reply_in_own, reply_in_copy, own_source, copy_source, local_part, with_unexplored, merged, only_unexplored, to_follow, passed_by, is_service, in_vain, of_these, is_unavailable, above_next}
 use Rattle.x5_model_serve.specs.Serving.{Hand, hand, Heard, Unheard, Hears, Gathered, Whole, Broken, Act, Serves, Follows, Sends, Tries, Takes, Spreads, Casts, Gathers, Probes, Updates, Does, Arrives, carried_for, next_line, with_line, with_accepted, is_spent, is_idle, is_looped, is_too_long, holds_now, is_done_here, found_at, asked_by, begins_parts, stuck_problem, parts_refs, at_limit, gathered_reply, limit_reply, heard_or, judged, is_final, nothing_yet, user_line, user_in_vain, IsRequest, not_heard, not_told, answers, loops, is_long, done_before, refused, unfit, stuck, nowhere, refers, goes, casts, reads, reads_copy, gives_parts, asks_parts, updates, not_done, does, probes_all, misses, taken, breaks, no_probe, clear, unsure, silent, spent, lost, dropped, sends, final, referral, wide_referral, unexplored, none_yet, in_vain_too, heard, unheard, none_asked, unable_too, silent_too, answered, nobody_has, some_silent, no_part, part_unheard, part_unavailable, part_answered, part_breaks}
 use Rattle.x5_model_serve.proofs.Finals.{idle_is_followed}
 use Rattle.x5_model_find.proofs.Needing.{false_true}
-use Rattle.x5_model_find.proofs.Begins.{some_is, begins_alike}
-use Rattle.x5_model_joins.proofs.Following.{no_update_below}
 use Rattle.x5_model_verdicts.proofs.Lines.{grown}
 use Rattle.x5_model_verdicts.proofs.At.{form}
-use Rattle.x5_model_passing.proofs.Queries.{carries, still}
 use Rattle.x5_model_complete.proofs.Errors.{is_tree_error, fault_plain, over_plain, asked_plain, no_service}
 use Rattle.x5_model_done.proofs.Local.{local_answers}
 use Rattle.x5_model_done.proofs.Found.{root_lists, below_lists}

@@ -12,11 +12,9 @@ use Rattle.x5_model_theory.proofs.Holding.{by_agent}
 use Rattle.x5_model_run.specs.Holdings.{Held, Holdings, may_copy, served}
 use Rattle.x5_model_run.specs.History.{no_holdings}
 use Rattle.x5_model_run.specs.Chain.{opening, scene_at}
-use Rattle.x5_model_run.specs.Run.{Judge}
 use Rattle.x5_model_parts.proofs.Copying.{all_serving}
 use Rattle.x5_model_find.proofs.Orderly.{holdings_orderly}
 use Rattle.x5_model_determined.proofs.Once.{request_is_determined}
-use Rattle.x5_model_settled.proofs.Settled.{lines_are_settled, runs_are_settled}
 use Rattle.x5_model_done.specs.Done.{IsKept, SettingsAreKept, MessagesAreServed, RequestsAreDone, RequestsHaveOutcomes, LinesHaveOutcomes}
 use Rattle.x5_model_done.proofs.Doing.{message_served, request_done}
 

@@ -1,5 +1,5 @@
 -- Of a list or search each agent's own part is an answer, whatever it holds: what the contexts of its walk have.
-use Rattle.std.proofs.Common.{◌≡◌, true, false, List, [], ◌∷◌, refl}
+use Rattle.std.proofs.Common.{◌≡◌, true, false, [], refl}
 use Rattle.std.specs.List.{flat_map}
 use Rattle.x5_model.specs.Words.{sorted}
 use Rattle.x5_model.specs.Requests.{Body, Read, Compare, ListBelow, Search, AddEntry, RemoveEntry, ModifyEntry, ModifyDn}

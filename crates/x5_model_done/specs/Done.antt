@@ -1,25 +1,19 @@
 -- What agents do with a request always comes to an end: however messages fare, there are a journal and a reply (X.518,
 -- sections 17 to 21). So, with what x5_model_determined says, there is exactly one of each.
-use Rattle.std.specs.Prelude.{◌≡◌, ℕ, true, [], List}
+use Rattle.std.specs.Prelude.{◌≡◌, ℕ, true, List}
 use Rattle.x5_model.specs.Members.{In}
 use Rattle.x5_model.specs.Values.{key_of}
 use Rattle.x5_model.specs.Requests.{Request}
 use Rattle.x5_model.specs.Answers.{Reply}
 use Rattle.x5_model_tree.specs.World.{World}
 use Rattle.x5_model_tree.specs.Tree.{is_there}
-use Rattle.x5_model_tree.specs.Consistent.{IsConsistent}
-use Rattle.x5_model_tree.specs.Described.{IsDescribed}
 use Rattle.x5_model_run.specs.Journal.{Journal}
 use Rattle.x5_model_run.specs.Holdings.{Held, Holdings, served}
 use Rattle.x5_model_run.specs.History.{Did, Point}
 use Rattle.x5_model_run.specs.Chain.{Scene, scene_at}
-use Rattle.x5_model_run.specs.Placed.{is_query_below}
-use Rattle.x5_model_run.specs.Run.{Command, Block, Judge, IsRun}
-use Rattle.x5_model_updates.specs.Keeping.{NoneMoved}
 use Rattle.x5_model_find.specs.Finds.{Orderly}
 use Rattle.x5_model_serve.specs.Serving.{Hand, Serves, Does, IsRequest}
 use Rattle.x5_model_serve.specs.Claims.{Setting}
-use Rattle.x5_model_settled.specs.Settled.{HasAgent}
 
 -- What an agent holds is in order: it has a context once, and a copy once; and each context that it may answer from
 -- has an entry at its prefix.

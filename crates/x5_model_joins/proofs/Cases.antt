@@ -32,7 +32,7 @@ use Rattle.x5_model_theory.specs.Changing.{holding}
 use Rattle.x5_model_parts.specs.Standing.{Stands, knowledge_now}
 use Rattle.x5_model_parts.specs.Parts.{BeginsHere, rest_needs}
 use Rattle.x5_model_parts.proofs.Asking.{false_true}
-use Rattle.x5_model_serve.specs.Answering.{taken_before, is_unavailable, is_service}
+use Rattle.x5_model_serve.specs.Answering.{is_unavailable, is_service}
 use Rattle.x5_model_serve.specs.Serving.{Hand, line_for, Heard, Unheard, Hears, Whole, limit_reply, is_spent}
 use Rattle.x5_model_run.specs.Thorough.{is_served}
 use Rattle.x5_model_serve.specs.Claims.{line_at, asked_line, SoFar, serving_of, AtHand, Keeps, MayTake, AskedSoFar, TakenRight, last_number, is_settled_line, OnlyBy, MayGather, TakesRight, GathersRight}

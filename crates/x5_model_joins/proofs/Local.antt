@@ -1,11 +1,11 @@
 -- The local part with all references for the rest still to be asked: its sources are the spots, and the other contexts
 -- that are looked into are covered, each by one reference.
-use Rattle.std.proofs.Common.{◌≡◌, ℕ, Bool, true, false, cond, not, ◌&&◌, ◌⊎◌, inl, inr, List, [], ◌∷◌, ◌++◌, map, refl, sym, ap, subst, ◌∙◌, Option, Some, None}
+use Rattle.std.proofs.Common.{◌≡◌, ℕ, Bool, true, false, cond, not, ◌&&◌, ◌⊎◌, inl, inr, List, [], ◌∷◌, ◌++◌, map, refl, sym, ap, subst, ◌∙◌, None}
 use Rattle.std.specs.List.{list_any, list_all, filter, flat_map}
 use Rattle.std.specs.Option.{is_some, is_none}
-use Rattle.x5_model.specs.Words.{in_option, some_and, ascending, sorted, insert_sorted}
+use Rattle.x5_model.specs.Words.{in_option, ascending, sorted, insert_sorted}
 use Rattle.x5_model.specs.Members.{In, here, there}
-use Rattle.x5_model.specs.Keys.{Key, IsPrefix, same_key}
+use Rattle.x5_model.specs.Keys.{Key, IsPrefix}
 use Rattle.x5_model.specs.Values.{Name, key_of, last_rdn}
 use Rattle.x5_model.specs.Entries.{Named}
 use Rattle.x5_model.specs.Filters.{Filter}
@@ -17,10 +17,10 @@ use Rattle.x5_model.specs.Answers.{EntryInfo, Sub, Source, Answer, Listed, Found
 use Rattle.x5_model.specs.Statics.{fault_of}
 use Rattle.x5_model.proofs.KeyLaws.{key_decides}
 use Rattle.x5_model.proofs.Prefixes.{prefix_itself}
-use Rattle.x5_model.proofs.Lists.{both_true, and_true, not_true, true_or_false, in_map, any_in, of_any, all_in, of_filter}
-use Rattle.x5_model.proofs.Ascending.{AllApart, of_insert, of_sorted, in_sorted}
+use Rattle.x5_model.proofs.Lists.{both_true, and_true, not_true, true_or_false, in_map, any_in, of_any, all_in}
+use Rattle.x5_model.proofs.Ascending.{AllApart, of_insert, of_sorted}
 use Rattle.x5_model_tree.specs.World.{World}
-use Rattle.x5_model_tree.specs.Tree.{Tree, key_at, named_below, sorted_entries, longest, is_there_or_root}
+use Rattle.x5_model_tree.specs.Tree.{Tree, key_at, named_below, sorted_entries, is_there_or_root}
 use Rattle.x5_model_tree.specs.Ask.{Lists, Finds, in_subset, limited, is_cut, sub_of, info_of}
 use Rattle.x5_model_tree.proofs.Order.{named_chain, named_never}
 use Rattle.x5_model_run.specs.Journal.{Line, is_done, is_wide, same_name}
@@ -34,17 +34,15 @@ use Rattle.x5_model_run.specs.Right.{same_keys, uncovered}
 use Rattle.x5_model_run.specs.Placed.{is_query_below}
 use Rattle.x5_model_theory.proofs.Following.{query_of}
 use Rattle.x5_model_parts.specs.Standing.{knowledge_now}
-use Rattle.x5_model_parts.specs.Parts.{asks_for, BeginsHere, spots, rest_needs, looks_into}
+use Rattle.x5_model_parts.specs.Parts.{asks_for, BeginsHere, rest_needs, looks_into}
 use Rattle.x5_model_parts.proofs.Asking.{false_true}
 use Rattle.x5_model_parts.proofs.Covering.{root_area, scope_of, scope_touched}
-use Rattle.x5_model_parts.proofs.Owning.{pin_of_area}
 use Rattle.x5_model_parts.proofs.Joining.{sight, View, the_view, spots_are_touched, spots_are_apart, all_are_parts, parts_are_apart}
 use Rattle.x5_model_serve.specs.Walking.{entered}
 use Rattle.x5_model_serve.specs.Answering.{before_sub, before_info, first_each, taken_before, walked_needs, stamp_at, local_sources, told_in, local_part, rest_of_parts, reply_from}
 use Rattle.x5_model_serve.specs.Claims.{asked_line, SoFar}
 use Rattle.x5_model_joins.proofs.Here.{found_locally, spelled_locally}
 use Rattle.x5_model_joins.specs.Joins.{AreParts, LocalTells}
-use Rattle.x5_model_joins.proofs.Joined.{map_same}
 use Rattle.x5_model_joins.proofs.Showing.{shown_in_order, cut_map}
 use Rattle.x5_model_joins.proofs.Telling.{list_picks, answers_list, list_told, search_picks, answers_search, search_told}
 use Rattle.x5_model_joins.proofs.Sources.{entries_of, apart_sources, own_mark}

@@ -33,7 +33,7 @@ use Rattle.x5_model_parts.proofs.Asking.{false_true}
 use Rattle.x5_model_parts.proofs.Spots.{held_in, spot_is}
 use Rattle.x5_model_parts.proofs.Owning.{map_map, own_area_is, own_like, own_in}
 use Rattle.x5_model_parts.proofs.Copying.{usable_sent}
-use Rattle.x5_model_parts.proofs.Joining.{sight, spots_are_right, spots_are_once}
+use Rattle.x5_model_parts.proofs.Joining.{sight, spots_are_right}
 use Rattle.x5_model_serve.specs.Walking.{entered}
 use Rattle.x5_model_serve.specs.Walked.{pins_of}
 use Rattle.x5_model_serve.proofs.Walks.{walk_once, of_walk, pin_in_walk}

@@ -23,9 +23,8 @@ use Rattle.x5_model_run.specs.Blocked.{Asked, hears_by, hears, IsLost, user, ask
 use Rattle.x5_model_run.specs.Right.{is_found, is_source, same_phase, Right, result, changed, error, referral, unheard}
 use Rattle.x5_model_run.specs.Placed.{is_query_below, RightReply, usual, unable, limit}
 use Rattle.x5_model_run.proofs.Growing.{lost_grows}
-use Rattle.x5_model_parts.specs.Parts.{rest_needs}
 use Rattle.x5_model_parts.proofs.Asking.{false_true}
-use Rattle.x5_model_serve.specs.Answering.{taken_before, with_unexplored, in_vain, is_unavailable}
+use Rattle.x5_model_serve.specs.Answering.{with_unexplored, in_vain, is_unavailable}
 use Rattle.x5_model_serve.specs.Serving.{is_spent}
 use Rattle.x5_model_serve.specs.Claims.{SoFar, Grows, HeardRight, line_at, asked_line, serving_of}
 use Rattle.x5_model_run.specs.Needs.{ends_here}

@@ -1,7 +1,7 @@
 -- What an agent gathers on its walk, over consistent knowledge: the references that it needs, each once; and what its
 -- contexts show one after the other, of which nothing is dropped, is what is shown of all their entries as one tree,
 -- since entries are apart by keys and a sorted list is determined by its members.
-use Rattle.std.proofs.Common.{◌≡◌, Bool, true, false, cond, not, ◌||◌, ◌⊎◌, inl, inr, List, [], ◌∷◌, ◌++◌, map, refl, sym, ap, subst, ◌∙◌}
+use Rattle.std.proofs.Common.{◌≡◌, Bool, true, false, cond, not, ◌||◌, inl, inr, List, [], ◌∷◌, ◌++◌, map, refl, sym, ap, subst, ◌∙◌}
 use Rattle.std.specs.List.{list_any, filter, flat_map}
 use Rattle.x5_model.specs.Words.{sorted}
 use Rattle.x5_model.specs.Members.{In, here, there}
@@ -16,12 +16,12 @@ use Rattle.x5_model_run.specs.History.{Point, holdings_at}
 use Rattle.x5_model_run.specs.Covers.{meet, are_apart}
 use Rattle.x5_model_run.specs.Needs.{part_needs}
 use Rattle.x5_model_parts.specs.Parts.{BeginsHere, rest_needs}
-use Rattle.x5_model_parts.proofs.Joining.{spots_are_once, parts_are_apart}
+use Rattle.x5_model_parts.proofs.Joining.{spots_are_once}
 use Rattle.x5_model_serve.specs.Walked.{Shuffled, none, one}
 use Rattle.x5_model_serve.specs.Answering.{taken_before, walked_needs, rest_of_parts, first_each}
 use Rattle.x5_model_serve.proofs.Shuffling.{of_shuffled, in_shuffled, widen}
 use Rattle.x5_model_serve.proofs.Walks.{of_rest, needs_shuffled}
-use Rattle.x5_model_joins.proofs.Joined.{map_same, filter_same, filter_all, map_joined, sorted_map, picked, of_picked, picked_ascending}
+use Rattle.x5_model_joins.proofs.Joined.{map_same, filter_same, filter_all, map_joined, sorted_map, picked_ascending}
 use Rattle.x5_model_joins.proofs.Contexts.{meet_back}
 
 -- ---- the references
@@ -57,7 +57,7 @@ module _ (w : World) where
           | inr j ↦ never_meets x (ys ++ zs) rest.0 v j m
         ]),
         and_true (not (list_any (meet w y) (ys ++ zs))) (are_apart w (ys ++ zs))
-        (none_meets y (ys ++ zs) (λ v i m. never_meets y (ys ++ x ∷ zs) b.0 v (widen x v ys zs i) m)) rest.1,
+            (none_meets y (ys ++ zs) (λ v i m. never_meets y (ys ++ x ∷ zs) b.0 v (widen x v ys zs i) m)) rest.1,
       )
 
   pub shuffled_apart : (us vs : List Reference) → Shuffled us vs → are_apart w vs ≡ true → are_apart w us ≡ true

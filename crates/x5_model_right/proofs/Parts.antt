@@ -8,18 +8,16 @@ use Rattle.x5_model.specs.Members.{In, here, there, Once}
 use Rattle.x5_model.specs.Keys.{Key, is_root}
 use Rattle.x5_model.specs.Values.{key_of}
 use Rattle.x5_model.specs.Entries.{Named}
-use Rattle.x5_model.specs.Requests.{Body, Read, Compare, ListBelow, Search, AddEntry, RemoveEntry, ModifyEntry, ModifyDn, Request}
-use Rattle.x5_model.specs.Statics.{fault_of}
+use Rattle.x5_model.specs.Requests.{Body, Read, Compare, ListBelow, Search, AddEntry, RemoveEntry, ModifyEntry, ModifyDn}
 use Rattle.x5_model.specs.References.{Progress, Start, Next, Done, Reference, Chained}
-use Rattle.x5_model.specs.Answers.{Source, Answer, DirError, EntryFound, Matched, Listed, Found, Changed, Reply, Answered}
+use Rattle.x5_model.specs.Answers.{Source, Answer, EntryFound, Matched, Listed, Found, Changed, Reply, Answered}
 use Rattle.x5_model.proofs.Decide.{nat_same_decides}
 use Rattle.x5_model.proofs.Lists.{both_true, or_left, or_right, true_or_false, all_in}
-use Rattle.x5_model.proofs.Ascending.{of_insert, of_sorted, in_sorted}
-use Rattle.x5_model_tree.specs.Tree.{Tree, lowest, is_there_or_root}
-use Rattle.x5_model_tree.specs.Ask.{Told, Shows, Compares, Lists, Finds, Changes, Refuses, is_update, unexplored_of, ask_body, ask_marked}
-use Rattle.x5_model_run.specs.Covers.{answer_below, answer_at_pin, told}
+use Rattle.x5_model.proofs.Ascending.{of_insert, of_sorted}
+use Rattle.x5_model_tree.specs.Tree.{lowest}
+use Rattle.x5_model_tree.specs.Ask.{Told, Shows, Compares, Lists, Finds, Changes, Refuses, is_update, unexplored_of}
 use Rattle.x5_model_run.specs.Network.{arrives, refuses}
-use Rattle.x5_model_run.specs.Journal.{Line, Journal, same_name, is_done, is_wide, siblings}
+use Rattle.x5_model_run.specs.Journal.{Line, Journal, same_name, is_done, siblings}
 use Rattle.x5_model_run.specs.Holdings.{Held, Copy, Holdings, held_at, copy_at, known_pin, holds_within}
 use Rattle.x5_model_run.specs.Needs.{target_of, is_unable, subset_of, superior_needs, multicast_needs, supplier_needs, copy_answers, specific_needs, part_needs, needs}
 use Rattle.x5_model_run.specs.History.{Point, knowledge_at, holdings_at}

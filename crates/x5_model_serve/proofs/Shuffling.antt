@@ -29,11 +29,13 @@ split_at x (y ∷ ys) i = elim (in_first x y ys i) [
 pub once_split : {A : Type 0} (x : A) (cs bs : List A) → Once (cs ++ x ∷ bs) → Once (cs ++ bs) × (In x (cs ++ bs) → ⊥)
 once_split x [] bs o = (o.1, o.0)
 once_split x (a ∷ cs) bs o =
-    let w = once_split x cs bs o.1 in
-    (((λ i. o.0 (widen x a cs bs i)), w.0), λ i. elim (in_first x a (cs ++ bs) i) [
-      | inl p ↦ o.0 (subst (λ z. In z (cs ++ x ∷ bs)) p (in_right x cs (x ∷ bs) here))
-      | inr j ↦ w.1 j
-    ])
+    let w = once_split x cs bs o.1 in (
+      ((λ i. o.0 (widen x a cs bs i)), w.0),
+      λ i. elim (in_first x a (cs ++ bs) i) [
+        | inl p ↦ o.0 (subst (λ z. In z (cs ++ x ∷ bs)) p (in_right x cs (x ∷ bs) here))
+        | inr j ↦ w.1 j
+      ],
+    )
 
 -- ---- members once
 pub once_of_map : {A B : Type 0} (f : A → B) (xs : List A) → Once (map f xs) → Once xs
@@ -45,8 +47,11 @@ once_filtered f t [] o = tt
 once_filtered f t (x ∷ xs) o = by (t x) (once_filtered f t xs o.1)
   where
     by : (b : Bool) → Once (map f (filter t xs)) → Once (map f (cond b (x ∷ filter t xs) (filter t xs)))
-    by true rest = ((λ i. (let w = of_map f (f x) (filter t xs) i in
-        o.0 (subst (λ y. In y (map f xs)) (sym w.2) (in_map f w.0 xs (of_filter t w.0 xs w.1).0)))), rest)
+    by true rest = (
+      (λ i. (let w = of_map f (f x) (filter t xs) i in
+          o.0 (subst (λ y. In y (map f xs)) (sym w.2) (in_map f w.0 xs (of_filter t w.0 xs w.1).0)))),
+      rest,
+    )
     by false rest = rest
 
 -- ---- with the same members

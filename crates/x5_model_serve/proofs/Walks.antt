@@ -53,8 +53,8 @@ pub once_each : (cs : List Held) → Once (pins_of (each_once cs))
 once_each [] = tt
 once_each (c ∷ cs) = (
   λ i. (let w = of_map pin_at (pin_at c) (filter (other_pin c) (each_once cs)) i in
-    let f : same_key (pin_at c) (pin_at w.0) ≡ false = not_true (same_key (pin_at c) (pin_at w.0)) (of_filter (other_pin c) w.0 (each_once cs) w.1).1 in
-    let t : same_key (pin_at c) (pin_at w.0) ≡ true = (key_decides (pin_at c) (pin_at w.0)).1 w.2 in cc),
+      let f : same_key (pin_at c) (pin_at w.0) ≡ false = not_true (same_key (pin_at c) (pin_at w.0)) (of_filter (other_pin c) w.0 (each_once cs) w.1).1 in
+      let t : same_key (pin_at c) (pin_at w.0) ≡ true = (key_decides (pin_at c) (pin_at w.0)).1 w.2 in cc),
   once_filtered pin_at (other_pin c) (each_once cs) (once_each cs),
 )
 
@@ -112,10 +112,13 @@ module _ (behind : Bool) (all : List Held) (base : Key) (subset : Subset) where
   next_under ys c i =
       let f = of_filter (λ (x : Held). in_subset subset base (key_of x.prefix) && list_any (λ (d : Held). is_there d.entries (parent (key_of x.prefix))) ys) c all i in
       let b = both_true (in_subset subset base (key_of c.prefix)) _ f.1 in
-      let d = of_any (λ (x : Held). is_there x.entries (parent (key_of c.prefix))) ys b.1 in
-      (d.0, d.1, in_sorted pin_below c (under d.0)
-      (in_filter (λ (x : Held). in_subset subset base (key_of x.prefix) && is_there d.0.entries (parent (key_of x.prefix))) c all f.0
-      (and_true (in_subset subset base (key_of c.prefix)) (is_there d.0.entries (parent (key_of c.prefix))) b.0 d.2)))
+      let d = of_any (λ (x : Held). is_there x.entries (parent (key_of c.prefix))) ys b.1 in (
+        d.0,
+        d.1,
+        in_sorted pin_below c (under d.0)
+            (in_filter (λ (x : Held). in_subset subset base (key_of x.prefix) && is_there d.0.entries (parent (key_of x.prefix))) c all f.0
+            (and_true (in_subset subset base (key_of c.prefix)) (is_there d.0.entries (parent (key_of c.prefix))) b.0 d.2)),
+      )
 
   -- what the descent comes to is at a level
   pub of_descent : (n : ℕ) (xs ys : List Held) → ((d : Held) → In d xs → In d ys) → (c : Held)
@@ -144,14 +147,21 @@ module _ (behind : Bool) (all : List Held) (base : Key) (subset : Subset) where
       → (d : Held) × In d ys × In c (descent behind n all base subset (d ∷ []))
   reached zero ys c i = (c, i, here)
   reached (suc n) ys c i = elim (of_level n ys c i) [
-    | inl j ↦ (c, j, in_flat (with_below n) c c (c ∷ []) here
-        (beside_it behind c (descent behind n all base subset (just_under all base subset c))))
+    | inl j ↦ (
+      c,
+      j,
+      in_flat (with_below n) c c (c ∷ []) here
+          (beside_it behind c (descent behind n all base subset (just_under all base subset c))),
+    )
     | inr j ↦
         let w = reached n (next ys) c j in
-        let u = next_under ys w.0 w.1 in
-        (u.0, u.1, in_flat (with_below n) c u.0 (u.0 ∷ []) here
-        (beside_below behind u.0 c (descent behind n all base subset (just_under all base subset u.0))
-        (more n (w.0 ∷ []) (just_under all base subset u.0) (alone w.0 (just_under all base subset u.0) u.2) c w.2)))
+        let u = next_under ys w.0 w.1 in (
+          u.0,
+          u.1,
+          in_flat (with_below n) c u.0 (u.0 ∷ []) here
+              (beside_below behind u.0 c (descent behind n all base subset (just_under all base subset u.0))
+              (more n (w.0 ∷ []) (just_under all base subset u.0) (alone w.0 (just_under all base subset u.0) u.2) c w.2)),
+        )
   ]
 
   pub in_descent : (n : ℕ) (xs ys : List Held) → ((d : Held) → In d ys → In d xs) → (c : Held)
