@@ -18,7 +18,6 @@ use Rattle.x5_model_run.specs.History.{Point}
 use Rattle.x5_model_run.specs.Stage.{budget}
 use Rattle.x5_model_run.specs.Chain.{Scene, scene_at, probe_request}
 use Rattle.x5_model_serve.specs.Serving.{Hand, hand, hand_of, Serves, Does, Hears, Whole, IsRequest, asked_by, answers, not_told, not_heard, refused, stuck, refers, goes, casts, reads, gives_parts, asks_parts, updates, does, misses, done_before, no_probe, clear, silent, lost, dropped, sends, final, wide_referral, none_yet, heard, none_asked, unable_too, silent_too, answered, nobody_has, some_silent, no_part, part_answered}
-use Rattle.x5_model_determined.proofs.Courses.{Nothing, same_course}
 use Rattle.x5_model_determined.proofs.Once.{request_is_determined}
 use Rattle.x5_model_rows.proofs.BaseWorld.{nl, acme, desk, jan, lab, shop, ada}
 use Rattle.x5_model_rows.proofs.Messages.{asks, passes, journal, accepted_journal, now, info, bare, shows, whole_outcome, left_out}

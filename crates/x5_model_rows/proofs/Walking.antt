@@ -2,9 +2,9 @@
 -- key first in the file: it walks them by key. And one whose contexts overlap, so that its knowledge isn't consistent:
 -- depth first, each context once; of two entries with one key the later one is dropped, and only after the filter; and
 -- of two NSSRs at one entry that of the context below is asked first.
-use Rattle.std.specs.Prelude.{ℕ, List, [], ◌∷◌, map}
+use Rattle.std.specs.Prelude.{List, [], ◌∷◌, map}
 use Rattle.std.specs.declared.option.Option.TheVariants.{None, Some}
-use Rattle.std.proofs.Common.{◌≡◌, false, refl}
+use Rattle.std.proofs.Common.{◌≡◌, refl}
 use lib.Chars.{codes}
 use Rattle.x5_model.specs.Values.{Known, TextValue, Name}
 use Rattle.x5_model.specs.Entries.{Named}
@@ -12,7 +12,7 @@ use Rattle.x5_model.specs.Filters.{Is, Equality}
 use Rattle.x5_model.specs.Requests.{WholeSubtree, Search, Only, Request}
 use Rattle.x5_model.specs.References.{Chained}
 use Rattle.x5_model.specs.Answers.{Found, Answered}
-use Rattle.x5_model_tree.specs.World.{Agent, World}
+use Rattle.x5_model_tree.specs.World.{Context, Agent, World}
 use Rattle.x5_model_tree.specs.Consistent.{breach, NamePrinted, first_breach, IsConsistent}
 use Rattle.x5_model_run.specs.Holdings.{Held, Holdings}
 use Rattle.x5_model_run.specs.Needs.{evaluated}
@@ -85,11 +85,11 @@ layered = record {
   superior = None;
   contexts =
       (record { prefix = nl; entries = nl_entry ∷ loud_entry ∷ loud_lab_entry ∷ []; nssrs = (record { at = loud; agents = 1 ∷ [] }) ∷ [] })
-          ∷ (record { prefix = acme; entries = acme_entry ∷ shop_entry ∷ []; nssrs = (record { at = acme; agents = 2 ∷ [] }) ∷ [] })
-          ∷ (record { prefix = jan; entries = jan_entry ∷ []; nssrs = [] })
-          ∷ (record { prefix = ada; entries = ada_entry ∷ []; nssrs = [] })
-          ∷ (record { prefix = desk; entries = desk_entry ∷ []; nssrs = [] })
-          ∷ [];
+      ∷ (record { prefix = acme; entries = acme_entry ∷ shop_entry ∷ []; nssrs = (record { at = acme; agents = 2 ∷ [] }) ∷ [] })
+      ∷ (record { prefix = jan; entries = jan_entry ∷ []; nssrs = [] })
+      ∷ (record { prefix = ada; entries = ada_entry ∷ []; nssrs = [] })
+      ∷ (record { prefix = desk; entries = desk_entry ∷ []; nssrs = [] })
+      ∷ [];
   subordinate = [];
   cross = [];
   crosses = [];
@@ -101,8 +101,12 @@ overlaps = world_of (layered ∷ (record beta { contexts = [] }) ∷ (record gam
 pub overlap_is_told : first_breach overlaps ≡ Some (breach 3 (NamePrinted loud) (NamePrinted acme))
 overlap_is_told = refl
 
+-- each context as the file gives it, since here it isn't the part of one tree
+abbrev pub as_described : Context → Held
+as_described c = record { prefix = c.prefix; entries = c.entries; subordinate = []; nssrs = c.nssrs }
+
 abbrev pub held_over : Holdings
-held_over = holdings_at (point overlaps []) 0
+held_over = record { me = 0; superior = None; own = map as_described layered.contexts; copies = []; root = []; cross = [] }
 
 -- Level by level Desk has two places, since both NL and Acme have the entry above it, and Jan comes before Ada.
 pub by_level : pins (evaluated held_over searched) ≡ nl ∷ acme ∷ jan ∷ desk ∷ ada ∷ desk ∷ []
