@@ -12,7 +12,8 @@ use Rattle.x5_model_serve.specs.Answering.{reply_from, local_sources, subs_in, i
 use Rattle.x5_model_find.proofs.Needing.{false_true}
 
 module _ (h : Holdings) (m : Chained) where
-  told_answers : (b : Body) → is_query_below b ≡ true → (a : Answer) × (reply_from (local_sources h m) (told_in h m b) ≡ Answered a)
+  told_answers : (b : Body) → is_query_below b ≡ true → (a : Answer)
+      × (reply_from (local_sources h m) (told_in h m b) ≡ Answered a)
   told_answers (Read name selection) q = absurd (false_true q)
   told_answers (Compare name a) q = absurd (false_true q)
   told_answers (ListBelow name) q = (
@@ -21,7 +22,8 @@ module _ (h : Holdings) (m : Chained) where
     refl,
   )
   told_answers (Search base subset f selection) q = (
-    Found (sorted before_info (first_each before_info (flat_map (infos_in h m f selection) (entered h m)))) (local_sources h m)
+    Found (sorted before_info (first_each before_info (flat_map (infos_in h m f selection) (entered h m))))
+        (local_sources h m)
         (record { limited = false; unexplored = [] }),
     refl,
   )

@@ -25,25 +25,30 @@ use Rattle.x5_model_joins.proofs.Joined.{map_same, filter_same, filter_all, map_
 use Rattle.x5_model_joins.proofs.Contexts.{meet_back}
 
 -- ---- the references
-pub of_the_rest : (p : Point) (l : Line) (r : Reference) → In r (rest_of_parts (holdings_at p l.receiver) l.message) → In r (rest_needs p l)
+pub of_the_rest : (p : Point) (l : Line) (r : Reference) → In r (rest_of_parts (holdings_at p l.receiver) l.message)
+    → In r (rest_needs p l)
 of_the_rest p l r i = of_rest (holdings_at p l.receiver) l.message r i
 
-pub in_the_rest : (p : Point) (l : Line) → BeginsHere p l → (r : Reference) → In r (rest_needs p l) → In r (rest_of_parts (holdings_at p l.receiver) l.message)
+pub in_the_rest : (p : Point) (l : Line) → BeginsHere p l → (r : Reference) → In r (rest_needs p l)
+    → In r (rest_of_parts (holdings_at p l.receiver) l.message)
 in_the_rest p l b r i =
     in_sorted taken_before r (walked_needs (holdings_at p l.receiver) l.message)
     (in_shuffled (walked_needs (holdings_at p l.receiver) l.message) (part_needs (holdings_at p l.receiver) l.message) r
     (needs_shuffled (holdings_at p l.receiver) l.message (spots_are_once p l b)) i)
 
 module _ (w : World) where
-  none_meets : (x : Reference) (xs : List Reference) → ((y : Reference) → In y xs → meet w x y ≡ true → ⊥) → not (list_any (meet w x) xs) ≡ true
+  none_meets : (x : Reference) (xs : List Reference) → ((y : Reference) → In y xs → meet w x y ≡ true → ⊥)
+      → not (list_any (meet w x) xs) ≡ true
   none_meets x xs g = elim (true_or_false (list_any (meet w x) xs)) [
     | inl p ↦ (let y = of_any (meet w x) xs p in absurd (g y.0 y.1 y.2))
     | inr p ↦ ap not p
   ]
 
-  never_meets : (x : Reference) (xs : List Reference) → not (list_any (meet w x) xs) ≡ true → (y : Reference) → In y xs → meet w x y ≡ true → ⊥
+  never_meets : (x : Reference) (xs : List Reference) → not (list_any (meet w x) xs) ≡ true → (y : Reference)
+      → In y xs → meet w x y ≡ true → ⊥
   never_meets x xs h y i m =
-      (let a : list_any (meet w x) xs ≡ true = any_in (meet w x) y xs i m in let c : list_any (meet w x) xs ≡ false = not_true (list_any (meet w x) xs) h in cc)
+      (let a : list_any (meet w x) xs ≡ true = any_in (meet w x) y xs i m in let c : list_any
+      (meet w x) xs ≡ false = not_true (list_any (meet w x) xs) h in cc)
 
   apart_split : (x : Reference) (ys zs : List Reference) → are_apart w (ys ++ x ∷ zs) ≡ true
       → (not (list_any (meet w x) (ys ++ zs)) ≡ true) × (are_apart w (ys ++ zs) ≡ true)
@@ -65,7 +70,8 @@ module _ (w : World) where
   shuffled_apart _ _ (one {x} {xs} ys zs s) h =
       let b = apart_split x ys zs h in
       and_true (not (list_any (meet w x) xs)) (are_apart w xs)
-      (none_meets x xs (λ v i m. never_meets x (ys ++ zs) b.0 v (of_shuffled xs (ys ++ zs) v s i) m)) (shuffled_apart xs (ys ++ zs) s b.1)
+      (none_meets x xs (λ v i m. never_meets x (ys ++ zs) b.0 v (of_shuffled xs (ys ++ zs) v s i) m))
+      (shuffled_apart xs (ys ++ zs) s b.1)
 
 pub walked_apart : (w : World) (p : Point) (l : Line) (b : BeginsHere p l) → are_apart w (rest_needs p l) ≡ true
     → are_apart w (walked_needs (holdings_at p l.receiver) l.message) ≡ true
@@ -88,9 +94,11 @@ pub flat_shown : {X : Type 0} (f : Held → Named → X) (g : Named → X) (u t 
     → flat_map (λ c. map (f c) (filter u c.entries)) cs ≡ map g (filter t (flat_map (λ c. c.entries) cs))
 flat_shown f g u t [] same h = refl
 flat_shown f g u t (c ∷ cs) same h =
-    (λ i. (ap (map (f c)) (filter_same u t c.entries (λ z j. same z)) ∙ map_same (f c) g (filter t c.entries) (λ e j. h c here e (of_filter t e c.entries j).0)) i
+    (λ i. (ap (map (f c)) (filter_same u t c.entries (λ z j. same z))
+    ∙ map_same (f c) g (filter t c.entries) (λ e j. h c here e (of_filter t e c.entries j).0)) i
     ++ flat_shown f g u t cs same (λ d j. h d (there j)) i)
-    ∙ sym (ap (map g) (filter_joined t c.entries (flat_map (λ d. d.entries) cs)) ∙ map_joined g (filter t c.entries) (filter t (flat_map (λ d. d.entries) cs)))
+    ∙ sym (ap (map g) (filter_joined t c.entries (flat_map (λ d. d.entries) cs))
+    ∙ map_joined g (filter t c.entries) (filter t (flat_map (λ d. d.entries) cs)))
 
 pub first_all : {X : Type 0} (below : X → X → Bool) (xs : List X) → AllApart below xs → first_each below xs ≡ xs
 first_all below [] a = refl
@@ -125,17 +133,22 @@ module _ {E X : Type 0} (low : E → E → Bool) (below : X → X → Bool)
   sorted_chosen : (es : List E) → AllApart low es → sorted low (filter t es) ≡ filter t (sorted low es)
   sorted_chosen es a =
       one_list low chain never (sorted low (filter t es)) (filter t (sorted low es))
-      (sorted_ascending low chain (filter t es) (chosen_apart es a)) (picked_ascending low below chain never t es a) to from
+      (sorted_ascending low chain (filter t es) (chosen_apart es a))
+      (picked_ascending low below chain never t es a) to from
     where
       to : (z : E) → In z (sorted low (filter t es)) → In z (filter t (sorted low es))
-      to z i = (let w = of_filter t z es (of_sorted low z (filter t es) i) in in_filter t z (sorted low es) (in_sorted low z es w.0) w.1)
+      to z i = (let w = of_filter t z es (of_sorted low z (filter t es) i) in in_filter t z (sorted low es)
+          (in_sorted low z es w.0) w.1)
 
       from : (z : E) → In z (filter t (sorted low es)) → In z (sorted low (filter t es))
-      from z i = (let w = of_filter t z (sorted low es) i in in_sorted low z (filter t es) (in_filter t z es (of_sorted low z es w.0) w.1))
+      from z i = (let w = of_filter t z (sorted low es) i in in_sorted low z (filter t es)
+          (in_filter t z es (of_sorted low z es w.0) w.1))
 
   -- nothing of it is dropped
-  pub shown_sorted : (es : List E) → AllApart low es → sorted below (first_each below (map g (filter t es))) ≡ map g (filter t (sorted low es))
+  pub shown_sorted : (es : List E) → AllApart low es → sorted below (first_each below (map g (filter t es))) ≡ map g
+      (filter t (sorted low es))
   shown_sorted es a =
-      ap (sorted below) (first_all below (map g (filter t es)) (map_apart (filter t es) (λ e i. (of_filter t e es i).1) (chosen_apart es a)))
+      ap (sorted below) (first_all below (map g (filter t es))
+      (map_apart (filter t es) (λ e i. (of_filter t e es i).1) (chosen_apart es a)))
       ∙ sorted_map low below g (filter t es) (λ d e i j. order d e (of_filter t d es i).1 (of_filter t e es j).1)
       ∙ ap (map g) (sorted_chosen es a)

@@ -1,7 +1,7 @@
--- In which order an agent walks the contexts of a search. One agent that masters two contexts below one entry, the later
--- key first in the file: it walks them by key. And one whose contexts overlap, so that its knowledge isn't consistent:
--- depth first, each context once; of two entries with one key the later one is dropped, and only after the filter; and
--- of two NSSRs at one entry that of the context below is asked first.
+-- In which order an agent walks the contexts of a search. One agent masters two contexts below one entry, the later key
+-- first in the file: it walks them by key. Another's contexts overlap, so that its knowledge isn't consistent: depth
+-- first, each context once; of two entries with one key the later one is dropped, and only after the filter; and of two
+-- NSSRs at one entry that of the context below is asked first.
 use Rattle.std.specs.Prelude.{List, [], ◌∷◌, map}
 use Rattle.std.specs.declared.option.Option.TheVariants.{None, Some}
 use Rattle.std.proofs.Common.{◌≡◌, refl}
@@ -36,7 +36,8 @@ abbrev pub alone : Agent
 alone = record {
   name = codes "Alpha";
   superior = None;
-  contexts = (record { prefix = nl; entries = nl_entry ∷ acme_entry ∷ desk_entry ∷ []; nssrs = [] }) ∷ shop_context ∷ lab_context ∷ [];
+  contexts = (record { prefix = nl; entries = nl_entry ∷ acme_entry ∷ desk_entry ∷ []; nssrs = [] }) ∷ shop_context ∷
+      lab_context ∷ [];
   subordinate = [];
   cross = [];
   crosses = [];
@@ -47,7 +48,18 @@ two_below = world_of (alone ∷ []) []
 
 pub consistent_below : IsConsistent two_below
 consistent_below =
-    record { one_master = refl; parents = refl; no_longer_pin = refl; references = refl; shadows = refl; known_below = refl; members = refl; top_known = refl; superiors = refl; supplied = refl }
+    record {
+      one_master = refl;
+      parents = refl;
+      no_longer_pin = refl;
+      references = refl;
+      shadows = refl;
+      known_below = refl;
+      members = refl;
+      top_known = refl;
+      superiors = refl;
+      supplied = refl;
+    }
 
 abbrev pub held_below : Holdings
 held_below = holdings_at (point two_below []) 0
@@ -84,8 +96,18 @@ layered = record {
   name = codes "Alpha";
   superior = None;
   contexts =
-      (record { prefix = nl; entries = nl_entry ∷ loud_entry ∷ loud_lab_entry ∷ []; nssrs = (record { at = loud; agents = 1 ∷ [] }) ∷ [] })
-      ∷ (record { prefix = acme; entries = acme_entry ∷ shop_entry ∷ []; nssrs = (record { at = acme; agents = 2 ∷ [] }) ∷ [] })
+      (record {
+        prefix = nl;
+        entries = nl_entry ∷ loud_entry ∷ loud_lab_entry ∷ [];
+        nssrs =
+            (record { at = loud; agents = 1 ∷ [] }) ∷ [];
+      })
+      ∷ (record {
+        prefix = acme;
+        entries = acme_entry ∷ shop_entry ∷ [];
+        nssrs =
+            (record { at = acme; agents = 2 ∷ [] }) ∷ [];
+      })
       ∷ (record { prefix = jan; entries = jan_entry ∷ []; nssrs = [] })
       ∷ (record { prefix = ada; entries = ada_entry ∷ []; nssrs = [] })
       ∷ (record { prefix = desk; entries = desk_entry ∷ []; nssrs = [] })
@@ -96,7 +118,8 @@ layered = record {
 }
 
 abbrev pub overlaps : World
-overlaps = world_of (layered ∷ (record beta { contexts = [] }) ∷ (record gamma { superior = Some 0; contexts = [] }) ∷ []) []
+overlaps = world_of (layered ∷ (record beta { contexts = [] }) ∷
+    (record gamma { superior = Some 0; contexts = [] }) ∷ []) []
 
 pub overlap_is_told : first_breach overlaps ≡ Some (breach 3 (NamePrinted loud) (NamePrinted acme))
 overlap_is_told = refl
@@ -106,7 +129,14 @@ abbrev pub as_described : Context → Held
 as_described c = record { prefix = c.prefix; entries = c.entries; subordinate = []; nssrs = c.nssrs }
 
 abbrev pub held_over : Holdings
-held_over = record { me = 0; superior = None; own = map as_described layered.contexts; copies = []; root = []; cross = [] }
+held_over = record {
+  me = 0;
+  superior = None;
+  own = map as_described layered.contexts;
+  copies = [];
+  root = [];
+  cross = [];
+}
 
 -- Level by level Desk has two places, since both NL and Acme have the entry above it, and Jan comes before Ada.
 pub by_level : pins (evaluated held_over searched) ≡ nl ∷ acme ∷ jan ∷ desk ∷ ada ∷ desk ∷ []
@@ -124,7 +154,8 @@ first_counts = refl
 
 -- Where only the later one passes the filter, that one is told: nothing was dropped before.
 abbrev pub for_tools : Request
-for_tools = plainly (Search nl WholeSubtree (Is (Equality (record { kind = Known 13; value = TextValue (codes "tools"); normal = Some (codes "tools") }))) (Only []))
+for_tools = plainly (Search nl WholeSubtree (Is (Equality
+    (record { kind = Known 13; value = TextValue (codes "tools"); normal = Some (codes "tools") }))) (Only []))
 
 pub later_passes : local_part held_over (opening for_tools)
     ≡ Answered (Found (bare acme ∷ []) (now nl 0 ∷ now acme 0 ∷ now desk 0 ∷ now ada 0 ∷ now jan 0 ∷ []) whole_outcome)

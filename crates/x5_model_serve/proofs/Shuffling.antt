@@ -42,7 +42,8 @@ pub once_of_map : {A B : Type 0} (f : A → B) (xs : List A) → Once (map f xs)
 once_of_map f [] o = tt
 once_of_map f (x ∷ xs) o = ((λ i. o.0 (in_map f x xs i)), once_of_map f xs o.1)
 
-pub once_filtered : {A B : Type 0} (f : A → B) (t : A → Bool) (xs : List A) → Once (map f xs) → Once (map f (filter t xs))
+pub once_filtered : {A B : Type 0} (f : A → B) (t : A → Bool) (xs : List A) → Once (map f xs)
+    → Once (map f (filter t xs))
 once_filtered f t [] o = tt
 once_filtered f t (x ∷ xs) o = by (t x) (once_filtered f t xs o.1)
   where
@@ -101,7 +102,8 @@ assoc (u ∷ us) vs ws = ap (λ zs. u ∷ zs) (assoc us vs ws)
 
 flat_joined : {A B : Type 0} (f : A → List B) (xs ys : List A) → flat_map f (xs ++ ys) ≡ flat_map f xs ++ flat_map f ys
 flat_joined f [] ys = refl
-flat_joined f (x ∷ xs) ys = ap (λ zs. f x ++ zs) (flat_joined f xs ys) ∙ sym (assoc (f x) (flat_map f xs) (flat_map f ys))
+flat_joined f (x ∷ xs) ys = ap (λ zs. f x ++ zs) (flat_joined f xs ys)
+    ∙ sym (assoc (f x) (flat_map f xs) (flat_map f ys))
 
 between : {A : Type 0} (us xs ys zs : List A) → Shuffled xs (ys ++ zs) → Shuffled (us ++ xs) (ys ++ (us ++ zs))
 between [] xs ys zs s = s
@@ -110,7 +112,8 @@ between (u ∷ us) xs ys zs s = one ys (us ++ zs) (between us xs ys zs s)
 pub shuffled_more : {A : Type 0} (us xs ys : List A) → Shuffled xs ys → Shuffled (us ++ xs) (us ++ ys)
 shuffled_more us xs ys s = between us xs [] ys s
 
-pub shuffled_flat : {A B : Type 0} (f : A → List B) (xs ys : List A) → Shuffled xs ys → Shuffled (flat_map f xs) (flat_map f ys)
+pub shuffled_flat : {A B : Type 0} (f : A → List B) (xs ys : List A) → Shuffled xs ys
+    → Shuffled (flat_map f xs) (flat_map f ys)
 shuffled_flat f _ _ none = none
 shuffled_flat f _ _ (one {x} {xs} ys zs s) =
     subst (λ bs. Shuffled (f x ++ flat_map f xs) bs) (sym (flat_joined f ys (x ∷ zs)))
@@ -125,4 +128,5 @@ pub shuffled_map : {A B : Type 0} (f : A → B) (xs ys : List A) → Shuffled xs
 shuffled_map f _ _ none = none
 shuffled_map f _ _ (one {x} {xs} ys zs s) =
     subst (λ bs. Shuffled (f x ∷ map f xs) bs) (sym (map_joined f ys (x ∷ zs)))
-    (one (map f ys) (map f zs) (subst (λ bs. Shuffled (map f xs) bs) (map_joined f ys zs) (shuffled_map f xs (ys ++ zs) s)))
+    (one (map f ys) (map f zs) (subst (λ bs. Shuffled (map f xs) bs) (map_joined f ys zs)
+    (shuffled_map f xs (ys ++ zs) s)))

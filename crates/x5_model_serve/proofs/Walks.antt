@@ -45,7 +45,8 @@ in_each (d ∷ ds) c i = elim (in_first c d ds i) [
         | inl p ↦ subst (λ (k : Key). In k (pins_of (each_once (d ∷ ds))))
             ((key_decides (pin_at d) (pin_at w.0)).0 p ∙ sym w.2) here
         | inr p ↦ there (subst (λ (k : Key). In k (pins_of (filter (other_pin d) (each_once ds)))) (sym w.2)
-            (in_map pin_at w.0 (filter (other_pin d) (each_once ds)) (in_filter (other_pin d) w.0 (each_once ds) w.1 (ap not p))))
+            (in_map pin_at w.0 (filter (other_pin d) (each_once ds))
+            (in_filter (other_pin d) w.0 (each_once ds) w.1 (ap not p))))
       ]
 ]
 
@@ -53,7 +54,8 @@ pub once_each : (cs : List Held) → Once (pins_of (each_once cs))
 once_each [] = tt
 once_each (c ∷ cs) = (
   λ i. (let w = of_map pin_at (pin_at c) (filter (other_pin c) (each_once cs)) i in
-      let f : same_key (pin_at c) (pin_at w.0) ≡ false = not_true (same_key (pin_at c) (pin_at w.0)) (of_filter (other_pin c) w.0 (each_once cs) w.1).1 in
+      let f : same_key (pin_at c) (pin_at w.0) ≡ false = not_true (same_key (pin_at c) (pin_at w.0))
+      (of_filter (other_pin c) w.0 (each_once cs) w.1).1 in
       let t : same_key (pin_at c) (pin_at w.0) ≡ true = (key_decides (pin_at c) (pin_at w.0)).1 w.2 in cc),
   once_filtered pin_at (other_pin c) (each_once cs) (once_each cs),
 )
@@ -77,7 +79,8 @@ of_beside true c d below i = elim (in_either d below (c ∷ []) i) [
 module _ (behind : Bool) (all : List Held) (base : Key) (subset : Subset) where
   abbrev next : List Held → List Held
   next level =
-      filter (λ c. in_subset subset base (key_of c.prefix) && list_any (λ d. is_there d.entries (parent (key_of c.prefix))) level) all
+      filter (λ c. in_subset subset base (key_of c.prefix) && list_any
+      (λ d. is_there d.entries (parent (key_of c.prefix))) level) all
 
   abbrev under : Held → List Held
   under c = filter (λ d. in_subset subset base (key_of d.prefix) && is_there c.entries (parent (key_of d.prefix))) all
@@ -101,23 +104,28 @@ module _ (behind : Bool) (all : List Held) (base : Key) (subset : Subset) where
 
   under_next : (d : Held) (ys : List Held) (c : Held) → In d ys → In c (just_under all base subset d) → In c (next ys)
   under_next d ys c i j =
-      let f = of_filter (λ (x : Held). in_subset subset base (key_of x.prefix) && is_there d.entries (parent (key_of x.prefix))) c all
+      let f = of_filter (λ (x : Held). in_subset subset base (key_of x.prefix) && is_there d.entries
+      (parent (key_of x.prefix))) c all
       (of_sorted pin_below c (under d) j) in
       let b = both_true (in_subset subset base (key_of c.prefix)) (is_there d.entries (parent (key_of c.prefix))) f.1 in
-      in_filter (λ (x : Held). in_subset subset base (key_of x.prefix) && list_any (λ (d : Held). is_there d.entries (parent (key_of x.prefix))) ys) c all f.0
+      in_filter (λ (x : Held). in_subset subset base (key_of x.prefix) && list_any
+      (λ (d : Held). is_there d.entries (parent (key_of x.prefix))) ys) c all f.0
       (and_true (in_subset subset base (key_of c.prefix)) _ b.0
       (any_in (λ (x : Held). is_there x.entries (parent (key_of c.prefix))) d ys i b.1))
 
   next_under : (ys : List Held) (c : Held) → In c (next ys) → (d : Held) × In d ys × In c (just_under all base subset d)
   next_under ys c i =
-      let f = of_filter (λ (x : Held). in_subset subset base (key_of x.prefix) && list_any (λ (d : Held). is_there d.entries (parent (key_of x.prefix))) ys) c all i in
+      let f = of_filter (λ (x : Held). in_subset subset base (key_of x.prefix) && list_any
+      (λ (d : Held). is_there d.entries (parent (key_of x.prefix))) ys) c all i in
       let b = both_true (in_subset subset base (key_of c.prefix)) _ f.1 in
       let d = of_any (λ (x : Held). is_there x.entries (parent (key_of c.prefix))) ys b.1 in (
         d.0,
         d.1,
         in_sorted pin_below c (under d.0)
-            (in_filter (λ (x : Held). in_subset subset base (key_of x.prefix) && is_there d.0.entries (parent (key_of x.prefix))) c all f.0
-            (and_true (in_subset subset base (key_of c.prefix)) (is_there d.0.entries (parent (key_of c.prefix))) b.0 d.2)),
+            (in_filter (λ (x : Held). in_subset subset base (key_of x.prefix) && is_there d.0.entries
+            (parent (key_of x.prefix))) c all f.0
+            (and_true (in_subset subset base (key_of c.prefix))
+            (is_there d.0.entries (parent (key_of c.prefix))) b.0 d.2)),
       )
 
   -- what the descent comes to is at a level
@@ -160,7 +168,8 @@ module _ (behind : Bool) (all : List Held) (base : Key) (subset : Subset) where
           u.1,
           in_flat (with_below n) c u.0 (u.0 ∷ []) here
               (beside_below behind u.0 c (descent behind n all base subset (just_under all base subset u.0))
-              (more n (w.0 ∷ []) (just_under all base subset u.0) (alone w.0 (just_under all base subset u.0) u.2) c w.2)),
+              (more n (w.0 ∷ []) (just_under all base subset u.0)
+              (alone w.0 (just_under all base subset u.0) u.2) c w.2)),
         )
   ]
 
@@ -174,7 +183,8 @@ module _ (behind : Bool) (all : List Held) (base : Key) (subset : Subset) where
 module _ (behind : Bool) (h : Holdings) (m : Chained) where
   abbrev walked : Subset → List Held
   walked subset =
-      each_once (descent behind 16 (served m.request h) (key_of m.target) subset (sorted pin_below (begins_at h m subset)))
+      each_once (descent behind 16 (served m.request h) (key_of m.target) subset
+      (sorted pin_below (begins_at h m subset)))
 
   abbrev spots : Subset → List Held
   spots subset = and_below 16 (served m.request h) (key_of m.target) subset (begins_at h m subset)
@@ -185,7 +195,8 @@ module _ (behind : Bool) (h : Holdings) (m : Chained) where
       go : (x : Option Subset) → Once (pins_of (in_option [] walked x))
       go None = tt
       go (Some subset) =
-          once_each (descent behind 16 (served m.request h) (key_of m.target) subset (sorted pin_below (begins_at h m subset)))
+          once_each (descent behind 16 (served m.request h) (key_of m.target) subset
+          (sorted pin_below (begins_at h m subset)))
 
   pub of_walk : (c : Held) → In c (walk behind h m) → In c (evaluated h m)
   of_walk c i = go (subset_of m) i
@@ -195,7 +206,8 @@ module _ (behind : Bool) (h : Holdings) (m : Chained) where
       go (Some subset) j =
           of_descent behind (served m.request h) (key_of m.target) subset 16 (sorted pin_below (begins_at h m subset))
           (begins_at h m subset) (λ d k. of_sorted pin_below d (begins_at h m subset) k) c
-          (of_each (descent behind 16 (served m.request h) (key_of m.target) subset (sorted pin_below (begins_at h m subset))) c j)
+          (of_each (descent behind 16 (served m.request h) (key_of m.target) subset
+          (sorted pin_below (begins_at h m subset))) c j)
 
   pub pin_in_walk : (c : Held) → In c (evaluated h m) → In (key_of c.prefix) (pins_of (walk behind h m))
   pin_in_walk c i = go (subset_of m) i
@@ -203,7 +215,8 @@ module _ (behind : Bool) (h : Holdings) (m : Chained) where
       go : (x : Option Subset) → In c (in_option [] spots x) → In (key_of c.prefix) (pins_of (in_option [] walked x))
       go None j = elim j [ ]
       go (Some subset) j =
-          in_each (descent behind 16 (served m.request h) (key_of m.target) subset (sorted pin_below (begins_at h m subset))) c
+          in_each (descent behind 16 (served m.request h) (key_of m.target) subset
+          (sorted pin_below (begins_at h m subset))) c
           (in_descent behind (served m.request h) (key_of m.target) subset 16 (sorted pin_below (begins_at h m subset))
           (begins_at h m subset) (λ d k. in_sorted pin_below d (begins_at h m subset) k) c j)
 
@@ -211,7 +224,8 @@ module _ (behind : Bool) (h : Holdings) (m : Chained) where
     pub in_walk : (c : Held) → In c (evaluated h m) → In c (walk behind h m)
     in_walk c i =
         let w = of_map pin_at (pin_at c) (walk behind h m) (pin_in_walk c i) in
-        subst (λ (x : Held). In x (walk behind h m)) (once_map pin_at (evaluated h m) w.0 c once (of_walk w.0 w.1) i (sym w.2)) w.1
+        subst (λ (x : Held). In x (walk behind h m)) (once_map pin_at (evaluated h m) w.0 c once (of_walk w.0 w.1) i
+        (sym w.2)) w.1
 
     pub walk_shuffled : Shuffled (walk behind h m) (evaluated h m)
     walk_shuffled =
@@ -229,7 +243,8 @@ module _ (h : Holdings) (m : Chained) where
   pub of_walked_needs : (r : Reference) → In r (walked_needs h m) → In r (part_needs h m)
   of_walked_needs r i = go (subset_of m) i
     where
-      go : (x : Option Subset) → In r (in_option [] (λ subset. at_root subset ++ flat_map (needs_in subset) (left h m)) x)
+      go : (x : Option Subset) → In r (in_option [] (λ subset. at_root subset ++ flat_map (needs_in subset)
+          (left h m)) x)
           → In r (in_option [] (subset_needs h m) x)
       go None j = elim j [ ]
       go (Some subset) j = elim (in_either r (at_root subset) (flat_map (needs_in subset) (left h m)) j) [
@@ -245,10 +260,12 @@ module _ (h : Holdings) (m : Chained) where
   pub needs_shuffled : Once (pins_of (evaluated h m)) → Shuffled (walked_needs h m) (part_needs h m)
   needs_shuffled once = go (subset_of m)
     where
-      go : (x : Option Subset) → Shuffled (in_option [] (λ subset. at_root subset ++ flat_map (needs_in subset) (left h m)) x) (in_option [] (subset_needs h m) x)
+      go : (x : Option Subset) → Shuffled (in_option [] (λ subset. at_root subset ++ flat_map (needs_in subset)
+          (left h m)) x) (in_option [] (subset_needs h m) x)
       go None = none
       go (Some subset) =
-          shuffled_more (at_root subset) (flat_map (needs_in subset) (left h m)) (flat_map (needs_in subset) (evaluated h m))
+          shuffled_more (at_root subset) (flat_map (needs_in subset) (left h m))
+          (flat_map (needs_in subset) (evaluated h m))
           (shuffled_flat (needs_in subset) (left h m) (evaluated h m) (walk_shuffled true h m once))
 
 pub walk_is_once : WalkIsOnce

@@ -20,7 +20,8 @@ pin_below a b = key_below (key_of a.prefix) (key_of b.prefix)
 -- of all contexts those whose pin is in the subset just below an entry of this one, in the order of their pins
 abbrev pub just_under : List Held → Key → Subset → Held → List Held
 just_under all base subset c =
-    sorted pin_below (filter (λ d. in_subset subset base (key_of d.prefix) && is_there c.entries (parent (key_of d.prefix))) all)
+    sorted pin_below (filter (λ d. in_subset subset base (key_of d.prefix) && is_there c.entries
+    (parent (key_of d.prefix))) all)
 
 -- a context before all below it, or behind
 abbrev pub beside : Bool → Held → List Held → List Held
@@ -43,7 +44,8 @@ walk behind h m = in_option [] by (subset_of m)
   where
     by : Subset → List Held
     by subset =
-        each_once (descent behind 16 (served m.request h) (key_of m.target) subset (sorted pin_below (begins_at h m subset)))
+        each_once (descent behind 16 (served m.request h) (key_of m.target) subset
+        (sorted pin_below (begins_at h m subset)))
 
 -- the contexts in the order in which the walk comes to them, and in the order in which it leaves them
 abbrev pub entered : Holdings → Chained → List Held
