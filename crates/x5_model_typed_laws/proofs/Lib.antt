@@ -12,4 +12,8 @@ pub mod Oids
 pub mod Leaves
 pub mod Reading
 pub mod Spelled
+pub mod Closing
+pub mod Texts
+pub mod Sorting
+pub mod Settling
 mod Examples
