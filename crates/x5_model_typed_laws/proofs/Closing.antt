@@ -1,6 +1,6 @@
 -- How a type is closed: by the kind of its content, where the rule of the whole keeps what was read as it is.
-use Rattle.std.proofs.Common.{◌≡◌, ℕ, suc, ◌+◌, ◌-◌, ◌*◌, ◌^◌, ◌<◌, ◌≤◌, Bool, true, false, cond, not, ◌&&◌, ◌==◌, nat_lt, nat_le, if◌then◌else◌, List, [], ◌∷◌, ◌++◌, length, refl, sym, ap, ap₂, subst, ◌∙◌, arith}
-use Rattle.std.specs.Prelude.{ℤ, pos, negsuc}
+use Rattle.std.proofs.Common.{◌≡◌, ℕ, ◌+◌, ◌-◌, ◌*◌, ◌^◌, ◌<◌, ◌≤◌, Bool, true, false, cond, not, ◌&&◌, ◌==◌, nat_lt, nat_le, if◌then◌else◌, List, [], ◌∷◌, length, refl, sym, ap, subst, ◌∙◌, arith}
+use Rattle.std.specs.Prelude.{ℤ}
 use Rattle.std.proofs.lemmas.Bool.{lt-ltb, ltb-true, ltb-false, leb-true}
 use Rattle.std.specs.List.{find, list_all}
 use native.Mathlib.Nat.{pow-le-pow_right}
@@ -11,8 +11,7 @@ use Rattle.x5_model.specs.Words.{in_option}
 use Rattle.x5_model.specs.Normal.{is_oid, most_octets}
 use Rattle.x5_model.proofs.Lists.{both_true, and_true}
 use Rattle.x5_model_octets.specs.Headers.{big_endian}
-use Rattle.x5_model_typed.specs.Nodes as nodes
-use Rattle.x5_model_typed.specs.Nodes.{Node, Nodes, Vacant, Flag, Number, Oid, Bits, Octets, Text, Chosen, Many, whole, list, row, parts}
+use Rattle.x5_model_typed.specs.Nodes.{Node, Nodes, Vacant, Flag, Number, Oid, Octets, Text, Chosen, Many, whole}
 use Rattle.x5_model_typed.specs.Named.{Named}
 use Rattle.x5_model_typed.specs.Forms.{Content, Primitive, Joined, JoinedBits, Explicit, Sequence, Set, Members, Never, Alternative, Layout}
 use Rattle.x5_model_typed.specs.Judged.{marked}
@@ -40,7 +39,8 @@ kept_rule rule m n x h same e = subst (λ (y : Node). rule y ≡ Some y) e (h �
 
 -- ---- contents of elements
 
-said_within : (layout : Layout) (c : Content) (m : Node) → is_made_of_members c ≡ true → IsSaid layout c m → (ns : Nodes) × (m ≡ Many ns) × FitsIn layout c ns
+said_within : (layout : Layout) (c : Content) (m : Node) → is_made_of_members c ≡ true → IsSaid layout c m
+    → (ns : Nodes) × (m ≡ Many ns) × FitsIn layout c ns
 said_within layout (Sequence cs) m h s = (s.0, s.1, fits.sequence s.2)
 said_within layout (Set cs) m h s = (s.0, s.1, fits.set s.2)
 said_within layout (Members form) m h s = (s.0, s.1, fits.members s.2)
@@ -66,7 +66,8 @@ unmarked a n h = ap (λ (b : Bool). if b then Chosen a.tag n else n) h
 is_marked_so : (a : Alternative) (n : Node) → a.marked ≡ true → marked a n ≡ Chosen a.tag n
 is_marked_so a n h = ap (λ (b : Bool). if b then Chosen a.tag n else n) h
 
-pub made_closes : (layout : Layout) (types : List Alternative) (a : Alternative) → is_made_of_members a.content ≡ true → a.marked ≡ false → Keeps a.settles
+pub made_closes : (layout : Layout) (types : List Alternative) (a : Alternative)
+    → is_made_of_members a.content ≡ true → a.marked ≡ false → Keeps a.settles
     → ((ns : Nodes) → find (can_hold (Many ns)) types ≡ Some a) → Closes layout types a
 made_closes layout types a made plain keeps held m n said rule =
     let w = said_within layout a.content m made said in
@@ -75,16 +76,19 @@ made_closes layout types a made plain keeps held m n said rule =
     subst (λ (x : Node). Fits layout types x) (sym (unmarked a n plain ∙ same ∙ w.1))
     (fits.made a (held w.0) plain (no_leaf a.content (Many w.0) made) w.2 kept)
 
-pub chosen_closes : (layout : Layout) (types : List Alternative) (a : Alternative) → is_made_of_members a.content ≡ true → a.marked ≡ true → Keeps a.settles
+pub chosen_closes : (layout : Layout) (types : List Alternative) (a : Alternative)
+    → is_made_of_members a.content ≡ true → a.marked ≡ true → Keeps a.settles
     → find (is_marked a.tag) types ≡ Some a → Closes layout types a
 chosen_closes layout types a made is keeps found m n said rule =
     let w = said_within layout a.content m made said in
     let same : n ≡ m = keeps m n rule in
     let kept : a.settles (Many w.0) ≡ Some (Many w.0) = kept_rule a.settles m n (Many w.0) rule same w.1 in
-    subst (λ (x : Node). Fits layout types x) (sym (is_marked_so a n is ∙ ap (λ (x : Node). Chosen a.tag x) (same ∙ w.1)))
+    subst (λ (x : Node). Fits layout types x) (sym (is_marked_so a n is
+    ∙ ap (λ (x : Node). Chosen a.tag x) (same ∙ w.1)))
     (fits.chosen_made a a.tag found w.2 kept)
 
-pub explicit_closes : (layout : Layout) (types : List Alternative) (a : Alternative) (form : Named) → a.content ≡ Explicit form → a.marked ≡ true → Keeps a.settles
+pub explicit_closes : (layout : Layout) (types : List Alternative) (a : Alternative) (form : Named)
+    → a.content ≡ Explicit form → a.marked ≡ true → Keeps a.settles
     → find (is_marked a.tag) types ≡ Some a → Closes layout types a
 explicit_closes layout types a form c is keeps found m n said rule =
     let inner : Fits layout (layout form) m = subst (λ (x : Content). IsSaid layout x m) c said in
@@ -104,9 +108,11 @@ abbrev pub Writes : Content → Type 0
 Writes c = (layout : Layout) (m : Node) → IsSaid layout c m → IsWritable c m
 
 pub held_by : (a : Alternative) (m : Node) → IsWritable a.content m → can_hold m a ≡ true
-held_by a m w = ap (λ (o : Option (List ℕ)). if is_some o then true else (is_many m && is_made_of_members a.content)) w.writes
+held_by a m w = ap (λ (o : Option (List ℕ)). if is_some o then true else (is_many m && is_made_of_members a.content))
+    w.writes
 
-pub leaf_closes : (layout : Layout) (types : List Alternative) (a : Alternative) → a.marked ≡ false → Keeps a.settles → Writes a.content
+pub leaf_closes : (layout : Layout) (types : List Alternative) (a : Alternative) → a.marked ≡ false → Keeps a.settles
+    → Writes a.content
     → ((m : Node) → IsSaid layout a.content m → find (can_hold m) types ≡ Some a) → Closes layout types a
 leaf_closes layout types a plain keeps writes held m n said rule =
     let w = writes layout m said in
@@ -115,12 +121,14 @@ leaf_closes layout types a plain keeps writes held m n said rule =
     (fits.whole a w.octets w.free (held m said) plain w.writes (kept_rule a.settles m n m rule same refl))
 
 -- the only alternative
-pub leaf_alone : (layout : Layout) (a : Alternative) → a.marked ≡ false → Keeps a.settles → Writes a.content → Closes layout (a ∷ []) a
+pub leaf_alone : (layout : Layout) (a : Alternative) → a.marked ≡ false → Keeps a.settles → Writes a.content
+    → Closes layout (a ∷ []) a
 leaf_alone layout a plain keeps writes =
     leaf_closes layout (a ∷ []) a plain keeps writes
     (λ m said. ap (λ (b : Bool). cond b (Some a) None) (held_by a m (writes layout m said)))
 
-writable : (c : Content) (m x : Node) (octets : List ℕ) → x ≡ m → leaf_octets c x ≡ Some octets → is_chosen x ≡ false → IsWritable c m
+writable : (c : Content) (m x : Node) (octets : List ℕ) → x ≡ m → leaf_octets c x ≡ Some octets → is_chosen x ≡ false
+    → IsWritable c m
 writable c m x octets e h f = subst (λ (y : Node). IsWritable c y) e (record { octets = octets; writes = h; free = f })
 
 flag_writable : (b : Bool) → IsWritable (Primitive boolean) (Flag b)
@@ -129,7 +137,8 @@ flag_writable false = record { octets = 0 ∷ []; writes = refl; free = refl }
 
 boolean_by : (octets : List ℕ) (m : Node) → boolean.reads octets ≡ Some m → IsWritable (Primitive boolean) m
 boolean_by [] m h = absurd (cc h)
-boolean_by (o ∷ []) m h = subst (λ (x : Node). IsWritable (Primitive boolean) x) (some_is (Flag (not (o == 0))) m h) (flag_writable (not (o == 0)))
+boolean_by (o ∷ []) m h = subst (λ (x : Node). IsWritable (Primitive boolean) x) (some_is (Flag (not (o == 0))) m h)
+    (flag_writable (not (o == 0)))
 boolean_by (o ∷ p ∷ os) m h = absurd (cc h)
 
 pub boolean_writes : Writes (Primitive boolean)
@@ -152,7 +161,8 @@ text_writes test layout m s =
     let w = so (test s.0) (Text s.0) m s.1 in
     writable (Joined (text_where test)) m (Text s.0) s.0 w.1 (let_through (test s.0) s.0 w.0) refl
 
-time_by : (w : Surroundings) (octets : List ℕ) (m : Node) (o : Option ℕ) → w.moment octets ≡ o → (time_leaf w).reads octets ≡ Some m → IsWritable (Joined (time_leaf w)) m
+time_by : (w : Surroundings) (octets : List ℕ) (m : Node) (o : Option ℕ) → w.moment octets ≡ o
+    → (time_leaf w).reads octets ≡ Some m → IsWritable (Joined (time_leaf w)) m
 time_by w octets m None e h = let none : None ≡ Some m = sym (no_moment w octets e) ∙ h in absurd (cc none)
   where
     no_moment : (v : Surroundings) (os : List ℕ) → v.moment os ≡ None → (time_leaf v).reads os ≡ None
@@ -162,7 +172,8 @@ time_by w octets m (Some k) e h =
     let same : Some (whole k) ≡ Some m = sym there ∙ h in
     writable (Joined (time_leaf w)) m (whole k) (w.time k) (some_is (whole k) m same) refl refl
   where
-    one_moment : (v : Surroundings) (os : List ℕ) (j : ℕ) → v.moment os ≡ Some j → (time_leaf v).reads os ≡ Some (whole j)
+    one_moment : (v : Surroundings) (os : List ℕ) (j : ℕ) → v.moment os ≡ Some j
+        → (time_leaf v).reads os ≡ Some (whole j)
     one_moment v os j f = rw f refl
 
 pub time_writes : (w : Surroundings) → Writes (Joined (time_leaf w))
@@ -181,21 +192,32 @@ options_writes layout m s =
 
 -- ---- object identifiers and numbers
 
-some_arcs : (o : Option (List ℕ)) (f : List ℕ → Option Node) (m : Node) → in_option None f o ≡ Some m → (x : List ℕ) × (o ≡ Some x) × (f x ≡ Some m)
+some_arcs : (o : Option (List ℕ)) (f : List ℕ → Option Node) (m : Node) → in_option None f o ≡ Some m → (x : List ℕ)
+    × (o ≡ Some x) × (f x ≡ Some m)
 some_arcs None f m h = absurd (cc h)
 some_arcs (Some x) f m h = (x, refl, h)
 
-checked_arcs : (o : Option (List ℕ)) (arcs : List ℕ) → in_option None (λ ns. where_so (is_oid (arcs_of ns)) (arcs_of ns)) o ≡ Some arcs → is_oid arcs ≡ true
+checked_arcs : (o : Option (List ℕ)) (arcs : List ℕ) → in_option None
+    (λ ns. where_so (is_oid (arcs_of ns)) (arcs_of ns)) o ≡ Some arcs → is_oid arcs ≡ true
 checked_arcs None arcs h = absurd (cc h)
 checked_arcs (Some ns) arcs h =
     let w = so (is_oid (arcs_of ns)) (arcs_of ns) arcs h in ap is_oid (sym w.1) ∙ w.0
+
+-- what is read as an object identifier is one
+pub oid_is : (test : List ℕ → Bool) (octets : List ℕ) (m : Node) → (oid test).reads octets ≡ Some m → (arcs : List ℕ)
+    × (Oid arcs ≡ m)
+oid_is test octets m h =
+    let w = some_arcs (oid_of octets) (λ arcs. where_so (test arcs) (Oid arcs)) m h in
+    (w.0, (so (test w.0) (Oid w.0) m w.2).1)
 
 pub oid_writes : (test : List ℕ → Bool) → Writes (Primitive (oid test))
 oid_writes test layout m s =
     let w = some_arcs (oid_of s.0) (λ arcs. where_so (test arcs) (Oid arcs)) m s.2 in
     let v = so (test w.0) (Oid w.0) m w.2 in
-    let fine : (is_oid w.0 && test w.0) ≡ true = and_true (is_oid w.0) (test w.0) (checked_arcs (subidentifiers true 0 s.0) w.0 w.1) v.0 in
-    writable (Primitive (oid test)) m (Oid w.0) (oid_octets w.0) v.1 (let_through (is_oid w.0 && test w.0) (oid_octets w.0) fine) refl
+    let fine : (is_oid w.0 && test w.0) ≡ true = and_true (is_oid w.0) (test w.0)
+    (checked_arcs (subidentifiers true 0 s.0) w.0 w.1) v.0 in
+    writable (Primitive (oid test)) m (Oid w.0) (oid_octets w.0) v.1
+    (let_through (is_oid w.0 && test w.0) (oid_octets w.0) fine) refl
 
 -- ---- numbers: a number of eight octets lies between -2^63 and 2^63
 
@@ -210,7 +232,8 @@ above (o ∷ os) x h =
     let rest = above os (x * 256 + o) w.1 in
     let step = times (x * 256 + o + 1) ((x + 1) * 256) (2 ^ (8 * length os)) (omega arith) in
     let same = regroup (x + 1) (2 ^ (8 * length os)) in
-    let more : (x + 1) * 2 ^ (8 * length (o ∷ os)) ≡ (x + 1) * (256 * 2 ^ (8 * length os)) = ap (λ (q : ℕ). (x + 1) * q) (power (length os)) in
+    let more : (x + 1) * 2 ^ (8 * length (o ∷ os)) ≡ (x + 1) * (256 * 2 ^ (8 * length os)) = ap
+    (λ (q : ℕ). (x + 1) * q) (power (length os)) in
     join _ _ _ _ _ rest step same (sym more)
   where
     join : (a b c d e : ℕ) → a ≤ b → b ≤ c → c ≡ d → d ≡ e → a ≤ e
@@ -222,7 +245,8 @@ below (o ∷ os) x =
     let rest = below os (x * 256 + o) in
     let step = times (x * 256) (x * 256 + o) (2 ^ (8 * length os)) (omega arith) in
     let same = regroup x (2 ^ (8 * length os)) in
-    let more : x * 2 ^ (8 * length (o ∷ os)) ≡ x * (256 * 2 ^ (8 * length os)) = ap (λ (q : ℕ). x * q) (power (length os)) in
+    let more : x * 2 ^ (8 * length (o ∷ os)) ≡ x * (256 * 2 ^ (8 * length os)) = ap (λ (q : ℕ). x * q)
+    (power (length os)) in
     join _ _ _ _ _ more (sym same) step rest
   where
     join : (a b c d e : ℕ) → a ≡ b → b ≡ c → c ≤ d → d ≤ e → a ≤ e
@@ -231,7 +255,8 @@ below (o ∷ os) x =
 powers : (n : ℕ) → n ≤ 7 → 2 ^ (8 * n) ≤ 2 ^ 56
 powers n h = let e : 8 * n ≤ 56 = omega arith in pow-le-pow_right (omega arith) e
 
-pos_short : (a : ℕ) (os : List ℕ) → a < 128 → length os ≤ 7 → list_all is_octet os ≡ true → nat_lt (big_endian a os) (2 ^ 63) ≡ true
+pos_short : (a : ℕ) (os : List ℕ) → a < 128 → length os ≤ 7 → list_all is_octet os ≡ true
+    → nat_lt (big_endian a os) (2 ^ 63) ≡ true
 pos_short a os less few h =
     let top = above os a h in
     let p = powers (length os) few in
@@ -250,7 +275,8 @@ neg_short a os more octet few h =
 first_is : (a : ℕ) → 0 * 256 + a ≡ a
 first_is a = omega arith
 
-short_by : (octets : List ℕ) → list_all is_octet octets ≡ true → is_shortest octets ≡ true → length octets ≤ 8 → is_short_number (complement octets) ≡ true
+short_by : (octets : List ℕ) → list_all is_octet octets ≡ true → is_shortest octets ≡ true → length octets ≤ 8
+    → is_short_number (complement octets) ≡ true
 short_by [] h s few = absurd (cc s)
 short_by (a ∷ os) h s few = by (nat_lt a 128) refl
   where
@@ -259,24 +285,29 @@ short_by (a ∷ os) h s few = by (nat_lt a 128) refl
 
     by : (b : Bool) → nat_lt a 128 ≡ b → is_short_number (complement (a ∷ os)) ≡ true
     by true e =
-        rw e (ap (λ (x : ℕ). nat_lt (big_endian x os) (2 ^ 63)) (first_is a) ∙ pos_short a os (ltb-true a 128 e) (omega arith) w.1)
+        rw e (ap (λ (x : ℕ). nat_lt (big_endian x os) (2 ^ 63)) (first_is a)
+        ∙ pos_short a os (ltb-true a 128 e) (omega arith) w.1)
     by false e =
         rw e (ap (λ (x : ℕ). nat_lt (2 ^ (8 * length (a ∷ os)) - 1 - big_endian x os) (2 ^ 63)) (first_is a)
         ∙ neg_short a os (ltb-false a 128 e) (ltb-true a 256 w.0) (omega arith) w.1)
 
-some_number : (o : Option ℤ) (f : ℤ → Option Node) (m : Node) → in_option None f o ≡ Some m → (x : ℤ) × (o ≡ Some x) × (f x ≡ Some m)
+some_number : (o : Option ℤ) (f : ℤ → Option Node) (m : Node) → in_option None f o ≡ Some m → (x : ℤ) × (o ≡ Some x)
+    × (f x ≡ Some m)
 some_number None f m h = absurd (cc h)
 some_number (Some x) f m h = (x, refl, h)
 
-number_writable : (test : ℤ → Bool) (octets : List ℕ) (m : Node) → list_all is_octet octets ≡ true → (number test).reads octets ≡ Some m → IsWritable (Primitive (number test)) m
+number_writable : (test : ℤ → Bool) (octets : List ℕ) (m : Node) → list_all is_octet octets ≡ true
+    → (number test).reads octets ≡ Some m → IsWritable (Primitive (number test)) m
 number_writable test octets m o h =
     let w = some_number (number_of octets) (λ k. where_so (test k) (Number k)) m h in
     let v = so (is_shortest octets && nat_le (length octets) 8) (complement octets) w.0 w.1 in
     let u = both_true (is_shortest octets) (nat_le (length octets) 8) v.0 in
     let x = so (test w.0) (Number w.0) m w.2 in
-    let short : is_short_number w.0 ≡ true = ap is_short_number (sym v.1) ∙ short_by octets o u.0 (leb-true (length octets) 8 u.1) in
+    let short : is_short_number w.0 ≡ true = ap is_short_number (sym v.1)
+    ∙ short_by octets o u.0 (leb-true (length octets) 8 u.1) in
     let fine : (is_short_number w.0 && test w.0) ≡ true = and_true (is_short_number w.0) (test w.0) short x.0 in
-    writable (Primitive (number test)) m (Number w.0) (number_octets w.0) x.1 (let_through (is_short_number w.0 && test w.0) (number_octets w.0) fine) refl
+    writable (Primitive (number test)) m (Number w.0) (number_octets w.0) x.1
+    (let_through (is_short_number w.0 && test w.0) (number_octets w.0) fine) refl
 
 pub number_writes : (test : ℤ → Bool) → Writes (Primitive (number test))
 number_writes test layout m s = number_writable test s.0 m s.1 s.2

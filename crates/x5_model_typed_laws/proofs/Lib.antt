@@ -16,4 +16,5 @@ pub mod Closing
 pub mod Texts
 pub mod Sorting
 pub mod Settling
+pub mod Closed
 mod Examples

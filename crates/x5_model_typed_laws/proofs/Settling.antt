@@ -1,8 +1,8 @@
--- The rules that keep another value than was read: an RDN's pairs in order, controls without priority and time limit, an
--- entry of a refresh with its attributes and values in order. What each makes of a value that fits, fits; and it keeps
--- it.
-use Rattle.std.proofs.Common.{◌≡◌, ℕ, ◌+◌, Bool, true, false, cond, not, ◌&&◌, ◌==◌, nat_lt, nat_le, List, [], ◌∷◌, length, map, refl, sym, ap, ap₂, subst, ◌∙◌, arith, inl, inr}
-use Rattle.std.specs.List.{find, list_all}
+-- The rules that keep another value than was read: an RDN's pairs in order, controls without priority and time limit,
+-- an entry of a refresh with its attributes and values in order. What each makes of a value that fits, fits; and the
+-- rule keeps it.
+use Rattle.std.proofs.Common.{◌≡◌, ℕ, Bool, true, false, cond, not, ◌&&◌, ◌==◌, nat_lt, nat_le, List, [], ◌∷◌, length, map, refl, sym, ap, ap₂, subst, ◌∙◌, arith, inl, inr}
+use Rattle.std.specs.List.{list_all}
 use Rattle.std.specs.declared.option.Option.{Option}
 use Rattle.std.specs.declared.option.Option.TheVariants.{None, Some}
 use Rattle.x5_model.specs.Words.{distinct, sorted, is_empty}
@@ -13,14 +13,13 @@ use Rattle.x5_model.proofs.Ascending.{of_sorted}
 use Rattle.x5_model_typed.specs.Nodes as nodes
 use Rattle.x5_model_typed.specs.Nodes.{Node, Nodes, Vacant, Flag, Many, Nil, More, list, row, parts}
 use Rattle.x5_model_typed.specs.Named.{Named, AnyNumber, NumberBelow, Boolean, AnyOid, Value, Options, Name, Pair, Attribute, Attributes, Values}
-use Rattle.x5_model_typed.specs.Forms.{Default, Required, Component, Members, Sequence, Alternative, Layout, plain, at, or, ruled}
+use Rattle.x5_model_typed.specs.Forms.{Component, Members, Sequence, Alternative, Layout, plain, at, or, ruled}
 use Rattle.x5_model_typed.specs.Leaves.{where_so, options_node}
 use Rattle.x5_model_typed.specs.Typed.{required, default}
-use Rattle.x5_model_typed.specs.Written.{leaf_octets, can_hold, is_marked, is_default}
-use Rattle.x5_model_typed.specs.Layouts.{Surroundings, layout, is, set_of, sequence_of, sequence, set, optional}
+use Rattle.x5_model_typed.specs.Written.{leaf_octets, can_hold}
+use Rattle.x5_model_typed.specs.Layouts.{Surroundings, layout, is, set_of, sequence, set, optional}
 use Rattle.x5_model_typed.specs.Rules.{type_number, known_type, pair_below, same_type, pair_in, rdn_rule, some_members, controls_rule, is_stored, is_of_type, same_value, value_below, normal_in, in_order, attribute_type, attribute_below, same_attribute, is_true, entry_rule}
 use Rattle.x5_model_typed.proofs.Laws.{list_row}
-use Rattle.x5_model_typed.proofs.Soundness.{row_list}
 use Rattle.x5_model_typed_laws.specs.Fits as fits
 use Rattle.x5_model_typed_laws.specs.Fits.{Fits, FitsIn, FitsSequence, FitsSet, FitsEach, left_out, given, over, absent, present, all, none, more, whole, made, chosen, chosen_made, is_chosen}
 use Rattle.x5_model_typed_laws.specs.Said.{Closes}
@@ -59,7 +58,8 @@ only_made : (L : Layout) (a : Alternative) (n : Node) → a.marked ≡ false →
     → Fits L (a ∷ []) n → IsMade L a n
 only_made L a n free_of nothing (whole b octets free held unmarked writes settles) =
     let same : b ≡ a = only a b (can_hold n a) held in
-    absurd (no_octets (leaf_octets a.content n) octets (nothing n) (ap (λ (c : Alternative). leaf_octets c.content n) (sym same) ∙ writes))
+    absurd (no_octets (leaf_octets a.content n) octets (nothing n)
+    (ap (λ (c : Alternative). leaf_octets c.content n) (sym same) ∙ writes))
 only_made L a _ free_of nothing (made {ns} b held unmarked empty inside settles) =
     let same : b ≡ a = only a b (can_hold (Many ns) a) held in
     record {
@@ -134,7 +134,8 @@ type_turned p q = number_turned (pair_in p).0 (pair_in q).0
     number_turned : (a b : ℕ) → (a == b) ≡ (b == a)
     number_turned a b = grind arith
 
-pub rdn_closes : (w : Surroundings) → Closes (layout w) (is (ruled rdn_rule (set_of Pair))) (ruled rdn_rule (set_of Pair))
+pub rdn_closes : (w : Surroundings) → Closes (layout w) (is (ruled rdn_rule (set_of Pair)))
+    (ruled rdn_rule (set_of Pair))
 rdn_closes w m n (ns, is_many, inside) h =
     subst (λ (x : Node). Fits (layout w) (is (ruled rdn_rule (set_of Pair))) x) out.1
     (made (ruled rdn_rule (set_of Pair)) refl refl refl (fits.members (each_of (layout w) Pair s fit)) kept)
@@ -152,18 +153,23 @@ rdn_closes w m n (ns, is_many, inside) h =
     out = so (test (parts m)) (Many (row (sorted pair_below (parts m)))) n h
 
     fit : (p : Node) → In p (sorted pair_below (parts m)) → Fits (layout w) (layout w Pair) p
-    fit p i = each_in (layout w) Pair ns inside p (subst (λ (x : Node). In p (parts x)) is_many (of_sorted pair_below p (parts m) i))
+    fit p i = each_in (layout w) Pair ns inside p (subst (λ (x : Node). In p (parts x)) is_many
+        (of_sorted pair_below p (parts m) i))
 
     passes : test (sorted pair_below (parts m)) ≡ true
     passes =
-        let a = both_true (nat_lt 0 (length (parts m)) && nat_le (length (parts m)) normal.most_pairs) (distinct same_type (parts m)) out.0 in
-        and_true (nat_lt 0 (length (sorted pair_below (parts m))) && nat_le (length (sorted pair_below (parts m))) normal.most_pairs) (distinct same_type (sorted pair_below (parts m)))
+        let a = both_true (nat_lt 0 (length (parts m)) && nat_le (length (parts m)) normal.most_pairs)
+        (distinct same_type (parts m)) out.0 in
+        and_true (nat_lt 0 (length (sorted pair_below (parts m))) && nat_le
+        (length (sorted pair_below (parts m))) normal.most_pairs)
+        (distinct same_type (sorted pair_below (parts m)))
         (ap (λ (k : ℕ). nat_lt 0 k && nat_le k normal.most_pairs) (sorted_length pair_below (parts m)) ∙ a.0)
         (apart_sorted pair_below same_type type_turned (parts m) a.1)
 
     kept : rdn_rule (Many (row (sorted pair_below (parts m)))) ≡ Some (Many (row (sorted pair_below (parts m))))
     kept =
-        ap (λ (ps : List Node). where_so (test ps) (Many (row (sorted pair_below ps)))) (list_row (sorted pair_below (parts m)))
+        ap (λ (ps : List Node). where_so (test ps) (Many (row (sorted pair_below ps))))
+        (list_row (sorted pair_below (parts m)))
         ∙ ap (λ (ps : List Node). where_so (test (sorted pair_below (parts m))) (Many (row ps)))
         (sorted_stays pair_below (λ x y. number_one_way (pair_in x).0 (pair_in y).0) (parts m))
         ∙ let_through (test (sorted pair_below (parts m))) (Many (row (sorted pair_below (parts m)))) passes
@@ -178,7 +184,8 @@ size_at = optional (at 3 (NumberBelow 0 4294967295))
 abbrev controls_set : List Component
 controls_set = options_at ∷ optional (at 1 AnyNumber) ∷ optional (at 2 AnyNumber) ∷ size_at ∷ []
 
-pub controls_close : (w : Surroundings) → Closes (layout w) (is (ruled controls_rule (set controls_set))) (ruled controls_rule (set controls_set))
+pub controls_close : (w : Surroundings) → Closes (layout w) (is (ruled controls_rule (set controls_set)))
+    (ruled controls_rule (set controls_set))
 controls_close w m n (ns, is_many, inside) h =
     subst (λ (x : Node). Fits (layout w) (is (ruled controls_rule (set controls_set))) x) result
     (made (ruled controls_rule (set controls_set)) refl refl refl
@@ -204,7 +211,8 @@ controls_close w m n (ns, is_many, inside) h =
         ∙ ap (λ (x : Nodes). More d.first x) (none_left (layout w) d.others d.rest)))))
 
     result : Many (row (a.first ∷ Vacant ∷ Vacant ∷ d.first ∷ [])) ≡ n
-    result = (let e : Some (Many (row (a.first ∷ Vacant ∷ Vacant ∷ d.first ∷ []))) ≡ Some n = ap controls_rule (sym whole_is) ∙ h in cc)
+    result = (let e : Some (Many (row (a.first ∷ Vacant ∷ Vacant ∷ d.first ∷ []))) ≡ Some n = ap controls_rule
+        (sym whole_is) ∙ h in cc)
 
 -- ---- an entry of a refresh
 record IsAttribute (w : Surroundings) (a : Node) : Type 0 where
@@ -213,7 +221,8 @@ record IsAttribute (w : Surroundings) (a : Node) : Type 0 where
   is_row : a ≡ Many (row (type ∷ values ∷ []))
   fit : (v : Node) → In v (parts values) → Fits (layout w) (layout w Value) v
   some : not (is_empty (parts values)) ≡ true
-  again : (v : Node) → Fits (layout w) (layout w Values) v → Fits (layout w) (layout w Attribute) (Many (row (type ∷ v ∷ [])))
+  again : (v : Node) → Fits (layout w) (layout w Values) v
+      → Fits (layout w) (layout w Attribute) (Many (row (type ∷ v ∷ [])))
 
 abbrev attribute_row : List Component
 attribute_row = plain AnyOid ∷ plain Values ∷ []
@@ -264,9 +273,11 @@ ordered_fits : (w : Surroundings) (a : Node) → IsAttribute w a → Fits (layou
 ordered_fits w a i =
     subst (λ (x : Node). Fits (layout w) (layout w Attribute) x) (sym (in_order_is w a i))
     (i.again (Many (row s)) (made (ruled some_members (set_of Value)) refl refl refl
-    (fits.members (each_of (layout w) Value s (λ v j. i.fit v (of_sorted (value_below (type_number i.type)) v (parts i.values) j))))
+    (fits.members (each_of (layout w) Value s (λ v j. i.fit v
+    (of_sorted (value_below (type_number i.type)) v (parts i.values) j))))
     (let_through (not (is_empty (list (row s)))) (Many (row s))
-    (ap (λ (l : List Node). not (is_empty l)) (list_row s) ∙ some_sorted (value_below (type_number i.type)) (parts i.values) i.some))))
+    (ap (λ (l : List Node). not (is_empty l)) (list_row s)
+    ∙ some_sorted (value_below (type_number i.type)) (parts i.values) i.some))))
   where
     s : List Node
     s = sorted (value_below (type_number i.type)) (parts i.values)
@@ -287,8 +298,10 @@ stored_sorted below vs (Some k) h =
 ordered_stored : (w : Surroundings) (a : Node) → IsAttribute w a → is_stored a ≡ true → is_stored (in_order a) ≡ true
 ordered_stored w a i h =
     ap is_stored (in_order_is w a i)
-    ∙ ap (λ (l : List Node). stored_by l (known_type i.type)) (list_row (sorted (value_below (type_number i.type)) (parts i.values)))
-    ∙ stored_sorted (value_below (type_number i.type)) (parts i.values) (known_type i.type) (sym (ap is_stored i.is_row) ∙ h)
+    ∙ ap (λ (l : List Node). stored_by l (known_type i.type))
+    (list_row (sorted (value_below (type_number i.type)) (parts i.values)))
+    ∙ stored_sorted (value_below (type_number i.type)) (parts i.values) (known_type i.type)
+    (sym (ap is_stored i.is_row) ∙ h)
 
 type_kept : (a : Node) → attribute_type (in_order a) ≡ attribute_type a
 type_kept Vacant = refl
@@ -316,9 +329,11 @@ in_order_stays (nodes.Chosen tag n) = refl
 in_order_stays (Many Nil) = refl
 in_order_stays (Many (More t Nil)) = refl
 in_order_stays (Many (More t (More v Nil))) =
-    ap (λ (l : List Node). Many (row (t ∷ Many (row (sorted (value_below (type_number t)) l)) ∷ []))) (list_row (sorted (value_below (type_number t)) (parts v)))
+    ap (λ (l : List Node). Many (row (t ∷ Many (row (sorted (value_below (type_number t)) l)) ∷ [])))
+    (list_row (sorted (value_below (type_number t)) (parts v)))
     ∙ ap (λ (l : List Node). Many (row (t ∷ Many (row l) ∷ [])))
-    (sorted_stays (value_below (type_number t)) (λ x y. octets_one_way (normal_in (type_number t) x) (normal_in (type_number t) y)) (parts v))
+    (sorted_stays (value_below (type_number t)) (λ x y. octets_one_way (normal_in (type_number t) x)
+    (normal_in (type_number t) y)) (parts v))
 in_order_stays (Many (More t (More v (More x xs)))) = refl
 
 map_fixed : (f : Node → Node) (xs : List Node) → ((x : Node) → In x xs → f x ≡ x) → map f xs ≡ xs
@@ -330,7 +345,8 @@ all_mapped : (xs : List Node) → ((x : Node) → In x xs → is_stored x ≡ tr
 all_mapped [] f h = refl
 all_mapped (x ∷ xs) f h =
     let w = both_true (is_stored x) (list_all is_stored xs) h in
-    and_true (is_stored (in_order x)) (list_all is_stored (map in_order xs)) (f x here w.0) (all_mapped xs (λ z i. f z (there i)) w.1)
+    and_true (is_stored (in_order x)) (list_all is_stored (map in_order xs)) (f x here w.0)
+    (all_mapped xs (λ z i. f z (there i)) w.1)
 
 abbrev entry_row : List Component
 entry_row = plain Name ∷ or (Flag true) (plain Boolean) ∷ plain Attributes ∷ []
@@ -354,11 +370,13 @@ attributes_stay xs =
     ap in_order w.2 ∙ in_order_stays w.0 ∙ sym w.2)))
     ∙ sorted_stays attribute_below (λ x y. number_one_way (attribute_type x) (attribute_type y)) (map in_order xs)
 
-pub entry_closes : (w : Surroundings) → Closes (layout w) (is (ruled entry_rule (sequence entry_row))) (ruled entry_rule (sequence entry_row))
+pub entry_closes : (w : Surroundings) → Closes (layout w) (is (ruled entry_rule (sequence entry_row)))
+    (ruled entry_rule (sequence entry_row))
 entry_closes w m n (ns, is_many, inside) h =
     subst (λ (x : Node). Fits (layout w) (is (ruled entry_rule (sequence entry_row))) x) out.1
     (made (ruled entry_rule (sequence entry_row)) refl refl refl
-    (fits.sequence (x.again (More y.first (More (Many (row s)) Nil)) (y.again (More (Many (row s)) Nil) (given refl attributes_fit required over)))) kept)
+    (fits.sequence (x.again (More y.first (More (Many (row s)) Nil))
+    (y.again (More (Many (row s)) Nil) (given refl attributes_fit required over)))) kept)
   where
     x : HasFirst (layout w) (plain Name) (or (Flag true) (plain Boolean) ∷ plain Attributes ∷ []) ns
     x = (plain_first (layout w) Name (or (Flag true) (plain Boolean) ∷ plain Attributes ∷ []) ns inside).0
@@ -378,8 +396,10 @@ entry_closes w m n (ns, is_many, inside) h =
     s : List Node
     s = kept_attributes (parts z.first)
 
-    out : (entry_test y.first (parts z.first) ≡ true) × (Many (row (x.first ∷ y.first ∷ Many (row (kept_attributes (parts z.first))) ∷ [])) ≡ n)
-    out = so (entry_test y.first (parts z.first)) (Many (row (x.first ∷ y.first ∷ Many (row (kept_attributes (parts z.first))) ∷ []))) n
+    out : (entry_test y.first (parts z.first) ≡ true) × (Many
+        (row (x.first ∷ y.first ∷ Many (row (kept_attributes (parts z.first))) ∷ [])) ≡ n)
+    out = so (entry_test y.first (parts z.first)) (Many (row
+        (x.first ∷ y.first ∷ Many (row (kept_attributes (parts z.first))) ∷ []))) n
         (ap entry_rule (sym whole_is) ∙ h)
 
     made_attributes : IsMade (layout w) (set_of Attribute) z.first
@@ -395,15 +415,19 @@ entry_closes w m n (ns, is_many, inside) h =
 
     attributes_fit : Fits (layout w) (layout w Attributes) (Many (row (kept_attributes (parts z.first))))
     attributes_fit =
-        made (set_of Attribute) refl refl refl (fits.members (each_of (layout w) Attribute (kept_attributes (parts z.first)) (λ a i.
+        made (set_of Attribute) refl refl refl (fits.members
+        (each_of (layout w) Attribute (kept_attributes (parts z.first)) (λ a i.
         (let v = of_map in_order a (parts z.first) (of_sorted attribute_below a (map in_order (parts z.first)) i) in
-        subst (λ (q : Node). Fits (layout w) (layout w Attribute) q) (sym v.2) (ordered_fits w v.0 (one v.0 v.1)))))) refl
+        subst (λ (q : Node). Fits (layout w) (layout w Attribute) q) (sym v.2) (ordered_fits w v.0 (one v.0 v.1))))))
+        refl
 
     passes : entry_test y.first (kept_attributes (parts z.first)) ≡ true
     passes =
-        let a = both_true (is_true y.first && list_all is_stored (parts z.first)) (distinct same_attribute (parts z.first)) out.0 in
+        let a = both_true (is_true y.first && list_all is_stored (parts z.first))
+        (distinct same_attribute (parts z.first)) out.0 in
         let b = both_true (is_true y.first) (list_all is_stored (parts z.first)) a.0 in
-        and_true (is_true y.first && list_all is_stored (kept_attributes (parts z.first))) (distinct same_attribute (kept_attributes (parts z.first)))
+        and_true (is_true y.first && list_all is_stored (kept_attributes (parts z.first)))
+        (distinct same_attribute (kept_attributes (parts z.first)))
         (and_true (is_true y.first) (list_all is_stored (kept_attributes (parts z.first))) b.0
         (all_sorted attribute_below is_stored (map in_order (parts z.first))
         (all_mapped (parts z.first) (λ q i. ordered_stored w q (one q i)) b.1)))
@@ -414,9 +438,11 @@ entry_closes w m n (ns, is_many, inside) h =
     kept : entry_rule (Many (row (x.first ∷ y.first ∷ Many (row (kept_attributes (parts z.first))) ∷ [])))
         ≡ Some (Many (row (x.first ∷ y.first ∷ Many (row (kept_attributes (parts z.first))) ∷ [])))
     kept =
-        ap (λ (l : List Node). where_so (entry_test y.first l) (Many (row (x.first ∷ y.first ∷ Many (row (kept_attributes l)) ∷ []))))
+        ap (λ (l : List Node). where_so (entry_test y.first l)
+        (Many (row (x.first ∷ y.first ∷ Many (row (kept_attributes l)) ∷ []))))
         (list_row (kept_attributes (parts z.first)))
-        ∙ ap (λ (l : List Node). where_so (entry_test y.first (kept_attributes (parts z.first))) (Many (row (x.first ∷ y.first ∷ Many (row l) ∷ []))))
+        ∙ ap (λ (l : List Node). where_so (entry_test y.first (kept_attributes (parts z.first)))
+        (Many (row (x.first ∷ y.first ∷ Many (row l) ∷ []))))
         (attributes_stay (parts z.first))
         ∙ let_through (entry_test y.first (kept_attributes (parts z.first)))
         (Many (row (x.first ∷ y.first ∷ Many (row (kept_attributes (parts z.first))) ∷ []))) passes

@@ -1,14 +1,13 @@
 -- Sorting, of members that a rule keeps in order: what is sorted is the same sorted again, has as many members, and
 -- each that is apart from the others stays so. By induction on the list, an insertion at a time.
-use Rattle.std.proofs.Common.{◌≡◌, ℕ, suc, Bool, true, false, cond, not, ◌&&◌, ◌||◌, nat_lt, List, [], ◌∷◌, length, map, refl, sym, ap, ap₂, subst, ◌∙◌, arith, inl, inr}
+use Rattle.std.proofs.Common.{◌≡◌, ℕ, suc, Bool, true, false, cond, not, ◌&&◌, ◌||◌, nat_lt, List, [], ◌∷◌, length, map, refl, sym, ap, ap₂, ◌∙◌, arith}
 use Rattle.std.specs.Cmp.Lexicographic.{bytes_decides, nat_list_cmp_total, slice_cmp}
 use Rattle.std.specs.List.{list_all}
 use Rattle.std.specs.declared.cmp.Ordering.{Ordering}
 use Rattle.std.specs.declared.cmp.Ordering.TheVariants.{Less, Equal, Greater}
 use Rattle.std.specs.Ordering.{is_lt, ordering_reverse, nat_cmp}
 use Rattle.x5_model.specs.Words.{has, distinct, insert_sorted, sorted, is_empty, same_octets, octets_below}
-use Rattle.x5_model.specs.Members.{In, here, there}
-use Rattle.x5_model.proofs.Lists.{both_true, and_true, not_true, true_or_false, either_true, or_left, or_right}
+use Rattle.x5_model.proofs.Lists.{both_true, and_true, not_true}
 
 module _ {A : Type 0} (below : A → A → Bool) where
   -- none is below the one before it
@@ -179,6 +178,8 @@ octets_turned x y = by (same_octets x y) (same_octets y x) refl refl
     by true true f g = refl
     by false false f g = refl
     by true false f g =
-        let t : same_octets y x ≡ true = (bytes_decides y x).1 (sym ((bytes_decides x y).0 f)) in absurd (cc (sym g ∙ t))
+        let t : same_octets y x ≡ true = (bytes_decides y x).1 (sym ((bytes_decides x y).0 f)) in absurd
+        (cc (sym g ∙ t))
     by false true f g =
-        let t : same_octets x y ≡ true = (bytes_decides x y).1 (sym ((bytes_decides y x).0 g)) in absurd (cc (sym f ∙ t))
+        let t : same_octets x y ≡ true = (bytes_decides x y).1 (sym ((bytes_decides y x).0 g)) in absurd
+        (cc (sym f ∙ t))
