@@ -17,7 +17,8 @@ use Rattle.x5_model_tree.specs.Ask.{Told, Shows, Compares, Lists, Finds, Changes
 use Rattle.x5_model_run.specs.Journal.{is_done}
 use Rattle.x5_model_run.specs.Holdings.{Held, Holdings, usable_agents, held_at, served}
 use Rattle.x5_model_run.specs.Needs.{reference, others, subset_of, evaluated, answers_root, below_needs, wide_needs, in_scope, treated_below, part_needs}
-use Rattle.x5_model_serve.specs.Answering.{to_follow, reply_from, local_part, with_unexplored, limited_answer, rest_of_parts, taken_before}
+use Rattle.x5_model_serve.proofs.Walks.{of_rest}
+use Rattle.x5_model_serve.specs.Answering.{to_follow, reply_from, local_part, with_unexplored, limited_answer, rest_of_parts}
 use Rattle.x5_model_serve.specs.Serving.{is_final}
 
 -- ---- lists in order have the same members
@@ -105,7 +106,7 @@ module _ (h : Holdings) (m : Chained) (r : Reference) where
           ]
 
   pub rest_part : In r (rest_of_parts h m) → IsPart r
-  rest_part i = needed_part (of_sorted taken_before r (part_needs h m) i)
+  rest_part i = needed_part (of_rest h m r i)
 
 -- ---- what is left of an answer that has them
 

@@ -43,7 +43,8 @@ use Rattle.x5_model_parts.proofs.Needing.{IsTo, view_of}
 use Rattle.x5_model_parts.proofs.Covering.{covers_decides, scope_covered, scope_touched}
 use Rattle.x5_model_parts.proofs.Parting.{same_bool}
 use Rattle.x5_model_parts.proofs.Joining.{Sight, sight, spots_are_once, spots_are_touched, spots_are_apart, parts_are_apart, scope_is_covered}
-use Rattle.x5_model_serve.specs.Answering.{rest_of_parts, taken_before}
+use Rattle.x5_model_serve.proofs.Walks.{needs_shuffled}
+use Rattle.x5_model_serve.specs.Answering.{rest_of_parts, taken_before, walked_needs}
 use Rattle.x5_model_serve.specs.Serving.{Hand, hand, line_for}
 use Rattle.x5_model_serve.specs.Claims.{Setting}
 use Rattle.x5_model_bounds.specs.Costs.{total, width, hops, left_of, pairs_in, is_paid, part_cost, parts_cost, probes_cost, serving_cost}
@@ -54,7 +55,7 @@ use Rattle.x5_model_bounds.proofs.Agents.{subordinates_once, usable_few}
 use Rattle.x5_model_bounds.proofs.Going.{left_for, left_carried, some_subset, same_total, sound_by}
 use Rattle.std.proofs.lemmas.Bool.Decides.{leb_tells}
 use Rattle.x5_model_theory.specs.Changing.{holding}
-use Rattle.x5_model_bounds.proofs.Sums.{Apart, total_sorted, total_both, total_split, total_bump, total_few, scopes_add, found_all}
+use Rattle.x5_model_bounds.proofs.Sums.{Apart, total_sorted, total_shuffled, total_both, total_split, total_bump, total_few, scopes_add, found_all}
 use Rattle.x5_model_bounds.proofs.Scopes.{full, is_inside, scope_cost, has_begun, rest_cost, each_cost, ref_cost, every_part, served_subordinate, wide_count, pairs_at, parts_counted}
 
 less_pick : (b a : Bool) (w n : ℕ) → (if a then ((if b then 0 else w) + n) else 0) ≤ (if a then (w + n) else 0)
@@ -394,7 +395,9 @@ module _ (p : Point) (s : Scene) (from : Option ℕ) (k : Hand) (set : Setting p
   together =
       let rs : List Reference = part_needs (holdings_at p k.receiver) k.message in
       let a : total (ref_cost p k.receiver k.message) (rest_of_parts (holdings_at p k.receiver) k.message) ≡ total (ref_cost p k.receiver k.message) (part_needs (holdings_at p k.receiver) k.message) =
-      total_sorted (ref_cost p k.receiver k.message) taken_before (part_needs (holdings_at p k.receiver) k.message) in
+      total_sorted (ref_cost p k.receiver k.message) taken_before (walked_needs (holdings_at p k.receiver) k.message)
+      ∙ total_shuffled (ref_cost p k.receiver k.message) (walked_needs (holdings_at p k.receiver) k.message) (part_needs (holdings_at p k.receiver) k.message)
+      (needs_shuffled (holdings_at p k.receiver) k.message (spots_are_once p (line_for k) b)) in
       let c : total (ref_cost p k.receiver k.message) (part_needs (holdings_at p k.receiver) k.message) ≡ total wide_count (part_needs (holdings_at p k.receiver) k.message) + total (scope_cost p k.receiver k.message) (part_needs (holdings_at p k.receiver) k.message) =
       total_split wide_count (scope_cost p k.receiver k.message) (part_needs (holdings_at p k.receiver) k.message) in
       let d : total (scope_cost p k.receiver k.message) (part_needs (holdings_at p k.receiver) k.message)

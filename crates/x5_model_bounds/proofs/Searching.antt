@@ -21,14 +21,14 @@ use Rattle.x5_model_run.specs.Chain.{Scene}
 use Rattle.x5_model_run.specs.Needs.{target_of, superior_needs, multicast_needs, copy_answers, supplier_needs, specific_needs, resolves, is_excluded, begins_at, and_below, evaluated, subset_of, part_needs}
 use Rattle.x5_model_run.specs.Placed.{fits, is_query_below}
 use Rattle.x5_model_parts.specs.Parts.{BeginsHere}
+use Rattle.x5_model_serve.proofs.Walks.{of_rest}
 use Rattle.x5_model_serve.specs.Finding.{Found, Here, CopyHere, Root, Nowhere, Stuck, by_first, in_own, in_copy, at_pin, resolved, found_by, find, IsLooked}
-use Rattle.x5_model_serve.specs.Answering.{rest_of_parts, taken_before}
+use Rattle.x5_model_serve.specs.Answering.{rest_of_parts}
 use Rattle.x5_model_serve.specs.Serving.{Hand, line_for, begins_parts}
 use Rattle.x5_model_serve.specs.Claims.{Setting}
 use Rattle.x5_model_bounds.specs.Costs.{total, left_of, parts_cost, probes_cost, whole_cost}
 use Rattle.x5_model_bounds.specs.Bounds.{Ready, Payable, asks_of, cost_of, PartsPay}
 use Rattle.x5_model_bounds.proofs.Unables.{false_true}
-use Rattle.x5_model_bounds.proofs.Parting.{of_sorted}
 use Rattle.x5_model_bounds.proofs.Whole.{serving_small}
 use Rattle.x5_model_bounds.proofs.Going.{some_subset, sound_by}
 use Rattle.x5_model_bounds.proofs.Sums.{total_in}
@@ -207,7 +207,7 @@ Pay p s from k h =
 
 agent_pays : (p : Point) (s : Scene) (from : Option ℕ) (k : Hand) → Setting p s → Ready p s k → IsLooked k.message → begins_parts k (find (holdings_at p k.receiver) k.message) ≡ true → is_some (agent_at (knowledge_at p) k.receiver) ≡ true
     → Pay p s from k (holdings_at p k.receiver)
-agent_pays p s from k set ready looked found is = (ref_cost p k.receiver k.message, paid, λ r i. payable r (of_sorted taken_before r (part_needs (holdings_at p k.receiver) k.message) i) i)
+agent_pays p s from k set ready looked found is = (ref_cost p k.receiver k.message, paid, λ r i. payable r (of_rest (holdings_at p k.receiver) k.message r i) i)
   where
     asked : is_some (subset_of k.message) ≡ true
     asked = asked_somehow (holdings_at p k.receiver) k looked.1 found
@@ -263,7 +263,7 @@ parts_pay p s from k set ready looked e = subst (Pay p s from k) (sym (ap (λ (f
         subst (Pay p s from k) (sym (ap (λ (x : Option Agent). in_option (no_holdings k.receiver) (agent_holdings p k.receiver) x) q)) (
           λ r. 0,
           (let z : total (λ r. 0) (rest_of_parts (no_holdings k.receiver) k.message) ≡ 0 = nothing (rest_of_parts (no_holdings k.receiver) k.message) in least (total (λ r. 0) (rest_of_parts (no_holdings k.receiver) k.message)) (cost_of p k) z),
-          λ r i. absurd (none_needed k.receiver k.message r (of_sorted taken_before r (part_needs (no_holdings k.receiver) k.message) i)),
+          λ r i. absurd (none_needed k.receiver k.message r (of_rest (no_holdings k.receiver) k.message r i)),
         )
       where
         least : (a b : ℕ) → a ≡ 0 → a ≤ b

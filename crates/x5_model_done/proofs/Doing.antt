@@ -3,11 +3,11 @@
 -- replies can be taken up by whoever hears it: where it says that somebody is unavailable it names a reference, and
 -- it leaves nothing to be followed. And while a list or search is served nothing is accepted, so its agents hold what
 -- they held.
-use Rattle.std.proofs.Common.{◌≡◌, ◌≤◌, ℕ, zero, suc, ◌+◌, ◌==◌, nat_le, Bool, true, false, not, ◌&&◌, ◌⊎◌, inl, inr, List, [], ◌∷◌, ◌++◌, length, append_assoc, refl, sym, ap, subst, ◌∙◌, Option, Some, None, Ok, Err, cond, arith}
+use Rattle.std.proofs.Common.{◌≡◌, ◌≤◌, ℕ, zero, suc, ◌+◌, nat_le, Bool, true, false, not, ◌&&◌, ◌⊎◌, inl, inr, List, [], ◌∷◌, ◌++◌, length, append_assoc, refl, sym, ap, subst, ◌∙◌, Option, Some, None, Ok, Err, cond, arith}
 use Rattle.std.specs.Option.{is_some, is_none}
 use Rattle.std.proofs.lemmas.Bool.Decides.{leb_tells}
 use Rattle.std.proofs.lemmas.List.{append-nil, length-append}
-use Rattle.x5_model.specs.Words.{has, is_empty, in_option, when}
+use Rattle.x5_model.specs.Words.{is_empty, in_option, when}
 use Rattle.x5_model.specs.Keys.{parent}
 use Rattle.x5_model.specs.Values.{Name, key_of}
 use Rattle.x5_model.specs.Entries.{Named}
@@ -23,23 +23,18 @@ use Rattle.x5_model_run.specs.Network.{Fate, Lost, NoReply, Sent}
 use Rattle.x5_model_run.specs.Journal.{Line, Journal, item_of, is_wide}
 use Rattle.x5_model_run.specs.Holdings.{Held, Copy, Holdings, held_at, known_pin, ground_at}
 use Rattle.x5_model_run.specs.Needs.{others, nssr_at, resolves, subset_of, new_name, is_refused_here, probe_by, probe_from, probe_of, probe_at_master, probe_due, probe_needs, due_probes}
-use Rattle.x5_model_run.specs.Chain.{Scene, is_user, is_probe, asks_part, part_body, request_for}
+use Rattle.x5_model_run.specs.Chain.{Scene, is_probe, asks_part, part_body, request_for}
 use Rattle.x5_model_run.specs.Placed.{fits, is_query_below}
 use Rattle.x5_model_theory.proofs.Following.{query_of}
-use Rattle.x5_model_serve.specs.Committed.{committed}
 use Rattle.x5_model_serve.specs.Finding as finding
 use Rattle.x5_model_serve.specs.Finding.{IsLooked, find}
 use Rattle.x5_model_serve.specs.Answering.{reply_from, reply_in_own, reply_in_copy, own_source, copy_source, local_part, with_unexplored, merged, only_unexplored, to_follow, passed_by, is_service, in_vain, of_these, is_unavailable, above_next}
 use Rattle.x5_model_serve.specs.Serving.{Hand, hand, Heard, Unheard, Hears, Gathered, Whole, Broken, Act, Serves, Follows, Sends, Tries, Takes, Spreads, Casts, Gathers, Probes, Updates, Does, Arrives, carried_for, next_line, with_line, with_accepted, is_spent, is_idle, is_looped, is_too_long, holds_now, is_done_here, found_at, asked_by, begins_parts, stuck_problem, parts_refs, at_limit, gathered_reply, limit_reply, heard_or, judged, is_final, nothing_yet, user_line, user_in_vain, IsRequest, not_heard, not_told, answers, loops, is_long, done_before, refused, unfit, stuck, nowhere, refers, goes, casts, reads, reads_copy, gives_parts, asks_parts, updates, not_done, does, probes_all, misses, taken, breaks, no_probe, clear, unsure, silent, spent, lost, dropped, sends, final, referral, wide_referral, unexplored, none_yet, in_vain_too, heard, unheard, none_asked, unable_too, silent_too, answered, nobody_has, some_silent, no_part, part_unheard, part_unavailable, part_answered, part_breaks}
 use Rattle.x5_model_serve.proofs.Finals.{idle_is_followed}
 use Rattle.x5_model_find.proofs.Needing.{false_true}
-use Rattle.x5_model_find.proofs.Begins.{some_is, begins_alike}
-use Rattle.x5_model_joins.proofs.Following.{no_update_below}
 use Rattle.x5_model_verdicts.proofs.Lines.{grown}
 use Rattle.x5_model_verdicts.proofs.At.{form}
-use Rattle.x5_model_passing.proofs.Queries.{carries, still}
 use Rattle.x5_model_complete.proofs.Errors.{is_tree_error, fault_plain, over_plain, asked_plain, no_service}
-use Rattle.x5_model_done.specs.Done.{IsKept}
 use Rattle.x5_model_done.proofs.Local.{local_answers}
 use Rattle.x5_model_done.proofs.Found.{root_lists, below_lists}
 
@@ -144,13 +139,10 @@ last_view : {A : Type 0} (x : A) (xs : List A) → (ys : List A) × (y : A) × (
 last_view x [] = ([], x, refl)
 last_view x (y ∷ more) = (let w = last_view y more in (x ∷ w.0, w.1, ap (λ zs. x ∷ zs) w.2))
 
-module _ (s : Scene) (most : ℕ) (kept : (a : ℕ) → IsKept (s.holdings a)) where
-  -- messages left; and nothing was accepted while a list or search is served
+module _ (s : Scene) (most : ℕ) where
+  -- messages left
   abbrev Room : ℕ → Journal → Type 0
   Room n j = most ≤ n + length j.lines
-
-  abbrev Calm : Hand → Journal → Type 0
-  Calm k j = is_query_below k.message.request.body ≡ true → j.accepted ≡ []
 
   room_after : (n : ℕ) (x : Act) (i j : Journal) → Does s most x i j → Room n i → Room n j
   room_after n x i j d room =
@@ -158,19 +150,6 @@ module _ (s : Scene) (most : ℕ) (kept : (a : ℕ) → IsKept (s.holdings a)) w
       let e : length j.lines ≡ length (g.0 ++ i.lines) = ap (λ (ls : List Line). length ls) g.1 in
       let f : length (g.0 ++ i.lines) ≡ length g.0 + length i.lines = length-append g.0 i.lines in
       omega arith
-
-  calm_sends : (from : Option ℕ) (o : Hand) (r : Reference) (a : ℕ) (h : Heard) (i j : Journal)
-      → Does s most (Sends from o r a h) i j → Calm o i → Calm o j
-  calm_sends from o r a h i j d c q =
-      still s most (Sends from o r a h) i j d (carries from o (no_update_below o.message.request.body q)) ∙ c q
-
-  calm_takes : (from : Option ℕ) (o : Hand) (r : Reference) (h : Heard) (i j : Journal)
-      → Does s most (Takes from o r h) i j → Calm o i → Calm o j
-  calm_takes from o r h i j d c q =
-      still s most (Takes from o r h) i j d (carries from o (no_update_below o.message.request.body q)) ∙ c q
-
-  calm_serves : (k : Hand) (y : Reply) (i j : Journal) → Does s most (Serves k y) i j → Calm k i → Calm k j
-  calm_serves k y i j d c q = still s most (Serves k y) i j d (no_update_below k.message.request.body q) ∙ c q
 
   -- what is to be shown of each thing that is to be done
   abbrev ServesSome : Hand → Journal → Type 0
@@ -195,7 +174,7 @@ module _ (s : Scene) (most : ℕ) (kept : (a : ℕ) → IsKept (s.holdings a)) w
   UpdatesSome k i = (y : Reply) × (j : Journal) × Does s most (Updates k y) i j × IsNamed y
 
   module _ (n : ℕ) (send : (from : Option ℕ) (o : Hand) (r : Reference) (a : ℕ)
-      (i : Journal) → Room n i → Calm o i → SendsSome from o r a i) where
+      (i : Journal) → Room n i → SendsSome from o r a i) where
     -- ---- the agents of a reference
     tried : (from : Option ℕ) (o : Hand) (r : Reference) (before rest : List ℕ) (a : ℕ) (i j : Journal)
         → r.agents ≡ before ++ a ∷ rest → Does s most (Tries from o r before) i j
@@ -205,25 +184,25 @@ module _ (s : Scene) (most : ℕ) (kept : (a : ℕ) → IsKept (s.holdings a)) w
     tried from o r before rest a i j e d more (Hears y) l u named = (Hears y, l, heard before rest a y e d u, named)
 
     tries : (from : Option ℕ) (o : Hand) (r : Reference) (before rest : List ℕ) (i j : Journal)
-        → r.agents ≡ before ++ rest → Does s most (Tries from o r before) i j → Room n j → Calm o j
+        → r.agents ≡ before ++ rest → Does s most (Tries from o r before) i j → Room n j
         → TakesSome from o r i
-    tries from o r before [] i j e d room calm = (
+    tries from o r before [] i j e d room = (
       Unheard,
       j,
       unheard (subst (λ (xs : List ℕ). Does s most (Tries from o r xs) i j) (sym (e
           ∙ append-nil before)) d),
       tt,
     )
-    tries from o r before (a ∷ rest) i j e d room calm =
-        let w = send from o r a j room calm in
+    tries from o r before (a ∷ rest) i j e d room =
+        let w = send from o r a j room in
         tried from o r before rest a i j e d
         (λ l u. tries from o r (before ++ a ∷ []) rest i l (e
         ∙ sym (append_assoc before (a ∷ []) rest)) (in_vain_too a d u)
-        (room_after n (Sends from o r a Unheard) j l u room) (calm_sends from o r a Unheard j l u calm))
+        (room_after n (Sends from o r a Unheard) j l u room))
         w.0 w.1 w.2 w.3
 
-    takes : (from : Option ℕ) (o : Hand) (r : Reference) (i : Journal) → Room n i → Calm o i → TakesSome from o r i
-    takes from o r i room calm = tries from o r [] r.agents i i refl none_yet room calm
+    takes : (from : Option ℕ) (o : Hand) (r : Reference) (i : Journal) → Room n i → TakesSome from o r i
+    takes from o r i room = tries from o r [] r.agents i i refl none_yet room
 
     -- ---- the agents of an NSSR
     spread_end : (from : Option ℕ) (o : Hand) (r : Reference) (noted : List ℕ) (i j : Journal)
@@ -259,21 +238,21 @@ module _ (s : Scene) (most : ℕ) (kept : (a : ℕ) → IsKept (s.holdings a)) w
         (is_service unable_to_proceed y) refl
 
     spreads : (from : Option ℕ) (o : Hand) (r : Reference) (before rest noted : List ℕ) (i j : Journal)
-        → r.agents ≡ before ++ rest → Does s most (Spreads from o r before noted) i j → Room n j → Calm o j
+        → r.agents ≡ before ++ rest → Does s most (Spreads from o r before noted) i j → Room n j
         → CastsSome from o r i
-    spreads from o r before [] noted i j e d room calm =
+    spreads from o r before [] noted i j e d room =
         spread_end from o r noted i j (subst (λ (xs : List ℕ). Does s most (Spreads from o r xs noted) i j) (sym (e
         ∙ append-nil before)) d)
-    spreads from o r before (a ∷ rest) noted i j e d room calm =
-        let w = send from o r a j room calm in
+    spreads from o r before (a ∷ rest) noted i j e d room =
+        let w = send from o r a j room in
         spread_one from o r before rest noted a i j e d
         (λ more h l u v. spreads from o r (before ++ a ∷ []) rest more i l (e
         ∙ sym (append_assoc before (a ∷ []) rest)) v
-        (room_after n (Sends from o r a h) j l u room) (calm_sends from o r a h j l u calm))
+        (room_after n (Sends from o r a h) j l u room))
         w.0 w.1 w.2 w.3
 
-    casts_some : (from : Option ℕ) (o : Hand) (r : Reference) (i : Journal) → Room n i → Calm o i → CastsSome from o r i
-    casts_some from o r i room calm = spreads from o r [] r.agents [] i i refl none_asked room calm
+    casts_some : (from : Option ℕ) (o : Hand) (r : Reference) (i : Journal) → Room n i → CastsSome from o r i
+    casts_some from o r i room = spreads from o r [] r.agents [] i i refl none_asked room
 
     -- ---- an update and its probes
     module _ (k : Hand) (i : Journal) (mine : List Named) (r : Reference) (ok : judged s i k ≡ Ok mine)
@@ -328,25 +307,25 @@ module _ (s : Scene) (most : ℕ) (kept : (a : ℕ) → IsKept (s.holdings a)) w
           probe_reply before rest noted a y j l e d u (λ others v. more others (Hears y) l u v)
 
       probes : (before rest noted : List ℕ) (j : Journal)
-          → r.agents ≡ before ++ rest → Does s most (Probes k r before noted) i j → Room n j → Calm k j
+          → r.agents ≡ before ++ rest → Does s most (Probes k r before noted) i j → Room n j
           → UpdatesSome k i
-      probes before [] noted j e d room calm =
+      probes before [] noted j e d room =
           probed_end noted j (subst (λ (xs : List ℕ). Does s most (Probes k r xs noted) i j) (sym (e
           ∙ append-nil before)) d)
-      probes before (a ∷ rest) noted j e d room calm =
-          let w = send (Some k.receiver) k r a j room calm in
+      probes before (a ∷ rest) noted j e d room =
+          let w = send (Some k.receiver) k r a j room in
           probe_one before rest noted a j e d
           (λ more h l u v. probes (before ++ a ∷ []) rest more l (e ∙ sym (append_assoc before (a ∷ []) rest)) v
-          (room_after n (Sends (Some k.receiver) k r a h) j l u room) (calm_sends (Some k.receiver) k r a h j l u calm))
+          (room_after n (Sends (Some k.receiver) k r a h) j l u room))
           w.0 w.1 w.2
 
-    updates_some : (k : Hand) (i : Journal) → Room n i → Calm k i → UpdatesSome k i
-    updates_some k i room calm = by (judged s i k) refl
+    updates_some : (k : Hand) (i : Journal) → Room n i → UpdatesSome k i
+    updates_some k i room = by (judged s i k) refl
       where
         with_probes : (mine : List Named) → judged s i k ≡ Ok mine → (rs : List Reference) → AtMostOne rs
             → due_probes (holds_now s i k) k.message ≡ rs → UpdatesSome k i
         with_probes mine ok [] one due = (Answered Changed, with_accepted k.receiver i, does mine ok due, inl refl)
-        with_probes mine ok (r ∷ []) one due = probes k i mine r ok due [] r.agents [] i refl no_probe room calm
+        with_probes mine ok (r ∷ []) one due = probes k i mine r ok due [] r.agents [] i refl no_probe room
         with_probes mine ok (r ∷ q ∷ more) one due = absurd one
 
         by : (o : Outcome) → judged s i k ≡ o → UpdatesSome k i
@@ -394,25 +373,25 @@ module _ (s : Scene) (most : ℕ) (kept : (a : ℕ) → IsKept (s.holdings a)) w
           absurd (false_true (idle_is_followed s most (Takes from o r (Hears (Referred q))) j l u))
 
       gathers : (before rest : List Reference) (b : Answer) (j : Journal)
-          → rs ≡ before ++ rest → Does s most (Gathers from o before a (Whole b)) i j → Room n j → Calm o j
+          → rs ≡ before ++ rest → Does s most (Gathers from o before a (Whole b)) i j → Room n j
           → GathersSome from o rs a i
-      gathers before [] b j e d room calm = (
+      gathers before [] b j e d room = (
         Whole b,
         j,
         subst (λ (ks : List Reference). Does s most (Gathers from o ks a (Whole b)) i j) (sym (e
             ∙ append-nil before)) d,
         tt,
       )
-      gathers before (r ∷ rest) b j e d room calm =
-          let w = takes from o r j room calm in
+      gathers before (r ∷ rest) b j e d room =
+          let w = takes from o r j room in
           gather_one before rest r b j e d
           (λ c h l u v. gathers (before ++ r ∷ []) rest c l (e ∙ sym (append_assoc before (r ∷ []) rest)) v
-          (room_after n (Takes from o r h) j l u room) (calm_takes from o r h j l u calm))
+          (room_after n (Takes from o r h) j l u room))
           w.0 w.1 w.2 w.3
 
-    gathers_some : (from : Option ℕ) (o : Hand) (rs : List Reference) (a : Answer) (i : Journal) → Room n i → Calm o i
+    gathers_some : (from : Option ℕ) (o : Hand) (rs : List Reference) (a : Answer) (i : Journal) → Room n i
         → GathersSome from o rs a i
-    gathers_some from o rs a i room calm = gathers from o rs a i [] rs a i refl no_part room calm
+    gathers_some from o rs a i room = gathers from o rs a i [] rs a i refl no_part room
 
     -- ---- a reply followed
     named_whole : (k : Hand) (w : Gathered) → IsNamedWhole w → IsNamed (gathered_reply k w)
@@ -423,68 +402,56 @@ module _ (s : Scene) (most : ℕ) (kept : (a : ℕ) → IsKept (s.holdings a)) w
     named_heard r Unheard f = inr (in_vain r, refl)
     named_heard r (Hears y) f = f
 
-    follows_some : (from : Option ℕ) (k : Hand) (y : Reply) (i : Journal) → Room n i → Calm k i → IsNamed y
+    follows_some : (from : Option ℕ) (k : Hand) (y : Reply) (i : Journal) → Room n i → IsNamed y
         → FollowsSome from k y i
-    follows_some from k (Failed x) i room calm named = (Failed x, i, final (Failed x) refl, named)
-    follows_some from k (Answered a) i room calm named = by (is_final (Answered a)) refl
+    follows_some from k (Failed x) i room named = (Failed x, i, final (Failed x) refl, named)
+    follows_some from k (Answered a) i room named = by (is_final (Answered a)) refl
       where
         by : (b : Bool) → is_final (Answered a) ≡ b → FollowsSome from k (Answered a) i
         by true e = (Answered a, i, final (Answered a) e, inl refl)
         by false e =
-            let w = gathers_some from k (to_follow a) (only_unexplored (passed_by a) a) i room calm in
+            let w = gathers_some from k (to_follow a) (only_unexplored (passed_by a) a) i room in
             (gathered_reply k w.0, w.1, unexplored a w.0 e w.2, named_whole k w.0 w.3)
-    follows_some from k (Referred r) i room calm named = by (is_wide r.kind) refl
+    follows_some from k (Referred r) i room named = by (is_wide r.kind) refl
       where
         by : (b : Bool) → is_wide r.kind ≡ b → FollowsSome from k (Referred r) i
-        by true e = (let w = casts_some from k r i room calm in (w.0, w.1, wide_referral r w.0 e w.2, w.3))
+        by true e = (let w = casts_some from k r i room in (w.0, w.1, wide_referral r w.0 e w.2, w.3))
         by false e =
-            let w = takes from k r i room calm in
+            let w = takes from k r i room in
             (heard_or (is_unavailable (in_vain r)) w.0, w.1, referral r w.0 e w.2, named_heard r w.0 w.3)
 
     -- ---- a message served
-    module _ (k : Hand) (i : Journal) (room : Room n i) (calm : Calm k i) where
-      as_held : is_query_below k.message.request.body ≡ true → holds_now s i k ≡ s.holdings k.receiver
-      as_held q =
-          ap (λ (xs : List ℕ). cond (has ◌==◌ xs k.receiver) (committed s.message.request (s.holdings k.receiver))
-          (s.holdings k.receiver)) (calm q)
-
+    module _ (k : Hand) (i : Journal) (room : Room n i) where
       parts_by : (x : Answer) → Arrives s k i → begins_parts k (found_at s i k) ≡ true
           → local_part (holds_now s i k) k.message ≡ Answered x
           → (b : Bool) → is_idle s k ≡ b → ServesSome k i
       parts_by x a begins own true e =
           (Answered (at_limit k (with_unexplored (parts_refs s i k) x)), i, gives_parts x a begins e own, inl refl)
       parts_by x a begins own false e =
-          let w = gathers_some (Some k.receiver) k (parts_refs s i k) x i room calm in
+          let w = gathers_some (Some k.receiver) k (parts_refs s i k) x i room in
           (gathered_reply k w.0, w.1, asks_parts x w.0 a begins e own w.2, named_whole k w.0 w.3)
 
       parts_some : Arrives s k i → begins_parts k (found_at s i k) ≡ true → is_some (subset_of k.message) ≡ true
           → ServesSome k i
       parts_some a begins some =
-          let same = as_held (query_of k.message some) in
-          let sub = some_is (subset_of k.message) some in
-          let looked : IsLooked k.message = (a.unrefused, a.fit) in
-          let b : begins_parts k (find (s.holdings k.receiver) k.message) ≡ true =
-          subst (λ (g : Holdings). begins_parts k (find g k.message) ≡ true) same begins in
-          let begun = sym (begins_alike (s.holdings k.receiver) k.message k.receiver
-          (kept k.receiver).orderly looked some) ∙ b in
-          let part = local_answers (s.holdings k.receiver) k.message (kept k.receiver) sub.0 sub.1 looked begun in
-          parts_by part.0 a begins (ap (λ (g : Holdings). local_part g k.message) same ∙ part.1) (is_idle s k) refl
+          let part = local_answers (holds_now s i k) k.message (query_of k.message some) in
+          parts_by part.0 a begins part.1 (is_idle s k) refl
 
       onward_some : (r : Reference) → Arrives s k i → found_at s i k ≡ finding.Onward r → (b c : Bool)
           → is_idle s k ≡ b → is_wide r.kind ≡ c
           → ServesSome k i
       onward_some r a e true c f g = (Referred r, i, refers r a e f, inl refl)
       onward_some r a e false true f g =
-          let w = casts_some (Some k.receiver) k r i room calm in
+          let w = casts_some (Some k.receiver) k r i room in
           (w.0, w.1, casts r w.0 a e f g w.2, w.3)
       onward_some r a e false false f g =
-          let w = takes (Some k.receiver) k r i room calm in
+          let w = takes (Some k.receiver) k r i room in
           (heard_or (is_unavailable (in_vain r)) w.0, w.1, goes r w.0 a e f g w.2, named_heard r w.0 w.3)
 
       own_some : (c : Held) → Arrives s k i → found_at s i k ≡ finding.Here c → (b : Bool)
           → is_update k.message.request.body ≡ b
           → (o : Option Subset) → subset_of k.message ≡ o → ServesSome k i
-      own_some c a e true u o q = (let w = updates_some k i room calm in (w.0, w.1, updates c w.0 a e u w.2, w.3))
+      own_some c a e true u o q = (let w = updates_some k i room in (w.0, w.1, updates c w.0 a e u w.2, w.3))
       own_some c a e false u None q = (
         reply_in_own k.receiver k.message c,
         i,
@@ -564,21 +531,21 @@ module _ (s : Scene) (most : ℕ) (kept : (a : ℕ) → IsKept (s.holdings a)) w
 
   -- ---- a message sent, by how many are left
   record Able (n : ℕ) : Type 0 where
-    serves_one : (k : Hand) (i : Journal) → Room n i → Calm k i → ServesSome k i
-    follows_one : (from : Option ℕ) (k : Hand) (y : Reply) (i : Journal) → Room n i → Calm k i → IsNamed y
+    serves_one : (k : Hand) (i : Journal) → Room n i → ServesSome k i
+    follows_one : (from : Option ℕ) (k : Hand) (y : Reply) (i : Journal) → Room n i → IsNamed y
         → FollowsSome from k y i
 
   able_by : (n : ℕ)
       → ((from : Option ℕ) (o : Hand) (r : Reference) (a : ℕ)
-      (i : Journal) → Room n i → Calm o i → SendsSome from o r a i) → Able n
+      (i : Journal) → Room n i → SendsSome from o r a i) → Able n
   able_by n send = record { serves_one = serves_some n send; follows_one = follows_some n send }
 
-  send_none : (from : Option ℕ) (o : Hand) (r : Reference) (a : ℕ) (i : Journal) → Room 0 i → Calm o i
+  send_none : (from : Option ℕ) (o : Hand) (r : Reference) (a : ℕ) (i : Journal) → Room 0 i
       → SendsSome from o r a i
-  send_none from o r a i room calm = (Hears limit_reply, i, spent a (at_most most (length i.lines) room), inl refl)
+  send_none from o r a i room = (Hears limit_reply, i, spent a (at_most most (length i.lines) room), inl refl)
 
   module _ (n : ℕ) (able : Able n) (from : Option ℕ) (o : Hand) (r : Reference) (a : ℕ) (i : Journal) (room : Room
-      (suc n) i) (calm : Calm o i) where
+      (suc n) i) where
     abbrev after : Journal
     after = with_line (next_line s i from o r a) i
 
@@ -587,7 +554,6 @@ module _ (s : Scene) (most : ℕ) (kept : (a : ℕ) → IsKept (s.holdings a)) w
 
     served_one : ServesSome to after
     served_one = able.serves_one to after (omega arith)
-        (λ q. calm (carried_query (is_user from) o.message.request r.target r q))
 
     fated : is_spent most i ≡ false → (f : Fate) → (next_line s i from o r a).fate ≡ f → SendsSome from o r a i
     fated e Lost f = (Unheard, after, lost a e f, tt)
@@ -595,9 +561,7 @@ module _ (s : Scene) (most : ℕ) (kept : (a : ℕ) → IsKept (s.holdings a)) w
     fated e Sent f =
         let w = served_one in
         let v = able.follows_one from to w.0 w.1
-        (room_after n (Serves to w.0) after w.1 w.2 (omega arith))
-        (calm_serves to w.0 after w.1 w.2 (λ q. calm (carried_query
-        (is_user from) o.message.request r.target r q))) w.3 in
+        (room_after n (Serves to w.0) after w.1 w.2 (omega arith)) w.3 in
         (Hears v.0, v.1, sends a w.0 v.0 e f w.2 v.2, v.3)
 
     send_one : SendsSome from o r a i
@@ -612,16 +576,15 @@ module _ (s : Scene) (most : ℕ) (kept : (a : ℕ) → IsKept (s.holdings a)) w
   able_at (suc n) = able_by (suc n) (send_one n (able_at n))
 
   -- ---- so each message is served, and each request carried through
-  pub message_served : (k : Hand) (i : Journal) → (is_query_below k.message.request.body ≡ true → i.accepted ≡ [])
-      → (reply : Reply) × (j : Journal) × Does s most (Serves k reply) i j
-  message_served k i calm = (let w = (able_at most).serves_one k i (omega arith) calm in (w.0, w.1, w.2))
+  pub message_served : (k : Hand) (i : Journal) → (reply : Reply) × (j : Journal) × Does s most (Serves k reply) i j
+  message_served k i = (let w = (able_at most).serves_one k i (omega arith) in (w.0, w.1, w.2))
 
   pub request_done : (j : Journal) × (reply : Reply) × IsRequest s most j reply
   request_done = by (user_line s).fate refl
     where
       first_served : (reply : Reply) × (j : Journal) × Does s most (Serves (hand s.first s.message) reply) (with_line
           (user_line s) nothing_yet) j
-      first_served = message_served (hand s.first s.message) (with_line (user_line s) nothing_yet) (λ q. refl)
+      first_served = message_served (hand s.first s.message) (with_line (user_line s) nothing_yet)
 
       by : (f : Fate) → (user_line s).fate ≡ f → (j : Journal) × (reply : Reply) × IsRequest s most j reply
       by Lost e = (with_line (user_line s) nothing_yet, user_in_vain s, not_heard e)

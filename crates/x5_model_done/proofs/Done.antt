@@ -12,12 +12,10 @@ use Rattle.x5_model_theory.proofs.Holding.{by_agent}
 use Rattle.x5_model_run.specs.Holdings.{Held, Holdings, may_copy, served}
 use Rattle.x5_model_run.specs.History.{no_holdings}
 use Rattle.x5_model_run.specs.Chain.{opening, scene_at}
-use Rattle.x5_model_run.specs.Run.{Judge}
 use Rattle.x5_model_parts.proofs.Copying.{all_serving}
 use Rattle.x5_model_find.proofs.Orderly.{holdings_orderly}
 use Rattle.x5_model_determined.proofs.Once.{request_is_determined}
-use Rattle.x5_model_settled.proofs.Settled.{lines_are_settled, runs_are_settled}
-use Rattle.x5_model_done.specs.Done.{IsKept, SettingsAreKept, MessagesAreServed, RequestsAreDone, RequestsHaveOutcomes, LinesHaveOutcomes, RunsHaveOutcomes}
+use Rattle.x5_model_done.specs.Done.{IsKept, SettingsAreKept, MessagesAreServed, RequestsAreDone, RequestsHaveOutcomes, LinesHaveOutcomes}
 use Rattle.x5_model_done.proofs.Doing.{message_served, request_done}
 
 none_served : (r : Request) (a : ℕ) → served r (no_holdings a) ≡ []
@@ -48,14 +46,14 @@ settings_are_kept p s set a =
     message r = opening r
 
 pub messages_are_served : MessagesAreServed
-messages_are_served s most k i kept calm = message_served s most kept k i calm
+messages_are_served s most k i = message_served s most k i
 
 pub requests_are_done : RequestsAreDone
-requests_are_done s most kept = request_done s most kept
+requests_are_done s most = request_done s most
 
 pub requests_have_outcomes : RequestsHaveOutcomes
-requests_have_outcomes s most kept =
-    let w = request_done s most kept in
+requests_have_outcomes s most =
+    let w = request_done s most in
     record {
       journal = w.0;
       reply = w.1;
@@ -64,15 +62,5 @@ requests_have_outcomes s most kept =
     }
 
 pub lines_have_outcomes : LinesHaveOutcomes
-lines_have_outcomes w past first most r described consistent none agent =
+lines_have_outcomes w past first most r =
     requests_have_outcomes (scene_at (record { described = w; past = past }) first r) most
-    (settings_are_kept (record { described = w; past = past }) (scene_at
-    (record { described = w; past = past }) first r)
-    (lines_are_settled w past first r described consistent none agent))
-
-pub runs_have_outcomes : (judge : Judge) → RunsHaveOutcomes judge
-runs_have_outcomes judge w commands blocks past first most r described consistent run agent =
-    requests_have_outcomes (scene_at (record { described = w; past = past }) first r) most
-    (settings_are_kept (record { described = w; past = past }) (scene_at
-    (record { described = w; past = past }) first r)
-    (runs_are_settled judge w commands blocks past first r described consistent run agent))

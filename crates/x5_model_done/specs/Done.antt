@@ -1,29 +1,22 @@
 -- What agents do with a request always comes to an end: however messages fare, there are a journal and a reply (X.518,
 -- sections 17 to 21). So, with what x5_model_determined says, there is exactly one of each.
-use Rattle.std.specs.Prelude.{◌≡◌, ℕ, true, [], List}
+use Rattle.std.specs.Prelude.{◌≡◌, ℕ, true, List}
 use Rattle.x5_model.specs.Members.{In}
 use Rattle.x5_model.specs.Values.{key_of}
 use Rattle.x5_model.specs.Requests.{Request}
 use Rattle.x5_model.specs.Answers.{Reply}
 use Rattle.x5_model_tree.specs.World.{World}
 use Rattle.x5_model_tree.specs.Tree.{is_there}
-use Rattle.x5_model_tree.specs.Consistent.{IsConsistent}
-use Rattle.x5_model_tree.specs.Described.{IsDescribed}
 use Rattle.x5_model_run.specs.Journal.{Journal}
 use Rattle.x5_model_run.specs.Holdings.{Held, Holdings, served}
 use Rattle.x5_model_run.specs.History.{Did, Point}
 use Rattle.x5_model_run.specs.Chain.{Scene, scene_at}
-use Rattle.x5_model_run.specs.Placed.{is_query_below}
-use Rattle.x5_model_run.specs.Run.{Command, Block, Judge, IsRun}
-use Rattle.x5_model_updates.specs.Keeping.{NoneMoved}
 use Rattle.x5_model_find.specs.Finds.{Orderly}
 use Rattle.x5_model_serve.specs.Serving.{Hand, Serves, Does, IsRequest}
 use Rattle.x5_model_serve.specs.Claims.{Setting}
-use Rattle.x5_model_settled.specs.Settled.{HasAgent}
 
 -- What an agent holds is in order: it has a context once, and a copy once; and each context that it may answer from
--- has an entry at its prefix. The relation says nothing of other holdings: an agent that a reference names as the
--- holder of a context, and that holds it without that entry, would have no answer to a search there.
+-- has an entry at its prefix.
 pub record IsKept (h : Holdings) : Type 0 where
   pub orderly : Orderly h
   pub headed : (r : Request) (c : Held) → In c (served r h) → is_there c.entries (key_of c.prefix) ≡ true
@@ -32,18 +25,14 @@ pub record IsKept (h : Holdings) : Type 0 where
 abbrev pub SettingsAreKept : Type 0
 SettingsAreKept = (p : Point) (s : Scene) → Setting p s → (a : ℕ) → IsKept (s.holdings a)
 
--- 2. Each message is served, with a reply, at whatever agent it is; a list or search, while no update was accepted.
+-- 2. Each message is served, with a reply, at whatever agent it is, and whatever that agent holds.
 abbrev pub MessagesAreServed : Type 0
 MessagesAreServed =
-    (s : Scene) (most : ℕ) (k : Hand) (i : Journal)
-    → ((a : ℕ) → IsKept (s.holdings a)) → (is_query_below k.message.request.body ≡ true → i.accepted ≡ [])
-    → (reply : Reply) × (j : Journal) × Does s most (Serves k reply) i j
+    (s : Scene) (most : ℕ) (k : Hand) (i : Journal) → (reply : Reply) × (j : Journal) × Does s most (Serves k reply) i j
 
 -- 3. Each request is carried through, whatever is lost, and however few messages it may take.
 abbrev pub RequestsAreDone : Type 0
-RequestsAreDone =
-    (s : Scene) (most : ℕ)
-    → ((a : ℕ) → IsKept (s.holdings a)) → (j : Journal) × (reply : Reply) × IsRequest s most j reply
+RequestsAreDone = (s : Scene) (most : ℕ) → (j : Journal) × (reply : Reply) × IsRequest s most j reply
 
 -- the journal and the reply of a request, of which there are no others
 pub record Outcome (s : Scene) (most : ℕ) : Type 0 where
@@ -54,18 +43,10 @@ pub record Outcome (s : Scene) (most : ℕ) : Type 0 where
 
 -- 4. So a request has one outcome,
 abbrev pub RequestsHaveOutcomes : Type 0
-RequestsHaveOutcomes = (s : Scene) (most : ℕ) → ((a : ℕ) → IsKept (s.holdings a)) → Outcome s most
+RequestsHaveOutcomes = (s : Scene) (most : ℕ) → Outcome s most
 
--- 5. at a line that was led to without moving contexts,
+-- 5. at every line, whatever the world and whatever was done before, so over knowledge that isn't consistent too.
 abbrev pub LinesHaveOutcomes : Type 0
 LinesHaveOutcomes =
     (w : World) (past : List Did) (first most : ℕ) (r : Request)
-    → IsDescribed w → IsConsistent w → NoneMoved past → HasAgent w first
-    → Outcome (scene_at (record { described = w; past = past }) first r) most
-
--- 6. and at every line of a run.
-abbrev pub RunsHaveOutcomes : Judge → Type 0
-RunsHaveOutcomes judge =
-    (w : World) (commands : List Command) (blocks : List Block) (past : List Did) (first most : ℕ) (r : Request)
-    → IsDescribed w → IsConsistent w → IsRun judge w commands blocks past → HasAgent w first
     → Outcome (scene_at (record { described = w; past = past }) first r) most

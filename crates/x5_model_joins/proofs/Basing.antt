@@ -13,7 +13,7 @@ use Rattle.x5_model.specs.References.{Progress, Start, Next, Done, Chained}
 use Rattle.x5_model.proofs.KeyLaws.{key_decides}
 use Rattle.x5_model.proofs.Lists.{both_true, either_true, or_left, or_right, true_or_false, in_flat, of_filter, any_in, of_any}
 use Rattle.x5_model.proofs.Ascending.{in_sorted}
-use Rattle.x5_model_tree.specs.Tree.{key_at, keys_of, named_below, is_there, is_there_or_root}
+use Rattle.x5_model_tree.specs.Tree.{Tree, tree_of, key_at, keys_of, named_below, is_there, is_there_or_root}
 use Rattle.x5_model_tree.specs.Ask.{in_subset}
 use Rattle.x5_model_run.specs.Journal.{Line, is_done, is_wide}
 use Rattle.x5_model_run.specs.Holdings.{Held, Holdings, served, known_pin, is_first_level}
@@ -26,8 +26,13 @@ use Rattle.x5_model_parts.specs.Parts.{BeginsHere}
 use Rattle.x5_model_parts.proofs.Asking.{false_true}
 use Rattle.x5_model_parts.proofs.Spots.{level_in, evaluated_is}
 use Rattle.x5_model_parts.proofs.Copying.{Serving, own_serving, all_serving}
-use Rattle.x5_model_parts.proofs.Joining.{sight}
-use Rattle.x5_model_serve.specs.Answering.{local_tree}
+use Rattle.x5_model_parts.proofs.Joining.{sight, spots_are_once}
+use Rattle.x5_model_serve.specs.Walking.{entered}
+use Rattle.x5_model_serve.proofs.Walks.{in_walk}
+
+-- the contexts of the walk as one tree
+abbrev pub local_tree : Holdings → Chained → Tree
+local_tree h m = tree_of (flat_map (λ c. c.entries) (entered h m)) []
 
 abbrev found : Holdings → Chained → Subset → Option Key → List Held
 found h m sub None =
@@ -111,7 +116,8 @@ module _ (p : Point) (l : Line) (b : BeginsHere p l) where
       (level_in (knowledge_at p) (tree_at p) (knowledge_now p) l.receiver (holdings_at p l.receiver) l.message v.look v.sees_it 16 (begins_at (holdings_at p l.receiver) l.message (sight p l b).look.subset) c i) in
       or_right (is_root (key_of l.message.target)) (is_there (local_tree (holdings_at p l.receiver) l.message).entries (key_of l.message.target))
       (any_in (λ (x : Named). same_key (key_at x) (key_of l.message.target)) e.0 (local_tree (holdings_at p l.receiver) l.message).entries
-      (in_sorted named_below e.0 (flat_map (λ (d : Held). d.entries) (evaluated (holdings_at p l.receiver) l.message)) (in_flat (λ (d : Held). d.entries) e.0 c (evaluated (holdings_at p l.receiver) l.message) inside e.1)) e.2)
+      (in_sorted named_below e.0 (flat_map (λ (d : Held). d.entries) (entered (holdings_at p l.receiver) l.message)) (in_flat (λ (d : Held). d.entries) e.0 c (entered (holdings_at p l.receiver) l.message)
+      (in_walk false (holdings_at p l.receiver) l.message (spots_are_once p l b) c inside) e.1)) e.2)
 
   at_root : is_root (key_of l.message.target) ≡ true → is_there_or_root (local_tree (holdings_at p l.receiver) l.message).entries (key_of l.message.target) ≡ true
   at_root r = or_left (is_root (key_of l.message.target)) (is_there (local_tree (holdings_at p l.receiver) l.message).entries (key_of l.message.target)) r

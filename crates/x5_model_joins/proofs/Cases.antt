@@ -16,7 +16,6 @@ use Rattle.x5_model.specs.Problems.{unavailable}
 use Rattle.x5_model.proofs.KeyLaws.{key_decides}
 use Rattle.x5_model.specs.Statics.{fault_of}
 use Rattle.x5_model.proofs.Lists.{both_true, either_true, or_left, or_right, in_first, in_left, in_right, of_map, of_filter, any_in, of_any}
-use Rattle.x5_model.proofs.Ascending.{in_sorted}
 use Rattle.x5_model_tree.specs.Tree.{Tree, key_at, keys_of, part, is_there, is_there_or_root}
 use Rattle.x5_model_tree.specs.Ask.{Refuses}
 use Rattle.x5_model_run.specs.Journal.{Line, Journal, depth, is_done, is_wide, same_progress}
@@ -33,13 +32,14 @@ use Rattle.x5_model_theory.specs.Changing.{holding}
 use Rattle.x5_model_parts.specs.Standing.{Stands, knowledge_now}
 use Rattle.x5_model_parts.specs.Parts.{BeginsHere, rest_needs}
 use Rattle.x5_model_parts.proofs.Asking.{false_true}
-use Rattle.x5_model_serve.specs.Answering.{taken_before, is_unavailable, is_service}
+use Rattle.x5_model_serve.specs.Answering.{is_unavailable, is_service}
 use Rattle.x5_model_serve.specs.Serving.{Hand, line_for, Heard, Unheard, Hears, Whole, limit_reply, is_spent}
 use Rattle.x5_model_run.specs.Thorough.{is_served}
 use Rattle.x5_model_serve.specs.Claims.{line_at, asked_line, SoFar, serving_of, AtHand, Keeps, MayTake, AskedSoFar, TakenRight, last_number, is_settled_line, OnlyBy, MayGather, TakesRight, GathersRight}
 use Rattle.x5_model_parts.proofs.Parting.{target_fits}
 use Rattle.x5_model_parts.proofs.Joining.{sight, View, the_view, asks}
 use Rattle.x5_model_theory.proofs.Following.{query_of}
+use Rattle.x5_model_joins.proofs.Walked.{in_the_rest}
 use Rattle.x5_model_joins.proofs.Following.{no_update_below}
 use Rattle.x5_model_joins.proofs.Keeping.{at_most, queries_keep}
 use Rattle.x5_model_joins.proofs.Replacing.{part_asks, needed_done}
@@ -189,7 +189,7 @@ part_unavailable p s most from o rs a b r u i j l loop one rest at may so =
       n.whole,
       n.by,
       elim n.taken [
-        | inl t ↦ unavailable_is_gathered p s most from (line_at o at.line.number) j l b r u rest n.begins (in_sorted taken_before r (rest_needs p (line_at o at.line.number)) n.needed) n.second.grows n.second.licensed n.so t
+        | inl t ↦ unavailable_is_gathered p s most from (line_at o at.line.number) j l b r u rest n.begins (in_the_rest p (line_at o at.line.number) n.begins r n.needed) n.second.grows n.second.licensed n.so t
         | inr x ↦ (let e = x.0 in cc)
       ],
     )
@@ -200,7 +200,7 @@ part_answered p s most from o rs a b c r i j l loop one rest at may so =
       n.whole,
       n.by,
       elim n.taken [
-        | inl t ↦ part_is_gathered p s most from (line_at o at.line.number) j l b c r rest n.begins (in_sorted taken_before r (rest_needs p (line_at o at.line.number)) n.needed) n.second.grows n.second.licensed n.so t
+        | inl t ↦ part_is_gathered p s most from (line_at o at.line.number) j l b c r rest n.begins (in_the_rest p (line_at o at.line.number) n.begins r n.needed) n.second.grows n.second.licensed n.so t
         | inr x ↦ (let e = x.0 in cc)
       ],
     )

@@ -28,6 +28,8 @@ use Rattle.x5_model_parts.proofs.Spots.{spot_is}
 use Rattle.x5_model_parts.specs.Standing.{knowledge_now}
 use Rattle.x5_model_serve.specs.Finding as finding
 use Rattle.x5_model_serve.specs.Finding.{Found, by_first, in_own, in_copy, at_pin, resolved, found_by, IsLooked}
+use Rattle.x5_model_serve.specs.Walking.{entered}
+use Rattle.x5_model_serve.proofs.Walks.{of_walk}
 use Rattle.x5_model_serve.specs.Answering.{stamp_at, local_sources}
 use Rattle.x5_model_serve.specs.Serving.{hand, begins_parts}
 use Rattle.x5_model_serve.specs.Claims.{asked_line}
@@ -194,7 +196,8 @@ module _ (p : Point) (l : Line) (b : BeginsHere p l) (s : Scene) (scene : s.hold
   kept_all (c ∷ cs) f = λ i. f c here i ∷ kept_all cs (λ d j. f d (there j)) i
 
   pub spelled_locally : map (kept_name s) (local_sources (holdings_at p l.receiver) l.message) ≡ map (λ (x : Source). Some x.context) (local_sources (holdings_at p l.receiver) l.message)
-  spelled_locally = kept_all (evaluated (holdings_at p l.receiver) l.message) kept_one
+  spelled_locally =
+      kept_all (entered (holdings_at p l.receiver) l.message) (λ c i. kept_one c (of_walk false (holdings_at p l.receiver) l.message c i))
 
   pub ends_locally : IsLooked l.message → is_some (subset_of l.message) ≡ true → is_done l.message.progress ≡ false → ends_here (s.holdings l.receiver) l.message ≡ true
   ends_locally looked some going =

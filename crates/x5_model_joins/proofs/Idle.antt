@@ -8,7 +8,6 @@ use Rattle.x5_model.specs.Members.{In, here, there}
 use Rattle.x5_model.specs.References.{Reference}
 use Rattle.x5_model.specs.Answers.{Answer, EntryFound, Matched, Listed, Found, Changed}
 use Rattle.x5_model.proofs.Lists.{in_left, in_right}
-use Rattle.x5_model.proofs.Ascending.{of_sorted}
 use Rattle.x5_model_run.specs.Journal.{Line, Journal}
 use Rattle.x5_model_run.specs.Holdings.{Holdings}
 use Rattle.x5_model_run.specs.Needs.{part_needs, resolution_needs, copied_needs, passing_needs}
@@ -20,13 +19,14 @@ use Rattle.x5_model_run.proofs.Growing.{contains_more}
 use Rattle.x5_model_theory.proofs.Following.{query_of}
 use Rattle.x5_model_parts.specs.Parts.{BeginsHere, rest_needs}
 use Rattle.x5_model_parts.proofs.Joining.{sight}
-use Rattle.x5_model_serve.specs.Answering.{taken_before, with_unexplored, limited_answer, rest_of_parts}
+use Rattle.x5_model_serve.specs.Answering.{with_unexplored, limited_answer, rest_of_parts}
 use Rattle.x5_model_serve.specs.Serving.{hand_of, is_idle}
 use Rattle.x5_model_serve.specs.Claims.{SoFar, asked_line}
 use Rattle.x5_model_joins.specs.Joins.{IdleTells}
 use Rattle.x5_model_joins.proofs.Contexts.{each_joined}
 use Rattle.x5_model_joins.proofs.Limit.{blocked_by}
 use Rattle.x5_model_joins.proofs.Local.{no_fault}
+use Rattle.x5_model_joins.proofs.Walked.{of_the_rest}
 use Rattle.x5_model_joins.proofs.Backs.{own_answered}
 
 contains_of : {X : Type 0} (xs : List X) (x : X) → In x xs → Contains xs x
@@ -49,7 +49,7 @@ module _ (p : Point) (s : Scene) (l : Line) (j : Journal) (scene : s.holdings �
 
   blocked_rest : AllByRecursion (Blocked s (asked_line l (length j.accepted)) j.lines) (rest_of_parts (holdings_at p l.receiver) l.message)
   blocked_rest = each_of (Blocked s (asked_line l (length j.accepted)) j.lines) (rest_of_parts (holdings_at p l.receiver) l.message) (λ r i.
-      (let n : In r (rest_needs p l) = of_sorted taken_before r (rest_needs p l) i in
+      (let n : In r (rest_needs p l) = of_the_rest p l r i in
       untried (record {
         idle = idle;
         heard = own_answered l (length j.accepted) j.lines stands;

@@ -14,6 +14,7 @@ pub mod Replacing
 pub mod Spots
 pub mod Basing
 pub mod Local
+pub mod Walked
 pub mod Steps
 pub mod Following
 pub mod Keeping

@@ -11,7 +11,7 @@ use Rattle.x5_model.specs.Answers.{Source}
 use Rattle.x5_model.proofs.KeyLaws.{key_decides}
 use Rattle.x5_model.proofs.Prefixes.{prefix_decides}
 use Rattle.x5_model.proofs.Decide.{once_decides}
-use Rattle.x5_model.proofs.Lists.{both_true, true_or_false, in_first, in_left, in_right, in_map, of_map, of_flat, of_filter, of_any}
+use Rattle.x5_model.proofs.Lists.{both_true, and_true, true_or_false, in_first, in_left, in_right, in_map, of_map, of_flat, of_filter, any_in, of_any, once_map}
 use Rattle.x5_model.proofs.Ascending.{AllApart, keys_apart}
 use Rattle.x5_model_tree.specs.Tree.{Tree, key_at, keys_of, named_below, part, longest}
 use Rattle.x5_model_tree.specs.Masters.{pin_of, mastered, pins}
@@ -116,7 +116,7 @@ pub entries_joined : (p : Point) (xs ys : List Source) → entries_of p (xs ++ y
 entries_joined p xs ys = flat_joined (λ s. part (source_tree p s.moment) (key_of s.context)) xs ys
 
 module _ (p : Point) (s : Stands p) where
-  at_home : (sources : List Source) → AreParts p sources → (x : Source) (e : Named) → In x sources → In e (part (source_tree p x.moment) (key_of x.context)) → IsLongest (tree_at p).pins (key_at e) (Some (key_of x.context))
+  pub at_home : (sources : List Source) → AreParts p sources → (x : Source) (e : Named) → In x sources → In e (part (source_tree p x.moment) (key_of x.context)) → IsLongest (tree_at p).pins (key_at e) (Some (key_of x.context))
   at_home sources h x e i j = home p s (source_tree p x.moment) (sound_source p s x.moment (λ m. h.stood x m i)) (key_of x.context) e j
 
   -- each is of some source, whose context is a prefix of its name
@@ -160,10 +160,10 @@ module _ (p : Point) (s : Stands p) where
       assoc true b c = refl
       assoc false b c = refl
 
-  abbrev copy_of : Key → Source → Bool
+  abbrev pub copy_of : Key → Source → Bool
   copy_of pin x = same_key (key_of x.context) pin && is_some x.moment
 
-  mark_at : (sources : List Source) (key pin : Key) → longest (tree_at p).pins key ≡ Some pin → is_copied p sources key ≡ list_any (copy_of pin) sources
+  pub mark_at : (sources : List Source) (key pin : Key) → longest (tree_at p).pins key ≡ Some pin → is_copied p sources key ≡ list_any (copy_of pin) sources
   mark_at sources key pin e = ap (λ (o : Option Key). some_and (λ (q : Key). list_any (copy_of q) sources) o) e
 
   or_false : (b : Bool) → (b || false) ≡ b
@@ -175,6 +175,26 @@ module _ (p : Point) (s : Stands p) where
     | inl q ↦ (let w = of_any (copy_of pin) sources q in absurd (f w.0 w.1 ((key_decides (key_of w.0.context) pin).0 (both_true (same_key (key_of w.0.context) pin) (is_some w.0.moment) w.2).0)))
     | inr q ↦ q
   ]
+
+  -- the mark of a source's entry is the source's
+  pub own_mark : (sources : List Source) → AreParts p sources → (x : Source) (e : Named) → In x sources → In e (part (source_tree p x.moment) (key_of x.context))
+      → is_copied p sources (key_at e) ≡ is_some x.moment
+  own_mark sources h x e i j =
+      mark_at sources (key_at e) (key_of x.context) (longest_is (tree_at p).pins (key_at e) (key_of x.context) (at_home sources h x e i j)) ∙ by (is_some x.moment) refl
+    where
+      copied : list_any (copy_of (key_of x.context)) sources ≡ true → is_some x.moment ≡ true
+      copied q =
+          let w = of_any (copy_of (key_of x.context)) sources q in
+          let b = both_true (same_key (key_of w.0.context) (key_of x.context)) (is_some w.0.moment) w.2 in
+          let same : w.0 ≡ x = once_map context_at sources w.0 x h.once w.1 i ((key_decides (key_of w.0.context) (key_of x.context)).0 b.0) in
+          ap (λ (y : Source). is_some y.moment) (sym same) ∙ b.1
+
+      by : (m : Bool) → is_some x.moment ≡ m → list_any (copy_of (key_of x.context)) sources ≡ m
+      by true q = any_in (copy_of (key_of x.context)) x sources i (and_true (same_key (key_of x.context) (key_of x.context)) (is_some x.moment) ((key_decides (key_of x.context) (key_of x.context)).1 refl) q)
+      by false q = elim (true_or_false (list_any (copy_of (key_of x.context)) sources)) [
+        | inl y ↦ (let z : is_some x.moment ≡ true = copied y in cc)
+        | inr y ↦ y
+      ]
 
   pub left_marks : (xs ys : List Source) → AreParts p (xs ++ ys) → (e : Named) → In e (entries_of p xs) → is_copied p xs (key_at e) ≡ is_copied p (xs ++ ys) (key_at e)
   left_marks xs ys h e i =

@@ -5,7 +5,7 @@ use Rattle.std.specs.Option.{is_some}
 use Rattle.std.proofs.lemmas.Bool.Decides.{Decides-eqb}
 use Rattle.x5_model.specs.Words.{distinct, in_option, some_and}
 use Rattle.x5_model.specs.Members.{In}
-use Rattle.x5_model.specs.Keys.{same_key}
+use Rattle.x5_model.specs.Keys.{Key, same_key}
 use Rattle.x5_model.specs.Values.{key_of}
 use Rattle.x5_model.specs.Answers.{Source}
 use Rattle.x5_model.specs.Requests.{Request}
@@ -33,7 +33,10 @@ use Rattle.x5_model_parts.proofs.Asking.{false_true}
 use Rattle.x5_model_parts.proofs.Spots.{held_in, spot_is}
 use Rattle.x5_model_parts.proofs.Owning.{map_map, own_area_is, own_like, own_in}
 use Rattle.x5_model_parts.proofs.Copying.{usable_sent}
-use Rattle.x5_model_parts.proofs.Joining.{sight, spots_are_right, spots_are_once}
+use Rattle.x5_model_parts.proofs.Joining.{sight, spots_are_right}
+use Rattle.x5_model_serve.specs.Walking.{entered}
+use Rattle.x5_model_serve.specs.Walked.{pins_of}
+use Rattle.x5_model_serve.proofs.Walks.{walk_once, of_walk, pin_in_walk}
 use Rattle.x5_model_serve.specs.Answering.{stamp_at, local_sources}
 use Rattle.x5_model_serve.specs.Claims.{asked_line}
 use Rattle.x5_model_joins.proofs.Backs.{own_back}
@@ -164,13 +167,31 @@ module _ (p : Point) (l : Line) (b : BeginsHere p l) (lines : List Line) (stood 
   pub source_is : (c : Held) → In c (evaluated (holdings_at p l.receiver) l.message) → IsSourceHere p l lines stood (holdings_at p l.receiver) c
   source_is c i = subst (λ (h : Holdings). IsSourceHere p l lines stood h c) (sym (sight p l b).is) (from_sight c i)
 
+  pub here_is : (c : Held) → In c (entered (holdings_at p l.receiver) l.message) → IsSourceHere p l lines stood (holdings_at p l.receiver) c
+  here_is c i = source_is c (of_walk false (holdings_at p l.receiver) l.message c i)
+
   pub sources_right : list_all (is_source p (asked_line l stood) lines) (local_sources (holdings_at p l.receiver) l.message) ≡ true
   sources_right = all_in (is_source p (asked_line l stood) lines) (local_sources (holdings_at p l.receiver) l.message) (λ x i.
-      (let c = of_map (source_here (holdings_at p l.receiver)) x (evaluated (holdings_at p l.receiver) l.message) i in
-      subst (λ (y : Source). is_source p (asked_line l stood) lines y ≡ true) (sym c.2) (source_is c.0 c.1).right))
+      (let c = of_map (source_here (holdings_at p l.receiver)) x (entered (holdings_at p l.receiver) l.message) i in
+      subst (λ (y : Source). is_source p (asked_line l stood) lines y ≡ true) (sym c.2) (here_is c.0 c.1).right))
 
-  pub keys_here : map (λ x. key_of x.context) (local_sources (holdings_at p l.receiver) l.message) ≡ spots p l
-  keys_here = map_map (source_here (holdings_at p l.receiver)) (λ (x : Source). key_of x.context) (evaluated (holdings_at p l.receiver) l.message)
+  keys_here : map (λ x. key_of x.context) (local_sources (holdings_at p l.receiver) l.message) ≡ pins_of (entered (holdings_at p l.receiver) l.message)
+  keys_here = map_map (source_here (holdings_at p l.receiver)) (λ (x : Source). key_of x.context) (entered (holdings_at p l.receiver) l.message)
+
+  -- they are the spots
+  pub of_keys : (z : Key) → In z (map (λ x. key_of x.context) (local_sources (holdings_at p l.receiver) l.message)) → In z (spots p l)
+  of_keys z i =
+      let c = of_map (λ (d : Held). key_of d.prefix) z (entered (holdings_at p l.receiver) l.message) (subst (λ (ks : List Key). In z ks) keys_here i) in
+      subst (λ (k : Key). In k (spots p l)) (sym c.2)
+      (in_map (λ (d : Held). key_of d.prefix) c.0 (evaluated (holdings_at p l.receiver) l.message) (of_walk false (holdings_at p l.receiver) l.message c.0 c.1))
+
+  pub in_keys : (z : Key) → In z (spots p l) → In z (map (λ x. key_of x.context) (local_sources (holdings_at p l.receiver) l.message))
+  in_keys z i =
+      let c = of_map (λ (d : Held). key_of d.prefix) z (evaluated (holdings_at p l.receiver) l.message) i in
+      subst (λ (ks : List Key). In z ks) (sym keys_here)
+      (subst (λ (k : Key). In k (pins_of (entered (holdings_at p l.receiver) l.message))) (sym c.2) (pin_in_walk false (holdings_at p l.receiver) l.message c.0 c.1))
 
   pub sources_once : distinct same_key (map (λ x. key_of x.context) (local_sources (holdings_at p l.receiver) l.message)) ≡ true
-  sources_once = ap (distinct same_key) keys_here ∙ (once_decides same_key key_decides (spots p l)).1 (spots_are_once p l b)
+  sources_once =
+      ap (distinct same_key) keys_here
+      ∙ (once_decides same_key key_decides (pins_of (entered (holdings_at p l.receiver) l.message))).1 (walk_once false (holdings_at p l.receiver) l.message)

@@ -12,7 +12,6 @@ use Rattle.x5_model.specs.References.{Reference, TraceItem, Chained}
 use Rattle.x5_model.specs.Answers.{Source, Answer, EntryFound, Matched, Listed, Found, Changed, NoSuchObject, ServiceProblem, Reply, Answered}
 use Rattle.x5_model.proofs.KeyLaws.{key_decides}
 use Rattle.x5_model.proofs.Lists.{both_true, and_true, either_true, or_left, or_right, in_right, of_all, all_in}
-use Rattle.x5_model.proofs.Ascending.{of_sorted}
 use Rattle.x5_model_tree.specs.Tree.{Tree, is_there_or_root, matched}
 use Rattle.x5_model_tree.specs.Masters.{pin_of, mastered}
 use Rattle.x5_model_tree.specs.Ask.{Told, Refuses, limited_list, limited_found, just_below, searched, sources_of, unexplored_of}
@@ -24,12 +23,12 @@ use Rattle.x5_model_run.specs.Blocked.{Asked, hears_by, hears, IsLost, user, ask
 use Rattle.x5_model_run.specs.Right.{is_found, is_source, same_phase, Right, result, changed, error, referral, unheard}
 use Rattle.x5_model_run.specs.Placed.{is_query_below, RightReply, usual, unable, limit}
 use Rattle.x5_model_run.proofs.Growing.{lost_grows}
-use Rattle.x5_model_parts.specs.Parts.{rest_needs}
 use Rattle.x5_model_parts.proofs.Asking.{false_true}
-use Rattle.x5_model_serve.specs.Answering.{taken_before, with_unexplored, in_vain, is_unavailable}
+use Rattle.x5_model_serve.specs.Answering.{with_unexplored, in_vain, is_unavailable}
 use Rattle.x5_model_serve.specs.Serving.{is_spent}
 use Rattle.x5_model_serve.specs.Claims.{SoFar, Grows, HeardRight, line_at, asked_line, serving_of}
 use Rattle.x5_model_run.specs.Needs.{ends_here}
+use Rattle.x5_model_joins.proofs.Walked.{of_the_rest}
 use Rattle.x5_model_joins.proofs.Backs.{lost_further}
 use Rattle.x5_model_joins.proofs.LeftOut.{loss_replaces}
 use Rattle.x5_model_joins.specs.Joins.{SoFarStays, PartIsGathered, LossIsGathered, UnavailableIsGathered}
@@ -109,7 +108,7 @@ heard_restood p s most l a b j k reply h = record { stands = h.stands; heard = h
 
 pub part_is_gathered : PartIsGathered
 part_is_gathered p s most from l i j a c r rest b needed grows all so taken =
-    part_replaces p s most l taken.0 from j (length j.accepted) a c r rest b (of_sorted taken_before r (rest_needs p l) needed) all taken.1 taken.2 (so_far_later p s l i j a (r ∷ rest) grows so) (heard_restood p s most l (length i.accepted) (length j.accepted) j taken.0 (Answered c) taken.3)
+    part_replaces p s most l taken.0 from j (length j.accepted) a c r rest b (of_the_rest p l r needed) all taken.1 taken.2 (so_far_later p s l i j a (r ∷ rest) grows so) (heard_restood p s most l (length i.accepted) (length j.accepted) j taken.0 (Answered c) taken.3)
 
 -- what was lost takes the place of the reference, if it covers the same
 lost_instead : (p : Point) (s : Scene) (q : Asked) (lines : List Line) (x : Answer) (r u : Reference) (rest : List Reference) → SoFar p s q lines x (r ∷ rest) → IsLost s q lines u
@@ -179,7 +178,7 @@ unavailable_is_gathered p s most from l i j a r u rest b needed grows all so tak
     k = taken.0
 
     part_query : is_query_below taken.0.message.request.body ≡ true
-    part_query = part_asks p l from r taken.0.message b (of_sorted taken_before r (rest_needs p l) needed) taken.2
+    part_query = part_asks p l from r taken.0.message b (of_the_rest p l r needed) taken.2
 
     lost_it : IsLost s (asked_line taken.0 taken.3.stood) j.lines u × (same_phase (asked_line taken.0 taken.3.stood) u ≡ true)
     lost_it = unavailable_is p s (asked_line taken.0 taken.3.stood) j (is_spent most j) (is_unavailable u) taken.3.right u refl part_query
@@ -188,7 +187,7 @@ unavailable_is_gathered p s most from l i j a r u rest b needed grows all so tak
     done_too d = sym (ap (λ x. if x then is_done u.progress else not (is_done u.progress)) (ap is_done taken.2.progress_is ∙ d)) ∙ lost_it.1
 
     completed : is_done r.progress ≡ true
-    completed = needed_done p l b r (of_sorted taken_before r (rest_needs p l) needed)
+    completed = needed_done p l b r (of_the_rest p l r needed)
 
     within : (is_wide taken.0.message.kind ≡ false) × (covered_roots (knowledge_at p) u ≡ key_of taken.0.message.target ∷ [])
     within = taken.3.within (ap is_done taken.2.progress_is ∙ completed)

@@ -1,7 +1,7 @@
 -- What is kept by two things that are done, one after the other, is kept by both together; and what holds before the
 -- first holds before the second. What was taken stays taken where lines are added, what was accepted stays, and the
 -- numbers of new lines are higher.
-use Rattle.std.proofs.Common.{◌≡◌, ℕ, ◌+◌, ◌≤◌, Bool, true, false, not, ◌&&◌, ◌||◌, if◌then◌else◌, nat_le, ◌==◌, ◌⊎◌, inl, inr, List, [], ◌∷◌, ◌++◌, length, refl, sym, ap, subst, ◌∙◌, arith, nat_lt, length-append, Option, Some, None}
+use Rattle.std.proofs.Common.{◌≡◌, ℕ, ◌+◌, ◌≤◌, Bool, true, false, not, ◌&&◌, ◌||◌, nat_le, ◌==◌, ◌⊎◌, inl, inr, List, [], ◌∷◌, ◌++◌, length, refl, sym, ap, subst, ◌∙◌, arith, nat_lt, length-append, Option, Some, None}
 use Rattle.std.specs.List.{list_all}
 use Rattle.x5_model.specs.Words.{is_empty, in_option, some_and, first_of}
 use Rattle.x5_model.specs.Members.{In, here, there}
@@ -13,9 +13,8 @@ use Rattle.x5_model_run.specs.Needs.{is_unable}
 use Rattle.x5_model_run.specs.History.{Point}
 use Rattle.x5_model_run.specs.Chain.{Scene, AllLicensed, asks_by, is_in_vain, is_passed, is_cleared}
 use Rattle.x5_model_run.specs.Accepting.{carries_update, lacks_probe, may_accept, accepting, is_later, is_done_before}
-use Rattle.x5_model_run.specs.Thorough.{is_served, is_taken, taken_needs, is_sent_by, sends_itself, sender_follows}
-use Rattle.x5_model_run.proofs.Growing.{all_grow, vain_grows}
-use Rattle.std.proofs.lemmas.Bool.Decides.{leb_tells}
+use Rattle.x5_model_run.specs.Thorough.{is_served, is_taken, taken_needs, is_sent_by, sends_itself}
+use Rattle.x5_model_run.proofs.Growing.{all_grow}
 use Rattle.x5_model.proofs.Decide.{less_decides}
 use Rattle.x5_model_joins.proofs.Keeping.{at_most}
 use Rattle.x5_model_joins.proofs.Backs.{numbers}

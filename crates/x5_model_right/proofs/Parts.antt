@@ -8,18 +8,16 @@ use Rattle.x5_model.specs.Members.{In, here, there, Once}
 use Rattle.x5_model.specs.Keys.{Key, is_root}
 use Rattle.x5_model.specs.Values.{key_of}
 use Rattle.x5_model.specs.Entries.{Named}
-use Rattle.x5_model.specs.Requests.{Body, Read, Compare, ListBelow, Search, AddEntry, RemoveEntry, ModifyEntry, ModifyDn, Request}
-use Rattle.x5_model.specs.Statics.{fault_of}
+use Rattle.x5_model.specs.Requests.{Body, Read, Compare, ListBelow, Search, AddEntry, RemoveEntry, ModifyEntry, ModifyDn}
 use Rattle.x5_model.specs.References.{Progress, Start, Next, Done, Reference, Chained}
-use Rattle.x5_model.specs.Answers.{Source, Answer, DirError, EntryFound, Matched, Listed, Found, Changed, Reply, Answered}
+use Rattle.x5_model.specs.Answers.{Source, Answer, EntryFound, Matched, Listed, Found, Changed, Reply, Answered}
 use Rattle.x5_model.proofs.Decide.{nat_same_decides}
 use Rattle.x5_model.proofs.Lists.{both_true, or_left, or_right, true_or_false, all_in}
-use Rattle.x5_model.proofs.Ascending.{of_insert, of_sorted, in_sorted}
-use Rattle.x5_model_tree.specs.Tree.{Tree, lowest, is_there_or_root}
-use Rattle.x5_model_tree.specs.Ask.{Told, Shows, Compares, Lists, Finds, Changes, Refuses, is_update, unexplored_of, ask_body, ask_marked}
-use Rattle.x5_model_run.specs.Covers.{answer_below, answer_at_pin, told}
+use Rattle.x5_model.proofs.Ascending.{of_insert, of_sorted}
+use Rattle.x5_model_tree.specs.Tree.{lowest}
+use Rattle.x5_model_tree.specs.Ask.{Told, Shows, Compares, Lists, Finds, Changes, Refuses, is_update, unexplored_of}
 use Rattle.x5_model_run.specs.Network.{arrives, refuses}
-use Rattle.x5_model_run.specs.Journal.{Line, Journal, same_name, is_done, is_wide, siblings}
+use Rattle.x5_model_run.specs.Journal.{Line, Journal, same_name, is_done, siblings}
 use Rattle.x5_model_run.specs.Holdings.{Held, Copy, Holdings, held_at, copy_at, known_pin, holds_within}
 use Rattle.x5_model_run.specs.Needs.{target_of, is_unable, subset_of, superior_needs, multicast_needs, supplier_needs, copy_answers, specific_needs, part_needs, needs}
 use Rattle.x5_model_run.specs.History.{Point, knowledge_at, holdings_at}
@@ -36,7 +34,11 @@ use Rattle.x5_model_theory.proofs.Following.{query_of}
 use Rattle.x5_model_parts.specs.Parts.{BeginsHere, begins_here}
 use Rattle.x5_model_serve.specs.Finding as finding
 use Rattle.x5_model_serve.specs.Finding.{Here, CopyHere, Root, Below, Onward, Nowhere, Stuck, IsLooked, find, found_by, by_first, in_own, in_copy, at_pin, resolved}
-use Rattle.x5_model_serve.specs.Answering.{reply_from, unlimited, local_sources, is_copied_here, local_tree, taken_before, local_part, rest_of_parts, with_unexplored, only_unexplored, limited_answer, to_follow, passed_by}
+use Rattle.x5_model_serve.proofs.Shuffling.{once_shuffled}
+use Rattle.x5_model_serve.proofs.Walks.{of_rest, needs_shuffled}
+use Rattle.x5_model_joins.proofs.Walked.{in_the_rest}
+use Rattle.x5_model_parts.proofs.Joining.{spots_are_once}
+use Rattle.x5_model_serve.specs.Answering.{reply_from, local_sources, told_in, local_told, taken_before, walked_needs, local_part, rest_of_parts, with_unexplored, only_unexplored, limited_answer, to_follow, passed_by}
 use Rattle.x5_model_serve.specs.Serving.{Hand, hand_of, line_for, Gathered, Whole, Broken, Does, Gathers, holds_now, found_at, begins_parts, parts_refs, at_limit, gathered_reply, is_idle, is_final, is_spent}
 use Rattle.x5_model_serve.specs.Claims.{AtHand, MayTake, MayGather, GatheredRight, SoFar, LiesWithin, is_due_line, is_settled_line, is_served_itself, serving_of, asked_line, line_at, depth_at}
 use Rattle.x5_model_serve.specs.Following.{IsFinalWhole}
@@ -169,10 +171,10 @@ module _ (known : NeededAgents) (p : Point) (s : Scene) (g : Ground p s) (k : Ha
   needs_parts = ap (λ (h : ℕ → Holdings). needs (h k.receiver) k.message) g.setting.holdings ∙ parts_needed (holdings_at p k.receiver) k.message k.receiver look begins_there
 
   pub in_needs : (r : Reference) → In r (rest_of_parts (holdings_at p k.receiver) k.message) → In r (needs (s.holdings k.receiver) k.message)
-  in_needs r m = subst (λ (xs : List Reference). In r xs) (sym needs_parts) (of_sorted taken_before r (part_needs (holdings_at p k.receiver) k.message) m)
+  in_needs r m = subst (λ (xs : List Reference). In r xs) (sym needs_parts) (of_rest (holdings_at p k.receiver) k.message r m)
 
   pub of_needs : (r : Reference) → In r (needs (s.holdings k.receiver) k.message) → In r (rest_of_parts (holdings_at p k.receiver) k.message)
-  of_needs r m = in_sorted taken_before r (part_needs (holdings_at p k.receiver) k.message) (subst (λ (xs : List Reference). In r xs) needs_parts m)
+  of_needs r m = in_the_rest p (line_for k) begun r (subst (λ (xs : List Reference). In r xs) needs_parts m)
 
   pub asked_is : (stood : ℕ) → asked_line at.line stood ≡ asked_line (line_at k at.line.number) stood
   asked_is stood = λ q. record { to = at.receiver_is q; message = at.message_is q; number = at.line.number; counts = true; stood = stood }
@@ -326,13 +328,17 @@ module _ (known : NeededAgents) (p : Point) (s : Scene) (g : Ground p s) (from :
   may_gather : MayGather p s from k (rest_of_parts (holdings_at p k.receiver) k.message) i
   may_gather = record {
     begins = begun known p s g k i at look begins;
-    needed = λ r m. of_sorted taken_before r (part_needs (holdings_at p k.receiver) k.message) m;
+    needed = λ r m. of_rest (holdings_at p k.receiver) k.message r m;
     takes = λ r m. takes r (in_needs known p s g k i at look begins r m);
     fresh = λ r m. record {
       passed = λ e f a n. elim n [ ];
       only = λ l n agent carried. elim (subst (λ (xs : List Line). In l xs) alone n) [ ];
     };
-    once = once_sorted taken_before (part_needs (holdings_at p k.receiver) k.message) (subst (λ (xs : List Reference). Once xs) (needs_parts known p s g k i at look begins) (apart_here p s g k i at known).once);
+    once =
+        once_sorted taken_before (walked_needs (holdings_at p k.receiver) k.message)
+        (once_shuffled (walked_needs (holdings_at p k.receiver) k.message) (part_needs (holdings_at p k.receiver) k.message)
+        (needs_shuffled (holdings_at p k.receiver) k.message (spots_are_once p (line_for k) (begun known p s g k i at look begins)))
+        (subst (λ (xs : List Reference). Once xs) (needs_parts known p s g k i at look begins) (apart_here p s g k i at known).once));
     apart = apart_here p s g k i at known;
   }
 
@@ -470,54 +476,15 @@ IsList (Finds infos cut) = Unit {0}
 IsList Changes = ⊥
 IsList (Refuses x) = Unit {0}
 
-list_if : (b : Bool) (x y : Told) → IsList x → IsList y → IsList (if b then x else y)
-list_if true x y f g = f
-list_if false x y f g = g
-
-body_list : (copies : Key → Bool) (t : Tree) (r : Request) (b : Body) → is_query_below b ≡ true → IsList (ask_body copies t r b)
-body_list copies t r (ListBelow name) q = list_if (is_there_or_root t.entries (key_of name)) _ _ tt tt
-body_list copies t r (Search base subset f selection) q = list_if (is_there_or_root t.entries (key_of base)) _ _ tt tt
-body_list copies t r (Read name selection) q = cc
-body_list copies t r (Compare name x) q = cc
-body_list copies t r (AddEntry name xs) q = cc
-body_list copies t r (RemoveEntry name) q = cc
-body_list copies t r (ModifyEntry name xs) q = cc
-body_list copies t r (ModifyDn name rdn x) q = cc
-
-asked_list : (copies : Key → Bool) (t : Tree) (r : Request) → is_query_below r.body ≡ true → IsList (ask_marked copies t r)
-asked_list copies t r q = go (fault_of r.body)
-  where
-    by : Option DirError → Told
-    by (Some x) = Refuses x
-    by None = ask_body copies t r r.body
-
-    go : (x : Option DirError) → IsList (by x)
-    go (Some x) = tt
-    go None = body_list copies t r r.body q
-
-below_list : (copies : Key → Bool) (t : Tree) (r : Request) (b : Body) → is_query_below b ≡ true → IsList (answer_below copies t r b)
-below_list copies t r (ListBelow name) q = tt
-below_list copies t r (Search base subset f selection) q = tt
-below_list copies t r (Read name selection) q = cc
-below_list copies t r (Compare name x) q = cc
-below_list copies t r (AddEntry name xs) q = cc
-below_list copies t r (RemoveEntry name) q = cc
-below_list copies t r (ModifyEntry name xs) q = cc
-below_list copies t r (ModifyDn name rdn x) q = cc
-
-pin_list : (copies : Key → Bool) (t : Tree) (r : Request) (b : Body) → is_query_below b ≡ true → is_query_below r.body ≡ true → IsList (answer_at_pin copies t r b)
-pin_list copies t r (ListBelow name) q u = tt
-pin_list copies t r (Search base subset f selection) q u = asked_list copies t r u
-pin_list copies t r (Read name selection) q u = cc
-pin_list copies t r (Compare name x) q u = cc
-pin_list copies t r (AddEntry name xs) q u = cc
-pin_list copies t r (RemoveEntry name) q u = cc
-pin_list copies t r (ModifyEntry name xs) q u = cc
-pin_list copies t r (ModifyDn name rdn x) q u = cc
-
-told_is_list : (copies : Key → Bool) (t : Tree) (m : Chained) → is_query_below m.request.body ≡ true → IsList (told copies t m)
-told_is_list copies t m q =
-    list_if (is_done m.progress) _ _ (list_if (is_wide m.kind) _ _ (below_list copies t m.request m.request.body q) (pin_list copies t m.request m.request.body q q)) (asked_list copies t m.request q)
+told_is_list : (h : Holdings) (m : Chained) (b : Body) → is_query_below b ≡ true → IsList (told_in h m b)
+told_is_list h m (ListBelow name) q = tt
+told_is_list h m (Search base subset f selection) q = tt
+told_is_list h m (Read name selection) q = tt
+told_is_list h m (Compare name x) q = tt
+told_is_list h m (AddEntry name xs) q = tt
+told_is_list h m (RemoveEntry name) q = tt
+told_is_list h m (ModifyEntry name xs) q = tt
+told_is_list h m (ModifyDn name rdn x) q = tt
 
 abbrev IsListing : Answer → Type 0
 IsListing (EntryFound info x) = ⊥
@@ -553,8 +520,8 @@ gives_parts_right known p s most k j a g arrives_here begins idle local at comes
     let so : SoFar p s (serving_of j k at.line.number) j.lines a (rest_of_parts (holdings_at p k.receiver) k.message) = local_so known p s g k j at look starts a here_local in
     let left_it : to_follow (at_limit k (with_unexplored (rest_of_parts (holdings_at p k.receiver) k.message) a)) ≡ rest_of_parts (holdings_at p k.receiver) k.message =
     listing_left k.message.request.controls.size (rest_of_parts (holdings_at p k.receiver) k.message) a
-    (listing_of (local_sources (holdings_at p k.receiver) k.message) (told (is_copied_here (holdings_at p k.receiver) k.message) (local_tree (holdings_at p k.receiver) k.message) (unlimited k.message)) a
-    (told_is_list (is_copied_here (holdings_at p k.receiver) k.message) (local_tree (holdings_at p k.receiver) k.message) (unlimited k.message) (query_below known p s g k j at look starts)) here_local) (local_whole (holdings_at p k.receiver) k.message a here_local)
+    (listing_of (local_sources (holdings_at p k.receiver) k.message) (local_told (holdings_at p k.receiver) k.message) a
+    (told_is_list (holdings_at p k.receiver) k.message k.message.request.body (query_below known p s g k j at look starts)) here_local) (local_whole (holdings_at p k.receiver) k.message a here_local)
     (λ r m. (rest_part (holdings_at p k.receiver) k.message r m).1) in
     subst (λ (rs : List Reference). ServedRight p s most at.line k (Answered (at_limit k (with_unexplored rs a))) j j) (sym refs) (record {
       keeps = unchanged p s most k (is_update k.message.request.body) j at.licensed at.accepted comes.at_once;

@@ -22,6 +22,7 @@ pub mod Starred
 pub mod Outputs
 pub mod Descriptions
 pub mod Serving
+pub mod Walking
 pub mod Stepping
 pub mod Parting
 pub mod Refusals

@@ -2,7 +2,7 @@
 -- compute: reads by a superior reference, a subordinate one and an NSSR; an absent name; agents that are down or
 -- refuse to chain; a search from the root; a probe that isn't heard; and updates whose reply is lost. The journals
 -- and answers are those that Resolution, Searching, Probing and Losing show to be right. Since a request has one
--- outcome, others are refused. And a scene is shown, of none that a run has, in which nothing is done.
+-- outcome, others are refused. And a scene that no run has: a context without an entry is asked for a search.
 use Rattle.std.specs.Prelude.{ℕ, [], ◌∷◌}
 use Rattle.std.proofs.Common.{◌≡◌, length, refl, ap, Some, None, arith}
 use lib.Chars.{codes}
@@ -18,7 +18,6 @@ use Rattle.x5_model_run.specs.History.{Point}
 use Rattle.x5_model_run.specs.Stage.{budget}
 use Rattle.x5_model_run.specs.Chain.{Scene, scene_at, probe_request}
 use Rattle.x5_model_serve.specs.Serving.{Hand, hand, hand_of, Serves, Does, Hears, Whole, IsRequest, asked_by, answers, not_told, not_heard, refused, stuck, refers, goes, casts, reads, gives_parts, asks_parts, updates, does, misses, done_before, no_probe, clear, silent, lost, dropped, sends, final, wide_referral, none_yet, heard, none_asked, unable_too, silent_too, answered, nobody_has, some_silent, no_part, part_answered}
-use Rattle.x5_model_determined.proofs.Courses.{Nothing, same_course}
 use Rattle.x5_model_determined.proofs.Once.{request_is_determined}
 use Rattle.x5_model_rows.proofs.BaseWorld.{nl, acme, desk, jan, lab, shop, ada}
 use Rattle.x5_model_rows.proofs.Messages.{asks, passes, journal, accepted_journal, now, info, bare, shows, whole_outcome, left_out}
@@ -344,10 +343,10 @@ not_undone reply d =
     let e : 0 ≡ 1 = ap (λ (j : Journal). length j.accepted) w.1 in
     omega (arith, e)
 
--- ---- where the relation has nothing to say
+-- ---- a context without an entry
 
 -- An agent that holds a context without an entry at its prefix, as none does in a run, is asked for a search there by a
--- reference: nothing is done.
+-- reference: its part is empty.
 abbrev pub empty_scene : Scene
 empty_scene = record (scene_at at_first 1 read_acme) {
   holdings = λ a. record {
@@ -371,6 +370,8 @@ asked_part = hand 1 (record {
       = everything acme WholeSubtree;
 })
 
-pub nothing_done : (most : ℕ) (reply : Reply) (j : Journal)
-    → Does empty_scene most (Serves asked_part reply) (journal []) j → ⊥
-nothing_done most reply j d = same_course empty_scene most asked_part (journal []) Nothing reply j refl d
+pub empty_part : (most : ℕ)
+    → Does empty_scene most (Serves asked_part (Answered (Found [] (now acme 1 ∷ []) whole_outcome))) (journal []) (journal [])
+empty_part most =
+    asks_parts (Found [] (now acme 1 ∷ []) whole_outcome) (Whole (Found [] (now acme 1 ∷ []) whole_outcome))
+    (record { unlooped = refl; short = refl; fresh = refl; unrefused = refl; fit = refl }) refl refl refl no_part

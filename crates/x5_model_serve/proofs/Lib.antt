@@ -3,3 +3,5 @@ pub mod Frame
 pub mod Licence
 pub mod Needing
 pub mod Finals
+pub mod Shuffling
+pub mod Walks

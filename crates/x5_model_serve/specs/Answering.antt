@@ -5,17 +5,21 @@ use Rattle.std.specs.Option.{is_some}
 use Rattle.std.specs.declared.option.Option.{Option}
 use Rattle.std.specs.declared.option.Option.TheVariants.{None, Some}
 use Rattle.x5_model.specs.Words.{in_option, ascending, sorted}
-use Rattle.x5_model.specs.Keys.{Key, same_key, key_below}
+use Rattle.x5_model.specs.Keys.{same_key, key_below}
 use Rattle.x5_model.specs.Values.{Name, key_of}
+use Rattle.x5_model.specs.Filters.{Filter}
+use Rattle.x5_model.specs.Truth.{selects_entry}
+use Rattle.x5_model.specs.Requests.{Subset, Selection, Body, ListBelow, Search}
 use Rattle.x5_model.specs.References.{Progress, Start, Next, Done, Reference, Chained}
 use Rattle.x5_model.specs.Answers.{EntryInfo, Sub, Source, Outcome, Answer, EntryFound, Matched, Listed, Found, Changed, ServiceProblem, Reply, Answered, Failed}
 use Rattle.x5_model.specs.Problems.{unavailable}
-use Rattle.x5_model_tree.specs.Tree.{Tree, tree_of, longest}
-use Rattle.x5_model_tree.specs.Ask.{Told, Shows, Compares, Lists, Finds, Changes, Refuses, unexplored_of, limited, is_cut, ask_marked}
+use Rattle.x5_model_tree.specs.Tree.{key_at, tree_of}
+use Rattle.x5_model_tree.specs.Ask.{Told, Shows, Compares, Lists, Finds, Changes, Refuses, unexplored_of, limited, is_cut, info_of, sub_of, ask_marked}
 use Rattle.x5_model_run.specs.Journal.{is_wide}
 use Rattle.x5_model_run.specs.Holdings.{Held, Copy, Holdings, copy_at, masters_pin}
-use Rattle.x5_model_run.specs.Needs.{evaluated, part_needs}
-use Rattle.x5_model_run.specs.Covers.{told}
+use Rattle.x5_model_run.specs.Needs.{subset_of, answers_root, below_needs, wide_needs}
+use Rattle.x5_model_parts.specs.Parts.{asks_for}
+use Rattle.x5_model_serve.specs.Walking.{entered, left}
 
 -- an answer with the contexts that it comes from
 abbrev pub reply_from : List Source → Told → Reply
@@ -48,44 +52,70 @@ abbrev pub reply_in_copy : ℕ → Chained → Copy → Reply
 reply_in_copy me m c =
     reply_from (copy_source me c ∷ []) (ask_marked (λ key. true) (tree_of c.held.entries []) m.request)
 
--- the local part of a list or search, without a limit: the contexts evaluated on the spot as one tree
+-- The local part of a list or search, without a limit: of each context that the walk comes to, its entries that are
+-- asked for, as that context has them; of two with one key the later one is dropped. The contexts are the sources, in
+-- the order of the walk.
 abbrev pub stamp_at : Holdings → Held → Option ℕ
 stamp_at h c =
     if masters_pin h (key_of c.prefix) then None else in_option None (λ x. x.stamp) (copy_at h (key_of c.prefix))
 
 abbrev pub local_sources : Holdings → Chained → List Source
-local_sources h m = map (λ c. record { context = c.prefix; agent = h.me; moment = stamp_at h c }) (evaluated h m)
+local_sources h m = map (λ c. record { context = c.prefix; agent = h.me; moment = stamp_at h c }) (entered h m)
 
-abbrev pub is_copied_here : Holdings → Chained → Key → Bool
-is_copied_here h m key = in_option false from (longest (map (λ s. key_of s.context) (local_sources h m)) key)
-  where
-    from : Key → Bool
-    from pin = list_any (λ s. same_key (key_of s.context) pin && is_some s.moment) (local_sources h m)
+abbrev pub subs_in : Holdings → Chained → Held → List Sub
+subs_in h m c = map (sub_of (λ key. is_some (stamp_at h c))) (filter (λ e. asks_for m (key_at e)) c.entries)
 
-abbrev pub local_tree : Holdings → Chained → Tree
-local_tree h m = tree_of (flat_map (λ c. c.entries) (evaluated h m)) []
+abbrev pub infos_in : Holdings → Chained → Filter → Selection → Held → List EntryInfo
+infos_in h m f selection c =
+    map (info_of (λ key. is_some (stamp_at h c)) selection)
+    (filter (λ e. asks_for m (key_at e) && selects_entry f e.entry) c.entries)
 
-abbrev pub unlimited : Chained → Chained
-unlimited m = record m { request = record m.request { controls = record m.request.controls { size = None } } }
+-- of those of which neither is below the other the first
+abbrev pub first_each : {X : Type 0} → (X → X → Bool) → List X → List X
+first_each below [] = []
+first_each below (x ∷ xs) = x ∷ filter (λ y. below x y || below y x) (first_each below xs)
 
-abbrev pub local_part : Holdings → Chained → Reply
-local_part h m = reply_from (local_sources h m) (told (is_copied_here h m) (local_tree h m) (unlimited m))
-
--- the references for the rest, by their targets; at one target specific ones come first
-abbrev pub taken_before : Reference → Reference → Bool
-taken_before a b =
-    key_below (key_of a.target) (key_of b.target)
-    || (same_key (key_of a.target) (key_of b.target) && (not (is_wide a.kind) && is_wide b.kind))
-
-abbrev pub rest_of_parts : Holdings → Chained → List Reference
-rest_of_parts h m = sorted taken_before (part_needs h m)
-
--- joined by key, of two with one key the earlier part's
 abbrev pub before_sub : Sub → Sub → Bool
 before_sub a b = key_below (key_of (a.rdn ∷ [])) (key_of (b.rdn ∷ []))
 
 abbrev pub before_info : EntryInfo → EntryInfo → Bool
 before_info a b = key_below (key_of a.name) (key_of b.name)
+
+-- no other request has parts
+abbrev pub told_in : Holdings → Chained → Body → Told
+told_in h m (ListBelow name) =
+    Lists (sorted before_sub (first_each before_sub (flat_map (subs_in h m) (entered h m)))) false
+told_in h m (Search base subset f selection) =
+    Finds (sorted before_info (first_each before_info (flat_map (infos_in h m f selection) (entered h m)))) false
+told_in h m other = Refuses (ServiceProblem unavailable None None)
+
+abbrev pub local_told : Holdings → Chained → Told
+local_told h m = told_in h m m.request.body
+
+abbrev pub local_part : Holdings → Chained → Reply
+local_part h m = reply_from (local_sources h m) (local_told h m)
+
+abbrev pub unlimited : Chained → Chained
+unlimited m = record m { request = record m.request { controls = record m.request.controls { size = None } } }
+
+-- The references for the rest, by their targets; at one target specific ones come first. Among equals the order is that
+-- in which the walk leaves their contexts: a context's NSSRs come after all below it; and so does a reference to a pin
+-- that a context below knows of too, since by their keys the pins on the way to it come before it.
+abbrev pub taken_before : Reference → Reference → Bool
+taken_before a b =
+    key_below (key_of a.target) (key_of b.target)
+    || (same_key (key_of a.target) (key_of b.target) && (not (is_wide a.kind) && is_wide b.kind))
+
+abbrev pub walked_needs : Holdings → Chained → List Reference
+walked_needs h m = in_option [] by (subset_of m)
+  where
+    by : Subset → List Reference
+    by subset =
+        (if answers_root h m then below_needs h m subset h.root else [])
+        ++ flat_map (λ c. below_needs h m subset c.subordinate ++ wide_needs h m subset c) (left h m)
+
+abbrev pub rest_of_parts : Holdings → Chained → List Reference
+rest_of_parts h m = sorted taken_before (walked_needs h m)
 
 -- its entries or names are in the order of their keys
 abbrev pub is_in_order : Answer → Bool
@@ -93,6 +123,7 @@ is_in_order (Listed subs sources o) = ascending before_sub subs
 is_in_order (Found infos sources o) = ascending before_info infos
 is_in_order other = true
 
+-- joined by key, of two with one key the earlier part's
 abbrev pub joined : {X : Type 0} → (X → X → Bool) → List X → List X → List X
 joined below xs ys = sorted below (xs ++ filter (λ y. not (list_any (λ x. not (below x y) && not (below y x)) xs)) ys)
 

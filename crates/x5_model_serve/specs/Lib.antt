@@ -1,5 +1,7 @@
 pub mod Finding
+pub mod Walking
 pub mod Answering
+pub mod Walked
 pub mod Committed
 pub mod Serving
 pub mod Framing

@@ -5,6 +5,7 @@
 ghost use Rattle.x5_model_serve.specs.Framing.{ServingIsFramed};
 ghost use Rattle.x5_model_serve.specs.Following.{IdleIsFollowed};
 ghost use Rattle.x5_model_serve.specs.Licensing.{NextIsLicensed};
+ghost use Rattle.x5_model_serve.specs.Walked.{WalkIsOnce, RestIsNeeded, WalkIsWhole, NeedsAreWalked};
 
 /// What is done for a message leaves all that stands above it in the journal.
 pub fn framing()
@@ -20,4 +21,13 @@ pub fn licensing()
 /// followed (X.518, section 20).
 pub fn following_up()
     ensures { IdleIsFollowed }
+{}
+
+/// The walk of a list or search comes to what is evaluated on the spot, to each pin once, whatever is held; and where no pin
+/// is evaluated twice, to all of it, so that all that it needs is asked for (X.518, section 19.3).
+pub fn walking()
+    ensures once { WalkIsOnce }
+    ensures rest { RestIsNeeded }
+    ensures whole { WalkIsWhole }
+    ensures needs { NeedsAreWalked }
 {}

@@ -23,15 +23,15 @@ use Rattle.x5_model_typed_laws.proofs.Numbers.{number_back}
 use Rattle.x5_model_typed_laws.proofs.Oids.{oid_back}
 
 -- what a test lets through
-so : {X : Type 0} (b : Bool) (x y : X) → where_so b x ≡ Some y → (b ≡ true) × (x ≡ y)
+pub so : {X : Type 0} (b : Bool) (x y : X) → where_so b x ≡ Some y → (b ≡ true) × (x ≡ y)
 so true x y h = (refl, cc)
 so false x y h = absurd (cc h)
 
-let_through : {X : Type 0} (b : Bool) (x : X) → b ≡ true → where_so b x ≡ Some x
+pub let_through : {X : Type 0} (b : Bool) (x : X) → b ≡ true → where_so b x ≡ Some x
 let_through true x h = refl
 let_through false x h = absurd (cc h)
 
-some_is : {X : Type 0} (x y : X) → (let o : Option X = Some x in o) ≡ Some y → x ≡ y
+pub some_is : {X : Type 0} (x y : X) → (let o : Option X = Some x in o) ≡ Some y → x ≡ y
 some_is x y h = cc
 
 -- ---- BOOLEAN and NULL

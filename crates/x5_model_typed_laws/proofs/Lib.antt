@@ -12,4 +12,9 @@ pub mod Oids
 pub mod Leaves
 pub mod Reading
 pub mod Spelled
+pub mod Closing
+pub mod Texts
+pub mod Sorting
+pub mod Settling
+pub mod Closed
 mod Examples

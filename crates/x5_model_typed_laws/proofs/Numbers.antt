@@ -143,13 +143,13 @@ positive_back n small =
 abbrev flip : ℕ → ℕ
 flip o = 255 - o
 
-power : (k : ℕ) → 2 ^ (8 * suc k) ≡ 256 * 2 ^ (8 * k)
+pub power : (k : ℕ) → 2 ^ (8 * suc k) ≡ 256 * 2 ^ (8 * k)
 power k =
     let e : 8 * suc k ≡ suc (suc (suc (suc (suc (suc (suc (suc (8 * k)))))))) = omega arith in
     let f : 2 ^ suc (suc (suc (suc (suc (suc (suc (suc (8 * k)))))))) ≡ 256 * 2 ^ (8 * k) = omega arith in
     ap (λ (j : ℕ). 2 ^ j) e ∙ f
 
-regroup : (s q : ℕ) → s * 256 * q ≡ s * (256 * q)
+pub regroup : (s q : ℕ) → s * 256 * q ≡ s * (256 * q)
 regroup s q = omega arith
 
 flipped_sum : (us : List ℕ) (x y : ℕ) → list_all is_octet us ≡ true

@@ -9,6 +9,7 @@ use Rattle.x5_model_typed.specs.Named.{Named}
 use Rattle.x5_model_typed.specs.Forms.{Presence, Code, Content, Primitive, Joined, JoinedBits, Explicit, Sequence, Set, Members, Never, Alternative, Layout}
 use Rattle.x5_model_typed.specs.Judged.{marked}
 use Rattle.x5_model_typed.specs.Typed.{Spells}
+use Rattle.x5_model_typed.specs.Layouts.{Surroundings, layout}
 use Rattle.x5_model_typed_laws.specs.Fits.{Fits, FitsSequence, FitsSet, FitsEach}
 
 abbrev pub is_octet : ℕ → Bool
@@ -59,3 +60,11 @@ pub record IsClosed (layout : Layout) : Type 0 where
 abbrev pub SpelledFits : Type 0
 SpelledFits = (layout : Layout) (form : Named) (octets : List ℕ) (n : Node) → IsClosed layout
     → list_all is_octet octets ≡ true → Spells layout form octets n → Fits layout (layout form) n
+
+-- The table of messages is such a table: so whatever octets spell of a message's type fits.
+abbrev pub MessagesAreClosed : Type 0
+MessagesAreClosed = (w : Surroundings) → IsClosed (layout w)
+
+abbrev pub MessagesSpelledFit : Type 0
+MessagesSpelledFit = (w : Surroundings) (form : Named) (octets : List ℕ) (n : Node) → list_all is_octet octets ≡ true
+    → Spells (layout w) form octets n → Fits (layout w) (layout w form) n

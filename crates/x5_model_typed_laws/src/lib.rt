@@ -4,7 +4,7 @@
 #![tactic(auto)]
 
 ghost use Rattle.x5_model_typed_laws.specs.Complete.{IsJudged, JudgedDecides};
-ghost use Rattle.x5_model_typed_laws.specs.Said.{SpelledFits};
+ghost use Rattle.x5_model_typed_laws.specs.Said.{SpelledFits, MessagesAreClosed, MessagesSpelledFit};
 ghost use Rattle.x5_model_typed_laws.specs.Written.{FitsIsWritten, WrittenIsSpelled, WrittenReadsBack, OneIsWritten, MessagesAreTable};
 
 /// Reading by type comes to a value exactly where the element is one, and else to a breach.
@@ -29,7 +29,10 @@ pub fn messages_are_a_table()
     ensures { MessagesAreTable }
 {}
 
-/// In a table whose rules keep what they make of what was read, whatever octets spell fits its type.
+/// In a table whose rules keep what they make of what was read, whatever octets spell fits its type. The table of messages is
+/// such a table, so whatever octets spell of a message fits, and is written and read back the same.
 pub fn what_is_read_fits()
-    ensures { SpelledFits }
+    ensures every { SpelledFits }
+    ensures closed { MessagesAreClosed }
+    ensures messages { MessagesSpelledFit }
 {}

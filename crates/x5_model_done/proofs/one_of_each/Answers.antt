@@ -1,6 +1,4 @@
-use Rattle.x5_model_run.specs.Right.{AnswersRight}
-use Rattle.x5_model_star.specs.Runs.{RightAndWhole}
-use Rattle.x5_model_done.proofs.Done.{requests_have_outcomes, lines_have_outcomes, runs_have_outcomes}
+use Rattle.x5_model_done.proofs.Done.{requests_have_outcomes, lines_have_outcomes}
 use Rattle.x5_model_done.proofs.one_of_each.Goals as goal
 
 pub returns-clause-outcomes : goal.returns-clause-outcomes
@@ -8,9 +6,3 @@ returns-clause-outcomes c = requests_have_outcomes
 
 pub returns-clause-lines : goal.returns-clause-lines
 returns-clause-lines c = lines_have_outcomes
-
-pub returns-clause-runs : goal.returns-clause-runs
-returns-clause-runs c = runs_have_outcomes AnswersRight
-
-pub returns-clause-whole : goal.returns-clause-whole
-returns-clause-whole c = runs_have_outcomes RightAndWhole

@@ -1,0 +1,505 @@
+-- The table of messages is closed, type by type: the rule of each type keeps what was read, or what it makes of it fits
+-- and is kept.
+use Rattle.std.proofs.Common.{◌≡◌, ℕ, Bool, true, false, not, ◌&&◌, ◌||◌, ◌==◌, if◌then◌else◌, cond, Option, List, [], ◌∷◌, ◌-◌, length, refl, sym, ap, ◌∙◌}
+use Rattle.std.specs.Prelude.{nat_le}
+use Rattle.std.specs.List.{find, list_all}
+use Rattle.std.specs.Option.{is_some}
+use Rattle.std.specs.declared.option.Option.TheVariants.{None, Some}
+use Rattle.x5_model.specs.Words.{distinct, is_empty}
+use Rattle.x5_model.specs.Normal as normal
+use Rattle.x5_model_typed.specs.Nodes as nodes
+use Rattle.x5_model_typed.specs.Nodes.{Node, Nodes, Vacant, Flag, Many, Nil, More, parts, is_vacant}
+use Rattle.x5_model_typed.specs.Named.{Named, AddEntry, Agent, AgentName, Agents, Agreement, AnyNumber, AnyOid, Argument, Assertion, Attribute, AttributeError, Attributes, Boolean, Chained, Chaining, Change, Changes, Compare, Controls, DapAnswer, DapRequest, DapResult, DispMessage, DispResult, DspAnswer, DspRequest, DspResult, Entries, Entry, EntryInfo, EntryInfos, Enumeration, Filter, Filters, Item, Known, Knowns, ListBelow, ModifyDn, ModifyEntry, Name, NameError, NonSpecific, NonSpecifics, Null, NumberBelow, Options, Outcome, Pair, Part, Parts, PlacedPart, Progress, Qualifier, Rdn, Rdns, Read, RefType, Reference, References, Refresh, RemoveEntry, Renamed, Search, Selection, ServiceError, ShadowArgument, ShadowError, Source, Sources, Step, Steps, Sub, Subs, Substrings, Time, Total, Trace, TraceItem, TypeList, UpdateArgument, UpdateError, Value, Values, WorldAgent, WorldAgentName, WorldAgents}
+use Rattle.x5_model_typed.specs.Forms.{Primitive, Joined, JoinedBits, Explicit, Never, Alternative, Layout, universal, choice, ruled, plain, at, or}
+use Rattle.x5_model_typed.specs.Leaves.{boolean, null, number, any_number, from_to, one_of, oid, any_oid, is_agent_name, options}
+use Rattle.x5_model_typed.specs.Rules.{name_rule, is_pair, pair_rule, some_members, in_their_places, parts_rule, is_proceeding, progress_rule, same_item, most_items, trace_rule, master_first, agents_of, is_copy, known_rule, masters_rule}
+use Rattle.x5_model_typed.specs.Written.{is_made_of_members, can_hold}
+use Rattle.x5_model_typed.specs.Layouts.{Surroundings, layout, sequence, set, sequence_of, set_of, integer, optional, or_nothing, invoke, result, error, result_inner, operation_codes, dap_errors, dsp_errors, shadow_operations, shadow_results, shadow_errors, argument, outcome, agent_name, any_agent, time_leaf}
+use Rattle.x5_model_typed_laws.specs.Said.{is_uncoded, Closes, AllClose, MessagesAreClosed, MessagesSpelledFit}
+use Rattle.x5_model_typed_laws.proofs.Leaves.{so}
+use Rattle.x5_model_typed_laws.proofs.Closing.{Keeps, any_keeps, test_keeps, no_leaf, made_closes, chosen_closes, explicit_closes, leaf_closes, leaf_alone, held_by, boolean_writes, null_writes, text_writes, time_writes, options_writes, oid_writes, number_writes}
+use Rattle.x5_model_typed_laws.proofs.Texts.{printable_value_closes, printable_part_closes, universal_value_closes, universal_part_closes, numeric_value_closes, numeric_part_closes, seven_value_closes, seven_part_closes, oid_value_closes, octets_value_closes, oid_part_closes, octets_part_closes, name_part_closes}
+use Rattle.x5_model_typed_laws.proofs.Settling.{rdn_closes, controls_close, entry_closes}
+use Rattle.x5_model_typed_laws.proofs.Spelled.{spelled_fits}
+
+-- ---- rules that take a value or refuse it
+name_keeps : Keeps name_rule
+name_keeps m n h = test_keeps (λ x. nat_le (length (parts x)) normal.most_rdns) m n h
+
+pair_keeps : Keeps pair_rule
+pair_keeps m n h = test_keeps is_pair m n h
+
+some_keeps : Keeps some_members
+some_keeps m n h = test_keeps (λ x. not (is_empty (parts x))) m n h
+
+parts_keeps : Keeps parts_rule
+parts_keeps m n h = test_keeps (λ x. not (is_empty (parts x)) && in_their_places (parts x)) m n h
+
+trace_keeps : Keeps trace_rule
+trace_keeps m n h = test_keeps (λ x. nat_le (length (parts x)) most_items && distinct same_item (parts x)) m n h
+
+known_keeps : Keeps known_rule
+known_keeps m n h = test_keeps (λ x. master_first (agents_of x)) m n h
+
+masters_keeps : Keeps masters_rule
+masters_keeps m n h = test_keeps (λ x. list_all (λ a. not (is_copy a)) (agents_of x)) m n h
+
+progress_keeps : Keeps progress_rule
+progress_keeps Vacant n h = absurd (cc h)
+progress_keeps (Flag b) n h = absurd (cc h)
+progress_keeps (nodes.Number k) n h = absurd (cc h)
+progress_keeps (nodes.Oid arcs) n h = absurd (cc h)
+progress_keeps (nodes.Bits bits) n h = absurd (cc h)
+progress_keeps (nodes.Octets octets) n h = absurd (cc h)
+progress_keeps (nodes.Text text) n h = absurd (cc h)
+progress_keeps (nodes.Chosen tag x) n h = absurd (cc h)
+progress_keeps (Many Nil) n h = absurd (cc h)
+progress_keeps (Many (More p Nil)) n h = absurd (cc h)
+progress_keeps (Many (More p (More q Nil))) n h =
+    sym (so ((is_proceeding p && not (is_vacant q)) || (not (is_proceeding p) && is_vacant q))
+    (Many (More p (More q Nil))) n h).1
+progress_keeps (Many (More p (More q (More r rs)))) n h = absurd (cc h)
+
+-- ---- a type with one alternative, of elements
+made_alone : (L : Layout) (a : Alternative) → is_made_of_members a.content ≡ true → a.marked ≡ false → Keeps a.settles
+    → AllClose L (a ∷ []) (a ∷ [])
+made_alone L a made free_of keeps = (
+  made_closes L (a ∷ []) a made free_of keeps (λ ns. ap (λ (b : Bool). cond b (Some a) None)
+      (ap (λ (o : Option (List ℕ)). if is_some o then true else (true && is_made_of_members a.content))
+      (no_leaf a.content (Many ns) made)
+      ∙ made)),
+  tt,
+)
+
+null_refresh_closes : (w : Surroundings) → Closes (layout w) (layout w Refresh) (universal 5 (Primitive null))
+null_refresh_closes w =
+    leaf_closes (layout w) (layout w Refresh) (universal 5 (Primitive null)) refl any_keeps null_writes
+    (λ m said. ap (λ (b : Bool). cond b (Some (universal 5 (Primitive null)))
+    (find (can_hold m) (choice 0 (Explicit Total) ∷ choice 1 (Explicit Steps) ∷ [])))
+    (held_by (universal 5 (Primitive null)) m (null_writes (layout w) m said)))
+
+abbrev filter_types : ℕ → Bool → List Alternative
+filter_types levels b =
+    if b then choice 0 Never ∷ choice 1 Never ∷ choice 2 Never ∷ choice 3 Never ∷ []
+    else (choice 0 (Explicit Item) ∷ choice 1 (Explicit (Filters (levels - 1))) ∷ choice 2
+    (Explicit (Filters (levels - 1)))
+    ∷ choice 3 (Explicit (Filter (levels - 1))) ∷ [])
+
+filters_close : (w : Surroundings) (levels : ℕ) (b : Bool)
+    → AllClose (layout w) (filter_types levels b) (filter_types levels b)
+filters_close w levels true = (
+  λ m n said rule. absurd said,
+  (λ m n said rule. absurd said, (λ m n said rule. absurd said, (λ m n said rule. absurd said, tt))),
+)
+filters_close w levels false = (
+  explicit_closes (layout w) (filter_types levels false) (choice 0 (Explicit Item)) Item refl refl any_keeps refl,
+  (
+    explicit_closes (layout w) (filter_types levels false) (choice 1 (Explicit (Filters (levels - 1))))
+        (Filters (levels - 1)) refl refl any_keeps refl,
+    (
+      explicit_closes (layout w) (filter_types levels false) (choice 2 (Explicit (Filters (levels - 1))))
+          (Filters (levels - 1)) refl refl any_keeps refl,
+      (
+        explicit_closes (layout w) (filter_types levels false) (choice 3 (Explicit (Filter (levels - 1))))
+            (Filter (levels - 1)) refl refl any_keeps refl,
+        tt,
+      ),
+    ),
+  ),
+)
+
+filters_uncoded : (levels : ℕ) (b : Bool) → list_all (λ a. is_uncoded a.content) (filter_types levels b) ≡ true
+filters_uncoded levels true = refl
+filters_uncoded levels false = refl
+
+-- ---- the table
+pub messages_close : (w : Surroundings) (form : Named) → AllClose (layout w) (layout w form) (layout w form)
+messages_close w DapRequest =
+    (chosen_closes (layout w) (layout w DapRequest) (invoke (operation_codes Argument)) refl refl any_keeps refl, tt)
+messages_close w DapAnswer = (
+  chosen_closes (layout w) (layout w DapAnswer) (result DapResult) refl refl any_keeps
+      refl,
+  (chosen_closes (layout w) (layout w DapAnswer) (error dap_errors) refl refl any_keeps refl, tt),
+)
+messages_close w DspRequest =
+    (chosen_closes (layout w) (layout w DspRequest) (invoke (operation_codes Chained)) refl refl any_keeps refl, tt)
+messages_close w DspAnswer = (
+  chosen_closes (layout w) (layout w DspAnswer) (result DspResult) refl refl any_keeps
+      refl,
+  (chosen_closes (layout w) (layout w DspAnswer) (error dsp_errors) refl refl any_keeps refl, tt),
+)
+messages_close w DispMessage = (
+  chosen_closes (layout w) (layout w DispMessage) (invoke shadow_operations) refl refl any_keeps
+      refl,
+  (
+    chosen_closes (layout w) (layout w DispMessage)
+        (result DispResult) refl refl any_keeps refl,
+    (
+      chosen_closes (layout w) (layout w DispMessage)
+          (error shadow_errors) refl refl any_keeps refl,
+      tt,
+    ),
+  ),
+)
+messages_close w (Argument operation) = made_alone (layout w) (set (argument operation)) refl refl any_keeps
+messages_close w (Chained operation) =
+    made_alone (layout w) (sequence (plain Chaining ∷ plain (Argument operation) ∷ [])) refl refl any_keeps
+messages_close w DapResult = made_alone (layout w) (result_inner (operation_codes Outcome)) refl refl any_keeps
+messages_close w DspResult = made_alone (layout w) (result_inner (operation_codes Outcome)) refl refl any_keeps
+messages_close w DispResult = made_alone (layout w) (result_inner shadow_results) refl refl any_keeps
+messages_close w (Outcome Read) = made_alone (layout w) (outcome Read) refl refl any_keeps
+messages_close w (Outcome Compare) = made_alone (layout w) (outcome Compare) refl refl any_keeps
+messages_close w (Outcome ListBelow) = made_alone (layout w) (outcome ListBelow) refl refl any_keeps
+messages_close w (Outcome Search) = made_alone (layout w) (outcome Search) refl refl any_keeps
+messages_close w (Outcome AddEntry) =
+    (leaf_alone (layout w) (universal 5 (Primitive null)) refl any_keeps null_writes, tt)
+messages_close w (Outcome RemoveEntry) =
+    (leaf_alone (layout w) (universal 5 (Primitive null)) refl any_keeps null_writes, tt)
+messages_close w (Outcome ModifyEntry) =
+    (leaf_alone (layout w) (universal 5 (Primitive null)) refl any_keeps null_writes, tt)
+messages_close w (Outcome ModifyDn) =
+    (leaf_alone (layout w) (universal 5 (Primitive null)) refl any_keeps null_writes, tt)
+messages_close w AnyNumber =
+    (leaf_alone (layout w) (integer any_number) refl any_keeps (number_writes any_number), tt)
+messages_close w (NumberBelow low high) =
+    (leaf_alone (layout w) (integer (from_to low high)) refl any_keeps (number_writes (from_to low high)), tt)
+messages_close w (Enumeration low high) = (
+  leaf_alone (layout w) (universal 10 (Primitive (number (from_to low high)))) refl any_keeps
+      (number_writes (from_to low high)),
+  tt,
+)
+messages_close w Boolean =
+    (leaf_alone (layout w) (universal 1 (Primitive boolean)) refl any_keeps boolean_writes, tt)
+messages_close w Null = (leaf_alone (layout w) (universal 5 (Primitive null)) refl any_keeps null_writes, tt)
+messages_close w AnyOid =
+    (leaf_alone (layout w) (universal 6 (Primitive (oid any_oid))) refl any_keeps (oid_writes any_oid), tt)
+messages_close w Value = (
+  oid_value_closes w,
+  (
+    octets_value_closes w,
+    (
+      made_closes (layout w) (layout w Value)
+          (ruled name_rule (sequence_of Rdn)) refl refl name_keeps
+          (λ ns. refl),
+      (
+        printable_value_closes w,
+        (
+          universal_value_closes
+              w,
+          (numeric_value_closes w, (seven_value_closes w, tt)),
+        ),
+      ),
+    ),
+  ),
+)
+messages_close w Part = (
+  printable_part_closes w,
+  (
+    universal_part_closes w,
+    (
+      numeric_part_closes
+          w,
+      (seven_part_closes w, (oid_part_closes w, (octets_part_closes w, (name_part_closes w, tt)))),
+    ),
+  ),
+)
+messages_close w AgentName = (
+  leaf_alone (layout w) (agent_name any_agent) refl any_keeps
+      (text_writes (λ t. if is_agent_name t then any_agent t else false)),
+  tt,
+)
+messages_close w Time =
+    (leaf_alone (layout w) (universal 24 (Joined (time_leaf w))) refl any_keeps (time_writes w), tt)
+messages_close w Options =
+    (leaf_alone (layout w) (universal 3 (JoinedBits options)) refl any_keeps options_writes, tt)
+messages_close w RefType = (
+  leaf_alone (layout w) (integer (one_of (1 ∷ 2 ∷ 3 ∷ 4 ∷ 5 ∷ 8 ∷ []))) refl any_keeps
+      (number_writes (one_of (1 ∷ 2 ∷ 3 ∷ 4 ∷ 5 ∷ 8 ∷ []))),
+  tt,
+)
+messages_close w Name = made_alone (layout w) (ruled name_rule (sequence_of Rdn)) refl refl name_keeps
+messages_close w Rdn = (rdn_closes w, tt)
+messages_close w Rdns = made_alone (layout w) (sequence_of Rdn) refl refl any_keeps
+messages_close w Pair =
+    made_alone (layout w) (ruled pair_rule (sequence (plain AnyOid ∷ plain Value ∷ []))) refl refl pair_keeps
+messages_close w Attribute =
+    made_alone (layout w) (sequence (plain AnyOid ∷ plain Values ∷ [])) refl refl any_keeps
+messages_close w Attributes = made_alone (layout w) (set_of Attribute) refl refl any_keeps
+messages_close w Values = made_alone (layout w) (ruled some_members (set_of Value)) refl refl some_keeps
+messages_close w TypeList = made_alone (layout w) (set_of AnyOid) refl refl any_keeps
+messages_close w Selection = made_alone (layout w) (set (optional (at 1 TypeList) ∷ [])) refl refl any_keeps
+messages_close w Controls = (controls_close w, tt)
+messages_close w Assertion =
+    made_alone (layout w) (sequence (plain AnyOid ∷ plain Value ∷ [])) refl refl any_keeps
+messages_close w Changes = made_alone (layout w) (sequence_of Change) refl refl any_keeps
+messages_close w Change = (
+  explicit_closes (layout w) (layout w Change) (choice 0 (Explicit Attribute)) Attribute refl refl any_keeps
+      refl,
+  (
+    explicit_closes (layout w) (layout w Change)
+        (choice 1 (Explicit AnyOid)) AnyOid refl refl any_keeps
+        refl,
+    (
+      explicit_closes (layout w) (layout w Change)
+          (choice 2 (Explicit Attribute)) Attribute refl refl any_keeps
+          refl,
+      (
+        explicit_closes (layout w) (layout w Change)
+            (choice 3 (Explicit Attribute)) Attribute refl refl any_keeps refl,
+        tt,
+      ),
+    ),
+  ),
+)
+messages_close w (Filter levels) = filters_close w levels (levels == 0)
+messages_close w (Filters levels) = made_alone (layout w) (set_of (Filter levels)) refl refl any_keeps
+messages_close w Item = (
+  explicit_closes (layout w) (layout w Item) (choice 0 (Explicit Assertion)) Assertion refl refl any_keeps
+      refl,
+  (
+    explicit_closes (layout w) (layout w Item)
+        (choice 1 (Explicit Substrings)) Substrings refl refl any_keeps
+        refl,
+    (
+      explicit_closes (layout w) (layout w Item)
+          (choice 2 (Explicit Assertion)) Assertion refl refl any_keeps
+          refl,
+      (
+        explicit_closes (layout w) (layout w Item)
+            (choice 3 (Explicit Assertion)) Assertion refl refl any_keeps
+            refl,
+        (
+          explicit_closes (layout w) (layout w Item)
+              (choice 4 (Explicit AnyOid)) AnyOid refl refl any_keeps
+              refl,
+          (
+            explicit_closes (layout w) (layout w Item)
+                (choice 5 (Explicit Assertion)) Assertion refl refl any_keeps refl,
+            tt,
+          ),
+        ),
+      ),
+    ),
+  ),
+)
+messages_close w Substrings =
+    made_alone (layout w) (sequence (plain AnyOid ∷ plain Parts ∷ [])) refl refl any_keeps
+messages_close w Parts = made_alone (layout w) (ruled parts_rule (sequence_of PlacedPart)) refl refl parts_keeps
+messages_close w PlacedPart = (
+  explicit_closes (layout w) (layout w PlacedPart) (choice 0 (Explicit Part)) Part refl refl any_keeps
+      refl,
+  (
+    explicit_closes (layout w) (layout w PlacedPart)
+        (choice 1 (Explicit Part)) Part refl refl any_keeps
+        refl,
+    (
+      explicit_closes (layout w) (layout w PlacedPart)
+          (choice 2 (Explicit Part)) Part refl refl any_keeps refl,
+      tt,
+    ),
+  ),
+)
+messages_close w Chaining =
+    made_alone (layout w) (set (at 0 Name ∷ at 1 Progress ∷ at 2 Trace ∷ at 3 RefType ∷ or_nothing (at 4 Rdns) ∷ []))
+    refl refl any_keeps
+messages_close w Progress =
+    made_alone (layout w) (ruled progress_rule (sequence
+    (plain (Enumeration 1 3) ∷ optional (plain (NumberBelow 1 16)) ∷ []))) refl refl progress_keeps
+messages_close w Trace = made_alone (layout w) (ruled trace_rule (sequence_of TraceItem)) refl refl trace_keeps
+messages_close w TraceItem =
+    made_alone (layout w) (sequence (plain AgentName ∷ plain Name ∷ plain Progress ∷ or (Flag false)
+    (plain Boolean) ∷ [])) refl refl any_keeps
+messages_close w Agents = made_alone (layout w) (sequence_of Agent) refl refl any_keeps
+messages_close w Agent =
+    made_alone (layout w) (sequence (plain AgentName ∷ or (Flag false) (plain Boolean) ∷ [])) refl refl any_keeps
+messages_close w Reference =
+    made_alone (layout w) (set (at 0 Name ∷ at 1 Progress ∷ at 2 RefType ∷ at 3 Agents ∷ or_nothing (at 4 Rdns) ∷ or
+    (Flag false) (at 5 Boolean) ∷ [])) refl refl any_keeps
+messages_close w References = made_alone (layout w) (sequence_of Reference) refl refl any_keeps
+messages_close w Source =
+    made_alone (layout w) (sequence (plain Name ∷ plain AgentName ∷ optional
+    (plain (NumberBelow 0 4294967295)) ∷ [])) refl refl any_keeps
+messages_close w Sources = made_alone (layout w) (sequence_of Source) refl refl any_keeps
+messages_close w EntryInfo =
+    made_alone (layout w) (sequence (plain Name ∷ or (Flag true) (plain Boolean) ∷ plain Attributes ∷ [])) refl refl
+    any_keeps
+messages_close w EntryInfos = made_alone (layout w) (sequence_of EntryInfo) refl refl any_keeps
+messages_close w Sub =
+    made_alone (layout w) (sequence (plain Rdn ∷ or (Flag true) (plain Boolean) ∷ [])) refl refl any_keeps
+messages_close w Subs = made_alone (layout w) (sequence_of Sub) refl refl any_keeps
+messages_close w Qualifier =
+    made_alone (layout w) (set (optional (at 0 (NumberBelow 1 1)) ∷ or_nothing (at 1 References) ∷ [])) refl refl
+    any_keeps
+messages_close w AttributeError =
+    made_alone (layout w) (sequence (plain (NumberBelow 1 6) ∷ plain AnyOid ∷ [])) refl refl any_keeps
+messages_close w NameError =
+    made_alone (layout w) (sequence (plain (NumberBelow 1 1) ∷ plain Name ∷ [])) refl refl any_keeps
+messages_close w ServiceError =
+    made_alone (layout w) (sequence (plain (NumberBelow 1 12) ∷ optional (at 0 Reference) ∷ optional
+    (at 1 TraceItem) ∷ [])) refl refl any_keeps
+messages_close w UpdateError =
+    made_alone (layout w) (sequence (plain (NumberBelow 1 7) ∷ [])) refl refl any_keeps
+messages_close w ShadowError =
+    made_alone (layout w) (sequence (plain (NumberBelow 1 11) ∷ optional (at 0 Time) ∷ optional (at 1 Time) ∷ []))
+    refl refl any_keeps
+messages_close w Agreement =
+    (leaf_alone (layout w) (integer (from_to 0 4294967295)) refl any_keeps (number_writes (from_to 0 4294967295)), tt)
+messages_close w ShadowArgument =
+    made_alone (layout w) (sequence (plain Agreement ∷ optional (at 0 Time) ∷ plain (Enumeration 1 2) ∷ [])) refl
+    refl any_keeps
+messages_close w UpdateArgument =
+    made_alone (layout w) (sequence (plain Agreement ∷ plain Time ∷ plain Refresh ∷ [])) refl refl any_keeps
+messages_close w Refresh = (
+  null_refresh_closes w,
+  (
+    explicit_closes (layout w) (layout w Refresh)
+        (choice 0 (Explicit Total)) Total refl refl any_keeps
+        refl,
+    (
+      explicit_closes (layout w) (layout w Refresh)
+          (choice 1 (Explicit Steps)) Steps refl refl any_keeps refl,
+      tt,
+    ),
+  ),
+)
+messages_close w Total =
+    made_alone (layout w) (sequence (plain Entries ∷ plain Knowns ∷ plain NonSpecifics ∷ [])) refl refl any_keeps
+messages_close w Entries = made_alone (layout w) (sequence_of Entry) refl refl any_keeps
+messages_close w Entry = (entry_closes w, tt)
+messages_close w Knowns = made_alone (layout w) (sequence_of Known) refl refl any_keeps
+messages_close w Known =
+    made_alone (layout w) (ruled known_rule (sequence (plain Name ∷ plain WorldAgents ∷ []))) refl refl known_keeps
+messages_close w NonSpecifics = made_alone (layout w) (sequence_of NonSpecific) refl refl any_keeps
+messages_close w NonSpecific =
+    made_alone (layout w) (ruled masters_rule (sequence (plain Name ∷ plain WorldAgents ∷ []))) refl refl masters_keeps
+messages_close w WorldAgents = made_alone (layout w) (sequence_of WorldAgent) refl refl any_keeps
+messages_close w WorldAgent =
+    made_alone (layout w) (sequence (plain WorldAgentName ∷ or (Flag false) (plain Boolean) ∷ [])) refl refl any_keeps
+messages_close w WorldAgentName = (
+  leaf_alone (layout w) (agent_name w.is_agent) refl any_keeps
+      (text_writes (λ t. if is_agent_name t then w.is_agent t else false)),
+  tt,
+)
+messages_close w Steps = made_alone (layout w) (sequence_of Step) refl refl any_keeps
+messages_close w Step = (
+  explicit_closes (layout w) (layout w Step) (choice 0 (Explicit Entry)) Entry refl refl any_keeps
+      refl,
+  (
+    explicit_closes (layout w) (layout w Step)
+        (choice 1 (Explicit Name)) Name refl refl any_keeps
+        refl,
+    (
+      explicit_closes (layout w) (layout w Step)
+          (choice 2 (Explicit Entry)) Entry refl refl any_keeps
+          refl,
+      (
+        explicit_closes (layout w) (layout w Step)
+            (choice 3 (Explicit Renamed)) Renamed refl refl any_keeps refl,
+        tt,
+      ),
+    ),
+  ),
+)
+messages_close w Renamed = made_alone (layout w) (sequence (plain Name ∷ plain Entry ∷ [])) refl refl any_keeps
+
+pub messages_uncoded : (w : Surroundings) (form : Named) → list_all (λ a. is_uncoded a.content) (layout w form) ≡ true
+messages_uncoded w DapRequest = refl
+messages_uncoded w DapAnswer = refl
+messages_uncoded w DspRequest = refl
+messages_uncoded w DspAnswer = refl
+messages_uncoded w DispMessage = refl
+messages_uncoded w (Argument Read) = refl
+messages_uncoded w (Argument Compare) = refl
+messages_uncoded w (Argument ListBelow) = refl
+messages_uncoded w (Argument Search) = refl
+messages_uncoded w (Argument AddEntry) = refl
+messages_uncoded w (Argument RemoveEntry) = refl
+messages_uncoded w (Argument ModifyEntry) = refl
+messages_uncoded w (Argument ModifyDn) = refl
+messages_uncoded w (Chained operation) = refl
+messages_uncoded w DapResult = refl
+messages_uncoded w DspResult = refl
+messages_uncoded w DispResult = refl
+messages_uncoded w (Outcome Read) = refl
+messages_uncoded w (Outcome Compare) = refl
+messages_uncoded w (Outcome ListBelow) = refl
+messages_uncoded w (Outcome Search) = refl
+messages_uncoded w (Outcome AddEntry) = refl
+messages_uncoded w (Outcome RemoveEntry) = refl
+messages_uncoded w (Outcome ModifyEntry) = refl
+messages_uncoded w (Outcome ModifyDn) = refl
+messages_uncoded w AnyNumber = refl
+messages_uncoded w (NumberBelow low high) = refl
+messages_uncoded w (Enumeration low high) = refl
+messages_uncoded w Boolean = refl
+messages_uncoded w Null = refl
+messages_uncoded w AnyOid = refl
+messages_uncoded w Value = refl
+messages_uncoded w Part = refl
+messages_uncoded w AgentName = refl
+messages_uncoded w Time = refl
+messages_uncoded w Options = refl
+messages_uncoded w RefType = refl
+messages_uncoded w Name = refl
+messages_uncoded w Rdn = refl
+messages_uncoded w Rdns = refl
+messages_uncoded w Pair = refl
+messages_uncoded w Attribute = refl
+messages_uncoded w Attributes = refl
+messages_uncoded w Values = refl
+messages_uncoded w TypeList = refl
+messages_uncoded w Selection = refl
+messages_uncoded w Controls = refl
+messages_uncoded w Assertion = refl
+messages_uncoded w Changes = refl
+messages_uncoded w Change = refl
+messages_uncoded w (Filter levels) = filters_uncoded levels (levels == 0)
+messages_uncoded w (Filters levels) = refl
+messages_uncoded w Item = refl
+messages_uncoded w Substrings = refl
+messages_uncoded w Parts = refl
+messages_uncoded w PlacedPart = refl
+messages_uncoded w Chaining = refl
+messages_uncoded w Progress = refl
+messages_uncoded w Trace = refl
+messages_uncoded w TraceItem = refl
+messages_uncoded w Agents = refl
+messages_uncoded w Agent = refl
+messages_uncoded w Reference = refl
+messages_uncoded w References = refl
+messages_uncoded w Source = refl
+messages_uncoded w Sources = refl
+messages_uncoded w EntryInfo = refl
+messages_uncoded w EntryInfos = refl
+messages_uncoded w Sub = refl
+messages_uncoded w Subs = refl
+messages_uncoded w Qualifier = refl
+messages_uncoded w AttributeError = refl
+messages_uncoded w NameError = refl
+messages_uncoded w ServiceError = refl
+messages_uncoded w UpdateError = refl
+messages_uncoded w ShadowError = refl
+messages_uncoded w Agreement = refl
+messages_uncoded w ShadowArgument = refl
+messages_uncoded w UpdateArgument = refl
+messages_uncoded w Refresh = refl
+messages_uncoded w Total = refl
+messages_uncoded w Entries = refl
+messages_uncoded w Entry = refl
+messages_uncoded w Knowns = refl
+messages_uncoded w Known = refl
+messages_uncoded w NonSpecifics = refl
+messages_uncoded w NonSpecific = refl
+messages_uncoded w WorldAgents = refl
+messages_uncoded w WorldAgent = refl
+messages_uncoded w WorldAgentName = refl
+messages_uncoded w Steps = refl
+messages_uncoded w Step = refl
+messages_uncoded w Renamed = refl
+
+pub messages_are_closed : MessagesAreClosed
+messages_are_closed w = record { uncoded = messages_uncoded w; closes = messages_close w }
+
+pub messages_spelled_fit : MessagesSpelledFit
+messages_spelled_fit w form octets n eights spelled =
+    spelled_fits (layout w) form octets n (messages_are_closed w) eights spelled
