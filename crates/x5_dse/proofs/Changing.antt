@@ -1,16 +1,14 @@
 -- What a write to one slot makes of the nodes: their names stay, and so does that they are linked.
-use Rattle.std.proofs.Common.{◌≡◌, ◌≢◌, ℕ, zero, suc, ◌+◌, ◌<◌, ◌≤◌, Bool, true, false, cond, ◌⊎◌, inl, inr, List, [], ◌∷◌, ◌++◌, length, map, take, drop, set, get_or, refl, sym, ap, subst, ◌∙◌, arith, Option, Some, None}
+use Rattle.std.proofs.Common.{◌≡◌, ℕ, zero, suc, true, List, [], ◌∷◌, ◌++◌, refl, sym, ap, subst, ◌∙◌, arith, Option}
 use Rattle.std.specs.Option.{is_some}
-use Rattle.x5_model.specs.Words.{ascending, insert_sorted}
-use Rattle.x5_model.specs.Members.{In, Once, here, there}
-use Rattle.x5_model.specs.Keys.{Key, parent}
-use Rattle.x5_model.specs.Values.{Name, Rdn, key_of, key_of_rdn}
-use Rattle.x5_model.proofs.Lists.{in_first, in_either, in_left, in_right}
+use Rattle.x5_model.specs.Words.{ascending}
+use Rattle.x5_model.specs.Members.{In}
+use Rattle.x5_model.specs.Values.{Name, Rdn, key_of_rdn}
 use Rattle.x5_model.proofs.Ascending.{one_list}
 use Rattle.x5_dse.specs.declared.node.NodeId.{NodeId}
 use Rattle.x5_dse.specs.Linked.{Node, node_below}
 use Rattle.x5_dse.specs.Slot.{Slot}
-use Rattle.x5_dse.specs.Inside.{Slots, top, slot_at, is_used, parent_at, depth_at, rdn_at, held, entry_of, path, path_of, name_at, node_of, nodes_of, Spot, spot_at, spots_of, spot_below, IsRow}
+use Rattle.x5_dse.specs.Inside.{Slots, top, slot_at, is_used, parent_at, depth_at, rdn_at, held, entry_of, path, name_at, node_of, nodes_of, Spot, spots_of, spot_below, IsRow}
 use Rattle.x5_dse.proofs.Named.{node_chain, node_never, all_nodes, ordered, of_nodes, in_nodes, nodes_ascending}
 
 -- ---- names

@@ -1,5 +1,5 @@
 -- What stands just below a node is the run in order that begins at its start, as a list in the order of keys.
-use Rattle.std.proofs.Common.{◌≡◌, ℕ, zero, suc, ◌+◌, ◌-◌, ◌<◌, ◌≤◌, Bool, true, false, ◌==◌, cond, inl, inr, List, [], ◌∷◌, ◌++◌, length, map, drop, get_or, refl, sym, ap, subst, ◌∙◌, arith, Some, Option}
+use Rattle.std.proofs.Common.{◌≡◌, ℕ, zero, suc, ◌+◌, ◌-◌, ◌<◌, ◌≤◌, Bool, true, false, cond, inl, inr, List, [], ◌∷◌, ◌++◌, length, map, drop, get_or, refl, sym, ap, subst, ◌∙◌, arith, Option}
 use Rattle.std.proofs.lemmas.List.{drop_more, drop_all, drop-map, get_or-drop, length_push, length-map, length-drop, length-take}
 use Rattle.std.specs.Cmp.{tied_itself}
 use Rattle.std.specs.List.{filter}
@@ -9,17 +9,17 @@ use Rattle.std.specs.declared.cmp.Ordering.TheVariants.{Less, Equal, Greater}
 use Rattle.x5_model.specs.Words.{ascending, in_option}
 use Rattle.x5_model.specs.Members.{In, here, there}
 use Rattle.x5_model.specs.Keys.{Key, KeyRdn, root, is_child, key_cmp, key_below, rdn_cmp, parent}
-use Rattle.x5_model.specs.Values.{Name, key_of_rdn, key_of}
+use Rattle.x5_model.specs.Values.{Name, key_of_rdn}
 use Rattle.x5_model.proofs.KeyLaws.{rdn_cmp_total}
 use Rattle.x5_model.proofs.Lists.{in_first, in_map, of_map, in_filter, of_filter}
 use Rattle.x5_model.proofs.Prefixes.{child_decides}
 use Rattle.x5_model.proofs.Ascending.{rest_ascending, first_below, cons_ascending, filter_ascending, one_list}
 use Rattle.x5_dse.specs.declared.node.NodeId.{NodeId}
-use Rattle.x5_dse.specs.Linked.{Node, id_of, node_key, node_below, key_with, children_of}
-use Rattle.x5_dse.specs.Inside.{Slots, Spot, top, is_used, parent_at, depth_at, rdn_at, node_of, nodes_of, spot_at, spots_of, spot_below, IsRow, IsStart}
+use Rattle.x5_dse.specs.Linked.{Node, id_of, node_key, node_below, children_of}
+use Rattle.x5_dse.specs.Inside.{Slots, Spot, top, is_used, parent_at, rdn_at, node_of, nodes_of, spot_at, spots_of, spot_below, IsRow, IsStart}
 use Rattle.x5_dse.specs.Run.{is_under, front_of, run_from}
 use Rattle.x5_dse.proofs.Ids.{same_id, id_decides}
-use Rattle.x5_dse.proofs.Spots.{spot_chain, spot_never, same_above, spot_get, spots_length, get_in, lt_or_le}
+use Rattle.x5_dse.proofs.Spots.{spot_chain, same_above, spot_get, spots_length, get_in, lt_or_le}
 use Rattle.x5_dse.proofs.Runs.{no_greater}
 use Rattle.x5_dse.proofs.Named.{node_chain, node_never, key_in, order_used, key_length, top_key, child_key, child_parent, unique, of_nodes, in_nodes, nodes_ascending, live_node}
 

@@ -5,7 +5,7 @@ use Rattle.x5_model.specs.Members.{In, here}
 use Rattle.x5_model.proofs.Lists.{in_first, in_either, in_left, in_right}
 use Rattle.x5_dse.specs.declared.node.NodeId.{NodeId}
 use Rattle.x5_dse.specs.Slot.{Slot}
-use Rattle.x5_dse.specs.Inside.{Slots, top, slot_at, is_used, IsRow, IsKept}
+use Rattle.x5_dse.specs.Inside.{Slots, top, slot_at, is_used, IsKept}
 use Rattle.x5_dse.proofs.Ids.{same_id, same_or_other, used_within}
 use Rattle.x5_dse.proofs.Members.{once_push}
 use Rattle.x5_dse.proofs.Changing.{row_same}

@@ -1,5 +1,5 @@
 -- Lists in order that get one more member at its place, or lose one.
-use Rattle.std.proofs.Common.{◌≡◌, ℕ, zero, suc, ◌+◌, ◌<◌, ◌≤◌, Bool, true, false, cond, ◌⊎◌, inl, inr, List, [], ◌∷◌, ◌++◌, length, map, take, drop, get_or, refl, sym, ap, subst, ◌∙◌, arith}
+use Rattle.std.proofs.Common.{◌≡◌, ℕ, zero, suc, ◌<◌, ◌≤◌, Bool, true, false, cond, ◌⊎◌, inl, inr, List, [], ◌∷◌, ◌++◌, length, map, take, drop, get_or, refl, sym, ap, subst, ◌∙◌, arith}
 use Rattle.x5_model.specs.Words.{ascending, insert_sorted}
 use Rattle.x5_model.specs.Members.{In, here, there}
 use Rattle.x5_model.proofs.Ascending.{rest_ascending, first_below, cons_ascending, insert_ascending}

@@ -1,5 +1,5 @@
 -- An entry put at the site of its name is inserted, and all is kept.
-use Rattle.std.proofs.Common.{◌≡◌, ℕ, zero, suc, ◌+◌, ◌-◌, ◌<◌, ◌≤◌, Bool, true, false, inl, inr, List, [], ◌∷◌, ◌++◌, length, take, drop, set, get_or, refl, sym, ap, subst, ◌∙◌, arith, Some, Err}
+use Rattle.std.proofs.Common.{◌≡◌, ℕ, suc, ◌+◌, ◌-◌, ◌<◌, ◌≤◌, true, false, inl, inr, List, [], ◌∷◌, ◌++◌, length, take, drop, set, get_or, sym, ap, subst, ◌∙◌, arith, Some, Err}
 use Rattle.std.proofs.lemmas.List.{length-map, length-take, map_push, same_from_push, take_all, take_more, get_or-map}
 use Rattle.x5_model.specs.Members.{In, here}
 use Rattle.x5_model.specs.Keys.{Key, KeyRdn, parent}
@@ -7,13 +7,12 @@ use Rattle.x5_model.specs.Values.{Name, key_of_rdn, key_of, last_rdn}
 use Rattle.x5_model.specs.Entries.{Entry}
 use Rattle.x5_model.specs.Words.{insert_sorted}
 use Rattle.x5_model.proofs.Lists.{true_or_false, in_first, in_right}
-use Rattle.x5_model_tree.specs.Tree.{is_there, sorted_entries}
+use Rattle.x5_model_tree.specs.Tree.{is_there}
 use Rattle.x5_dse.specs.declared.node.NodeId.{NodeId}
 use Rattle.x5_dse.specs.Linked.{Node, entries_of, node_below, is_live}
 use Rattle.x5_dse.specs.Changes.{Inserted, entry_below}
 use Rattle.x5_dse.specs.Slot.{Slot}
-use Rattle.x5_dse.specs.Inside.{Slots, Spot, top, is_used, parent_at, depth_at, rdn_at, name_at, node_of, nodes_of, spots_of, IsPlace, IsRow, IsKept, IsSite}
-use Rattle.x5_dse.proofs.Ids.{same_id}
+use Rattle.x5_dse.specs.Inside.{Slots, top, is_used, parent_at, depth_at, rdn_at, name_at, node_of, nodes_of, spots_of, IsPlace, IsRow, IsKept, IsSite}
 use Rattle.x5_dse.proofs.Spots.{child_missing}
 use Rattle.x5_dse.proofs.Lasts.{last_is}
 use Rattle.x5_dse.proofs.Named.{key_in, key_length, top_key, child_key, child_parent, unique, nodes_ascending, found, absent_if, live_used}

@@ -18,3 +18,6 @@ pub mod Renaming
 pub mod Moving
 pub mod ChildRuns
 pub mod Callers
+pub mod Between
+pub mod Walking
+pub mod Steps

@@ -1,5 +1,5 @@
 -- Members of lists that get one more or lose one.
-use Rattle.std.proofs.Common.{◌≡◌, ℕ, zero, suc, ◌+◌, ◌<◌, ◌⊎◌, inl, inr, List, [], ◌∷◌, ◌++◌, length, take, drop, get_or, refl, sym, ap, subst, arith}
+use Rattle.std.proofs.Common.{◌≡◌, ℕ, zero, suc, ◌<◌, ◌⊎◌, inl, inr, List, [], ◌∷◌, ◌++◌, length, take, drop, get_or, sym, subst, arith}
 use Rattle.x5_model.specs.Members.{In, Once, here, there}
 use Rattle.x5_model.proofs.Lists.{in_first, in_either, in_left, in_right}
 use Rattle.x5_dse.proofs.Spots.{in_get}

@@ -1,12 +1,9 @@
 -- A place among spots once one of them is taken out.
-use Rattle.std.proofs.Common.{◌≡◌, ◌≢◌, ℕ, zero, suc, ◌+◌, ◌-◌, ◌<◌, ◌≤◌, true, ◌⊎◌, inl, inr, List, [], ◌∷◌, ◌++◌, length, take, drop, get_or, refl, sym, ap, subst, ◌∙◌, arith, Ok, Err}
-use Rattle.std.proofs.lemmas.List.{get_or_default}
+use Rattle.std.proofs.Common.{◌≡◌, ◌≢◌, ℕ, zero, suc, ◌+◌, ◌-◌, ◌<◌, ◌≤◌, true, inl, inr, List, [], ◌∷◌, ◌++◌, length, take, drop, get_or, refl, sym, ap, subst, ◌∙◌, arith, Err}
 use Rattle.x5_model.specs.Words.{ascending}
-use Rattle.x5_model.specs.Keys.{KeyRdn}
 use Rattle.x5_dse.specs.declared.node.NodeId.{NodeId}
-use Rattle.x5_dse.specs.Inside.{Slots, Spot, top, parent_at, spot_at, spots_of, spot_below, IsPlace, IsRow, IsOther}
-use Rattle.x5_dse.proofs.Spots.{rising, spot_never, spot_get, spots_length, lt_or_le, child_found}
-use Rattle.x5_dse.proofs.InOrder.{map_remove}
+use Rattle.x5_dse.specs.Inside.{Slots, Spot, top, spot_at, spots_of, spot_below, IsPlace}
+use Rattle.x5_dse.proofs.Spots.{rising, spot_never, spot_get, spots_length, lt_or_le}
 
 module _ {A : Type 0} where
   abbrev pub without : List A → ℕ → List A

@@ -1,21 +1,20 @@
 -- The nodes below one prefix: what their keys say of one another, and that they are linked in the order of keys.
-use Rattle.std.proofs.Common.{◌≡◌, ◌≢◌, ℕ, zero, suc, ◌+◌, ◌-◌, ◌<◌, ◌≤◌, Bool, true, false, not, ◌||◌, ◌==◌, cond, ◌⊎◌, inl, inr, List, [], ◌∷◌, ◌++◌, length, map, take, get_or, refl, sym, ap, subst, ◌∙◌, arith, Option, Some, None, length-append, append_assoc}
+use Rattle.std.proofs.Common.{◌≡◌, ◌≢◌, ℕ, zero, suc, ◌+◌, ◌-◌, ◌≤◌, Bool, true, false, not, ◌||◌, ◌==◌, cond, ◌⊎◌, inl, inr, List, [], ◌∷◌, ◌++◌, length, map, take, refl, sym, ap, subst, ◌∙◌, arith, Option, Some, None, length-append, append_assoc}
 use Rattle.std.proofs.lemmas.List.{append-nil, length-map, length-take, length_push, map-append, map_push, append_cancel_left, same_from_push, take_all, take_at, take-take}
 use Rattle.std.specs.Option.{is_some}
 use Rattle.std.specs.Ordering.{is_lt}
 use Rattle.x5_model.specs.Words.{is_empty, first_of, in_option, ascending, insert_sorted, sorted}
 use Rattle.x5_model.specs.Members.{In, Once, here, there}
-use Rattle.x5_model.specs.Keys.{Key, same_key, is_prefix, key_below, key_cmp, parent, root}
-use Rattle.x5_model.specs.Values.{Name, Rdn, key_of_rdn, key_of}
-use Rattle.x5_model.specs.Entries.{Named}
+use Rattle.x5_model.specs.Keys.{Key, same_key, is_prefix, key_below, parent, root}
+use Rattle.x5_model.specs.Values.{Name, key_of_rdn, key_of}
 use Rattle.x5_model.proofs.KeyLaws.{key_decides, never_below, below_chain}
 use Rattle.x5_model.proofs.Lists.{true_or_false, or_left, or_right, in_first, in_map, of_map, any_in, of_any, all_in, of_find, not_found}
 use Rattle.x5_model.proofs.Prefixes.{prefix_decides}
 use Rattle.x5_model.proofs.Ascending.{AllApart, rest_ascending, first_below, of_sorted, in_sorted, sorted_ascending, keys_apart}
-use Rattle.x5_model_tree.specs.Tree.{key_at, is_there}
+use Rattle.x5_model_tree.specs.Tree.{is_there}
 use Rattle.x5_dse.specs.declared.node.NodeId.{NodeId}
-use Rattle.x5_dse.specs.Linked.{Node, named_of, entries_of, node_key, node_below, node_at, node_with, has_id, is_live, prefix_of, is_placed, IsLinked}
-use Rattle.x5_dse.specs.Inside.{Slots, Spot, top, is_used, parent_at, depth_at, rdn_at, path, path_of, name_at, node_of, nodes_of, spot_at, spot_below, spots_of, IsRow}
+use Rattle.x5_dse.specs.Linked.{Node, entries_of, node_key, node_below, node_at, node_with, has_id, is_live, prefix_of, is_placed, IsLinked}
+use Rattle.x5_dse.specs.Inside.{Slots, top, is_used, parent_at, depth_at, rdn_at, path, path_of, name_at, node_of, nodes_of, spot_at, spot_below, IsRow}
 use Rattle.x5_dse.proofs.Spots.{spot_chain, spot_never}
 use Rattle.x5_dse.proofs.Ids.{id_decides}
 use Rattle.x5_dse.proofs.Parents.{front_less}

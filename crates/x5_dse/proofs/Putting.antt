@@ -1,28 +1,27 @@
 -- What one more entry makes of the nodes: where it goes, which entries there are then, and that all is kept.
-use Rattle.std.proofs.Common.{◌≡◌, ◌≢◌, ℕ, zero, suc, ◌+◌, ◌-◌, ◌<◌, ◌≤◌, Bool, true, false, cond, ◌&&◌, ◌⊎◌, inl, inr, List, [], ◌∷◌, ◌++◌, length, map, take, drop, set, get_or, refl, sym, ap, subst, ◌∙◌, arith, Option, Some, None, Err}
-use Rattle.std.proofs.lemmas.List.{length-map, length-take, length-set, get_or-map}
+use Rattle.std.proofs.Common.{◌≡◌, ◌≢◌, ℕ, suc, ◌<◌, Bool, true, false, cond, ◌&&◌, ◌⊎◌, inl, inr, List, [], ◌∷◌, ◌++◌, length, take, drop, set, refl, sym, ap, subst, ◌∙◌, Option, Some, Err}
+use Rattle.std.proofs.lemmas.List.{length-set}
 use Rattle.std.specs.Option.{is_some}
 use Rattle.x5_model.specs.Words.{ascending, insert_sorted}
 use Rattle.x5_model.specs.Members.{In, Once, here, there}
-use Rattle.x5_model.specs.Keys.{Key, same_key, key_below, parent}
-use Rattle.x5_model.specs.Values.{Name, Rdn, key_of_rdn, key_of, last_rdn}
-use Rattle.x5_model.specs.Entries.{Entry, Named}
-use Rattle.x5_model.proofs.Lists.{true_or_false, in_first, in_either, in_left, in_right, in_map, none_of}
+use Rattle.x5_model.specs.Keys.{same_key}
+use Rattle.x5_model.specs.Values.{Name, key_of_rdn}
+use Rattle.x5_model.specs.Entries.{Named}
+use Rattle.x5_model.proofs.Lists.{in_first, in_either, in_left, in_right, none_of}
 use Rattle.x5_model.proofs.Ascending.{AllApart, first_below, rest_ascending, of_insert, new_in_insert, old_in_insert, insert_ascending, sorted_ascending, of_sorted, in_sorted, keys_apart}
 use Rattle.x5_model_tree.specs.Tree.{key_at, named_below, sorted_entries, is_there}
 use Rattle.x5_model_tree.proofs.Order.{named_chain, one_list_of_entries}
 use Rattle.x5_dse.specs.declared.node.NodeId.{NodeId}
-use Rattle.x5_dse.specs.Linked.{Node, Nodes, named_of, entries_of, node_key, node_below, node_at, is_live}
-use Rattle.x5_dse.specs.Changes.{Inserted, entry_below}
+use Rattle.x5_dse.specs.Linked.{Node, entries_of, node_below}
+use Rattle.x5_dse.specs.Changes.{entry_below}
 use Rattle.x5_dse.specs.Slot.{Slot}
-use Rattle.x5_dse.specs.Inside.{Slots, Spot, top, slot_at, is_used, held, parent_at, depth_at, rdn_at, entry_of, path, name_at, node_of, nodes_of, spot_at, spots_of, spot_below, IsPlace, IsRow, IsKept, IsSite}
+use Rattle.x5_dse.specs.Inside.{Slots, Spot, top, slot_at, is_used, held, parent_at, depth_at, name_at, node_of, nodes_of, spot_at, spots_of, spot_below, IsPlace, IsRow, IsKept}
 use Rattle.x5_dse.proofs.Ids.{same_id, same_or_other, slot_same, slot_other}
-use Rattle.x5_dse.proofs.Spots.{spot_chain, spot_never, child_missing}
+use Rattle.x5_dse.proofs.Spots.{spot_chain, spot_never}
 use Rattle.x5_dse.proofs.Members.{in_inserted, new_inserted, old_inserted, once_front, once_end}
 use Rattle.x5_dse.proofs.InOrder.{put_ascending, map_insert, same_map}
-use Rattle.x5_dse.proofs.Lasts.{last_is}
-use Rattle.x5_dse.proofs.Named.{node_chain, key_in, all_nodes, top_used, order_used, key_length, top_key, child_name, child_parent, of_nodes, in_nodes, nodes_ascending, apart_keys, found, absent_if, live_used}
-use Rattle.x5_dse.proofs.Changing.{same_name, same_node, nodes_are}
+use Rattle.x5_dse.proofs.Named.{node_chain, top_used, order_used, child_name, of_nodes, in_nodes, nodes_ascending, apart_keys}
+use Rattle.x5_dse.proofs.Changing.{same_name, nodes_are}
 
 -- ---- its entries
 

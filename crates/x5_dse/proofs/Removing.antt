@@ -1,10 +1,10 @@
 -- A leaf is removed: all other nodes stay.
-use Rattle.std.proofs.Common.{◌≡◌, ◌≢◌, ℕ, zero, suc, ◌+◌, ◌-◌, ◌<◌, ◌≤◌, Bool, true, false, not, cond, inl, inr, List, [], ◌∷◌, ◌++◌, length, map, take, drop, set, get_or, refl, sym, ap, subst, ◌∙◌, arith, Option, Some, None}
+use Rattle.std.proofs.Common.{◌≡◌, ◌≢◌, ℕ, suc, ◌+◌, ◌-◌, ◌<◌, Bool, true, false, not, cond, inl, inr, List, [], ◌∷◌, ◌++◌, length, take, drop, set, get_or, refl, sym, ap, subst, ◌∙◌, arith, Option, None}
 use Rattle.std.proofs.lemmas.List.{length-set, length_push, length-take}
 use Rattle.std.specs.Option.{is_some}
 use Rattle.std.specs.List.{filter}
-use Rattle.x5_model.specs.Words.{ascending, first_of, in_option}
-use Rattle.x5_model.specs.Members.{In, Once, here, there}
+use Rattle.x5_model.specs.Words.{ascending, in_option}
+use Rattle.x5_model.specs.Members.{In, here, there}
 use Rattle.x5_model.specs.Keys.{Key, IsPrefix, same_key, is_below, parent}
 use Rattle.x5_model.specs.Values.{Name, key_of_rdn}
 use Rattle.x5_model.specs.Entries.{Entry, Named}
@@ -14,11 +14,10 @@ use Rattle.x5_model.proofs.Ascending.{filter_ascending}
 use Rattle.x5_model.proofs.Prefixes.{below_decides, parent_is_prefix, take_take}
 use Rattle.x5_model_tree.specs.Tree.{key_at, has_below}
 use Rattle.x5_dse.specs.declared.node.NodeId.{NodeId}
-use Rattle.x5_dse.specs.declared.node.DseFault.TheVariants.{NotLeaf}
-use Rattle.x5_dse.specs.Linked.{Node, Nodes, named_of, entries_of, node_key, node_below, has_id, is_first}
-use Rattle.x5_dse.specs.Changes.{Removed, NotRemoved}
+use Rattle.x5_dse.specs.Linked.{Node, named_of, entries_of, node_key, node_below, has_id, is_first}
+use Rattle.x5_dse.specs.Changes.{Removed}
 use Rattle.x5_dse.specs.Slot.{Slot}
-use Rattle.x5_dse.specs.Inside.{Slots, Spot, top, slot_at, is_used, held, parent_at, depth_at, rdn_at, entry_of, name_at, node_of, nodes_of, spot_at, spots_of, spot_below, IsRow, IsKept}
+use Rattle.x5_dse.specs.Inside.{Slots, Spot, top, slot_at, is_used, held, parent_at, depth_at, rdn_at, entry_of, node_of, nodes_of, spot_at, spots_of, spot_below, IsRow, IsKept}
 use Rattle.x5_dse.proofs.Ids.{id_decides, same_id, same_or_other, used_within, slot_same, slot_other}
 use Rattle.x5_dse.proofs.Spots.{spot_chain, spot_never}
 use Rattle.x5_dse.proofs.Members.{of_removed, in_removed, gone, once_push}

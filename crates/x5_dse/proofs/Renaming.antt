@@ -1,12 +1,11 @@
 -- A node gets another RDN: its name changes and the names below it, and nothing else; it goes to its place among its siblings.
-use Rattle.std.proofs.Common.{◌≡◌, ◌≢◌, ℕ, zero, suc, ◌+◌, ◌-◌, ◌<◌, ◌≤◌, Bool, true, false, not, ◌&&◌, ◌==◌, cond, if◌then◌else◌, ◌⊎◌, inl, inr, List, [], ◌∷◌, ◌++◌, length, map, take, drop, set, get_or, refl, sym, ap, subst, ◌∙◌, arith, Option, Some, None, Err, append_assoc}
-use Rattle.std.proofs.lemmas.List.{append-nil, length-map, length-append, length-take, length_push, map_push, same_from_push, take_all, take_at, drop_at, take-append-le, drop-append-le}
-use Rattle.std.specs.Option.{is_some}
+use Rattle.std.proofs.Common.{◌≡◌, ◌≢◌, ℕ, zero, suc, ◌+◌, ◌-◌, ◌<◌, ◌≤◌, Bool, true, false, not, ◌&&◌, cond, ◌⊎◌, inl, inr, List, [], ◌∷◌, ◌++◌, length, map, take, drop, set, refl, sym, ap, subst, ◌∙◌, arith, Option, Some, append_assoc}
+use Rattle.std.proofs.lemmas.List.{append-nil, length-map, length_push, map_push, same_from_push, take_all, take_at, drop_at, take-append-le, drop-append-le}
 use Rattle.x5_model.specs.Words.{ascending, insert_sorted, sorted}
-use Rattle.x5_model.specs.Members.{In, Once, here, there}
-use Rattle.x5_model.specs.Keys.{Key, KeyRdn, IsPrefix, same_key, is_prefix, key_below, parent}
+use Rattle.x5_model.specs.Members.{In, here, there}
+use Rattle.x5_model.specs.Keys.{Key, IsPrefix, same_key, is_prefix, parent}
 use Rattle.x5_model.specs.Values.{Name, Rdn, key_of_rdn, key_of, name_above}
-use Rattle.x5_model.specs.Entries.{Entry, Named}
+use Rattle.x5_model.specs.Entries.{Named}
 use Rattle.x5_model.proofs.KeyLaws.{key_decides}
 use Rattle.x5_model.proofs.Lists.{true_or_false, and_true, in_first, in_map, of_map, of_any}
 use Rattle.x5_model.proofs.Prefixes.{prefix_decides, prefix_chain, prefix_length, prefix_itself, prefix_of_parent, parent_is_prefix}
@@ -15,15 +14,15 @@ use Rattle.x5_model_tree.specs.Tree.{key_at, named_below, sorted_entries, is_the
 use Rattle.x5_model_tree.specs.Apply.{respelled}
 use Rattle.x5_dse.specs.declared.node.NodeId.{NodeId}
 use Rattle.x5_dse.specs.declared.node.DseFault.TheVariants.{Exists}
-use Rattle.x5_dse.specs.Linked.{Node, Nodes, named_of, entries_of, node_key, node_below}
+use Rattle.x5_dse.specs.Linked.{Node, named_of, entries_of, node_key, node_below}
 use Rattle.x5_dse.specs.Changes.{new_key, is_taken, moved_entry, moved, Renamed, NotRenamed}
 use Rattle.x5_dse.specs.Slot.{Slot}
-use Rattle.x5_dse.specs.Inside.{Slots, Spot, top, slot_at, is_used, held, parent_at, depth_at, rdn_at, entry_of, path, name_at, node_of, nodes_of, spot_at, spots_of, spot_below, IsPlace, IsRow, IsKept, IsOther, IsMove}
+use Rattle.x5_dse.specs.Inside.{Slots, Spot, top, slot_at, is_used, held, parent_at, depth_at, rdn_at, entry_of, path, name_at, node_of, nodes_of, spot_at, spots_of, spot_below, IsRow, IsKept, IsOther, IsMove}
 use Rattle.x5_dse.proofs.Ids.{same_id, same_or_other, used_within, slot_same, slot_other}
 use Rattle.x5_dse.proofs.Spots.{lt_or_eq, spot_chain, spot_never, missing}
 use Rattle.x5_dse.proofs.Members.{of_removed, in_removed, gone, in_inserted, new_inserted, old_inserted}
 use Rattle.x5_dse.proofs.InOrder.{put_ascending, less_ascending, map_insert, map_remove, same_map}
-use Rattle.x5_dse.proofs.Named.{node_chain, node_never, once_in_order, key_in, top_used, order_used, key_length, child_name, child_key, child_parent, ordered, depth_zero, unique, of_nodes, in_nodes, nodes_ascending, apart_keys, there_if_used, there_by_node, live_node, found}
+use Rattle.x5_dse.proofs.Named.{node_chain, node_never, once_in_order, key_in, top_used, order_used, key_length, child_name, child_key, child_parent, ordered, depth_zero, unique, of_nodes, in_nodes, nodes_ascending, apart_keys, there_if_used, live_node}
 use Rattle.x5_dse.proofs.Changing.{nodes_are}
 use Rattle.x5_dse.proofs.Putting.{entries_insert}
 use Rattle.x5_dse.proofs.Replacing.{maps_meet, same_but, used_but, kept_but}

@@ -1,18 +1,17 @@
 -- A node's entry is replaced: all names stay, and so do all other entries.
-use Rattle.std.proofs.Common.{◌≡◌, ◌≢◌, ℕ, ◌<◌, Bool, true, false, cond, ◌&&◌, if◌then◌else◌, inl, inr, List, [], ◌∷◌, length, map, set, refl, sym, ap, subst, ◌∙◌, Option, Some, None}
+use Rattle.std.proofs.Common.{◌≡◌, ℕ, ◌<◌, Bool, true, false, cond, ◌&&◌, if◌then◌else◌, inl, inr, List, [], ◌∷◌, map, set, refl, sym, ap, subst, ◌∙◌, Option, Some, None}
 use Rattle.std.proofs.lemmas.List.{length-set}
 use Rattle.std.specs.Option.{is_some}
 use Rattle.x5_model.specs.Words.{ascending}
 use Rattle.x5_model.specs.Members.{In, here, there}
-use Rattle.x5_model.specs.Keys.{Key, same_key, key_below}
+use Rattle.x5_model.specs.Keys.{same_key, key_below}
 use Rattle.x5_model.specs.Values.{Name}
 use Rattle.x5_model.specs.Entries.{Entry, Named}
 use Rattle.x5_model.proofs.KeyLaws.{key_decides}
 use Rattle.x5_model.proofs.Lists.{true_or_false, in_map, of_map}
 use Rattle.x5_model_tree.specs.Tree.{key_at}
-use Rattle.x5_model_tree.specs.Apply.{replace_at}
 use Rattle.x5_dse.specs.declared.node.NodeId.{NodeId}
-use Rattle.x5_dse.specs.Linked.{Node, Nodes, named_of, entries_of, node_key, node_below, has_id}
+use Rattle.x5_dse.specs.Linked.{Node, named_of, entries_of, node_key, node_below, has_id}
 use Rattle.x5_dse.specs.Changes.{with_entry, Replaced}
 use Rattle.x5_dse.specs.Slot.{Slot}
 use Rattle.x5_dse.specs.Inside.{Slots, slot_at, is_used, held, entry_of, name_at, node_of, nodes_of, IsRow, IsKept}

@@ -8,9 +8,9 @@ use Rattle.x5_model.specs.Words.{ascending}
 use Rattle.x5_model.specs.Members.{In}
 use Rattle.x5_model.specs.Keys.{KeyRdn, rdn_cmp}
 use Rattle.x5_dse.specs.declared.node.NodeId.{NodeId}
-use Rattle.x5_dse.specs.Inside.{Slots, Spot, top, parent_at, spot_at, spots_of, spot_below, spot_cmp, IsPlace, IsStart, IsRow}
+use Rattle.x5_dse.specs.Inside.{Slots, Spot, top, parent_at, spots_of, spot_below, IsPlace, IsStart}
 use Rattle.x5_dse.proofs.Ids.{same_id}
-use Rattle.x5_dse.proofs.Spots.{rising, get_in, in_get, lt_or_eq, lt_or_le, spot_get, spots_length}
+use Rattle.x5_dse.proofs.Spots.{rising, get_in, lt_or_eq, lt_or_le, spot_get, spots_length}
 
 -- a spot below another has no greater node above
 below_above : (o p : Ordering) (a b : ℕ) → o ≡ nat_cmp a b → is_lt (ordering_then o p) ≡ true → a ≤ b

@@ -14,7 +14,7 @@ use Rattle.x5_model.specs.Members.{In, Once}
 use Rattle.x5_model.specs.Words.{ascending, sorted}
 use Rattle.x5_model.specs.Keys.{Key, KeyRdn, parent, rdn_cmp}
 use Rattle.x5_model.specs.Values.{Rdn, Name, key_of_rdn, key_of}
-use Rattle.x5_model.specs.Entries.{Entry, Named}
+use Rattle.x5_model.specs.Entries.{Entry}
 use Rattle.x5_dse.specs.declared.node.NodeId.{NodeId}
 use Rattle.x5_dse.specs.declared.tree.DseTree.TheInside.{Inside}
 use Rattle.x5_dse.specs.Linked.{Node, Nodes, node_below}

@@ -3,3 +3,5 @@ pub mod Slot
 pub mod Inside
 pub mod Changes
 pub mod Run
+pub mod Step
+pub mod Walks

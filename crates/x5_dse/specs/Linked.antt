@@ -1,12 +1,12 @@
 -- The entries of one naming context as a list, and what makes such a list (X.501, section 7: the directory information tree).
 -- The number of a node, by which an entry is known while it's there, is this project's own.
-use Rattle.std.specs.Prelude.{◌≡◌, ℕ, ◌≤◌, Bool, true, false, not, ◌||◌, ◌==◌, IsTrue, List, length, map}
+use Rattle.std.specs.Prelude.{◌≡◌, ℕ, ◌≤◌, Bool, true, false, not, ◌&&◌, ◌||◌, ◌==◌, IsTrue, List, length, map, ⊤}
 use Rattle.std.specs.List.{find, filter, list_all, list_any}
 use Rattle.std.specs.declared.option.Option.{Option}
-use Rattle.std.specs.declared.option.Option.TheVariants.{Some}
+use Rattle.std.specs.declared.option.Option.TheVariants.{None, Some}
 use Rattle.x5_model.specs.Members.{In}
 use Rattle.x5_model.specs.Words.{is_empty, first_of, in_option, ascending}
-use Rattle.x5_model.specs.Keys.{Key, root, same_key, is_prefix, is_child, parent}
+use Rattle.x5_model.specs.Keys.{Key, root, same_key, is_prefix, is_child, key_below, parent}
 use Rattle.x5_model.specs.Values.{Name}
 use Rattle.x5_model.specs.Entries.{Entry, Named}
 use Rattle.x5_model_tree.specs.Tree.{key_at, named_below, is_there}
@@ -94,3 +94,23 @@ key_with nodes id = in_option root node_key (node_with nodes id)
 -- what stands just below a node, in the order of keys
 abbrev pub children_of : List Node → NodeId → List NodeId
 children_of nodes id = map id_of (filter (λ n. is_child (key_with nodes id) (node_key n)) nodes)
+
+-- a node and all that stands below it, in the order of keys
+abbrev pub subtree_of : List Node → NodeId → List NodeId
+subtree_of nodes id = map id_of (filter (λ n. is_prefix (key_with nodes id) (node_key n)) nodes)
+
+-- those of them that don't stand before a node
+abbrev pub walk_from : List Node → NodeId → NodeId → List NodeId
+walk_from nodes from at =
+    map id_of
+    (filter (λ n. is_prefix (key_with nodes from) (node_key n) && not (key_below (node_key n) (key_with nodes at))) nodes)
+
+-- a walk is at a node that is one of them, or at its end
+pub record IsWithin (nodes : List Node) (from at : NodeId) : Type 0 where
+  pub from_live : is_live nodes from ≡ true
+  pub live : is_live nodes at ≡ true
+  pub under : is_prefix (key_with nodes from) (key_with nodes at) ≡ true
+
+abbrev pub IsAt : List Node → NodeId → Option NodeId → Type 0
+IsAt nodes from None = ⊤
+IsAt nodes from (Some at) = IsWithin nodes from at

@@ -7,7 +7,9 @@ mod node;
 mod order;
 mod place;
 mod tree;
+mod walk;
 
 pub use children::Children;
 pub use node::{DseFault, NodeId};
 pub use tree::DseTree;
+pub use walk::Walk;

@@ -5,7 +5,8 @@ ghost use Rattle.std.specs.Bool.{MatchBool};
 ghost use Rattle.x5_model.specs.Members.{In};
 ghost use Rattle.x5_dse.specs.declared.node.NodeId.{NodeId};
 ghost use Rattle.x5_model.specs.Keys.{is_prefix};
-ghost use Rattle.x5_model.specs.Values.{key_of_pair, key_of};
+ghost use Rattle.x5_model.specs.Values.{Name, key_of_pair, key_of};
+ghost use Rattle.x5_dse.specs.Step.{IsStep, IsUnder};
 ghost use Rattle.x5_dse.specs.Changes.{NotInserted};
 ghost use Rattle.x5_dse.specs.Inside.{slot_at, is_used, held, spot_at, spots_of, spot_cmp, spot_below, nodes_of, IsPlace, IsRow, IsDown, IsSite, IsChild, IsStart, IsMove, IsOther, name_at, parent_at, top};
 ghost use Rattle.std.specs.Option.{option_map};
@@ -292,4 +293,46 @@ pub(crate) fn move_of(
             }
         }
     }
+}
+
+/// The next node in the order of keys after a node without any below it, among those at or below another.
+fn past(slots: &[Option<Dse>], order: &[NodeId], from: NodeId, node: NodeId) -> Option<NodeId>
+    requires row { IsRow slots.now order.now }
+    requires from_used { is_used slots.now from ≡ true }
+    requires used { is_used slots.now node ≡ true }
+    requires under { IsUnder slots.now from node }
+    requires leaf { (c : NodeId) → In c order.now → parent_at slots.now c ≡ node → ⊥ }
+    ensures { (prefix : Name) → IsStep prefix slots.now from node result }
+{
+    let mut at = node;
+    while at.0 != from.0 {
+        let place = place_of_node(slots, order, at);
+        let next = place + 1;
+        let above = held_at(slots, at).parent;
+        if is_below_at(slots, order, above, next) {
+            return Some(order[next]);
+        }
+        at = above;
+    }
+    None
+}
+
+/// The next node in the order of keys, among those at or below another.
+pub(crate) fn after(
+    slots: &[Option<Dse>],
+    order: &[NodeId],
+    from: NodeId,
+    node: NodeId,
+) -> Option<NodeId>
+    requires row { IsRow slots.now order.now }
+    requires from_used { is_used slots.now from ≡ true }
+    requires used { is_used slots.now node ≡ true }
+    requires under { IsUnder slots.now from node }
+    ensures { (prefix : Name) → IsStep prefix slots.now from node result }
+{
+    let run = run_of(slots, order, node);
+    if is_below_at(slots, order, node, run) {
+        return Some(order[run]);
+    }
+    past(slots, order, from, node)
 }

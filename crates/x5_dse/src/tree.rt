@@ -3,17 +3,18 @@
 ghost use Rattle.std.specs.Prelude.{◌≡◌, ◌+◌, ◌<◌, ◌≤◌, ◌∷◌, [], true, false, length, IfOk, IfErr, OnOk, OnErr, IsTrue, Some, Err};
 ghost use Rattle.std.specs.Option.{option_map};
 ghost use Rattle.x5_model.specs.Keys.{is_prefix};
-ghost use Rattle.x5_model.specs.Words.{first_of};
+ghost use Rattle.x5_model.specs.Words.{first_of, in_option};
 ghost use Rattle.x5_model.specs.Values.{key_of};
-ghost use Rattle.x5_dse.specs.Linked.{IsLinked, IsLowest, entries_of, id_of, entry_in, name_in, length_in, node_at, node_with, is_first, is_live, prefix_of, children_of};
+ghost use Rattle.x5_dse.specs.Linked.{IsLinked, IsLowest, entries_of, id_of, entry_in, name_in, length_in, node_at, node_with, is_first, is_live, prefix_of, children_of, subtree_of, walk_from, IsAt, IsWithin};
 ghost use Rattle.x5_dse.specs.Changes.{Inserted, NotInserted, Removed, NotRemoved, Renamed, NotRenamed, Replaced};
 
 use crate::children::Children;
 use crate::node::{Dse, DseFault, NodeId, Own};
 use crate::place::{
-    find_node, has_children, held_at, lowest_node, move_of, name_of, place_of_node, run_of,
+    after, find_node, has_children, held_at, lowest_node, move_of, name_of, place_of_node, run_of,
     site_of, take_out,
 };
+use crate::walk::Walk;
 use std::alloc::Global;
 use std::marker::Model;
 use x5_match::Entry;
@@ -134,6 +135,28 @@ impl DseTree {
     {
         let at = run_of(&self.slots, &self.order, node);
         Children::new(&self.slots, &self.order, node, at)
+    }
+
+    /// The node and all nodes below it, in the order of their keys. No memory.
+    pub fn walk(&self, node: NodeId) -> Walk<'_>
+        requires { IsTrue (is_live self.now.nodes node) }
+        ensures { result ≡ subtree_of self.now.nodes node }
+    {
+        let _ = &self.order;
+        Walk {
+            tree: self,
+            from: node,
+            at: Some(node),
+        }
+    }
+
+    /// The next node of a walk from a node.
+    pub(crate) fn after(&self, from: NodeId, node: NodeId) -> Option<NodeId>
+        requires { IsWithin self.now.nodes from node }
+        ensures rest { walk_from self.now.nodes from node ≡ node ∷ in_option [] (walk_from self.now.nodes from) result }
+        ensures next { IsAt self.now.nodes from result }
+    {
+        after(&self.slots, &self.order, from, node)
     }
 
     /// Makes room for one entry more. After want of memory the entries are as they were.

@@ -1,8 +1,8 @@
 //! Ten entries below one, added in three orders, then removed, renamed and added again: they stand in the order of keys each time.
 
-use x5_dse::DseTree;
 use std::alloc::Global;
 use std::test::Fail;
+use x5_dse::DseTree;
 use x5_match::Entry;
 use x5_names::{Name, Rdn};
 
@@ -100,6 +100,40 @@ fn all_as_they_should(tree: &mut DseTree, alloc: Global) -> Result<bool, Fail> {
         }
     }
     Ok(true)
+}
+
+/// Whether a walk from the name comes to just these entries, in this order.
+fn walks(tree: &DseTree, alloc: Global, from: &str, texts: &[&str]) -> Result<bool, Fail> {
+    let named = name(alloc, from)?;
+    let Some(node) = tree.find(&named) else {
+        return Ok(false);
+    };
+    let mut walk = tree.walk(node);
+    for text in texts {
+        let expected = tree.find(&name(alloc, text)?);
+        if expected.is_none() || walk.next() != expected {
+            return Ok(false);
+        }
+    }
+    Ok(walk.next().is_none())
+}
+
+#[test]
+fn a_walk_comes_to_all_below(rt: HostRuntime) -> Result<(), Fail> {
+    let mut tree = ten(rt.alloc(), "cba")?;
+    assert!(rt; add(&mut tree, rt.alloc(), "/C=NL/CN=b/CN=y")?);
+    assert!(rt; add(&mut tree, rt.alloc(), "/C=NL/CN=b/CN=x")?);
+    assert!(rt; add(&mut tree, rt.alloc(), "/C=NL/CN=b/CN=x/CN=z")?);
+    let below: &[&str] = &[
+        "/C=NL/CN=b",
+        "/C=NL/CN=b/CN=x",
+        "/C=NL/CN=b/CN=x/CN=z",
+        "/C=NL/CN=b/CN=y",
+    ];
+    assert!(rt; walks(&tree, rt.alloc(), "/C=NL/CN=B", below)?);
+    let last: &[&str] = &["/C=NL/CN=c"];
+    assert!(rt; walks(&tree, rt.alloc(), "/C=NL/CN=c", last)?);
+    Ok(())
 }
 
 #[test]

@@ -1,8 +1,8 @@
 //! What no clause says: that ample memory suffices, on each public call's way.
 
-use x5_index::{NodeList, Postings, Room};
 use std::alloc::Global;
 use std::test::Fail;
+use x5_index::{NodeList, Postings, Room};
 use x5_match::{Entry, Filter, Stored, StoredList, StoredValue, StoredValueList};
 use x5_syntax::{TypeId, TypeRef, Value, normal};
 

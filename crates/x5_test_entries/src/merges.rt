@@ -3,9 +3,9 @@
 ghost use Rattle.std.specs.Prelude.{◌≡◌, true, IfOk};
 ghost use Rattle.x5_merge.specs.Merging.{is_list};
 
-use x5_merge::{limit, merge};
 use std::alloc::Global;
 use std::test::Fail;
+use x5_merge::{limit, merge};
 use x5_names::Rdn;
 use x5_ops::{Answer, Listed, Outcome, Sub};
 

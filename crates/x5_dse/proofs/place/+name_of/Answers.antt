@@ -1,9 +1,8 @@
 -- The name of the node above, and the node's own RDN.
-use Rattle.std.proofs.Common.{◌≡◌, ◌++◌, [], ◌∷◌, inl, inr, refl, sym, ap, ◌∙◌}
+use Rattle.std.proofs.Common.{◌++◌, [], ◌∷◌, inl, inr, sym, ap, ◌∙◌}
 use Rattle.x5_model.specs.Members.{In}
 use Rattle.x5_model.specs.Values.{Name, Rdn}
 use Rattle.x5_model.proofs.Lists.{in_first}
-use Rattle.x5_dse.specs.declared.node.NodeId.{NodeId}
 use Rattle.x5_dse.specs.Slot.{Slot}
 use Rattle.x5_dse.specs.Inside.{top, slot_at, held, depth_at, name_at}
 use Rattle.x5_dse.proofs.Named.{child_name}

@@ -2,7 +2,7 @@
 use Rattle.std.proofs.Common.{◌≡◌, ℕ, ◌<◌, [], length, map, take, get_or, sym, ap, ◌∙◌, arith}
 use Rattle.std.proofs.lemmas.List.{get_or-map, length-map}
 use Rattle.x5_model.specs.Members.{In}
-use Rattle.x5_model.specs.Values.{Rdn, key_of_pair, key_of_rdn, key_of}
+use Rattle.x5_model.specs.Values.{key_of_pair, key_of_rdn, key_of}
 use Rattle.x5_dse.specs.Inside.{path_of, spot_at}
 use Rattle.x5_dse.proofs.Named.{top_used}
 use Rattle.x5_dse.proofs.Ways.{start, step_down, stops, arrives}

@@ -1,11 +1,10 @@
 -- Without the node the place is the one that was found, or the one before it.
-use Rattle.std.proofs.Common.{◌≡◌, ◌≢◌, ℕ, ◌-◌, ◌<◌, ◌≤◌, length, map, get_or, sym, ap, subst, ◌∙◌, arith, Ok, Err}
-use Rattle.std.proofs.lemmas.List.{get_or_default}
+use Rattle.std.proofs.Common.{◌≡◌, ℕ, ◌<◌, length, map, get_or, sym, ap, subst, ◌∙◌, arith, Ok, Err}
 use Rattle.x5_model.specs.Values.{key_of_pair}
 use Rattle.x5_dse.specs.declared.node.NodeId.{NodeId}
 use Rattle.x5_dse.specs.Slot.{Slot}
-use Rattle.x5_dse.specs.Inside.{Spot, top, parent_at, spots_of, spot_at, IsPlace}
-use Rattle.x5_dse.proofs.Spots.{child_found, spot_get, spots_length}
+use Rattle.x5_dse.specs.Inside.{top, parent_at, spots_of, IsPlace}
+use Rattle.x5_dse.proofs.Spots.{child_found, spots_length}
 use Rattle.x5_dse.proofs.InOrder.{map_remove}
 use Rattle.x5_dse.proofs.Moving.{stays_put, goes_up, goes_down, one_place}
 use Rattle.x5_dse.proofs.place.move_of.Goals as goal

@@ -1,6 +1,5 @@
 -- Each step keeps that all spots before `low` are below the one sought and all from `high` on above it.
-use Rattle.std.proofs.Common.{◌≡◌, ◌+◌, ◌-◌, ◌/◌, ◌<◌, [], length, map, slice_index_or, sym, ap, ◌∙◌, arith}
-use Rattle.std.specs.declared.cmp.Ordering.TheVariants.{Less, Greater}
+use Rattle.std.proofs.Common.{◌+◌, ◌-◌, ◌/◌, ◌<◌, [], length, map, slice_index_or, sym, ap, ◌∙◌, arith}
 use Rattle.x5_model.specs.Values.{key_of_pair}
 use Rattle.x5_dse.specs.Inside.{Spot, top, spot_at, spots_of, spot_cmp}
 use Rattle.x5_dse.proofs.Spots.{in_get, spot_get, spots_length, equal_spots, go_up, go_down}

@@ -1,9 +1,9 @@
 -- A node stands at its spot, and no other does.
-use Rattle.std.proofs.Common.{◌≡◌, ◌<◌, [], length, map, get_or, sym, ap, subst, ◌∙◌, arith, Ok, Err}
+use Rattle.std.proofs.Common.{◌≡◌, ◌<◌, [], length, map, get_or, sym, ap, ◌∙◌, arith, Ok}
 use Rattle.std.proofs.lemmas.List.{get_or_default}
 use Rattle.x5_model.specs.Values.{Rdn, key_of_pair, key_of_rdn}
 use Rattle.x5_dse.specs.Slot.{Slot}
-use Rattle.x5_dse.specs.Inside.{Spot, top, spot_at, spots_of, IsPlace}
+use Rattle.x5_dse.specs.Inside.{top, spot_at, spots_of, IsPlace}
 use Rattle.x5_dse.proofs.Spots.{child_found, child_missing, spots_length}
 use Rattle.x5_dse.proofs.Named.{order_used, same_spot}
 use Rattle.x5_dse.proofs.place.place_of_node.Goals as goal

@@ -1,9 +1,9 @@
 -- The way tells whether the name is there, and whether the one just above it is; no node has the place's spot.
-use Rattle.std.proofs.Common.{◌≡◌, ◌≢◌, ℕ, ◌+◌, ◌<◌, [], length, map, get_or, sym, ap, subst, ◌∙◌, arith, refl, Ok, Err}
+use Rattle.std.proofs.Common.{◌≡◌, ◌≢◌, ◌+◌, ◌<◌, [], length, map, get_or, sym, ap, subst, ◌∙◌, arith, refl, Ok, Err}
 use Rattle.std.proofs.lemmas.List.{length-map, get_or-map}
-use Rattle.x5_model.specs.Keys.{Key, KeyRdn, parent}
+use Rattle.x5_model.specs.Keys.{KeyRdn, parent}
 use Rattle.x5_model.specs.Values.{Name, key_of_pair, key_of_rdn, key_of}
-use Rattle.x5_dse.specs.Inside.{top, spots_of, IsPlace, IsDown}
+use Rattle.x5_dse.specs.Inside.{top, spots_of, IsPlace}
 use Rattle.x5_dse.proofs.Spots.{child_found}
 use Rattle.x5_dse.proofs.Named.{there_if_used, absent_if}
 use Rattle.x5_dse.proofs.Ways.{not_there, above_not_there, reached, site}

@@ -1,8 +1,7 @@
 -- The last member of a list is the one before its end.
-use Rattle.std.proofs.Common.{◌≡◌, zero, suc, ◌<◌, ◌-◌, List, [], ◌∷◌, length, get_or, refl, sym, ap, ◌∙◌, arith}
-use Rattle.x5_model.specs.Values.{Rdn, Name, last_rdn}
+use Rattle.std.proofs.Common.{◌<◌, length, sym, ap, ◌∙◌, arith}
+use Rattle.x5_model.specs.Values.{last_rdn}
 use Rattle.x5_dse.specs.Slot.{Slot, own_rdn}
-use Rattle.x5_dse.specs.declared.node.Own.{Own}
 use Rattle.x5_dse.proofs.Lasts.{last_is}
 use Rattle.x5_dse.proofs.node.Dse.pairs.Goals as goal
 

@@ -1,5 +1,5 @@
 -- The nodes are the first one and those in order, and they are linked.
-use Rattle.std.proofs.Common.{◌≡◌, ◌+◌, length, sym, ap, subst, ◌∙◌, arith}
+use Rattle.std.proofs.Common.{length, ap, subst, arith}
 use Rattle.x5_dse.specs.Linked.{Nodes, IsLinked}
 use Rattle.x5_dse.proofs.Named.{linked, count}
 use Rattle.x5_dse.proofs.tree.DseTree.len.Goals as goal

@@ -1,8 +1,6 @@
 -- One used slot is a tree, with room for one number in both lists.
-use Rattle.std.proofs.Common.{◌≡◌, [], ◌∷◌, List, ap, sym, subst, ◌∙◌, arith, refl, Some}
-use Rattle.x5_model.specs.Values.{Name, last_rdn}
-use Rattle.x5_dse.specs.Slot.{Slot}
-use Rattle.x5_dse.specs.Inside.{top, IsKept}
+use Rattle.std.proofs.Common.{arith, refl}
+use Rattle.x5_model.specs.Values.{last_rdn}
 use Rattle.x5_dse.proofs.Growing.{one_kept}
 use Rattle.x5_dse.proofs.tree.DseTree.new.Goals as goal
 

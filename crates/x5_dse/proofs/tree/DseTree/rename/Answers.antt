@@ -1,5 +1,5 @@
 -- The node's number is taken from its place, and put at the new one.
-use Rattle.std.proofs.Common.{◌≡◌, ◌+◌, ◌<◌, ◌++◌, Bool, true, false, not, List, ◌∷◌, length, map, take, drop, set, suc, sym, ap, subst, ◌∙◌, arith, if◌then◌else◌, is_ok, Some, None}
+use Rattle.std.proofs.Common.{◌≡◌, ◌+◌, ◌<◌, ◌++◌, Bool, true, false, not, List, ◌∷◌, length, take, drop, set, suc, sym, ap, subst, ◌∙◌, arith, if◌then◌else◌, is_ok, Some, None}
 use Rattle.std.proofs.lemmas.List.{set-set}
 use Rattle.std.specs.Vec.{vec_len}
 use Rattle.x5_model.specs.Members.{In}

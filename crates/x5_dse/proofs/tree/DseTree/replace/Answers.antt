@@ -1,11 +1,11 @@
 -- The slot gets what it had, with another entry.
-use Rattle.std.proofs.Common.{◌≡◌, ◌<◌, true, List, length, set, sym, ap, subst, ◌∙◌, arith, Some, None}
+use Rattle.std.proofs.Common.{◌≡◌, ◌<◌, true, length, set, sym, ap, subst, ◌∙◌, arith, Some, None}
 use Rattle.std.proofs.lemmas.List.{set-set}
 use Rattle.std.specs.Vec.{vec_len}
 use Rattle.x5_dse.specs.Linked.{Nodes, is_live}
 use Rattle.x5_dse.specs.Changes.{Replaced}
 use Rattle.x5_dse.specs.Slot.{Slot, own_rdn}
-use Rattle.x5_dse.specs.Inside.{Slots, slot_at, held, nodes_of, IsKept}
+use Rattle.x5_dse.specs.Inside.{Slots, nodes_of, IsKept}
 use Rattle.x5_dse.proofs.Ids.{used_within}
 use Rattle.x5_dse.proofs.Named.{live_used}
 use Rattle.x5_dse.proofs.Replacing.{replaced_kept, replaced}

@@ -1,5 +1,5 @@
 -- The first slot is the prefix's.
-use Rattle.std.proofs.Common.{◌≡◌, sym, ap, ◌∙◌}
+use Rattle.std.proofs.Common.{sym, ap, ◌∙◌}
 use Rattle.std.specs.Option.{option_map}
 use Rattle.x5_model.specs.Words.{first_of}
 use Rattle.x5_dse.specs.Linked.{Nodes, id_of}
