@@ -8,7 +8,7 @@ use Rattle.x5_model.specs.Values.{Name, Rdn, key_of_rdn, key_of}
 use Rattle.x5_model.proofs.Prefixes.{prefix_decides, prefix_chain, prefix_length, parent_is_prefix}
 use Rattle.x5_model_tree.specs.Tree.{is_there}
 use Rattle.x5_dse.specs.declared.node.NodeId.{NodeId}
-use Rattle.x5_dse.specs.Linked.{Node, id_of, node_key, node_at, entries_of, IsLowest}
+use Rattle.x5_dse.specs.Linked.{Node, id_of, length_in, node_key, node_at, node_with, entries_of, IsLowest}
 use Rattle.x5_dse.specs.Inside.{Slots, Spot, top, is_used, parent_at, depth_at, rdn_at, path, path_of, name_at, node_of, nodes_of, spot_at, spots_of, IsPlace, IsChild, IsRow, IsDown, IsSite}
 use Rattle.x5_dse.proofs.Ids.{same_id}
 use Rattle.x5_dse.proofs.Spots.{lt_or_le, child_found, child_missing}
@@ -115,6 +115,12 @@ module _ (prefix : Name) (slots : Slots) (order : List NodeId) (row : IsRow slot
 
     pub reached : n ≡ length key → key_in prefix slots order row node ≡ key
     reached e = down.on_way ∙ take_all n key (omega arith)
+
+    -- how many RDNs the name of the node has
+    pub way_length : option_map length_in (node_with (all_nodes prefix slots order row) node) ≡ Some n
+    way_length =
+        ap (option_map length_in) (live_node prefix slots order row node down.used)
+        ∙ ap Some (sym (length-map (name_at prefix slots node) key_of_rdn) ∙ ap length down.on_way ∙ (let w = down.within in omega (arith, length-take n key)))
 
     pub is_lowest : IsLowest (all_nodes prefix slots order row) key node
     is_lowest = record {

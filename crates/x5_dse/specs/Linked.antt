@@ -34,6 +34,10 @@ entry_in n = n.named.entry
 abbrev pub name_in : Node → Name
 name_in n = n.named.name
 
+-- how many RDNs its name has
+abbrev pub length_in : Node → ℕ
+length_in n = length n.named.name
+
 -- the entries, in the order of their keys
 abbrev pub entries_of : List Node → List Named
 entries_of nodes = map named_of nodes

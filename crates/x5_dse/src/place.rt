@@ -1,6 +1,6 @@
 //! The places of nodes: by halves among those in order, and from RDN to RDN down from the prefix.
 
-ghost use Rattle.std.specs.Prelude.{◌≡◌, ◌↔◌, ◌<◌, true, false, length, IsTrue, MatchOption, MatchResult, map, [], slice_index_or, slice_set, vec_len, None, IfOk};
+ghost use Rattle.std.specs.Prelude.{◌≡◌, ◌↔◌, ◌<◌, true, false, length, IsTrue, MatchOption, MatchResult, map, [], slice_index_or, slice_set, vec_len, None, Some, IfOk};
 ghost use Rattle.std.specs.Bool.{MatchBool};
 ghost use Rattle.x5_model.specs.Members.{In};
 ghost use Rattle.x5_dse.specs.declared.node.NodeId.{NodeId};
@@ -9,7 +9,7 @@ ghost use Rattle.x5_model.specs.Values.{key_of_pair, key_of};
 ghost use Rattle.x5_dse.specs.Changes.{NotInserted};
 ghost use Rattle.x5_dse.specs.Inside.{slot_at, is_used, held, spot_at, spots_of, spot_cmp, spot_below, nodes_of, IsPlace, IsRow, IsDown, IsSite, IsChild, IsStart, IsMove, IsOther, name_at, parent_at, top};
 ghost use Rattle.std.specs.Option.{option_map};
-ghost use Rattle.x5_dse.specs.Linked.{IsLowest, id_of, node_at, prefix_of};
+ghost use Rattle.x5_dse.specs.Linked.{IsLowest, id_of, length_in, node_at, node_with, prefix_of};
 
 use crate::node::{Dse, DseFault, NodeId};
 use crate::order::compare_rdns;
@@ -135,19 +135,20 @@ pub(crate) fn find_node(
     }
 }
 
-/// The lowest node on the way to the name.
+/// The lowest node on the way to the name, and how many RDNs its name has.
 pub(crate) fn lowest_node(
     prefix: &Name,
     slots: &[Option<Dse>],
     order: &[NodeId],
     name: &Name,
-) -> NodeId
+) -> (NodeId, usize)
     requires row { IsRow slots.now order.now }
     requires below { is_prefix (prefix_of (nodes_of prefix.now slots.now order.now)) (key_of name.now) ≡ true }
-    ensures { IsLowest (nodes_of prefix.now slots.now order.now) (key_of name.now) result }
+    ensures lowest { IsLowest (nodes_of prefix.now slots.now order.now) (key_of name.now) result.0 }
+    ensures long { option_map length_in (node_with (nodes_of prefix.now slots.now order.now) result.0) ≡ Some result.1 }
 {
     match way_to(prefix, slots, order, name) {
-        Some((node, _)) => node,
+        Some(way) => way,
         None => unreachable!(),
     }
 }

@@ -5,7 +5,7 @@ ghost use Rattle.std.specs.Option.{option_map};
 ghost use Rattle.x5_model.specs.Keys.{is_prefix};
 ghost use Rattle.x5_model.specs.Words.{first_of};
 ghost use Rattle.x5_model.specs.Values.{key_of};
-ghost use Rattle.x5_dse.specs.Linked.{IsLinked, IsLowest, entries_of, id_of, entry_in, name_in, node_at, node_with, is_first, is_live, prefix_of, children_of};
+ghost use Rattle.x5_dse.specs.Linked.{IsLinked, IsLowest, entries_of, id_of, entry_in, name_in, length_in, node_at, node_with, is_first, is_live, prefix_of, children_of};
 ghost use Rattle.x5_dse.specs.Changes.{Inserted, NotInserted, Removed, NotRemoved, Renamed, NotRenamed, Replaced};
 
 use crate::children::Children;
@@ -97,6 +97,16 @@ impl DseTree {
     pub fn lowest(&self, name: &Name) -> NodeId
         requires { is_prefix (prefix_of self.now.nodes) (key_of name.now) ≡ true }
         ensures { IsLowest self.now.nodes (key_of name.now) result }
+    {
+        self.way(name).0
+    }
+
+    /// The same, and how many RDNs its name has. No memory.
+    pub fn way(&self, name: &Name) -> (NodeId, usize)
+        requires { is_prefix (prefix_of self.now.nodes) (key_of name.now) ≡ true }
+        ensures lowest { IsLowest self.now.nodes (key_of name.now) result.0 }
+        ensures long { option_map length_in (node_with self.now.nodes result.0) ≡ Some result.1 }
+        ensures linked { IsLinked self.now.nodes }
     {
         lowest_node(&self.prefix, &self.slots, &self.order, name)
     }

@@ -1,9 +1,9 @@
--- The way to a name below the prefix ends at the lowest node on it.
+-- The way to a name below the prefix ends at the lowest node on it, whose name has as many RDNs as the way.
 use Rattle.std.proofs.Common.{◌≡◌, true, false, subst}
 use Rattle.x5_model.specs.Keys.{Key, is_prefix}
 use Rattle.x5_model.specs.Values.{key_of}
 use Rattle.x5_dse.proofs.Named.{prefix_key}
-use Rattle.x5_dse.proofs.Ways.{is_lowest}
+use Rattle.x5_dse.proofs.Ways.{is_lowest, way_length}
 use Rattle.x5_dse.proofs.place.lowest_node.Goals as goal
 
 pub unreachable-requires : goal.unreachable-requires
@@ -13,5 +13,8 @@ unreachable-requires c =
     subst (λ (k : Key). is_prefix k (key_of c.args.name.now) ≡ true) (prefix_key c.args.prefix.now c.args.slots.now c.args.order.now c.requires.row) c.requires.below in
     cc
 
-pub returns : goal.returns
-returns c = is_lowest c.args.prefix.now c.args.slots.now c.args.order.now c.requires.row (key_of c.args.name.now) c.in-Some.node c.in-Some.field-0-1 c.in-Some.ensures
+pub returns-clause-lowest : goal.returns-clause-lowest
+returns-clause-lowest c = is_lowest c.args.prefix.now c.args.slots.now c.args.order.now c.requires.row (key_of c.args.name.now) c.in-Some.way.0 c.in-Some.way.1 c.in-Some.ensures
+
+pub returns-clause-long : goal.returns-clause-long
+returns-clause-long c = way_length c.args.prefix.now c.args.slots.now c.args.order.now c.requires.row (key_of c.args.name.now) c.in-Some.way.0 c.in-Some.way.1 c.in-Some.ensures
