@@ -1,12 +1,15 @@
 -- What an agent holds, as contracts see it, and what the definitions of name resolution see of it (X.501, sections 22 and 23:
 -- DSA information tree; X.525: shadowed information). Moments, logs, the trees' nodes with their room and the postings are no
 -- part of those definitions.
-use Rattle.std.specs.Prelude.{◌≡◌, ◌<◌, ℕ, Bool, false, List, [], length, map, ⊤}
+use Rattle.std.specs.Prelude.{◌≡◌, ◌<◌, ℕ, Bool, false, if◌then◌else◌, List, [], length, map, ⊤}
+use Rattle.std.specs.Option.{option_map}
 use Rattle.std.specs.declared.option.Option.{Option}
 use Rattle.std.specs.declared.option.Option.TheVariants.{None, Some}
 use Rattle.x5_model.specs.Words.{distinct}
 use Rattle.x5_model.specs.Keys.{same_key}
 use Rattle.x5_model.specs.Values.{Name, key_of}
+use Rattle.x5_model.specs.Entries.{Named}
+use Rattle.x5_model.specs.Requests.{Request}
 use Rattle.x5_model_run.specs.Holdings as model
 use Rattle.x5_ops.specs.declared.knowledge.Specific.{Specific}
 use Rattle.x5_ops.specs.declared.knowledge.Cross.{Cross}
@@ -52,16 +55,37 @@ held_view c = record {
   nssrs = map nssr_view c.nssrs;
 }
 
-abbrev pub shadow_view : Name → Option (Kept × ℕ) → model.Held
-shadow_view prefix None = record { prefix = prefix; entries = []; subordinate = []; nssrs = [] }
-shadow_view prefix (Some s) = record (held_view s.0) { prefix = prefix }
+-- what refreshes brought of a copy: nothing before the first one
+abbrev pub brought_entries : Option (Kept × ℕ) → List Named
+brought_entries None = []
+brought_entries (Some s) = entries_of s.0.nodes.nodes
+
+abbrev pub brought_references : Option (Kept × ℕ) → List Specific
+brought_references None = []
+brought_references (Some s) = s.0.subordinate
+
+abbrev pub brought_nssrs : Option (Kept × ℕ) → List Nssr
+brought_nssrs None = []
+brought_nssrs (Some s) = s.0.nssrs
+
+abbrev pub shadow_view : CopyKept → model.Held
+shadow_view c = record {
+  prefix = c.prefix;
+  entries = brought_entries c.refreshed;
+  subordinate = map specific_view (brought_references c.refreshed);
+  nssrs = map nssr_view (brought_nssrs c.refreshed);
+}
+
+-- what a request may be answered from
+abbrev pub brought_for : Request → CopyKept → Option Kept
+brought_for r c = if model.may_copy r then option_map (λ s. s.0) c.refreshed else None
 
 abbrev pub stamp_of : Option (Kept × ℕ) → Option ℕ
 stamp_of None = None
 stamp_of (Some s) = Some s.1
 
 abbrev pub copy_view : CopyKept → model.Copy
-copy_view c = record { held = shadow_view c.prefix c.refreshed; stamp = stamp_of c.refreshed; supplier = c.supplier }
+copy_view c = record { held = shadow_view c; stamp = stamp_of c.refreshed; supplier = c.supplier }
 
 abbrev pub holdings_view : State → model.Holdings
 holdings_view s = record {

@@ -1,24 +1,17 @@
 -- What is kept beside the lists of what an agent holds: for each list its names by their keys.
-use Rattle.std.specs.Prelude.{◌≡◌, ℕ, List, [], map}
-use Rattle.std.specs.declared.option.Option.{Option}
-use Rattle.std.specs.declared.option.Option.TheVariants.{None, Some}
+use Rattle.std.specs.Prelude.{List, map}
 use Rattle.x5_model.specs.Values.{key_of}
 use Rattle.x5_ops.specs.declared.knowledge.Specific.{Specific}
 use Rattle.x5_holdings.specs.Rows.{AreRowsOf}
 use Rattle.x5_holdings.specs.Spots.{AreBelow}
-use Rattle.x5_holdings.specs.State.{Kept, CopyKept, State}
+use Rattle.x5_holdings.specs.State.{State, brought_references}
 use Rattle.x5_holdings.specs.declared.tables.Tables.{Tables}
-
--- a copy has references once it was refreshed
-abbrev pub brought_by : Option (Kept × ℕ) → List Specific
-brought_by None = []
-brought_by (Some s) = s.0.subordinate
 
 abbrev pub below_own : State → List (List Specific)
 below_own s = map (λ c. c.subordinate) s.own
 
 abbrev pub below_copies : State → List (List Specific)
-below_copies s = map (λ c. brought_by c.refreshed) s.copies
+below_copies s = map (λ c. brought_references c.refreshed) s.copies
 
 pub record AreTables (s : State) (t : Tables) : Type 0 where
   pub own : AreRowsOf t.own (map (λ c. key_of c.prefix) s.own)

@@ -6,7 +6,7 @@ ghost use Rattle.x5_model.specs.Values.{key_of};
 ghost use Rattle.x5_ops.specs.declared.knowledge.Specific.{Specific as specific};
 ghost use Rattle.x5_holdings.specs.Rows.{numbered};
 ghost use Rattle.x5_holdings.specs.Spots.{AreBelow, IsSpot, spots_from};
-ghost use Rattle.x5_holdings.specs.Tables.{brought_by};
+ghost use Rattle.x5_holdings.specs.State.{brought_references};
 
 use crate::held::{Copied, Held};
 use crate::pins::{Pins, add};
@@ -82,7 +82,7 @@ impl Below {
 
     /// The references of these copies.
     pub(crate) fn of_copies(alloc: Global, copies: &[Copied]) -> Result<Below, NoMemory>
-        ensures { IfOk result (λ below. AreBelow below (map (λ c. brought_by c.refreshed) copies.now)) }
+        ensures { IfOk result (λ below. AreBelow below (map (λ c. brought_references c.refreshed) copies.now)) }
     {
         let mut rows = Vec::new(alloc);
         let mut spots = Vec::new(alloc);

@@ -3,13 +3,14 @@
 ghost use Rattle.std.specs.Prelude.{◌≡◌, ◌+◌, ◌<◌, ◌≤◌, ◌∷◌, [], IfOk, IfErr, OnOk, OnErr, IsTrue, length, map, option_map};
 ghost use Rattle.x5_model.specs.Attributes.{is_ordered};
 ghost use Rattle.x5_model.specs.Values.{key_of};
+ghost use Rattle.x5_model_run.specs.Holdings.{may_copy};
 ghost use Rattle.x5_model_run.specs.Needs.{nssr_at};
 ghost use Rattle.x5_ops.specs.KnowledgeViews.{nssr_view};
+ghost use Rattle.x5_ops.specs.RequestViews.{request_view};
 ghost use Rattle.x5_dse.specs.Linked.{entries_of};
 ghost use Rattle.x5_dse.specs.Changes.{Inserted, NotInserted};
 ghost use Rattle.x5_index.specs.Index.{terms_of};
-ghost use Rattle.x5_holdings.specs.State.{IsKept, OnlyEntries, stamp_of, are_once};
-ghost use Rattle.x5_holdings.specs.Tables.{brought_by};
+ghost use Rattle.x5_holdings.specs.State.{IsKept, OnlyEntries, brought_for, brought_references, stamp_of};
 
 use crate::log::ChangeLog;
 use crate::pins::{Pins, entries_of_nssrs};
@@ -20,7 +21,7 @@ use x5_index::{Postings, Room};
 use x5_match::Entry;
 use x5_memory::NoMemory;
 use x5_names::{Name, Rdn};
-use x5_ops::{AgentId, Moment, Nssr, NssrList, Specific, SpecificList};
+use x5_ops::{AgentId, Moment, Nssr, NssrList, Request, Specific, SpecificList};
 
 /// A naming context: its entries, among them its prefix's, an index of their values, the log of its changes, and the subordinate
 /// references and NSSRs that belong to it (X.501, section 22).
@@ -166,6 +167,13 @@ impl Held {
     }
 }
 
+/// Whether a request may be answered from copies: it doesn't ask for none, and it's no update (X.511, section 7.5). No memory.
+pub(crate) fn may_use_copies(request: &Request) -> bool
+    ensures { result ≡ may_copy (request_view request.now) }
+{
+    !request.controls.nocopy && !request.body.is_update()
+}
+
 /// A copy of a context: the agent that supplies it, and what refreshes brought with their stamp; nothing before the first one
 /// (X.525, section 9).
 #[derive(Debug, Drop)]
@@ -235,6 +243,17 @@ impl Copied {
         }
     }
 
+    /// What refreshes brought, where the request may be answered from copies. No memory.
+    pub fn usable(&self, request: &Request) -> Option<&Held>
+        ensures { option_map (λ held. held.now) result ≡ brought_for (request_view request.now) self.now }
+    {
+        if may_use_copies(request) {
+            self.held()
+        } else {
+            None
+        }
+    }
+
     /// The stamp of the last refresh. No memory.
     pub fn stamp(&self) -> Option<Moment>
         ensures { result ≡ stamp_of self.now.refreshed }
@@ -247,7 +266,7 @@ impl Copied {
 
     /// The subordinate references that refreshes brought, in their order. No memory.
     pub fn subordinate(&self) -> &[Specific]
-        ensures { result.now ≡ brought_by self.now.refreshed }
+        ensures { result.now ≡ brought_references self.now.refreshed }
     {
         match &self.refreshed {
             Some((held, _)) => held.subordinate(),

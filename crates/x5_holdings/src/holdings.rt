@@ -3,7 +3,7 @@
 ghost use Rattle.std.specs.Prelude.{◌≡◌, [], true, None, IfOk, map};
 ghost use Rattle.std.specs.Option.{option_map};
 ghost use Rattle.x5_model.specs.Values.{key_of};
-ghost use Rattle.x5_model_run.specs.Holdings.{held_at, copy_at, holds_within, is_first_level, may_copy, subordinates};
+ghost use Rattle.x5_model_run.specs.Holdings.{held_at, copy_at, holds_within, subordinates};
 ghost use Rattle.x5_model_run.specs.Needs.{specific_at};
 ghost use Rattle.x5_ops.specs.KnowledgeViews.{specific_view, cross_view};
 ghost use Rattle.x5_ops.specs.RequestViews.{request_view};
@@ -11,7 +11,7 @@ ghost use Rattle.x5_holdings.specs.Known.{IsPlaceOf, IsKnown, IsKnownAt};
 ghost use Rattle.x5_holdings.specs.State.{are_once, copy_view, held_view, holdings_view};
 
 use crate::below::Below;
-use crate::held::{Copied, Held};
+use crate::held::{Copied, Held, may_use_copies};
 use crate::pins::{Pins, pins_of_crosses, pins_of_references};
 use crate::tables::{Tables, prefixes_of_copies, prefixes_of_held};
 use std::alloc::Global;
@@ -53,13 +53,6 @@ impl Model for Holdings {
     ghost view = { inside.state_of };
 
     ghost invariant = { inside.AreHoldings };
-}
-
-/// Whether a request may be answered from copies: it doesn't ask for none, and it's no update (X.511, section 7.5).
-fn may_use_copies(request: &Request) -> bool
-    ensures { result ≡ may_copy (request_view request.now) }
-{
-    !request.controls.nocopy && !request.body.is_update()
 }
 
 impl Holdings {

@@ -1,12 +1,10 @@
 //! The names of a list, found by key without a walk: rows in order, among which a key is looked for by halves.
 
-ghost use Rattle.std.specs.Prelude.{◌≡◌, ◌≤◌, ◌<◌, ◌++◌, ◌∷◌, [], ℕ, List, Bool, true, false, length, map, slice_get, IfOk, OnOk};
-ghost use Rattle.std.specs.List.{find, flat_map};
-ghost use Rattle.x5_model.specs.Keys.{Key, same_key};
+ghost use Rattle.std.specs.Prelude.{◌≡◌, ◌++◌, ◌∷◌, [], List, true, false, length, map, IfOk, OnOk};
+ghost use Rattle.std.specs.List.Sorted.{IsSorted, IsPartitionPoint};
+ghost use Rattle.x5_model.specs.Keys.{Key, key_below};
 ghost use Rattle.x5_model.specs.Values.{key_of};
-ghost use Rattle.x5_ops.specs.declared.knowledge.Specific.{Specific as specific};
-ghost use Rattle.x5_holdings.specs.Rows.{AreRowsOf, IsFirstPlace, numbered, places_of};
-ghost use Rattle.x5_holdings.specs.Spots.{AreBelow, IsSpot, spots_in};
+ghost use Rattle.x5_holdings.specs.Rows.{KeyRow, AreRowsOf, IsFirstPlace, numbered, places_of, row_cmp};
 
 use crate::rows::Row;
 use std::alloc::Global;
@@ -24,13 +22,13 @@ pub(crate) struct Pins {
 impl Model for Pins {
     ghost use Rattle.std.specs.Prelude.{List};
     ghost use Rattle.std.specs.List.Sorted.{IsSorted};
-    ghost use Rattle.x5_holdings.specs.Rows as rows;
+    ghost use Rattle.x5_holdings.specs.Rows as keyed;
 
-    ghost Value = { List rows.KeyRow };
+    ghost Value = { List keyed.KeyRow };
 
     ghost view = { λ p. p.rows.items };
 
-    ghost invariant = { λ p. IsSorted rows.row_cmp p.rows.items };
+    ghost invariant = { λ p. IsSorted keyed.row_cmp p.rows.items };
 }
 
 /// Adds a row for the next member.
@@ -44,7 +42,8 @@ pub(crate) fn add(rows: &mut Vec<Row>, name: &Name) -> Result<(), NoMemory>
 
 /// How many rows there are of keys below that of these RDNs.
 fn count_below(rows: &[Row], rdns: &[Rdn]) -> usize
-    ensures { result ≤ length rows.now }
+    requires { IsSorted row_cmp rows.now }
+    ensures { IsPartitionPoint (λ (r : KeyRow). key_below r.0 (key_of rdns.now) ≡ true) (λ (r : KeyRow). key_below r.0 (key_of rdns.now) ≡ false) rows.now result }
 {
     rows.partition_point(|row| row.compare(rdns).is_lt())
 }
@@ -61,7 +60,7 @@ impl Pins {
 
     /// The names of these rows.
     pub(crate) fn of(rows: Vec<Row>) -> Result<Pins, NoMemory>
-        ensures { IfOk result (λ pins. (keys : List Key) → rows.entry.items ≡ numbered keys → AreRowsOf pins keys) }
+        ensures { IfOk result (λ pins. (keys : List Key) → rows.items ≡ numbered keys → AreRowsOf pins keys) }
     {
         let mut rows = rows;
         rows.sort()?;

@@ -1,0 +1,193 @@
+//! The resolution of a name at an agent.
+
+ghost use Rattle.std.specs.Prelude.{◌≡◌, ◌<◌, ◌≤◌, [], ◌&&◌, true, false, List, ℕ, not, length, take, slice_get, Some, is_empty};
+ghost use Rattle.std.specs.List.{list_any};
+ghost use Rattle.std.specs.Option.{is_some};
+ghost use Rattle.x5_model.specs.Values.{key_of};
+ghost use Rattle.x5_model_run.specs.Journal.{is_done, is_wide};
+ghost use Rattle.x5_model_run.specs.Holdings.{held_at, copy_at, known_pin, may_copy};
+ghost use Rattle.x5_model_run.specs.Placed.{fits};
+ghost use Rattle.x5_model_serve.specs.Finding as finding;
+ghost use Rattle.x5_ops.specs.ReferenceViews.{chained_view, progress_view, kind_view};
+ghost use Rattle.x5_holdings.specs.State.{holdings_view};
+ghost use Rattle.x5_holdings.specs.Known.{IsFirst};
+ghost use Rattle.x5_find.specs.Finds.{Finds};
+
+use crate::found::{Found, Via};
+use x5_holdings::{Holdings, Pin};
+use x5_names::Name;
+use x5_ops::{AgentId, Chained, Progress, RefType};
+
+/// Whether one of these is another agent. No memory.
+fn has_other(agents: &[AgentId], me: AgentId) -> bool
+    ensures { result ≡ not (is_empty (others me agents.now)) }
+{
+    agents.iter().any(|agent| agent.0 != me.0)
+}
+
+/// What can't be gone on from.
+fn stuck<'a>(state: &'a Holdings, message: &'a Chained) -> Found<'a>
+    requires { finding.find (holdings_view state.now) (chained_view [] message.now) ≡ finding.Stuck }
+    ensures { Finds state.now (chained_view [] message.now) result }
+{
+    let _ = state;
+    if message.kind.is_wide() {
+        Found::UnableToProceed
+    } else {
+        Found::InvalidReference
+    }
+}
+
+/// Where nothing is known on the way: at the superior, or at a first-level agent the root or nowhere.
+fn unknown<'a>(state: &'a Holdings, message: &'a Chained) -> Found<'a>
+    requires resolved { IsResolved state.now (chained_view [] message.now) }
+    requires nothing { known_pin (request_view message.now.request) (holdings_view state.now) (key_of message.now.target) ≡ None }
+    ensures { Finds state.now (chained_view [] message.now) result }
+{
+    match state.superior() {
+        Some(superior) => Found::Go {
+            kind: RefType::Superior,
+            progress: Progress::NotStarted,
+            known: None,
+            to: Via::One(superior),
+        },
+        None => {
+            if message.target.is_root() {
+                Found::Root
+            } else {
+                Found::NoSuchObject { at: None }
+            }
+        }
+    }
+}
+
+/// In a context that is mastered: at the name itself, or below the lowest entry on the way, or nowhere.
+fn in_own<'a>(state: &'a Holdings, message: &'a Chained, own: usize) -> Found<'a>
+    requires resolved { IsResolved state.now (chained_view [] message.now) }
+    requires pin { IsLongest (request_view message.now.request) (holdings_view state.now) (key_of message.now.target) (Own own) }
+    ensures { Finds state.now (chained_view [] message.now) result }
+{
+    let held = &state.own()[own];
+    let (node, length) = held.tree().way(&message.target);
+    if length == message.target.len() {
+        return Found::Here { own, node };
+    }
+    match held.nssr_at(&message.target.rdns()[..length]) {
+        Some(nssr) if has_other(nssr.agents.as_slice(), state.me()) => Found::Multicast {
+            own,
+            node,
+            agents: &nssr.agents,
+        },
+        _ => Found::NoSuchObject {
+            at: Some((own, node)),
+        },
+    }
+}
+
+/// In a copy: at the name itself where the copy may be used, else at its supplier.
+fn in_copy<'a>(state: &'a Holdings, message: &'a Chained, copy: usize) -> Found<'a>
+    requires resolved { IsResolved state.now (chained_view [] message.now) }
+    requires pin { IsLongest (request_view message.now.request) (holdings_view state.now) (key_of message.now.target) (Copy copy) }
+    requires length { length message.now.target ≤ 16 }
+    ensures { Finds state.now (chained_view [] message.now) result }
+{
+    let copied = &state.copies()[copy];
+    if let Some(held) = copied.usable(&message.request) {
+        if let Some(node) = held.tree().find(&message.target) {
+            return Found::CopyHere { copy, node };
+        }
+    }
+    Found::Go {
+        kind: RefType::Supplier,
+        progress: Progress::Proceeding(copied.prefix().len() as u8),
+        known: Some(copied.prefix()),
+        to: Via::One(copied.supplier()),
+    }
+}
+
+/// By a reference to the longest known pin on the way.
+fn by_reference<'a>(
+    kind: RefType,
+    pin: &'a Name,
+    access: &'a Access,
+) -> Found<'a>
+    requires { length pin.now ≤ 16 }
+{
+    Found::Go {
+        kind,
+        progress: Progress::Proceeding(pin.len() as u8),
+        known: Some(pin),
+        to: Via::Access(access),
+    }
+}
+
+/// Where the resolution of a name ends that is still to be resolved.
+fn resolve<'a>(state: &'a Holdings, message: &'a Chained) -> Found<'a>
+    requires resolved { IsResolved state.now (chained_view [] message.now) }
+    requires length { length message.now.target ≤ 16 }
+    ensures { Finds state.now (chained_view [] message.now) result }
+{
+    match state.known(&message.request, message.target.rdns()) {
+        None => unknown(state, message),
+        Some(Pin::Own(own)) => in_own(state, message, own),
+        Some(Pin::Copy(copy)) => in_copy(state, message, copy),
+        Some(Pin::Subordinate(reference)) =>
+            by_reference(RefType::Subordinate, &reference.pin, &reference.access),
+        Some(Pin::Cross(reference)) => by_reference(RefType::Cross, &reference.pin, &reference.access),
+    }
+}
+
+/// Of a completed name, which came by a reference to a pin: the context, a copy that may be used, or the supplier of one that
+/// may not.
+fn completed<'a>(state: &'a Holdings, message: &'a Chained) -> Found<'a>
+    requires done { is_done (progress_view message.now.progress) ≡ true }
+    requires specific { is_wide (kind_view message.now.kind) ≡ false }
+    requires fits { fits (chained_view [] message.now) ≡ true }
+    ensures { Finds state.now (chained_view [] message.now) result }
+{
+    let prefix = message.target.rdns();
+    if let Some(own) = state.own_at(prefix) {
+        let node = state.own()[own].tree().top();
+        return Found::Here { own, node };
+    }
+    match state.copy_at(prefix) {
+        Some(copy) => {
+            let copied = &state.copies()[copy];
+            match copied.usable(&message.request) {
+                Some(held) => Found::CopyHere {
+                    copy,
+                    node: held.tree().top(),
+                },
+                None => Found::Go {
+                    kind: RefType::Supplier,
+                    progress: Progress::Completed,
+                    known: Some(copied.prefix()),
+                    to: Via::One(copied.supplier()),
+                },
+            }
+        }
+        None => Found::InvalidReference,
+    }
+}
+
+/// Where the resolution of the message's name ends at the agent that holds this (X.518, section 18: Find DSE). It's for a
+/// message that fits, with a target of 16 RDNs at most, and not for a completed name that came by a nonSpecific reference: that
+/// is evaluated below its entry. No memory.
+pub fn find<'a>(state: &'a Holdings, message: &'a Chained) -> Found<'a>
+    requires fits { fits (chained_view [] message.now) ≡ true }
+    requires length { length message.now.target ≤ 16 }
+    requires specific { (is_done (progress_view message.now.progress) && is_wide (kind_view message.now.kind)) ≡ false }
+    ensures { (names : List (List ℕ)) → Finds state.now (chained_view names message.now) result }
+{
+    match message.progress {
+        Progress::NotStarted => resolve(state, message),
+        Progress::Proceeding(k) => {
+            if state.holds_within(message.target.rdns(), k as usize) {
+                resolve(state, message)
+            } else {
+                stuck(state, message)
+            }
+        }
+        Progress::Completed => completed(state, message),
+    }
+}

@@ -1,0 +1,5 @@
+pub mod Numbered
+pub mod Sought
+pub mod Finding
+pub mod Spotted
+pub mod Knowing
