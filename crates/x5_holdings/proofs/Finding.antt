@@ -40,7 +40,7 @@ module _ {A B : Type 0} (view : A → B) (of : B → Key) (key : Key) where
 -- ---- find over lists that are joined or seen otherwise
 
 module _ {A : Type 0} (test : A → Bool) where
-  step : Bool → A → List A → Option A
+  abbrev step : Bool → A → List A → Option A
   step b x xs = if b then Some x else find test xs
 
   pub find_left : (xs ys : List A) (x : A) → find test xs ≡ Some x → find test (xs ++ ys) ≡ Some x

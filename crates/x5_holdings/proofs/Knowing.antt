@@ -73,7 +73,7 @@ root_unknown pins out = by (longest pins []) (longest_right pins [])
 -- ---- which pins are known
 
 module _ (r : Request) (h : Holdings) (key : Key) where
-  pins : List Key
+  abbrev pub pins : List Key
   pins = map key_of (known_pins r h)
 
   in_prefixes : (n : Name) → In n (prefixes h) → In (key_of n) pins
@@ -169,7 +169,7 @@ module _ (r : Request) (h : Holdings) where
 
   -- ---- a context that is held on the way
 
-  on_way : Key → ℕ → Name → Bool
+  abbrev on_way : Key → ℕ → Name → Bool
   on_way key least n = is_prefix (key_of n) key && nat_le least (length n)
 
   pub too_short : (key : Key) (least : ℕ) → length key < least → false ≡ holds_within h key least

@@ -3,3 +3,5 @@ pub mod Sought
 pub mod Finding
 pub mod Spotted
 pub mod Knowing
+pub mod Holding
+pub mod Posted

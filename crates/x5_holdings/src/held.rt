@@ -66,9 +66,10 @@ impl Held {
         ensures nssrs { IfOk result (λ held. held.nssrs ≡ nssrs) }
     {
         let wide = entries_of_nssrs(alloc, nssrs.as_slice())?;
-        let mut postings = Postings::new(alloc);
-        postings.add(0, &entry)?;
         let tree = DseTree::new(alloc, prefix.clone()?, entry)?;
+        let top = tree.top();
+        let mut postings = Postings::new(alloc);
+        postings.add(top.0, tree.entry(top))?;
         Ok(Held {
             prefix,
             tree,
