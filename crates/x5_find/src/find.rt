@@ -1,21 +1,21 @@
 //! The resolution of a name at an agent.
 
-ghost use Rattle.std.specs.Prelude.{◌≡◌, ◌<◌, ◌≤◌, [], ◌&&◌, true, false, List, ℕ, not, length, take, slice_get, Some, is_empty};
-ghost use Rattle.std.specs.List.{list_any};
-ghost use Rattle.std.specs.Option.{is_some};
+ghost use Rattle.std.specs.Prelude.{◌≡◌, ◌≤◌, [], ◌&&◌, false, true, not, List, ℕ, length, None};
 ghost use Rattle.x5_model.specs.Values.{key_of};
+ghost use Rattle.x5_model.specs.Words.{is_empty};
 ghost use Rattle.x5_model_run.specs.Journal.{is_done, is_wide};
-ghost use Rattle.x5_model_run.specs.Holdings.{held_at, copy_at, known_pin, may_copy};
+ghost use Rattle.x5_model_run.specs.Holdings.{known_pin};
+ghost use Rattle.x5_model_run.specs.Needs.{others};
 ghost use Rattle.x5_model_run.specs.Placed.{fits};
 ghost use Rattle.x5_model_serve.specs.Finding as finding;
 ghost use Rattle.x5_ops.specs.ReferenceViews.{chained_view, progress_view, kind_view};
+ghost use Rattle.x5_ops.specs.RequestViews.{request_view};
 ghost use Rattle.x5_holdings.specs.State.{holdings_view};
-ghost use Rattle.x5_holdings.specs.Known.{IsFirst};
 ghost use Rattle.x5_find.specs.Finds.{Finds};
+ghost use Rattle.x5_find.specs.Ways.{IsResolved, IsOwnPin, IsCopyPin};
 
 use crate::found::{Found, Via};
 use x5_holdings::{Holdings, Pin};
-use x5_names::Name;
 use x5_ops::{AgentId, Chained, Progress, RefType};
 
 /// Whether one of these is another agent. No memory.
@@ -27,8 +27,8 @@ fn has_other(agents: &[AgentId], me: AgentId) -> bool
 
 /// What can't be gone on from.
 fn stuck<'a>(state: &'a Holdings, message: &'a Chained) -> Found<'a>
-    requires { finding.find (holdings_view state.now) (chained_view [] message.now) ≡ finding.Stuck }
-    ensures { Finds state.now (chained_view [] message.now) result }
+    requires { (names : List (List ℕ)) → finding.find (holdings_view state.now) (chained_view names message.now) ≡ finding.Stuck }
+    ensures { (names : List (List ℕ)) → Finds state.now (chained_view names message.now) result }
 {
     let _ = state;
     if message.kind.is_wide() {
@@ -40,9 +40,9 @@ fn stuck<'a>(state: &'a Holdings, message: &'a Chained) -> Found<'a>
 
 /// Where nothing is known on the way: at the superior, or at a first-level agent the root or nowhere.
 fn unknown<'a>(state: &'a Holdings, message: &'a Chained) -> Found<'a>
-    requires resolved { IsResolved state.now (chained_view [] message.now) }
+    requires resolved { (names : List (List ℕ)) → IsResolved state.now (chained_view names message.now) }
     requires nothing { known_pin (request_view message.now.request) (holdings_view state.now) (key_of message.now.target) ≡ None }
-    ensures { Finds state.now (chained_view [] message.now) result }
+    ensures { (names : List (List ℕ)) → Finds state.now (chained_view names message.now) result }
 {
     match state.superior() {
         Some(superior) => Found::Go {
@@ -63,9 +63,9 @@ fn unknown<'a>(state: &'a Holdings, message: &'a Chained) -> Found<'a>
 
 /// In a context that is mastered: at the name itself, or below the lowest entry on the way, or nowhere.
 fn in_own<'a>(state: &'a Holdings, message: &'a Chained, own: usize) -> Found<'a>
-    requires resolved { IsResolved state.now (chained_view [] message.now) }
-    requires pin { IsLongest (request_view message.now.request) (holdings_view state.now) (key_of message.now.target) (Own own) }
-    ensures { Finds state.now (chained_view [] message.now) result }
+    requires resolved { (names : List (List ℕ)) → IsResolved state.now (chained_view names message.now) }
+    requires pin { IsOwnPin state.now (chained_view [] message.now) own }
+    ensures { (names : List (List ℕ)) → Finds state.now (chained_view names message.now) result }
 {
     let held = &state.own()[own];
     let (node, length) = held.tree().way(&message.target);
@@ -86,10 +86,10 @@ fn in_own<'a>(state: &'a Holdings, message: &'a Chained, own: usize) -> Found<'a
 
 /// In a copy: at the name itself where the copy may be used, else at its supplier.
 fn in_copy<'a>(state: &'a Holdings, message: &'a Chained, copy: usize) -> Found<'a>
-    requires resolved { IsResolved state.now (chained_view [] message.now) }
-    requires pin { IsLongest (request_view message.now.request) (holdings_view state.now) (key_of message.now.target) (Copy copy) }
+    requires resolved { (names : List (List ℕ)) → IsResolved state.now (chained_view names message.now) }
+    requires pin { IsCopyPin state.now (chained_view [] message.now) copy }
     requires length { length message.now.target ≤ 16 }
-    ensures { Finds state.now (chained_view [] message.now) result }
+    ensures { (names : List (List ℕ)) → Finds state.now (chained_view names message.now) result }
 {
     let copied = &state.copies()[copy];
     if let Some(held) = copied.usable(&message.request) {
@@ -105,35 +105,28 @@ fn in_copy<'a>(state: &'a Holdings, message: &'a Chained, copy: usize) -> Found<
     }
 }
 
-/// By a reference to the longest known pin on the way.
-fn by_reference<'a>(
-    kind: RefType,
-    pin: &'a Name,
-    access: &'a Access,
-) -> Found<'a>
-    requires { length pin.now ≤ 16 }
-{
-    Found::Go {
-        kind,
-        progress: Progress::Proceeding(pin.len() as u8),
-        known: Some(pin),
-        to: Via::Access(access),
-    }
-}
-
 /// Where the resolution of a name ends that is still to be resolved.
 fn resolve<'a>(state: &'a Holdings, message: &'a Chained) -> Found<'a>
-    requires resolved { IsResolved state.now (chained_view [] message.now) }
+    requires resolved { (names : List (List ℕ)) → IsResolved state.now (chained_view names message.now) }
     requires length { length message.now.target ≤ 16 }
-    ensures { Finds state.now (chained_view [] message.now) result }
+    ensures { (names : List (List ℕ)) → Finds state.now (chained_view names message.now) result }
 {
     match state.known(&message.request, message.target.rdns()) {
         None => unknown(state, message),
         Some(Pin::Own(own)) => in_own(state, message, own),
         Some(Pin::Copy(copy)) => in_copy(state, message, copy),
-        Some(Pin::Subordinate(reference)) =>
-            by_reference(RefType::Subordinate, &reference.pin, &reference.access),
-        Some(Pin::Cross(reference)) => by_reference(RefType::Cross, &reference.pin, &reference.access),
+        Some(Pin::Subordinate(reference)) => Found::Go {
+            kind: RefType::Subordinate,
+            progress: Progress::Proceeding(reference.pin.len() as u8),
+            known: Some(&reference.pin),
+            to: Via::Access(&reference.access),
+        },
+        Some(Pin::Cross(reference)) => Found::Go {
+            kind: RefType::Cross,
+            progress: Progress::Proceeding(reference.pin.len() as u8),
+            known: Some(&reference.pin),
+            to: Via::Access(&reference.access),
+        },
     }
 }
 
@@ -143,7 +136,7 @@ fn completed<'a>(state: &'a Holdings, message: &'a Chained) -> Found<'a>
     requires done { is_done (progress_view message.now.progress) ≡ true }
     requires specific { is_wide (kind_view message.now.kind) ≡ false }
     requires fits { fits (chained_view [] message.now) ≡ true }
-    ensures { Finds state.now (chained_view [] message.now) result }
+    ensures { (names : List (List ℕ)) → Finds state.now (chained_view names message.now) result }
 {
     let prefix = message.target.rdns();
     if let Some(own) = state.own_at(prefix) {

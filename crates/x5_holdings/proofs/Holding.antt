@@ -17,9 +17,11 @@ use Rattle.x5_holdings.specs.declared.below.Spot.{Spot}
 use Rattle.x5_holdings.specs.declared.tables.Tables.{Tables}
 use Rattle.x5_holdings.specs.Rows.{KeyRow, Places, AreRowsOf, places_of, IsFirstPlace}
 use Rattle.x5_holdings.specs.Known.{IsPlaceOf}
-use Rattle.x5_holdings.specs.Spots.{joined, first_to, IsSpot}
+use Rattle.std.specs.Slice.{IsItemAt}
+use Rattle.x5_holdings.specs.Spots.{joined, first_to, IsSpot, IsSpotOf}
 use Rattle.x5_holdings.specs.State.{State, held_view, copy_view, holdings_view}
 use Rattle.x5_holdings.specs.Tables.{AreTables, below_own, below_copies}
+use Rattle.x5_holdings.proofs.Sought.{item_at, no_item}
 use Rattle.x5_holdings.proofs.Finding.{at_first, find_left, find_right, find_map, own_references, copied_references}
 
 -- ---- places in lists
@@ -40,6 +42,52 @@ some_within {A} xs i x e = within xs i (ap (λ (o : Option A). is_some o) e)
 -- what is indexed at the place
 pub placed_item : {A B : Type 0} (view : A → B) (xs : List A) (i : ℕ) (x : A) (o : Option B) → i < length xs → x ≡ get_or xs i x → IsPlaceOf view xs o (Some i) → Some (view x) ≡ o
 placed_item view xs i x o lt is h = sym (h.0 ∙ ap (option_map view) (got xs i x lt is))
+
+pub item_got : {A : Type 0} (xs : List A) (i : ℕ) (r : Option (Bor A)) → IsItemAt xs i r → option_map (λ (x : Bor A). x.now) r ≡ slice_get xs i
+item_got xs i None h = sym (got_none xs i (no_item xs i None h refl))
+  where
+    got_none : {A : Type 0} (xs : List A) (i : ℕ) → length xs ≤ i → slice_get xs i ≡ None
+    got_none [] i le = refl
+    got_none (y ∷ xs) zero le = absurd (omega arith)
+    got_none (y ∷ xs) (suc i) le = got_none xs i (omega arith)
+item_got xs i (Some x) h = let w = item_at xs i (Some x) x h refl in sym (got xs i x.now w.0 w.1)
+
+pub some_got : {A : Type 0} (xs : List A) (i : ℕ) (r : Option (Bor A)) (x : Bor A) → IsItemAt xs i r → r ≡ Some x → slice_get xs i ≡ Some x.now
+some_got {A} xs i r x h e = sym (item_got xs i r h) ∙ ap (option_map (λ (y : Bor A). y.now)) e
+
+pub none_got : {A : Type 0} (xs : List A) (i : ℕ) (r : Option (Bor A)) → IsItemAt xs i r → r ≡ None → slice_get xs i ≡ None
+none_got {A} xs i r h e = sym (item_got xs i r h) ∙ ap (option_map (λ (y : Bor A). y.now)) e
+
+-- what is got at the place
+pub viewed : {A B : Type 0} (view : A → B) (xs : List A) (i : ℕ) (r : Option (Bor A)) (o : Option B) → IsItemAt xs i r → IsPlaceOf view xs o (Some i) → option_map (λ (x : Bor A). view x.now) r ≡ o
+viewed {A} {B} view xs i r o h p = twice r ∙ (ap (option_map view) (item_got xs i r h) ∙ sym p.0)
+  where
+    twice : (q : Option (Bor A)) → option_map (λ (x : Bor A). view x.now) q ≡ option_map view (option_map (λ (x : Bor A). x.now) q)
+    twice None = refl
+    twice (Some x) = refl
+
+-- ---- what stands at a spot
+
+mapped : {A B : Type 0} (f : A → B) (xs : List A) (i : ℕ) (y : B) → slice_get (map f xs) i ≡ Some y → (x : A) × (slice_get xs i ≡ Some x) × (f x ≡ y)
+mapped f [] i y e = cc
+mapped f (x ∷ xs) zero y e = (x, refl, inside e)
+  where
+    inside : Some (f x) ≡ Some y → f x ≡ y
+    inside g = cc
+mapped f (x ∷ xs) (suc i) y e = mapped f xs i y e
+
+module _ {A : Type 0} (f : A → List Specific) (xs : List A) (key : Key) (spot : Spot) (h : IsSpotOf (map f xs) key spot) where
+  pub never_lacking : slice_get xs spot.list ≡ None → ⊥
+  never_lacking e = (let w = mapped f xs spot.list h.list h.in_lists in let s : None ≡ Some w.0 = sym e ∙ w.1 in cc)
+
+  pub at_spot : (x : A) (ks : List Specific) (r : Option (Bor Specific)) → slice_get xs spot.list ≡ Some x → ks ≡ f x → IsItemAt ks spot.member r → option_map (λ (k : Bor Specific). k.now) r ≡ first_to (joined (map f xs)) key
+  at_spot x ks r e g i =
+      let w = mapped f xs spot.list h.list h.in_lists in
+      let same : x ≡ w.0 = inside w.0 (sym e ∙ w.1) in
+      item_got ks spot.member r i ∙ (ap (λ (l : List Specific). slice_get l spot.member) (g ∙ (ap f same ∙ w.2)) ∙ (h.in_list ∙ sym h.first))
+    where
+      inside : (y : A) → Some x ≡ Some y → x ≡ y
+      inside y p = cc
 
 -- ---- by the tables
 

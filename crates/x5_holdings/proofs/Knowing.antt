@@ -1,6 +1,6 @@
 -- The longest known prefix of a name, one RDN after another from its end: where the whole name is known it's that, and else it
 -- is that of the name above. And whether a context is held on the way, in the same steps.
-use Rattle.std.proofs.Common.{◌≡◌, ℕ, ◌-◌, ◌<◌, ◌≤◌, Bool, true, false, ◌&&◌, ◌⊎◌, inl, inr, nat_le, List, [], ◌∷◌, ◌++◌, map, take, length, Option, Some, None, refl, sym, ap, subst, ◌∙◌, arith}
+use Rattle.std.proofs.Common.{◌≡◌, ℕ, zero, suc, ◌-◌, ◌<◌, ◌≤◌, Bool, true, false, ◌&&◌, ◌⊎◌, inl, inr, nat_le, List, [], ◌∷◌, ◌++◌, map, take, length, Option, Some, None, refl, sym, ap, subst, ◌∙◌, arith}
 use Rattle.std.specs.Cmp.{both_ways}
 use Rattle.std.specs.Prelude.{slice_get}
 use Rattle.std.specs.List.{find, list_any}
@@ -70,6 +70,21 @@ root_unknown pins out = by (longest pins []) (longest_right pins [])
         empty [] l = refl
         empty (r ∷ q) l = absurd (omega arith)
 
+-- where no context is held at the key, it isn't a prefix of one
+module _ (h : Holdings) (key : Key) (no_own : held_at h.own key ≡ None) (no_copy : copy_at h key ≡ None) where
+  not_prefix : (n : Name) → In n (prefixes h) → key_of n ≡ key → ⊥
+  not_prefix n i e =
+      elim (in_either n (map (λ (d : Held). d.prefix) h.own) (map (λ (d : Copy). d.held.prefix) h.copies) i) [
+        | inl j ↦ (let w = of_map (λ (d : Held). d.prefix) n h.own j in
+            let f : same_key (key_of w.0.prefix) key ≡ false = not_found (λ (d : Held). same_key (key_of d.prefix) key) w.0 h.own no_own w.1 in
+            let t : same_key (key_of w.0.prefix) key ≡ true = (key_decides (key_of w.0.prefix) key).1 (ap key_of (sym w.2) ∙ e) in
+            cc)
+        | inr j ↦ (let w = of_map (λ (d : Copy). d.held.prefix) n h.copies j in
+            let f : same_key (key_of w.0.held.prefix) key ≡ false = not_found (λ (d : Copy). same_key (key_of d.held.prefix) key) w.0 h.copies no_copy w.1 in
+            let t : same_key (key_of w.0.held.prefix) key ≡ true = (key_decides (key_of w.0.held.prefix) key).1 (ap key_of (sym w.2) ∙ e) in
+            cc)
+      ]
+
 -- ---- which pins are known
 
 module _ (r : Request) (h : Holdings) (key : Key) where
@@ -106,34 +121,21 @@ module _ (r : Request) (h : Holdings) (key : Key) where
       subst (λ (q : Key). In q pins) ((key_decides (key_of k.pin) key).0 w.1) (in_cross k w.0)
 
   module _ (no_own : held_at h.own key ≡ None) (no_copy : copy_at h key ≡ None) where
-    not_prefix : (n : Name) → In n (prefixes h) → key_of n ≡ key → ⊥
-    not_prefix n i e =
-        elim (in_either n (map (λ (d : Held). d.prefix) h.own) (map (λ (d : Copy). d.held.prefix) h.copies) i) [
-          | inl j ↦ (let w = of_map (λ (d : Held). d.prefix) n h.own j in
-              let f : same_key (key_of w.0.prefix) key ≡ false = not_found (λ (d : Held). same_key (key_of d.prefix) key) w.0 h.own no_own w.1 in
-              let t : same_key (key_of w.0.prefix) key ≡ true = (key_decides (key_of w.0.prefix) key).1 (ap key_of (sym w.2) ∙ e) in
-              cc)
-          | inr j ↦ (let w = of_map (λ (d : Copy). d.held.prefix) n h.copies j in
-              let f : same_key (key_of w.0.held.prefix) key ≡ false = not_found (λ (d : Copy). same_key (key_of d.held.prefix) key) w.0 h.copies no_copy w.1 in
-              let t : same_key (key_of w.0.held.prefix) key ≡ true = (key_decides (key_of w.0.held.prefix) key).1 (ap key_of (sym w.2) ∙ e) in
-              cc)
-        ]
-
     pub not_known : specific_at (subordinates r h) key ≡ None → specific_at h.cross key ≡ None → In key pins → ⊥
     not_known no_sub no_cross i =
         let v = of_map key_of key (known_pins r h) i in
         elim (in_either v.0 (prefixes h ++ map (λ (k : Specific). k.pin) (subordinates r h)) (map (λ (k : Specific). k.pin) h.cross) v.1) [
           | inl j ↦ elim (in_either v.0 (prefixes h) (map (λ (k : Specific). k.pin) (subordinates r h)) j) [
-            | inl m ↦ not_prefix v.0 m (sym v.2)
+            | inl m ↦ not_prefix h key no_own no_copy v.0 m (sym v.2)
             | inr m ↦ not_one (subordinates r h) no_sub v.0 m (sym v.2)
           ]
           | inr j ↦ not_one h.cross no_cross v.0 j (sym v.2)
         ]
       where
         not_one : (ks : List Specific) → specific_at ks key ≡ None → (n : Name) → In n (map (λ (k : Specific). k.pin) ks) → key_of n ≡ key → ⊥
-        not_one ks no n j e =
+        not_one ks none n j e =
             let w = of_map (λ (k : Specific). k.pin) n ks j in
-            let f : same_key (key_of w.0.pin) key ≡ false = not_found (λ (d : Specific). same_key (key_of d.pin) key) w.0 ks no w.1 in
+            let f : same_key (key_of w.0.pin) key ≡ false = not_found (λ (d : Specific). same_key (key_of d.pin) key) w.0 ks none w.1 in
             let t : same_key (key_of w.0.pin) key ≡ true = (key_decides (key_of w.0.pin) key).1 (ap key_of (sym w.2) ∙ e) in
             cc
 
@@ -154,11 +156,12 @@ module _ (r : Request) (h : Holdings) where
   unknown key None f e i = not_known r h key f.0 f.1 f.2 f.3 i
   unknown key (Some pin) f e i = cc
 
-  pub known_root : (found : Option Pin) → IsKnownAt r h [] found → is_some found ≡ false → IsKnown r h [] None
-  known_root found f e = root_unknown (map key_of (known_pins r h)) (unknown [] found f e)
+  pub known_root : (key : Key) (found : Option Pin) → length key ≡ 0 → IsKnownAt r h key found → is_some found ≡ false → IsKnown r h key None
+  known_root [] found z f e = root_unknown (map key_of (known_pins r h)) (unknown [] found f e)
+  known_root (x ∷ key) found z f e = absurd (omega arith)
 
-  pub known_above : (key : Key) (found above : Option Pin) → IsKnownAt r h key found → is_some found ≡ false → IsKnown r h (parent key) above → IsKnown r h key above
-  known_above key found above f e g = by above g
+  pub known_above : (key upper : Key) (found above : Option Pin) → upper ≡ parent key → IsKnownAt r h key found → is_some found ≡ false → IsKnown r h upper above → IsKnown r h key above
+  known_above key upper found above u f e g = by above (subst (λ (k : Key). IsKnown r h k above) u g)
     where
       same : known_pin r h key ≡ known_pin r h (parent key)
       same = longest_above (map key_of (known_pins r h)) key (unknown key found f e)
@@ -167,8 +170,9 @@ module _ (r : Request) (h : Holdings) where
       by None g = same ∙ g
       by (Some pin) g = record { key = g.key; longest = same ∙ g.longest; first = g.first }
 
-  -- ---- a context that is held on the way
+-- ---- a context that is held on the way
 
+module _ (h : Holdings) where
   abbrev on_way : Key → ℕ → Name → Bool
   on_way key least n = is_prefix (key_of n) key && nat_le least (length n)
 
@@ -205,7 +209,7 @@ module _ (r : Request) (h : Holdings) where
     less n i p =
         elim (less_or_same) [
           | inl l ↦ l
-          | inr e ↦ absurd (not_prefix r h key no_own no_copy n i (same_by_length (key_of n) key key p (prefix_itself key) e))
+          | inr e ↦ absurd (not_prefix h key no_own no_copy n i (same_by_length (key_of n) key key p (prefix_itself key) e))
         ]
       where
         less_or_same : (length (key_of n) < length key) ⊎ (length (key_of n) ≡ length key)
@@ -228,13 +232,22 @@ module _ (r : Request) (h : Holdings) where
             let p : IsPrefix (key_of w.0) key = (prefix_decides (key_of w.0) key).0 v.0 in
             any_in (on_way (parent key) least) w.0 (prefixes h) w.1 (and_true (is_prefix (key_of w.0) (parent key)) (nat_le least (length w.0)) ((prefix_decides (key_of w.0) (parent key)).1 (prefix_of_parent (key_of w.0) key p (less w.0 w.1 p))) v.1)
 
-    pub within_root : key ≡ [] → false ≡ holds_within h key least
-    within_root z = both_ways false (holds_within h key least) (λ e. cc) (λ e.
+    pub within_root : length key ≡ 0 → false ≡ holds_within h key least
+    within_root n = both_ways false (holds_within h key least) (λ e. cc) (λ e.
         let w = of_any (on_way key least) (prefixes h) e in
         let v = both_true (is_prefix (key_of w.0) key) (nat_le least (length w.0)) w.2 in
         let l : length (key_of w.0) < length key = less w.0 w.1 ((prefix_decides (key_of w.0) key).0 v.0) in
-        let n : length key ≡ 0 = ap length z in
         absurd (omega arith))
+
+-- the key of the name above
+keys_taken : (n : ℕ) (name : Name) → key_of (take n name) ≡ take n (key_of name)
+keys_taken zero name = refl
+keys_taken (suc n) [] = refl
+keys_taken (suc n) (r ∷ name) = ap (λ (k : Key). key_of_rdn r ∷ k) (keys_taken n name)
+
+pub upper_key : (name : Name) (n : ℕ) → n ≡ length name - 1 → key_of (take n name) ≡ parent (key_of name)
+upper_key name n e =
+    keys_taken n name ∙ (let f : n ≡ length (key_of name) - 1 = omega (arith, length-map name key_of_rdn) in ap (λ (k : ℕ). take k (key_of name)) f)
 
 -- what is found is there
 pub found_some : {A B : Type 0} (view : A → B) (xs : List A) (o : Option B) (found : Option ℕ) → IsPlaceOf view xs o found → is_some o ≡ is_some found

@@ -1,6 +1,6 @@
 -- The index of a context's entries: where it begins with one entry, and where an entry is added, its postings stay those of the
 -- entries.
-use Rattle.std.proofs.Common.{◌≡◌, ◌≢◌, ℕ, Bool, true, false, if◌then◌else◌, ◌==◌, inl, inr, List, [], ◌∷◌, Option, Some, None, refl, sym, ap, subst, ◌∙◌, cond}
+use Rattle.std.proofs.Common.{◌≡◌, ◌≢◌, ℕ, Bool, true, false, if◌then◌else◌, ◌||◌, ◌==◌, inl, inr, List, [], ◌∷◌, Option, Some, None, refl, sym, ap, subst, ◌∙◌, cond}
 use Rattle.std.specs.List.{find, list_any}
 use Rattle.std.specs.Option.{option_map}
 use Rattle.x5_model.specs.Words.{insert_sorted, first_of}
@@ -22,16 +22,16 @@ not_live [] id e = refl
 not_live (n ∷ nodes) id e = by (has_id id n) refl (not_live nodes id)
   where
     by : (b : Bool) → has_id id n ≡ b → (is_live nodes id ≡ false → node_with nodes id ≡ None) → node_with (n ∷ nodes) id ≡ None
-    by true f rest = absurd (let t : is_live (n ∷ nodes) id ≡ true = ap (λ (b : Bool). if b then true else list_any (has_id id) nodes) f in cc)
+    by true f rest = absurd (let t : is_live (n ∷ nodes) id ≡ true = ap (λ (b : Bool). b || list_any (has_id id) nodes) f in cc)
     by false f rest =
         ap (λ (b : Bool). if b then Some n else node_with nodes id) f
-        ∙ rest (sym (ap (λ (b : Bool). if b then true else list_any (has_id id) nodes) f) ∙ e)
+        ∙ rest (sym (ap (λ (b : Bool). b || list_any (has_id id) nodes) f) ∙ e)
 
 pub top_live : (nodes : List Node) (id : NodeId) → option_map id_of (first_of nodes) ≡ Some id → is_live nodes id ≡ true
 top_live [] id e = cc
 top_live (n ∷ nodes) id e =
     let f : n.id ≡ id = inside e in
-    ap (λ (b : Bool). if b then true else list_any (has_id id) nodes) ((nat_same_decides n.id.0 id.0).1 (ap (λ (i : NodeId). i.0) f))
+    ap (λ (b : Bool). b || list_any (has_id id) nodes) ((nat_same_decides n.id.0 id.0).1 (ap (λ (i : NodeId). i.0) f))
   where
     inside : Some n.id ≡ Some id → n.id ≡ id
     inside g = cc
@@ -53,11 +53,11 @@ module _ (x : Node) (id : NodeId) where
   node_added (n ∷ nodes) h l = by (node_below n x) refl (has_id id n) refl (node_added nodes h)
     where
       by : (b : Bool) → node_below n x ≡ b → (d : Bool) → has_id id n ≡ d → (is_live nodes id ≡ false → node_with (insert_sorted node_below x nodes) id ≡ Some x) → node_with (insert_sorted node_below x (n ∷ nodes)) id ≡ Some x
-      by b e true f rest = absurd (let t : is_live (n ∷ nodes) id ≡ true = ap (λ (b : Bool). if b then true else list_any (has_id id) nodes) f in cc)
+      by b e true f rest = absurd (let t : is_live (n ∷ nodes) id ≡ true = ap (λ (b : Bool). b || list_any (has_id id) nodes) f in cc)
       by true e false f rest =
           ap (λ (b : Bool). node_with (if b then n ∷ insert_sorted node_below x nodes else (x ∷ n ∷ nodes)) id) e
           ∙ (ap (λ (b : Bool). if b then Some n else node_with (insert_sorted node_below x nodes) id) f
-          ∙ rest (sym (ap (λ (b : Bool). if b then true else list_any (has_id id) nodes) f) ∙ l))
+          ∙ rest (sym (ap (λ (b : Bool). b || list_any (has_id id) nodes) f) ∙ l))
       by false e false f rest =
           ap (λ (b : Bool). node_with (if b then n ∷ insert_sorted node_below x nodes else (x ∷ n ∷ nodes)) id) e
           ∙ ap (λ (b : Bool). if b then Some x else node_with (n ∷ nodes) id) h

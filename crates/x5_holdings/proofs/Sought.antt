@@ -164,6 +164,13 @@ pub record IsSplit (view : List KeyRow) (key : Key) (place : ℕ) : Type 0 where
   pub sorted : IsSorted row_cmp view
   pub split : IsPartitionPoint (λ (r : KeyRow). key_below r.0 key ≡ true) (λ (r : KeyRow). key_below r.0 key ≡ false) view place
 
+pub as_split : (view rows items : List KeyRow) (key : Key) (place : ℕ) → rows ≡ view → items ≡ rows → IsSorted row_cmp rows
+    → IsPartitionPoint (λ (r : KeyRow). key_below r.0 key ≡ true) (λ (r : KeyRow). key_below r.0 key ≡ false) items place → IsSplit view key place
+as_split view rows items key place e f sorted split = record {
+  sorted = subst (λ (xs : List KeyRow). IsSorted row_cmp xs) e sorted;
+  split = subst (λ (xs : List KeyRow). IsPartitionPoint (λ (r : KeyRow). key_below r.0 key ≡ true) (λ (r : KeyRow). key_below r.0 key ≡ false) xs place) (f ∙ e) split;
+}
+
 module _ (view items : List KeyRow) (key : Key) (place : ℕ) (h : IsSplit view key place) (f : items ≡ view) (got : Option (Bor KeyRow)) (item : IsItemAt items place got) where
   item_of : (row : Bor KeyRow) → got ≡ Some row → (place < length view) × (row.now ≡ get_or view place row.now)
   item_of row g = subst (λ (xs : List KeyRow). (place < length xs) × (row.now ≡ get_or xs place row.now)) f (item_at items place got row item g)

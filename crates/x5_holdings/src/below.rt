@@ -98,6 +98,6 @@ impl Below {
         ensures { (lists : List (List specific)) → AreBelow self.now lists → IsSpot lists (key_of rdns.now) result }
     {
         let place = self.pins.first(rdns)?;
-        Some(self.spots[place])
+        self.spots.get(place).copied()
     }
 }

@@ -131,7 +131,7 @@ impl Held {
         ensures { option_map (λ n. nssr_view n.now) result ≡ nssr_at (map nssr_view self.now.nssrs) (key_of rdns.now) }
     {
         let place = self.wide.first(rdns)?;
-        Some(&self.nssrs.as_slice()[place])
+        self.nssrs.as_slice().get(place)
     }
 
     /// Makes room for so many entries with so many values. After want of memory the context is as it was.

@@ -8,7 +8,9 @@ ghost use Rattle.x5_model_run.specs.Needs.{specific_at};
 ghost use Rattle.x5_ops.specs.KnowledgeViews.{specific_view, cross_view};
 ghost use Rattle.x5_ops.specs.RequestViews.{request_view};
 ghost use Rattle.x5_holdings.specs.Known.{IsPlaceOf, IsKnown, IsKnownAt};
+ghost use Rattle.x5_holdings.specs.Spots.{first_to, joined};
 ghost use Rattle.x5_holdings.specs.State.{are_once, copy_view, held_view, holdings_view};
+ghost use Rattle.x5_holdings.specs.Tables.{below_copies, below_own};
 
 use crate::below::Below;
 use crate::held::{Copied, Held, may_use_copies};
@@ -188,16 +190,41 @@ impl Holdings {
     pub fn subordinate_at(&self, request: &Request, pin: &[Rdn]) -> Option<&Specific>
         ensures { option_map (λ k. specific_view k.now) result ≡ specific_at (subordinates (request_view request.now) (holdings_view self.now)) (key_of pin.now) }
     {
-        if let Some(spot) = self.tables.below_own.first(pin) {
-            return Some(&self.own[spot.list].subordinate()[spot.member]);
+        if let Some(reference) = self.below_own(pin) {
+            return Some(reference);
         }
         if may_use_copies(request) {
-            if let Some(spot) = self.tables.below_copies.first(pin) {
-                return Some(&self.copies[spot.list].subordinate()[spot.member]);
+            if let Some(reference) = self.below_copies(pin) {
+                return Some(reference);
             }
         }
+        self.below_root(pin)
+    }
+
+    /// The first subordinate reference to the pin among those of contexts that are mastered. No memory.
+    fn below_own(&self, pin: &[Rdn]) -> Option<&Specific>
+        ensures { option_map (λ k. k.now) result ≡ first_to (joined (below_own self.now)) (key_of pin.now) }
+    {
+        let spot = self.tables.below_own.first(pin)?;
+        let held = self.own.get(spot.list)?;
+        held.subordinate().get(spot.member)
+    }
+
+    /// The first subordinate reference to the pin among those of copies. No memory.
+    fn below_copies(&self, pin: &[Rdn]) -> Option<&Specific>
+        ensures { option_map (λ k. k.now) result ≡ first_to (joined (below_copies self.now)) (key_of pin.now) }
+    {
+        let spot = self.tables.below_copies.first(pin)?;
+        let copy = self.copies.get(spot.list)?;
+        copy.subordinate().get(spot.member)
+    }
+
+    /// The first subordinate reference to the pin among those of the root. No memory.
+    fn below_root(&self, pin: &[Rdn]) -> Option<&Specific>
+        ensures { option_map (λ k. specific_view k.now) result ≡ specific_at (holdings_view self.now).root (key_of pin.now) }
+    {
         let place = self.tables.root.first(pin)?;
-        Some(&self.root.as_slice()[place])
+        self.root.as_slice().get(place)
     }
 
     /// The first cross reference to the pin. No memory.
@@ -205,7 +232,7 @@ impl Holdings {
         ensures { option_map (λ k. cross_view k.now) result ≡ specific_at (holdings_view self.now).cross (key_of pin.now) }
     {
         let place = self.tables.cross.first(pin)?;
-        Some(&self.cross.as_slice()[place])
+        self.cross.as_slice().get(place)
     }
 
     /// The first of what is known of the pin. No memory.
@@ -234,10 +261,10 @@ impl Holdings {
         if found.is_some() {
             return found;
         }
-        match name {
-            [above @ .., _] => self.known(request, above),
-            [] => None,
+        if name.is_empty() {
+            return None;
         }
+        self.known(request, &name[..name.len() - 1])
     }
 
     /// Whether it masters or has a copy of a context whose prefix is a prefix of the name with at least so many RDNs. No memory.
@@ -250,9 +277,9 @@ impl Holdings {
         if self.own_at(name).is_some() || self.copy_at(name).is_some() {
             return true;
         }
-        match name {
-            [above @ .., _] => self.holds_within(above, least),
-            [] => false,
+        if name.is_empty() {
+            return false;
         }
+        self.holds_within(&name[..name.len() - 1], least)
     }
 }

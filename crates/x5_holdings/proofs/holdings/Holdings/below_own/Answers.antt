@@ -1,0 +1,22 @@
+-- The table gives where the first reference stands.
+use Rattle.std.proofs.Common.{◌≡◌, List, Option, Bor, sym, subst, ap, ◌∙◌}
+use Rattle.std.specs.Option.{option_map}
+use Rattle.x5_model.specs.Values.{key_of}
+use Rattle.x5_ops.specs.declared.knowledge.Specific.{Specific}
+use Rattle.x5_holdings.specs.Spots.{joined, first_to}
+use Rattle.x5_holdings.specs.State.{State, Kept, brought_references}
+use Rattle.x5_holdings.specs.Tables.{below_own}
+use Rattle.x5_holdings.specs.Inside.{state_of}
+use Rattle.x5_holdings.proofs.Holding.{never_lacking, at_spot, some_got, none_got}
+use Rattle.x5_holdings.proofs.holdings.Holdings.below_own.Goals as goal
+
+pub returns-in_err-spot : goal.returns-in_err-spot
+returns-in_err-spot c =
+    subst (λ (s : State). option_map (λ (k : Bor Specific). k.now) c.from_residual.result ≡ first_to (joined (below_own s)) (key_of c.args.pin.now)) c.self.view_is
+    (ap (option_map (λ (k : Bor Specific). k.now)) c.from_residual.ensures ∙ sym (c.in_err-spot.ensures (below_own (state_of c.self.inside)) c.self.invariant.tables.below_own))
+
+pub returns-in_err-held : goal.returns-in_err-held
+returns-in_err-held c = ?
+
+pub returns : goal.returns
+returns c = ?
