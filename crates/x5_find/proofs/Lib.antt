@@ -1,2 +1,3 @@
 pub mod Lowest
 pub mod Ways
+pub mod Places

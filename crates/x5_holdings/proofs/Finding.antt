@@ -1,22 +1,18 @@
 -- What the first place of a key in a list says of the list: what stands there is what is found by the key, as the definitions
 -- see it.
-use Rattle.std.proofs.Common.{◌≡◌, ℕ, zero, suc, ◌<◌, ◌≤◌, Bool, true, false, if◌then◌else◌, List, [], ◌∷◌, ◌++◌, map, length, Option, Some, None, refl, sym, ap, subst, ◌∙◌, arith}
+use Rattle.std.proofs.Common.{◌≡◌, ℕ, zero, suc, ◌<◌, Bool, true, false, if◌then◌else◌, List, [], ◌∷◌, ◌++◌, map, Option, Some, None, refl, sym, ap, ◌∙◌, arith}
 use Rattle.std.proofs.lemmas.List.{map-append}
 use Rattle.std.specs.Prelude.{slice_get}
 use Rattle.std.specs.List.{find, filter, flat_map}
 use Rattle.std.specs.Option.{is_some, option_map}
-use Rattle.x5_model.specs.Words.{some_and}
 use Rattle.x5_model.specs.Keys.{Key, same_key}
-use Rattle.x5_model.specs.Values.{key_of}
 use Rattle.x5_model_tree.specs.World as world
 use Rattle.x5_model_run.specs.Holdings as model
-use Rattle.x5_ops.specs.declared.knowledge.Specific.{Specific}
 use Rattle.x5_ops.specs.KnowledgeViews.{specific_view}
 use Rattle.x5_holdings.specs.Rows.{places_in, IsFirstPlace}
 use Rattle.x5_holdings.specs.Known.{IsPlaceOf}
-use Rattle.x5_holdings.specs.State.{Kept, CopyKept, State, held_view, copy_view, brought_references}
-use Rattle.x5_holdings.specs.Spots.{joined, first_to}
-use Rattle.x5_holdings.specs.Tables.{below_own, below_copies}
+use Rattle.x5_holdings.specs.State.{Kept, CopyKept, held_view, copy_view, brought_references}
+use Rattle.x5_holdings.specs.Spots.{joined}
 
 -- ---- by the first place
 

@@ -2,7 +2,7 @@
 -- by a key is the one at the place that its table gives.
 use Rattle.std.proofs.Common.{◌≡◌, ℕ, zero, suc, ◌<◌, ◌≤◌, Bool, true, false, if◌then◌else◌, List, [], ◌∷◌, ◌++◌, map, length, get_or, Option, Some, None, Bor, refl, sym, ap, subst, ◌∙◌, arith}
 use Rattle.std.specs.Prelude.{slice_get}
-use Rattle.std.specs.List.{find, filter, flat_map}
+use Rattle.std.specs.List.{filter, flat_map}
 use Rattle.std.specs.Option.{is_some, option_map}
 use Rattle.x5_model.specs.Keys.{Key, same_key}
 use Rattle.x5_model.specs.Values.{key_of}
@@ -18,7 +18,7 @@ use Rattle.x5_holdings.specs.declared.tables.Tables.{Tables}
 use Rattle.x5_holdings.specs.Rows.{KeyRow, Places, AreRowsOf, places_of, IsFirstPlace}
 use Rattle.x5_holdings.specs.Known.{IsPlaceOf}
 use Rattle.std.specs.Slice.{IsItemAt}
-use Rattle.x5_holdings.specs.Spots.{joined, first_to, IsSpot, IsSpotOf}
+use Rattle.x5_holdings.specs.Spots.{joined, first_to, IsSpotOf}
 use Rattle.x5_holdings.specs.State.{State, held_view, copy_view, holdings_view}
 use Rattle.x5_holdings.specs.Tables.{AreTables, below_own, below_copies}
 use Rattle.x5_holdings.proofs.Sought.{item_at, no_item}

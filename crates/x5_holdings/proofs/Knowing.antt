@@ -3,15 +3,14 @@
 use Rattle.std.proofs.Common.{◌≡◌, ℕ, zero, suc, ◌-◌, ◌<◌, ◌≤◌, Bool, true, false, ◌&&◌, ◌⊎◌, inl, inr, nat_le, List, [], ◌∷◌, ◌++◌, map, take, length, Option, Some, None, refl, sym, ap, subst, ◌∙◌, arith}
 use Rattle.std.specs.Cmp.{both_ways}
 use Rattle.std.specs.Prelude.{slice_get}
-use Rattle.std.specs.List.{find, list_any}
 use Rattle.std.specs.Option.{is_some, option_map}
 use Rattle.x5_model.specs.Members.{In}
 use Rattle.x5_model.specs.Keys.{Key, IsPrefix, same_key, is_prefix, parent}
 use Rattle.x5_model.specs.Values.{Name, key_of, key_of_rdn}
 use Rattle.x5_model.specs.Requests.{Request}
 use Rattle.x5_model.proofs.KeyLaws.{key_decides}
-use Rattle.x5_model.proofs.Prefixes.{prefix_decides, prefix_itself, prefix_length, prefix_chain, prefix_of_parent, parent_is_prefix, parent_length, same_by_length}
-use Rattle.x5_model.proofs.Lists.{in_left, in_right, in_either, in_map, of_map, of_find, not_found, both_true, and_true, true_or_false, any_in, of_any}
+use Rattle.x5_model.proofs.Prefixes.{prefix_decides, prefix_itself, prefix_length, prefix_chain, prefix_of_parent, parent_is_prefix, same_by_length}
+use Rattle.x5_model.proofs.Lists.{in_left, in_right, in_either, in_map, of_map, of_find, not_found, both_true, and_true, any_in, of_any}
 use Rattle.x5_model_tree.specs.World.{Specific}
 use Rattle.x5_model_tree.specs.Tree.{longest}
 use Rattle.x5_model_tree.proofs.Longest.{IsLongest, longest_is, longest_right}
@@ -20,7 +19,7 @@ use Rattle.x5_model_run.specs.Needs.{specific_at}
 use Rattle.x5_ops.specs.KnowledgeViews.{specific_view, cross_view}
 use Rattle.x5_holdings.specs.declared.holdings.Pin.{Pin}
 use Rattle.x5_holdings.specs.declared.holdings.Pin.TheVariants.{Own, Copy as CopyAt, Subordinate, Cross}
-use Rattle.x5_holdings.specs.Known.{IsFirst, IsKnownAt, IsKnown, IsPlaceOf}
+use Rattle.x5_holdings.specs.Known.{IsKnownAt, IsKnown, IsPlaceOf}
 use Rattle.std.proofs.lemmas.List.{length-map}
 
 there : {A : Type 0} (o : Option A) → is_some o ≡ true → (x : A) × (o ≡ Some x)

@@ -1,17 +1,17 @@
 -- The rows of a list's members: rows that are added one by one are the members with their places, and a key stands among
 -- them with a place exactly where the member there has it.
-use Rattle.std.proofs.Common.{◌≡◌, ℕ, zero, suc, ◌+◌, ◌<◌, ◌≤◌, Bool, true, false, ◌&&◌, ◌||◌, ◌==◌, List, [], ◌∷◌, ◌++◌, map, take, length, get_or, refl, sym, ap, subst, ◌∙◌, arith, append_assoc}
+use Rattle.std.proofs.Common.{◌≡◌, ℕ, zero, suc, ◌+◌, ◌<◌, ◌≤◌, Bool, true, false, ◌&&◌, ◌||◌, ◌==◌, List, [], ◌∷◌, ◌++◌, map, take, length, get_or, refl, sym, ap, ◌∙◌, arith, append_assoc}
 use Rattle.std.specs.Prelude.{slice_get}
 use Rattle.std.specs.List.{list_any, enumerate_from}
 use Rattle.std.specs.List.Sorted.{IsPermutation}
 use Rattle.std.specs.declared.result.Result.{Result}
 use Rattle.std.specs.declared.result.Result.TheVariants.{Ok, Err}
 use Rattle.std.specs.Result.{IfOk}
-use Rattle.std.proofs.lemmas.List.{take_all, take_more, length-map, map_push}
+use Rattle.std.proofs.lemmas.List.{take_all, map_push}
 use Rattle.std.proofs.lemmas.List.Sorted.{list_any-IsPermutation}
 use Rattle.x5_model.specs.Words.{some_and}
 use Rattle.x5_model.specs.Keys.{Key, same_key}
-use Rattle.x5_holdings.specs.Rows.{KeyRow, same_row, Places, places_of, places_in, numbered, AreRowsOf}
+use Rattle.x5_holdings.specs.Rows.{KeyRow, same_row, places_of, places_in, numbered, AreRowsOf}
 
 abbrev numbered_from : ℕ → List Key → List KeyRow
 numbered_from i keys = map (λ p. (p.1, p.0)) (enumerate_from i keys)
@@ -43,7 +43,7 @@ pub one_more_behind : {A : Type 0} (f : A → Key) (keys : List Key) (xs : List 
     → old ≡ numbered (keys ++ map f (take i xs)) → new ≡ old ++ (f x, length old) ∷ [] → new ≡ numbered (keys ++ map f (take (i + 1) xs))
 one_more_behind {A} f keys xs i x old new lt is e g =
     let all : keys ++ map f (take (i + 1) xs) ≡ (keys ++ map f (take i xs)) ++ f x ∷ [] =
-      ap (λ (l : List A). keys ++ map f l) (taken xs i x lt is) ∙ (ap (λ (l : List Key). keys ++ l) (map_push f (take i xs) x) ∙ sym (append_assoc keys (map f (take i xs)) (f x ∷ []))) in
+    ap (λ (l : List A). keys ++ map f l) (taken xs i x lt is) ∙ (ap (λ (l : List Key). keys ++ l) (map_push f (take i xs) x) ∙ sym (append_assoc keys (map f (take i xs)) (f x ∷ []))) in
     let n : length old ≡ length (keys ++ map f (take i xs)) = ap length e ∙ length_numbered (keys ++ map f (take i xs)) in
     g ∙ (λ j. e j ++ (f x, n j) ∷ []) ∙ sym (ap numbered all ∙ numbered_push (keys ++ map f (take i xs)) (f x))
 

@@ -1,17 +1,15 @@
 -- The index of a context's entries: where it begins with one entry, and where an entry is added, its postings stay those of the
 -- entries.
-use Rattle.std.proofs.Common.{◌≡◌, ◌≢◌, ℕ, Bool, true, false, if◌then◌else◌, ◌||◌, ◌==◌, inl, inr, List, [], ◌∷◌, Option, Some, None, refl, sym, ap, subst, ◌∙◌, cond}
-use Rattle.std.specs.List.{find, list_any}
+use Rattle.std.proofs.Common.{◌≡◌, ◌≢◌, ℕ, Bool, true, false, if◌then◌else◌, ◌||◌, ◌==◌, List, [], ◌∷◌, Option, Some, None, refl, sym, ap, subst, ◌∙◌}
+use Rattle.std.specs.List.{list_any}
 use Rattle.std.specs.Option.{option_map}
 use Rattle.x5_model.specs.Words.{insert_sorted, first_of}
-use Rattle.x5_model.specs.Keys.{Key}
 use Rattle.x5_model.specs.Entries.{Entry, Named}
-use Rattle.x5_model.proofs.Lists.{true_or_false, either_true}
 use Rattle.x5_model.proofs.Decide.{nat_same_decides}
 use Rattle.x5_model_tree.specs.Tree.{key_at}
 use Rattle.x5_dse.specs.declared.node.NodeId.{NodeId}
 use Rattle.x5_dse.specs.Linked.{Node, id_of, entries_of, entry_in, node_below, node_with, has_id, is_live, prefix_of}
-use Rattle.x5_index.specs.Index.{Posting, IsEntryAt, IsPut, is_there}
+use Rattle.x5_index.specs.Index.{Posting, IsEntryAt, IsPut}
 use Rattle.x5_index.proofs.Laws.{absent_elsewhere, entry_elsewhere}
 use Rattle.x5_holdings.specs.State.{IsPosted, ArePosted}
 

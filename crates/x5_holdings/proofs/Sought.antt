@@ -1,7 +1,6 @@
 -- What a search by halves finds among rows in order: rows of lesser keys stand before a place and no others, so the first row
 -- of a key, which has its first place, stands there or nowhere.
-use Rattle.std.proofs.Common.{◌≡◌, ℕ, zero, suc, ◌<◌, ◌≤◌, Bool, true, false, ◌==◌, ◌⊎◌, inl, inr, List, [], ◌∷◌, length, get_or, Option, Some, None, Bor, refl, sym, ap, subst, ◌∙◌, arith}
-use Rattle.std.specs.Prelude.{slice_get}
+use Rattle.std.proofs.Common.{◌≡◌, ℕ, zero, suc, ◌<◌, ◌≤◌, true, false, ◌==◌, ◌⊎◌, inl, inr, List, [], ◌∷◌, length, get_or, Option, Some, None, Bor, refl, sym, ap, subst, ◌∙◌, arith}
 use Rattle.std.specs.List.{list_any}
 use Rattle.std.specs.List.Sorted.{IsSorted, IsPartitionedBy, IsPartitionPoint}
 use Rattle.std.specs.Slice.{IsItemAt}
@@ -14,7 +13,7 @@ use Rattle.x5_model.specs.Keys.{Key, same_key, key_cmp, key_below}
 use Rattle.x5_model.proofs.KeyLaws.{key_decides, key_itself, equal_keys, never_below, below_chain, neither_below}
 use Rattle.x5_model.proofs.Lists.{true_or_false, either_true, both_true, and_true}
 use Rattle.x5_model.proofs.Decide.{nat_same_decides}
-use Rattle.x5_holdings.specs.Rows.{KeyRow, same_row, row_cmp, places_of, IsFirstPlace}
+use Rattle.x5_holdings.specs.Rows.{KeyRow, same_row, row_cmp, places_of}
 use Rattle.x5_holdings.specs.RowOrder.{row_cmp_total}
 
 -- ---- items of a list

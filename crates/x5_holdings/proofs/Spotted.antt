@@ -1,16 +1,15 @@
 -- Places among the members of several lists: the n-th member of all lists together stands at the n-th place.
-use Rattle.std.proofs.Common.{◌≡◌, ℕ, zero, suc, ◌+◌, ◌-◌, ◌<◌, ◌≤◌, Bool, true, false, ◌⊎◌, inl, inr, List, [], ◌∷◌, ◌++◌, map, take, length, get_or, Option, Some, None, refl, sym, ap, subst, ◌∙◌, arith, append_assoc}
+use Rattle.std.proofs.Common.{◌≡◌, ℕ, zero, suc, ◌+◌, ◌-◌, ◌<◌, ◌≤◌, Bool, true, ◌⊎◌, inl, inr, List, [], ◌∷◌, ◌++◌, map, take, length, get_or, Option, Some, None, refl, sym, ap, subst, ◌∙◌, arith, append_assoc}
 use Rattle.std.specs.Prelude.{slice_get}
-use Rattle.std.specs.List.{find, flat_map}
+use Rattle.std.specs.List.{find}
 use Rattle.std.specs.Option.{is_some, option_map}
-use Rattle.std.specs.declared.result.Result.{Result}
 use Rattle.x5_model.specs.Keys.{Key, same_key}
 use Rattle.x5_model.specs.Values.{key_of}
 use Rattle.x5_ops.specs.declared.knowledge.Specific.{Specific}
 use Rattle.x5_holdings.specs.declared.below.Spot.{Spot}
 use Rattle.x5_holdings.specs.Rows.{KeyRow, Places, AreRowsOf, places_of, numbered, IsFirstPlace}
 use Rattle.x5_holdings.specs.Known.{IsPlaceOf}
-use Rattle.x5_holdings.specs.Spots.{spots_from, spots_in, joined, pins_in, Spotted, AreBelow, first_to, IsSpotOf, IsSpot}
+use Rattle.x5_holdings.specs.Spots.{spots_from, spots_in, joined, pins_in, Spotted, AreBelow, IsSpotOf, IsSpot}
 use Rattle.std.proofs.lemmas.List.{length-map, length-take, map-append, map_push, take_all}
 use Rattle.x5_holdings.proofs.Numbered.{taken}
 use Rattle.x5_holdings.proofs.Finding.{at_first}
@@ -163,11 +162,16 @@ module _ (b : Spotted) (lists : List (List Specific)) (key : Key) (h : AreBelow 
   pub spot_within : (n : ℕ) → IsFirstPlace (places_of b.rows) key (Some n) → (spot : Spot) × ((slice_get b.spots n ≡ Some spot) × IsSpotOf lists key spot)
   spot_within n f =
       let p = placed (Some n) f in
-      let s = stands lists 0 n p.1 in
-      (s.spot, (ap (λ (l : List Spot). slice_get l n) h.spots ∙ s.there, record {
-        list = s.list;
-        reference = s.member;
-        in_lists = (let e : s.spot.list ≡ s.spot.list - 0 = omega arith in ap (slice_get lists) e) ∙ s.in_lists;
-        in_list = s.in_list;
-        first = same_map (λ (k : Specific). same_key (key_of k.pin) key) (joined lists) ∙ (p.0 ∙ (ap (option_map (λ k. k)) s.same));
-      }))
+      let s = stands lists 0 n p.1 in (
+        s.spot,
+        (
+          ap (λ (l : List Spot). slice_get l n) h.spots ∙ s.there,
+          record {
+            list = s.list;
+            reference = s.member;
+            in_lists = (let e : s.spot.list ≡ s.spot.list - 0 = omega arith in ap (slice_get lists) e) ∙ s.in_lists;
+            in_list = s.in_list;
+            first = same_map (λ (k : Specific). same_key (key_of k.pin) key) (joined lists) ∙ (p.0 ∙ (ap (option_map (λ k. k)) s.same));
+          },
+        ),
+      )

@@ -1,5 +1,5 @@
 -- What is kept of a context, and of all that an agent holds.
-use Rattle.std.specs.Prelude.{◌≡◌, Bool, true, map}
+use Rattle.std.specs.Prelude.{◌≡◌, true, map}
 use Rattle.x5_model.specs.Values.{key_of}
 use Rattle.x5_holdings.specs.Rows.{AreRowsOf}
 use Rattle.x5_holdings.specs.State.{Kept, CopyKept, State, IsKept, IsBrought, are_once}

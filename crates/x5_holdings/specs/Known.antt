@@ -1,7 +1,7 @@
 -- What an agent knows of a pin, and the longest known prefix of a name (X.501, section 22: knowledge; X.518, section 18: name
 -- resolution). Of what is known of one pin a mastered context comes first, then a copy, then a subordinate reference, then
 -- a cross reference; which of two comes first is this project's own.
-use Rattle.std.specs.Prelude.{◌≡◌, ℕ, Bool, true, List, slice_get}
+use Rattle.std.specs.Prelude.{◌≡◌, ℕ, true, List, slice_get}
 use Rattle.std.specs.Option.{is_some, option_map}
 use Rattle.std.specs.declared.option.Option.{Option}
 use Rattle.std.specs.declared.option.Option.TheVariants.{None, Some}

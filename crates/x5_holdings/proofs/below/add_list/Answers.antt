@@ -1,5 +1,4 @@
 -- One row and one place more are those of one reference more.
-use Rattle.std.proofs.Common.{◌≡◌}
 use Rattle.x5_model.specs.Values.{key_of}
 use Rattle.x5_ops.specs.declared.knowledge.Specific.{Specific}
 use Rattle.x5_holdings.proofs.Numbered.{one_more_behind}

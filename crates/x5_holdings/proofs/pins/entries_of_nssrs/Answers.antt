@@ -1,6 +1,5 @@
 -- One row more is that of one member more.
-use Rattle.std.proofs.Common.{◌≡◌, ◌++◌, ◌∷◌, [], length, subst}
-use Rattle.x5_model.specs.Values.{Name, key_of}
+use Rattle.x5_model.specs.Values.{key_of}
 use Rattle.x5_ops.specs.declared.knowledge.Nssr.{Nssr}
 use Rattle.x5_holdings.proofs.Numbered.{one_more}
 use Rattle.x5_holdings.proofs.pins.entries_of_nssrs.Goals as goal

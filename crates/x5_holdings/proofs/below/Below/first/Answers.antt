@@ -1,5 +1,5 @@
 -- What stands at the first place of the pin is its first reference.
-use Rattle.std.proofs.Common.{◌≡◌, List, Option, sym, subst, ap, ◌∙◌}
+use Rattle.std.proofs.Common.{List, Option, sym, subst, ap, ◌∙◌}
 use Rattle.std.specs.Prelude.{slice_get}
 use Rattle.x5_model.specs.Values.{key_of}
 use Rattle.x5_holdings.specs.declared.below.Spot.{Spot}

@@ -5,7 +5,7 @@ use Rattle.x5_model.specs.Values.{key_of}
 use Rattle.x5_ops.specs.declared.knowledge.Specific.{Specific}
 use Rattle.x5_holdings.specs.Rows.{numbered}
 use Rattle.x5_holdings.specs.Spots.{spots_from}
-use Rattle.x5_holdings.specs.State.{Kept, brought_references}
+use Rattle.x5_holdings.specs.State.{Kept}
 use Rattle.x5_holdings.proofs.Spotted.{more_pins, more_spots}
 use Rattle.x5_holdings.proofs.below.Below.of_held.Goals as goal
 

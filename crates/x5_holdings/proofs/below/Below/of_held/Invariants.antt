@@ -2,7 +2,6 @@
 use Rattle.std.proofs.Common.{◌≡◌, map, take}
 use Rattle.x5_holdings.specs.Rows.{numbered}
 use Rattle.x5_holdings.specs.Spots.{spots_in, pins_in}
-use Rattle.x5_holdings.specs.State.{brought_references}
 use Rattle.x5_holdings.proofs.below.Below.of_held.Given as goal
 
 abbrev pub invariant-loop-list : goal.invariant-loop-list

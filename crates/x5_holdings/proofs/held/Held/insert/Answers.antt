@@ -1,10 +1,8 @@
 -- The node is a new one, and its postings are those of the entry.
 use Rattle.std.proofs.Common.{◌≡◌, false, List, refl, sym, subst, ◌∙◌, Option}
-use Rattle.x5_model.specs.Values.{key_of, last_rdn}
-use Rattle.x5_model.specs.Words.{insert_sorted}
-use Rattle.x5_dse.specs.Linked.{Node, node_with, node_below, is_live}
+use Rattle.x5_model.specs.Values.{last_rdn}
+use Rattle.x5_dse.specs.Linked.{Node, is_live}
 use Rattle.x5_dse.specs.Changes.{entry_below}
-use Rattle.x5_index.specs.Index.{is_there}
 use Rattle.x5_holdings.specs.State.{IsPosted, ArePosted}
 use Rattle.x5_holdings.proofs.Posted.{not_live, posted_more}
 use Rattle.x5_holdings.proofs.held.Held.insert.Goals as goal

@@ -1,9 +1,7 @@
 -- The index begins with the prefix's entry.
-use Rattle.std.proofs.Common.{◌≡◌, ◌∷◌, [], List, sym, subst, ap, ◌∙◌, map}
-use Rattle.x5_model.specs.Values.{Name, key_of}
-use Rattle.x5_model.specs.Entries.{Named}
+use Rattle.std.proofs.Common.{◌≡◌, List, subst, ap, ◌∙◌, map}
+use Rattle.x5_model.specs.Values.{key_of}
 use Rattle.x5_ops.specs.declared.knowledge.Nssr.{Nssr}
-use Rattle.x5_dse.specs.Linked.{entries_of}
 use Rattle.x5_index.specs.Index.{Posting, IsPut}
 use Rattle.x5_holdings.specs.Rows.{AreRowsOf}
 use Rattle.x5_holdings.proofs.Posted.{top_live, one_prefix, posted_alone}

@@ -1,5 +1,5 @@
 -- What stands at the place that the table gives.
-use Rattle.std.proofs.Common.{◌≡◌, List, Option, None, Some, Bor, map, sym, subst, ap, ◌∙◌}
+use Rattle.std.proofs.Common.{◌≡◌, List, None, Some, Bor, map, sym, subst, ap, ◌∙◌}
 use Rattle.std.specs.Option.{option_map}
 use Rattle.std.specs.Slice.{IsItemAt}
 use Rattle.x5_model.specs.Values.{key_of}
@@ -7,7 +7,6 @@ use Rattle.x5_model_run.specs.Needs.{nssr_at}
 use Rattle.x5_ops.specs.declared.knowledge.Nssr.{Nssr}
 use Rattle.x5_ops.specs.KnowledgeViews.{nssr_view}
 use Rattle.x5_holdings.specs.State.{Kept}
-use Rattle.x5_holdings.specs.Inside.{kept_view}
 use Rattle.x5_holdings.proofs.Holding.{viewed, nssr_placed}
 use Rattle.x5_holdings.proofs.held.Held.nssr_at.Goals as goal
 

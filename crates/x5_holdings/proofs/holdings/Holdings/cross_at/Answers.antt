@@ -1,5 +1,5 @@
 -- What stands at the place that the table gives.
-use Rattle.std.proofs.Common.{◌≡◌, List, Option, None, Some, Bor, map, sym, subst, ap, ◌∙◌}
+use Rattle.std.proofs.Common.{◌≡◌, List, None, Some, Bor, map, sym, subst, ap, ◌∙◌}
 use Rattle.std.specs.Option.{option_map}
 use Rattle.std.specs.Slice.{IsItemAt}
 use Rattle.x5_model.specs.Values.{key_of}

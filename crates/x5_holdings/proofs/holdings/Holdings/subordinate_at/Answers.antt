@@ -1,5 +1,5 @@
 -- The first of the references of contexts, of copies that may be used, and of the root, in this order.
-use Rattle.std.proofs.Common.{◌≡◌, Bor, sym, ap, ◌∙◌}
+use Rattle.std.proofs.Common.{Bor, sym, ap, ◌∙◌}
 use Rattle.std.specs.Option.{option_map}
 use Rattle.x5_model.specs.Values.{key_of}
 use Rattle.x5_ops.specs.declared.knowledge.Specific.{Specific}

@@ -1,8 +1,8 @@
 -- The first row that isn't below the key is its first row, or it has none.
-use Rattle.std.proofs.Common.{◌≡◌, ℕ, List, true, false, sym, subst, ap, ◌<◌, ◌∙◌}
+use Rattle.std.proofs.Common.{◌≡◌, ℕ, true, false, sym, subst, ap, ◌<◌, ◌∙◌}
 use Rattle.std.specs.Ordering.{is_eq}
 use Rattle.x5_model.specs.Values.{key_of}
-use Rattle.x5_holdings.specs.Rows.{KeyRow, places_of}
+use Rattle.x5_holdings.specs.Rows.{places_of}
 use Rattle.x5_holdings.proofs.Sought.{IsSplit, as_split, found_first, found_other, found_none}
 use Rattle.x5_holdings.proofs.pins.Pins.first.Goals as goal
 
