@@ -191,6 +191,7 @@ impl DseTree {
     pub fn insert(&mut self, name: Name, entry: Entry) -> Result<NodeId, DseFault>
         requires { 0 < self.old.spare }
         ensures ok { IfOk result (λ id. Inserted self.old name entry id self.new) }
+        ensures prefix { prefix_of self.new.nodes ≡ prefix_of self.old.nodes }
         ensures fault { IfErr result (λ fault. NotInserted self.old.nodes (key_of name) fault) }
         ensures err { OnErr result (self.new ≡ self.old) }
     {

@@ -1,0 +1,7 @@
+pub mod Numbered
+pub mod Sought
+pub mod Finding
+pub mod Spotted
+pub mod Knowing
+pub mod Holding
+pub mod Posted

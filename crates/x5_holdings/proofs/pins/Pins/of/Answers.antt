@@ -1,0 +1,6 @@
+-- A sort keeps the rows.
+use Rattle.x5_holdings.proofs.Numbered.{sorted_rows}
+use Rattle.x5_holdings.proofs.pins.Pins.of.Goals as goal
+
+pub returns : goal.returns
+returns c = sorted_rows _ _ c.sort.ensures.permutation

@@ -1,0 +1,7 @@
+pub mod Rows
+pub mod RowOrder
+pub mod State
+pub mod Spots
+pub mod Tables
+pub mod Known
+pub mod Inside

@@ -1,0 +1,103 @@
+//! The subordinate references of contexts, found by their pins without a walk.
+
+ghost use Rattle.std.specs.Prelude.{◌≡◌, ◌++◌, ◌∷◌, [], List, map, IfOk, OnOk};
+ghost use Rattle.x5_model.specs.Keys.{Key};
+ghost use Rattle.x5_model.specs.Values.{key_of};
+ghost use Rattle.x5_ops.specs.declared.knowledge.Specific.{Specific as specific};
+ghost use Rattle.x5_holdings.specs.Rows.{numbered};
+ghost use Rattle.x5_holdings.specs.Spots.{AreBelow, IsSpot, spots_from};
+ghost use Rattle.x5_holdings.specs.State.{brought_references};
+
+use crate::held::{Copied, Held};
+use crate::pins::{Pins, add};
+use crate::rows::Row;
+use std::alloc::Global;
+use std::marker::Model;
+use x5_memory::NoMemory;
+use x5_names::Rdn;
+use x5_ops::Specific;
+
+/// A place among the members of several lists: which list, and which of its members.
+#[derive(Clone, Copy, Debug)]
+pub(crate) struct Spot {
+    pub(crate) list: usize,
+    pub(crate) member: usize,
+}
+
+/// The subordinate references of contexts, by their pins.
+#[derive(Debug, Drop)]
+pub(crate) struct Below {
+    pins: Pins,
+    spots: Vec<Spot>,
+}
+
+impl Model for Below {
+    ghost use Rattle.x5_holdings.specs.Spots.{Spotted};
+
+    ghost Value = { Spotted };
+
+    ghost view = { λ b. record { rows = b.pins; spots = b.spots.items } };
+}
+
+/// Adds the references of the next context.
+fn add_list(
+    rows: &mut Vec<Row>,
+    spots: &mut Vec<Spot>,
+    list: usize,
+    references: &[Specific],
+) -> Result<(), NoMemory>
+    ensures rows { OnOk result ((keys : List Key) → rows.old.items ≡ numbered keys → rows.new.items ≡ numbered (keys ++ map (λ k. key_of k.pin) references.now)) }
+    ensures spots { OnOk result (spots.new.items ≡ spots.old.items ++ spots_from list 0 references.now) }
+{
+    for (member, reference) in references.iter().enumerate() {
+        add(rows, &reference.pin)?;
+        spots.push(Spot { list, member })?;
+    }
+    Ok(())
+}
+
+impl Below {
+    /// No references. No memory.
+    pub(crate) fn none(alloc: Global) -> Below
+        ensures { AreBelow result [] }
+    {
+        Below {
+            pins: Pins::none(alloc),
+            spots: Vec::new(alloc),
+        }
+    }
+
+    /// The references of these contexts.
+    pub(crate) fn of_held(alloc: Global, contexts: &[Held]) -> Result<Below, NoMemory>
+        ensures { IfOk result (λ below. AreBelow below (map (λ c. c.subordinate) contexts.now)) }
+    {
+        let mut rows = Vec::new(alloc);
+        let mut spots = Vec::new(alloc);
+        for (list, held) in contexts.iter().enumerate() {
+            add_list(&mut rows, &mut spots, list, held.subordinate())?;
+        }
+        let pins = Pins::of(rows)?;
+        Ok(Below { pins, spots })
+    }
+
+    /// The references of these copies.
+    pub(crate) fn of_copies(alloc: Global, copies: &[Copied]) -> Result<Below, NoMemory>
+        ensures { IfOk result (λ below. AreBelow below (map (λ c. brought_references c.refreshed) copies.now)) }
+    {
+        let mut rows = Vec::new(alloc);
+        let mut spots = Vec::new(alloc);
+        for (list, copy) in copies.iter().enumerate() {
+            add_list(&mut rows, &mut spots, list, copy.subordinate())?;
+        }
+        let pins = Pins::of(rows)?;
+        Ok(Below { pins, spots })
+    }
+
+    /// Where the first reference to the pin of these RDNs stands. No memory.
+    pub(crate) fn first(&self, rdns: &[Rdn]) -> Option<Spot>
+        ensures { (lists : List (List specific)) → AreBelow self.now lists → IsSpot lists (key_of rdns.now) result }
+    {
+        let place = self.pins.first(rdns)?;
+        self.spots.get(place).copied()
+    }
+}

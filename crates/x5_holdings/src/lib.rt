@@ -1,0 +1,16 @@
+//! What an agent holds: the naming contexts that it masters, copies of others, and what it knows of where contexts are (X.501,
+//! sections 22 and 23: DSA information tree; X.525: shadowed information). The longest known prefix of a name is found by key.
+#![tactic(auto)]
+
+mod below;
+mod held;
+mod holdings;
+mod log;
+mod order;
+mod pins;
+mod rows;
+mod tables;
+
+pub use held::{Copied, Held};
+pub use holdings::{Holdings, Pin};
+pub use log::{ChangeLog, Logged, LoggedList};
