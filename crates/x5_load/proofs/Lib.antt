@@ -1,0 +1,7 @@
+pub mod Pins
+pub mod Listing
+pub mod Copied
+pub mod Texts
+pub mod Dates
+pub mod Known
+pub mod Whole

@@ -1,0 +1,84 @@
+-- For private clauses: the last steps of a part of the definition of what a world file describes, one behind the other.
+use Rattle.std.specs.Prelude.{ℕ, Bool, ◌&&◌, nat_le, List, [], map, Option, Ok, codes}
+use Rattle.std.specs.List.{flat_map}
+use Rattle.serde_json.specs.Data.{Data, Items, Members}
+use Rattle.serde_json.specs.Events.{items_len}
+use Rattle.serde_json.specs.Find.{get}
+use Rattle.x5_know.specs.Moments.{Start}
+use Rattle.x5_model.specs.Values.{Text}
+use Rattle.x5_model_tree.specs.Described.{most_agents, most_agreements, most_cut, most_with_copies}
+use Rattle.x5_model_tree.specs.World.{Agreement}
+use Rattle.x5_model_world.specs.AgentText.{Agents, all_behind, names_behind}
+use Rattle.x5_model_world.specs.ContextText.{Counts}
+use Rattle.x5_model_world.specs.Mentioned.{first_of_two, first_at, unknown_text, unknown_in_pair, unknown_in_world}
+use Rattle.x5_model_world.specs.NetworkText.{pairs_behind, pair_of_agents, numbers_behind}
+use Rattle.x5_model_world.specs.Reading.{Read, ◌>>=◌, at, needed, if_fit, if_few, members_at, text_at, some_at, list_if_any, only}
+use Rattle.x5_model_world.specs.StartText.{two, year_of, is_day, is_time, start_of}
+use Rattle.x5_model_world.specs.WorldFile.{File, agreements_behind, with_copies, none_yet, network_of, world_members, world_in, if_known, format_of}
+
+-- ---- the start
+
+-- the date and the time that fifteen octets spell are true ones
+abbrev pub is_true_moment : Text → Bool
+is_true_moment t =
+    (nat_le 1900 (year_of t) && nat_le (year_of t) 9000)
+    && (is_day (year_of t) (two t 4) (two t 6) && is_time (two t 8) (two t 10) (two t 12))
+
+-- ---- the network's lists, at a path
+
+abbrev pub cut_in : List Text → Text → Items → Read (List (ℕ × ℕ))
+cut_in names path items = do
+  few ← if_few path most_cut (items_len items) items
+  pairs ← pairs_behind path 0 [] few
+  Ok (map (pair_of_agents names) pairs)
+
+abbrev pub numbers_in : ℕ → Text → Items → Read (List ℕ)
+numbers_in most path items = do
+  few ← if_few path most (items_len items) items
+  numbers_behind path 0 [] few
+
+-- the first name there that is no agent's
+abbrev pub unknown_there : List Text → Text → Data → Option Text
+unknown_there names path d =
+    first_of_two (first_at (unknown_text names) path (codes "down") d)
+    (first_of_two (first_at (unknown_text names) path (codes "refuse") d) (first_at (unknown_in_pair names) path (codes "cut") d))
+
+-- ---- the world
+
+-- behind its agreements
+abbrev pub connected : List Text → Bool → Start → Data → Members → Agents → List Agreement → Read File
+connected names has_network start d members found agreements = do
+  network ← network_of names has_network d
+  only (codes "") (world_members has_network) members
+      (record { start = start; world = record { agents = found.agents; agreements = agreements; network = network } })
+
+-- behind its agents
+abbrev pub agreed : List Text → Bool → Start → Data → Members → Agents → Read File
+agreed names has_network start d members found = do
+  list ← list_if_any (codes "") (codes "agreements") d
+  few ← if_few (codes "/agreements") most_agreements (items_len list) list
+  agreements ← agreements_behind names (codes "/agreements") 0 [] few
+  all ← if_few (codes "/agreements") most_with_copies (with_copies (flat_map (λ a. a.contexts) found.agents) found.counts.entries agreements) agreements
+  connected names has_network start d members found all
+
+-- ---- the file
+
+-- behind the list of its agents
+abbrev pub inhabited : Bool → Start → Data → Items → Read File
+inhabited has_network start d items = do
+  f ← world_in (names_behind [] items) has_network start items d
+  if_known f (unknown_in_world (names_behind [] items) d)
+
+-- behind its start
+abbrev pub begun : Bool → Data → Start → Read File
+begun has_network d start = do
+  items ← some_at (codes "") (codes "agents") d
+  few ← if_few (codes "/agents") most_agents (items_len items) items
+  inhabited has_network start d few
+
+-- behind its format
+abbrev pub formed : Data → Bool → Read File
+formed d has_network = do
+  stamp ← text_at (codes "") (codes "start") d
+  start ← needed (codes "/start") (start_of stamp)
+  begun has_network d start

@@ -1,0 +1,343 @@
+//! The network of a world file of format 2.
+
+ghost use Rattle.std.specs.Prelude.{◌≡◌, ◌==◌, ◌&&◌, [], map, codes, option_map, option_and_then, IfOk};
+ghost use Rattle.std.specs.List.{list_any};
+ghost use Rattle.serde_json.specs.Find.{get, as_array};
+ghost use Rattle.serde_json.specs.View.{view, items_view};
+ghost use Rattle.x5_load.specs.Parts as parts;
+ghost use Rattle.x5_load.specs.TextPairs.{texts_of};
+ghost use Rattle.x5_model.specs.Words.{same_octets};
+ghost use Rattle.x5_model_world.specs.ContextText.{agent_of as place_of};
+ghost use Rattle.x5_model_world.specs.NetworkText as model;
+ghost use Rattle.x5_world_members.specs.Paths.{path_of};
+ghost use Rattle.x5_world_members.specs.Views.{Reads};
+
+use crate::limits::few;
+use serde_json::Value;
+use std::alloc::Global;
+use x5_know::{AgentNames, NetworkState, NumberList, Pair, PairList};
+use x5_memory::NoMemory;
+use x5_ops::AgentList;
+use x5_world_members::{
+    LoadFault, Place, agent_of, list_if_any, members_at, number_of, only,
+};
+
+/// Cut pairs of a world at most.
+const MOST_CUT: u32 = 2016;
+
+/// Lost messages of a world at most.
+const MOST_LOST_MESSAGES: u32 = 4096;
+
+/// Lost replies of a world at most.
+const MOST_LOST_REPLIES: u32 = 16;
+
+/// Whether the text is one of these.
+fn is_there(before: &[&str], text: &str) -> bool
+    ensures { result ≡ list_any (λ t. same_octets text.now t.now) before.now }
+{
+    before.iter().any(|one| text == *one)
+}
+
+/// Whether the text is one of these.
+fn has_text(before: &[&str], text: &str) -> bool
+    ensures { result ≡ model.has_text (map (λ t. t.now) before.now) text.now }
+{
+    is_there(before, text)
+}
+
+/// A text that is none of those before.
+fn text_behind<'a>(
+    alloc: Global,
+    place: &Place<'_>,
+    before: &[&str],
+    value: &'a Value,
+) -> Result<&'a str, LoadFault>
+    ensures { Reads (λ t. t.now) result (model.text_behind (path_of place.now) (map (λ t. t.now) before.now) (view value.now)) }
+{
+    let Some(text) = value.as_str() else {
+        return Err(place.bad_shape(alloc));
+    };
+    if has_text(before, text) {
+        return Err(place.bad_shape(alloc));
+    }
+    Ok(text)
+}
+
+/// The texts of a list, each of which stands there once.
+#[tactic(auto, using(crate::proofs::Texts::text_more))]
+fn texts_behind<'a>(
+    alloc: Global,
+    place: &Place<'_>,
+    items: &'a [Value],
+) -> Result<Vec<&'a str>, LoadFault>
+    ensures { Reads (λ v. map (λ t. t.now) v.items) result (model.texts_behind (path_of place.now) 0 [] (items_view items.now)) }
+{
+    let mut texts = Vec::new(alloc);
+    for (i, item) in items.iter().enumerate() {
+        let text = text_behind(alloc, &Place::Item(&*place, i), &texts, item)?;
+        texts.push(text)?;
+    }
+    Ok(texts)
+}
+
+/// The agents of these names.
+fn agents_of(alloc: Global, names: &AgentNames, texts: &[&str]) -> Result<AgentList, NoMemory>
+    ensures { IfOk result (λ l. l ≡ map (place_of names.now) (map (λ t. t.now) texts.now)) }
+{
+    let mut agents = AgentList::new(alloc);
+    for text in texts {
+        agents.push(agent_of(names, text))?;
+    }
+    Ok(agents)
+}
+
+/// The agents that the list at the name lists.
+fn agents_at(
+    alloc: Global,
+    names: &AgentNames,
+    name: &'static str,
+    value: &Value,
+) -> Result<AgentList, LoadFault>
+    ensures { Reads (λ l. l) result (model.agents_at names.now name.now (view value.now)) }
+{
+    let whole = Place::Whole;
+    let here = Place::Member(&whole, "network");
+    let items = list_if_any(alloc, &here, name, value)?;
+    let texts = texts_behind(alloc, &Place::Member(&here, name), items)?;
+    let agents = agents_of(alloc, names, &texts)?;
+    Ok(agents)
+}
+
+/// Whether one of the pairs has these texts, in this order.
+fn are_there(before: &[(&str, &str)], a: &str, b: &str) -> bool
+    ensures { result ≡ list_any (λ p. same_octets a.now p.0.now && same_octets b.now p.1.now) before.now }
+{
+    before.iter().any(|pair| a == pair.0 && b == pair.1)
+}
+
+/// Whether one of the pairs has these texts, in this order.
+fn has_in_order(before: &[(&str, &str)], a: &str, b: &str) -> bool
+    ensures { result ≡ list_any (model.same_texts (a.now, b.now)) (map texts_of before.now) }
+{
+    are_there(before, a, b)
+}
+
+/// The texts of a list of two.
+fn pair_of(items: &[Value]) -> Option<(&str, &str)>
+    ensures { option_map texts_of result ≡ model.pair_of (items_view items.now) }
+{
+    let [first, second] = items else {
+        return None;
+    };
+    match first.as_str() {
+        Some(a) => match second.as_str() {
+            Some(b) => Some((a, b)),
+            None => None,
+        },
+        None => None,
+    }
+}
+
+/// The texts of the value, if it's a list of two.
+fn pair_in(value: &Value) -> Option<(&str, &str)>
+    ensures { option_map texts_of result ≡ option_and_then model.pair_of (as_array (view value.now)) }
+{
+    match value.as_array() {
+        Some(items) => pair_of(items.as_slice()),
+        None => None,
+    }
+}
+
+/// Two different texts, which are no pair of those before in either order.
+fn pair_behind<'a>(
+    alloc: Global,
+    place: &Place<'_>,
+    before: &[(&str, &str)],
+    value: &'a Value,
+) -> Result<(&'a str, &'a str), LoadFault>
+    ensures { Reads texts_of result (model.pair_behind (path_of place.now) (map texts_of before.now) (view value.now)) }
+{
+    let Some((a, b)) = pair_in(value) else {
+        return Err(place.bad_shape(alloc));
+    };
+    if a == b || has_in_order(before, a, b) || has_in_order(before, b, a) {
+        return Err(place.bad_shape(alloc));
+    }
+    Ok((a, b))
+}
+
+/// The pairs of a list.
+#[tactic(auto, using(crate::proofs::Texts::pair_more))]
+fn pairs_behind<'a>(
+    alloc: Global,
+    place: &Place<'_>,
+    items: &'a [Value],
+) -> Result<Vec<(&'a str, &'a str)>, LoadFault>
+    ensures { Reads (λ v. map texts_of v.items) result (model.pairs_behind (path_of place.now) 0 [] (items_view items.now)) }
+{
+    let mut pairs = Vec::new(alloc);
+    for (i, item) in items.iter().enumerate() {
+        let pair = pair_behind(alloc, &Place::Item(&*place, i), &pairs, item)?;
+        pairs.push(pair)?;
+    }
+    Ok(pairs)
+}
+
+/// The pairs of the agents of these names.
+fn pairs_of(alloc: Global, names: &AgentNames, texts: &[(&str, &str)]) -> Result<PairList, NoMemory>
+    ensures { IfOk result (λ l. l ≡ map (model.pair_of_agents names.now) (map texts_of texts.now)) }
+{
+    let mut pairs = PairList::new(alloc);
+    for (a, b) in texts {
+        pairs.push(Pair {
+            a: agent_of(names, a),
+            b: agent_of(names, b),
+        })?;
+    }
+    Ok(pairs)
+}
+
+/// The pairs of agents that a list describes, if there aren't too many.
+fn cut_behind(
+    alloc: Global,
+    names: &AgentNames,
+    place: &Place<'_>,
+    items: &[Value],
+) -> Result<PairList, LoadFault>
+    ensures { Reads (λ l. l) result (parts.cut_in names.now (path_of place.now) (items_view items.now)) }
+{
+    few(alloc, place, MOST_CUT, items)?;
+    let texts = pairs_behind(alloc, place, items)?;
+    let pairs = pairs_of(alloc, names, &texts)?;
+    Ok(pairs)
+}
+
+/// The pairs that are cut.
+fn cut_at(alloc: Global, names: &AgentNames, value: &Value) -> Result<PairList, LoadFault>
+    ensures { Reads (λ l. l) result (model.cut_at names.now (view value.now)) }
+{
+    let whole = Place::Whole;
+    let here = Place::Member(&whole, "network");
+    let items = list_if_any(alloc, &here, "cut", value)?;
+    cut_behind(alloc, names, &Place::Member(&here, "cut"), items)
+}
+
+/// Whether the number is one of these.
+fn has_number(before: &[u32], number: u32) -> bool
+    ensures { result ≡ list_any (λ k. number == k) before.now }
+{
+    before.iter().any(|one| number == *one)
+}
+
+/// A number that is none of those before.
+fn number_behind(
+    alloc: Global,
+    place: &Place<'_>,
+    before: &[u32],
+    value: &Value,
+) -> Result<u32, LoadFault>
+    ensures { Reads (λ n. n) result (model.number_behind (path_of place.now) before.now (view value.now)) }
+{
+    let Some(number) = number_of(value) else {
+        return Err(place.bad_shape(alloc));
+    };
+    if has_number(before, number) {
+        return Err(place.bad_shape(alloc));
+    }
+    Ok(number)
+}
+
+/// The numbers of a list, each of which stands there once.
+fn numbers_behind(
+    alloc: Global,
+    place: &Place<'_>,
+    items: &[Value],
+) -> Result<Vec<u32>, LoadFault>
+    ensures { Reads (λ v. v.items) result (model.numbers_behind (path_of place.now) 0 [] (items_view items.now)) }
+{
+    let mut numbers = Vec::new(alloc);
+    for (i, item) in items.iter().enumerate() {
+        let number = number_behind(alloc, &Place::Item(&*place, i), &numbers, item)?;
+        numbers.push(number)?;
+    }
+    Ok(numbers)
+}
+
+/// The numbers that a list lists, if they aren't too many.
+fn numbers_in(
+    alloc: Global,
+    most: u32,
+    place: &Place<'_>,
+    items: &[Value],
+) -> Result<NumberList, LoadFault>
+    ensures { Reads (λ l. l) result (parts.numbers_in most (path_of place.now) (items_view items.now)) }
+{
+    few(alloc, place, most, items)?;
+    let numbers = numbers_behind(alloc, place, items)?;
+    Ok(NumberList::from_vec(numbers))
+}
+
+/// The numbers that the list at the name lists.
+fn numbers_at(
+    alloc: Global,
+    most: u32,
+    name: &'static str,
+    value: &Value,
+) -> Result<NumberList, LoadFault>
+    ensures { Reads (λ l. l) result (model.numbers_at most name.now (view value.now)) }
+{
+    let whole = Place::Whole;
+    let here = Place::Member(&whole, "network");
+    let items = list_if_any(alloc, &here, name, value)?;
+    numbers_in(alloc, most, &Place::Member(&here, name), items)
+}
+
+/// The network that an object describes.
+fn network_in(alloc: Global, names: &AgentNames, value: &Value) -> Result<NetworkState, LoadFault>
+    ensures { Reads (λ n. n) result (model.network_in names.now (view value.now)) }
+{
+    let whole = Place::Whole;
+    let here = Place::Member(&whole, "network");
+    let members = members_at(alloc, &here, value)?;
+    let down = agents_at(alloc, names, "down", value)?;
+    let refusing = agents_at(alloc, names, "refuse", value)?;
+    let cut = cut_at(alloc, names, value)?;
+    let lost_messages = numbers_at(alloc, MOST_LOST_MESSAGES, "loseMessages", value)?;
+    let lost_replies = numbers_at(alloc, MOST_LOST_REPLIES, "loseReplies", value)?;
+    let listed = &["down", "refuse", "cut", "loseMessages", "loseReplies"];
+    only(alloc, &here, listed, members)?;
+    Ok(NetworkState {
+        down,
+        refusing,
+        cut,
+        lost_messages,
+        lost_replies,
+    })
+}
+
+/// The network of a world, in which nothing is down, cut, refusing or lost where none is described.
+pub(crate) fn network_if_any(
+    alloc: Global,
+    names: &AgentNames,
+    value: &Value,
+) -> Result<NetworkState, LoadFault>
+    ensures { Reads (λ n. n) result (model.network_if_any names.now (get (codes "network") (view value.now))) }
+{
+    match value.get("network") {
+        Some(found) => network_in(alloc, names, found),
+        None => Ok(quiet(alloc)),
+    }
+}
+
+/// A network in which nothing is down, cut, refusing or lost. No memory.
+pub(crate) fn quiet(alloc: Global) -> NetworkState
+    ensures { result ≡ model.quiet }
+{
+    NetworkState {
+        down: AgentList::new(alloc),
+        refusing: AgentList::new(alloc),
+        cut: PairList::new(alloc),
+        lost_messages: NumberList::new(alloc),
+        lost_replies: NumberList::new(alloc),
+    }
+}

@@ -1,0 +1,169 @@
+//! The references of an agent, of both kinds in one list.
+
+ghost use Rattle.std.specs.Prelude.{◌≡◌, map, IfOk, if◌then◌else◌};
+ghost use Rattle.std.specs.List.{list_any};
+ghost use Rattle.serde_json.specs.View.{view, items_view};
+ghost use Rattle.x5_model.specs.Keys.{same_key};
+ghost use Rattle.x5_model.specs.Values.{key_of};
+ghost use Rattle.x5_model_world.specs.AgentText as model;
+ghost use Rattle.x5_model_world.specs.ContextText.{has_key};
+ghost use Rattle.x5_ops.specs.KnowledgeViews.{specific_view, cross_view};
+ghost use Rattle.x5_world_members.specs.Paths.{path_of};
+ghost use Rattle.x5_world_members.specs.Views.{Reads};
+
+use crate::limits::few;
+use serde_json::Value;
+use std::alloc::Global;
+use std::marker::Model;
+use x5_know::AgentNames;
+use x5_memory::NoMemory;
+use x5_names::Name;
+use x5_ops::{Access, Cross, Specific};
+use x5_world_members::{
+    LoadFault, Place, agent_of, agents_behind, entry_name_at, list_if_any, members_at, only,
+    text_at,
+};
+
+/// Shadow agents of a reference at most.
+const MOST_SHADOWS: u32 = 8;
+
+/// References of an agent so far: those of each kind, and of each in the order of the file whether it's a cross reference.
+#[derive(Drop)]
+pub(crate) struct References {
+    pub(crate) specific: Vec<Specific>,
+    pub(crate) cross: Vec<Cross>,
+    pub(crate) crosses: Vec<bool>,
+}
+
+impl Model for References {
+    ghost use Rattle.std.specs.Prelude.{map};
+    ghost use Rattle.x5_model_world.specs.AgentText as model;
+    ghost use Rattle.x5_ops.specs.KnowledgeViews.{specific_view, cross_view};
+
+    ghost Value = { model.References };
+
+    ghost view = { λ r. record { subordinate = map specific_view r.specific.items; cross = map cross_view r.cross.items; crosses = r.crosses.items } };
+}
+
+/// Whether the word says that a reference is a cross reference, or a subordinate one; None for any other.
+fn is_cross(word: &str) -> Option<bool>
+    ensures { result ≡ model.is_cross word.now }
+{
+    if word == "cross" {
+        return Some(true);
+    }
+    if word == "subordinate" {
+        return Some(false);
+    }
+    None
+}
+
+/// Whether one of the references is to the name.
+fn has_specific(references: &[Specific], name: &Name) -> bool
+    ensures { result ≡ list_any (λ r. same_key (key_of name.now) (key_of r.pin)) references.now }
+{
+    references
+        .iter()
+        .any(|reference| name.is_same(&reference.pin))
+}
+
+/// Whether one of the references is to the name.
+fn has_cross(references: &[Cross], name: &Name) -> bool
+    ensures { result ≡ list_any (λ r. same_key (key_of name.now) (key_of r.pin)) references.now }
+{
+    references
+        .iter()
+        .any(|reference| name.is_same(&reference.pin))
+}
+
+/// Whether one of the kind is to the name.
+fn has_reference(specific: &[Specific], cross: &[Cross], is_cross: bool, name: &Name) -> bool
+    ensures { result ≡ has_key (model.pin_keys (if is_cross then map cross_view cross.now else map specific_view specific.now)) (key_of name.now) }
+{
+    if is_cross {
+        has_cross(cross, name)
+    } else {
+        has_specific(specific, name)
+    }
+}
+
+impl References {
+    /// No references yet. No memory.
+    fn new(alloc: Global) -> References
+        ensures { result ≡ model.no_references }
+    {
+        References {
+            specific: Vec::new(alloc),
+            cross: Vec::new(alloc),
+            crosses: Vec::new(alloc),
+        }
+    }
+
+    /// Whether one of the kind is to the name.
+    fn has(&self, cross: bool, name: &Name) -> bool
+        ensures { result ≡ has_key (model.pin_keys (model.of_kind self.now cross)) (key_of name.now) }
+    {
+        has_reference(self.specific.as_slice(), self.cross.as_slice(), cross, name)
+    }
+
+    /// The references with one more of the kind.
+    #[tactic(auto, using(crate::proofs::Pins::specific_more, crate::proofs::Pins::cross_more))]
+    fn with(self, alloc: Global, cross: bool, pin: Name, access: Access) -> Result<References, NoMemory>
+        ensures { IfOk result (λ r. r ≡ model.with_reference self cross (record { pin = pin; access = access })) }
+    {
+        let References { mut specific, cross: mut across, mut crosses } = self;
+        crosses.push(cross)?;
+        if cross {
+            across.push(Cross { pin, access })?;
+        } else {
+            let context = Name::root(alloc);
+            specific.push(Specific { context, pin, access })?;
+        }
+        Ok(References { specific, cross: across, crosses })
+    }
+}
+
+/// The references with one more, which an object describes.
+fn reference_behind(
+    alloc: Global,
+    names: &AgentNames,
+    place: &Place<'_>,
+    before: References,
+    value: &Value,
+) -> Result<References, LoadFault>
+    ensures { Reads (λ r. r) result (model.reference_behind names.now (path_of place.now) before (view value.now)) }
+{
+    let members = members_at(alloc, place, value)?;
+    let word = text_at(alloc, place, "kind", value)?;
+    let Some(cross) = is_cross(word) else {
+        return Err(Place::Member(place, "kind").bad_shape(alloc));
+    };
+    let pin = entry_name_at(alloc, place, "name", value)?;
+    if before.has(cross, &pin) {
+        return Err(Place::Member(place, "name").bad_shape(alloc));
+    }
+    let master = text_at(alloc, place, "master", value)?;
+    let texts = list_if_any(alloc, place, "shadows", value)?;
+    few(alloc, &Place::Member(place, "shadows"), MOST_SHADOWS, texts)?;
+    let shadows = agents_behind(alloc, names, &Place::Member(place, "shadows"), texts)?;
+    only(alloc, place, &["kind", "name", "master", "shadows"], members)?;
+    let master = agent_of(names, master);
+    let references = before.with(alloc, cross, pin, Access { master, shadows })?;
+    Ok(references)
+}
+
+/// The references that a list describes.
+pub(crate) fn references_behind(
+    alloc: Global,
+    names: &AgentNames,
+    place: &Place<'_>,
+    items: &[Value],
+) -> Result<References, LoadFault>
+    ensures { Reads (λ r. r) result (model.references_behind names.now (path_of place.now) 0 model.no_references (items_view items.now)) }
+{
+    let mut references = References::new(alloc);
+    for (i, item) in items.iter().enumerate() {
+        references = reference_behind(alloc, names, &Place::Item(&*place, i), references, item)?;
+    }
+    Ok(references)
+}
