@@ -6,8 +6,8 @@ use Rattle.std.specs.Option.{option_or}
 use Rattle.x5_know.specs.WorldView.{described_agent_view}
 use Rattle.x5_know.specs.declared.described.DescribedAgent.{DescribedAgent}
 use Rattle.x5_model.specs.Keys.{same_key}
-use Rattle.x5_model.specs.Values.{key_of}
-use Rattle.x5_model_tree.specs.World.{Agreement, Context}
+use Rattle.x5_model.specs.Values.{Name, key_of}
+use Rattle.x5_model_tree.specs.World.{Agent, Agreement, Context}
 use Rattle.x5_model_world.specs.WorldFile.{copies, entries_there, with_copies}
 use Rattle.x5_ops.specs.KnowledgeViews.{context_view}
 use Rattle.x5_ops.specs.declared.knowledge.ContextSpec.{ContextSpec}
@@ -30,12 +30,14 @@ all_contexts (a ∷ agents) =
     ap (λ (l : List Context). map context_view a.spec.contexts ++ l) (all_contexts agents)
     ∙ map_both context_view a.spec.contexts (flat_map (λ (b : DescribedAgent). b.spec.contexts) agents)
 
--- how many entries the agreement copies
-pub copied_by : (agents : List DescribedAgent) (g : Agreement) → copies (flat_map (λ a. a.contexts) (map described_agent_view agents)) g
-    ≡ entries_there (option_map context_view (find (λ c. same_key (key_of c.prefix) (key_of g.context)) (flat_map (λ a. a.spec.contexts) agents)))
-copied_by agents g =
-    ap (λ (l : List Context). entries_there (find (λ c. same_key (key_of c.prefix) (key_of g.context)) l)) (all_contexts agents)
-    ∙ ap entries_there (viewed (λ (c : Context). same_key (key_of c.prefix) (key_of g.context)) context_view (flat_map (λ (a : DescribedAgent). a.spec.contexts) agents))
+-- how many entries the first context of the name has
+pub copied_by : (agents : List DescribedAgent) (n : Name)
+    → entries_there (find (λ (c : Context). same_key (key_of c.prefix) (key_of n)) (flat_map (λ (a : Agent). a.contexts) (map described_agent_view agents)))
+    ≡ entries_there (option_map context_view (find (λ c. same_key (key_of c.prefix) (key_of n)) (flat_map (λ a. a.spec.contexts) agents)))
+copied_by agents n =
+    ap (λ (l : List Context). entries_there (find (λ c. same_key (key_of c.prefix) (key_of n)) l)) (all_contexts agents)
+    ∙ ap entries_there (viewed (λ (c : Context). same_key (key_of c.prefix) (key_of n)) context_view
+        (flat_map (λ (a : DescribedAgent). a.spec.contexts) agents))
 
 drop_at : {A : Type 0} (members : List A) (i : ℕ) (x : A) → i < length members → x ≡ get_or members i x → drop i members ≡ x ∷ drop (i + 1) members
 drop_at {A} members i x lt is = rw (add-one, drop-cons members i x) (ap (λ (y : A). y ∷ drop (suc i) members) (sym is))
@@ -45,6 +47,17 @@ pub found_step : {A B : Type 0} (p : B → Bool) (f : A → List B) (xs : List A
     → find p (flat_map f (drop i xs)) ≡ option_or (find p (f x)) (find p (flat_map f (drop (i + 1) xs)))
 found_step p f xs i x lt is =
     ap (λ l. find p (flat_map f l)) (drop_at xs i x lt is) ∙ find-append p (f x) (flat_map f (drop (i + 1) xs))
+
+pub found_first : {A B : Type 0} (p : B → Bool) (f : A → List B) (xs : List A) (i : ℕ) (x : A) (y : B) (whole : Option B)
+    → i < length xs → x ≡ get_or xs i x → Some y ≡ find p (f x) → find p (flat_map f (drop i xs)) ≡ whole → Some y ≡ whole
+found_first {A} {B} p f xs i x y whole lt is here so =
+    ap (λ (o : Option B). option_or o (find p (flat_map f (drop (i + 1) xs)))) here ∙ sym (found_step p f xs i x lt is) ∙ so
+
+pub found_later : {A B : Type 0} (p : B → Bool) (f : A → List B) (xs : List A) (i : ℕ) (x : A) (whole : Option B)
+    → i < length xs → x ≡ get_or xs i x → None ≡ find p (f x) → find p (flat_map f (drop i xs)) ≡ whole
+    → find p (flat_map f (drop (i + 1) xs)) ≡ whole
+found_later {A} {B} p f xs i x whole lt is here so =
+    ap (λ (o : Option B). option_or o (find p (flat_map f (drop (i + 1) xs)))) here ∙ sym (found_step p f xs i x lt is) ∙ so
 
 -- the count only grows
 pub copies_grow : (contexts : List Context) (n : ℕ) (gs : List Agreement) → n ≤ with_copies contexts n gs

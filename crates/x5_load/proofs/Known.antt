@@ -1,7 +1,6 @@
 -- A name has a place among the agents' names exactly where one of them is it; and the fault of a name that none of them is.
-use Rattle.std.proofs.Common.{◌≡◌, ℕ, suc, ◌+◌, Bool, true, false, not, cond, ◌||◌, nat_lt, List, [], ◌∷◌, length, refl, sym, ap, ◌∙◌, Option, Some, None, Err}
+use Rattle.std.proofs.Common.{◌≡◌, ℕ, suc, ◌+◌, Bool, true, false, not, cond, ◌||◌, nat_lt, List, [], ◌∷◌, length, refl, sym, ap, ◌∙◌, arith, Option, Some, None, Err}
 use Rattle.std.specs.Cmp.Lexicographic.{nat_list_eq_equiv}
-use native.Mathlib.Numerals.{unary_clauses}
 use Rattle.std.specs.List.{list_any, position, position_or_len}
 use Rattle.std.specs.Option.{is_some}
 use Rattle.x5_know.specs.Names.{has_name}
@@ -14,9 +13,20 @@ use Rattle.x5_world_members.specs.Views.{Fails}
 use Rattle.x5_world_members.specs.declared.fault.LoadFault.{LoadFault}
 use Rattle.x5_world_members.specs.declared.fault.LoadFault.TheVariants.{NotJson, BadShape, BadName, OverLimit, RepeatedAgent, UnknownAgent, NoMemory}
 
+below_more : (n l : ℕ) → nat_lt n l ≡ true → nat_lt (1 + n) (suc l) ≡ true
+below_more n l h = grind arith
+
+not_below_more : (n l : ℕ) → nat_lt n l ≡ false → nat_lt (1 + n) (suc l) ≡ false
+not_below_more n l h = grind arith
+
+first_below : (l : ℕ) → nat_lt 0 (suc l) ≡ true
+first_below l = grind arith
+
 within_more : (n l : ℕ) (b rest : Bool) → nat_lt n l ≡ rest → nat_lt (cond (not b) (1 + n) 0) (suc l) ≡ (b || rest)
-within_more n l true rest e = refl
-within_more n l false rest e = simp unary_clauses e
+within_more n l true true e = first_below l
+within_more n l true false e = first_below l
+within_more n l false true e = below_more n l e
+within_more n l false false e = not_below_more n l e
 
 found_within : (p : Text → Bool) (xs : List Text) → nat_lt (position_or_len p xs) (length xs) ≡ list_any p xs
 found_within p [] = refl

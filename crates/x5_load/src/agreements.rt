@@ -90,14 +90,21 @@ fn first_of_prefix<'a>(agents: &'a [DescribedAgent], name: &Name) -> Option<&'a 
     None
 }
 
+/// How many entries the first context has that has the name's key.
+fn copied(agents: &[DescribedAgent], name: &Name) -> usize
+    ensures { result ≡ model.entries_there (find (λ c. same_key (key_of c.prefix) (key_of name.now)) (flat_map (λ a. a.contexts) (map described_agent_view agents.now))) }
+{
+    match first_of_prefix(agents, name) {
+        Some(context) => context.entries.len(),
+        None => 0,
+    }
+}
+
 /// How many entries an agreement copies.
 fn copies(agents: &[DescribedAgent], agreement: &Agreement) -> usize
     ensures { result ≡ model.copies (flat_map (λ a. a.contexts) (map described_agent_view agents.now)) agreement.now }
 {
-    match first_of_prefix(agents, &agreement.context) {
-        Some(context) => context.entries.len(),
-        None => 0,
-    }
+    copied(agents, &agreement.context)
 }
 
 /// Whether there are no more entries than a world may have, with those of all copies.

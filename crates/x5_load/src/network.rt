@@ -2,7 +2,7 @@
 
 ghost use Rattle.std.specs.Prelude.{◌≡◌, ◌==◌, ◌&&◌, [], map, codes, option_map, option_and_then, IfOk};
 ghost use Rattle.std.specs.List.{list_any};
-ghost use Rattle.serde_json.specs.Find.{get, as_array};
+ghost use Rattle.serde_json.specs.Find.{get, as_array, as_str};
 ghost use Rattle.serde_json.specs.View.{view, items_view};
 ghost use Rattle.x5_load.specs.Parts as parts;
 ghost use Rattle.x5_load.specs.TextPairs.{texts_of};
@@ -122,19 +122,28 @@ fn has_in_order(before: &[(&str, &str)], a: &str, b: &str) -> bool
     are_there(before, a, b)
 }
 
-/// The texts of a list of two.
-fn pair_of(items: &[Value]) -> Option<(&str, &str)>
-    ensures { option_map texts_of result ≡ model.pair_of (items_view items.now) }
+/// The two values, if both are texts.
+fn two_texts<'a>(first: &'a Value, second: &'a Value) -> Option<(&'a str, &'a str)>
+    ensures { option_map texts_of result ≡ model.two_texts (as_str (view first.now)) (as_str (view second.now)) }
 {
-    let [first, second] = items else {
-        return None;
-    };
     match first.as_str() {
         Some(a) => match second.as_str() {
             Some(b) => Some((a, b)),
             None => None,
         },
         None => None,
+    }
+}
+
+/// The texts of a list of two.
+#[tactic(auto, using(crate::proofs::Texts::pair_is, crate::proofs::Texts::no_pair))]
+fn pair_of(items: &[Value]) -> Option<(&str, &str)>
+    ensures { option_map texts_of result ≡ model.pair_of (items_view items.now) }
+{
+    if items.len() == 2 {
+        two_texts(&items[0], &items[1])
+    } else {
+        None
     }
 }
 

@@ -1,4 +1,4 @@
-//! Tests of requests, changes, traces, moments, lines of scripts and the check of knowledge through their public calls. Nothing stands on it.
+//! Tests of requests, changes, traces, moments, lines of scripts, world files and the check of knowledge through their public calls. Nothing stands on it.
 #![tactic(auto)]
 
 #[cfg(test)]
@@ -11,3 +11,5 @@ mod moments;
 mod requests;
 #[cfg(test)]
 mod traces;
+#[cfg(test)]
+mod worlds;
