@@ -10,7 +10,6 @@ use Rattle.x5_model.specs.Values.{Name, key_of}
 use Rattle.x5_model_tree.specs.World.{Agent, Agreement, Context}
 use Rattle.x5_model_world.specs.WorldFile.{copies, entries_there, with_copies}
 use Rattle.x5_ops.specs.KnowledgeViews.{context_view}
-use Rattle.x5_ops.specs.declared.knowledge.ContextSpec.{ContextSpec}
 
 found_here : {A B : Type 0} (f : A → B) (b : Bool) (x : A) (rest : Option B) (more : Option A) → rest ≡ option_map f more → cond b (Some (f x)) rest ≡ option_map f (cond b (Some x) more)
 found_here f true x rest more e = refl
@@ -37,7 +36,7 @@ pub copied_by : (agents : List DescribedAgent) (n : Name)
 copied_by agents n =
     ap (λ (l : List Context). entries_there (find (λ c. same_key (key_of c.prefix) (key_of n)) l)) (all_contexts agents)
     ∙ ap entries_there (viewed (λ (c : Context). same_key (key_of c.prefix) (key_of n)) context_view
-        (flat_map (λ (a : DescribedAgent). a.spec.contexts) agents))
+    (flat_map (λ (a : DescribedAgent). a.spec.contexts) agents))
 
 drop_at : {A : Type 0} (members : List A) (i : ℕ) (x : A) → i < length members → x ≡ get_or members i x → drop i members ≡ x ∷ drop (i + 1) members
 drop_at {A} members i x lt is = rw (add-one, drop-cons members i x) (ap (λ (y : A). y ∷ drop (suc i) members) (sym is))
@@ -75,8 +74,8 @@ pub too_many : (contexts : List Context) (gs : List Agreement) (i : ℕ) (g : Ag
 too_many contexts gs i g total count whole lt is e more h =
     let rest : List Agreement = drop (i + 1) gs in
     let at : with_copies contexts total (drop i gs) ≡ with_copies contexts (total + copies contexts g) rest =
-        ap (with_copies contexts total) (drop_at gs i g lt is) in
+    ap (with_copies contexts total) (drop_at gs i g lt is) in
     let grown : total + copies contexts g ≤ with_copies contexts (total + copies contexts g) rest =
-        copies_grow contexts (total + copies contexts g) rest in
+    copies_grow contexts (total + copies contexts g) rest in
     let same : with_copies contexts (total + copies contexts g) rest ≡ whole = sym at ∙ h in
     over whole 400_000 (omega (arith, e, same, grown, more))

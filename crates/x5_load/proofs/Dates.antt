@@ -1,8 +1,7 @@
 -- Which dates are true ones.
-use Rattle.std.proofs.Common.{◌≡◌, ℕ, ◌≤◌, Bool, true, false, ◌&&◌, nat_le, refl, sym, ap, ◌∙◌, arith, ℤ, pos, ◌≤ℤ◌}
-use Rattle.jiff_core.specs.Calendar.{days_in_month, IsDate, IsBetween}
+use Rattle.std.proofs.Common.{◌≡◌, ℕ, ◌≤◌, true, nat_le, arith, pos}
+use Rattle.jiff_core.specs.Calendar.{days_in_month, IsDate}
 use Rattle.jiff_core.proofs.SignedLemmas.{signed_arith}
-use Rattle.jiff_core.proofs.CalendarLemmas.{days_in_month_bounds}
 use Rattle.x5_model.proofs.Lists.{both_true, and_true}
 use Rattle.x5_model_world.specs.StartText.{is_day}
 

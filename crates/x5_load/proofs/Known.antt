@@ -1,5 +1,5 @@
 -- A name has a place among the agents' names exactly where one of them is it; and the fault of a name that none of them is.
-use Rattle.std.proofs.Common.{◌≡◌, ℕ, suc, ◌+◌, Bool, true, false, not, cond, ◌||◌, nat_lt, List, [], ◌∷◌, length, refl, sym, ap, ◌∙◌, arith, Option, Some, None, Err}
+use Rattle.std.proofs.Common.{◌≡◌, ℕ, suc, ◌+◌, Bool, true, false, not, cond, ◌||◌, nat_lt, List, [], ◌∷◌, length, refl, ap, ◌∙◌, arith, Some, None, Err}
 use Rattle.std.specs.Cmp.Lexicographic.{nat_list_eq_equiv}
 use Rattle.std.specs.List.{list_any, position, position_or_len}
 use Rattle.std.specs.Option.{is_some}
@@ -21,6 +21,9 @@ not_below_more n l h = grind arith
 
 first_below : (l : ℕ) → nat_lt 0 (suc l) ≡ true
 first_below l = grind arith
+
+none_below_more : (l : ℕ) → nat_lt 0 (suc l) ≡ true
+none_below_more l = grind arith
 
 within_more : (n l : ℕ) (b rest : Bool) → nat_lt n l ≡ rest → nat_lt (cond (not b) (1 + n) 0) (suc l) ≡ (b || rest)
 within_more n l true true e = first_below l

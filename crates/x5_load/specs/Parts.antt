@@ -3,18 +3,16 @@ use Rattle.std.specs.Prelude.{ℕ, Bool, ◌&&◌, nat_le, List, [], map, Option
 use Rattle.std.specs.List.{flat_map}
 use Rattle.serde_json.specs.Data.{Data, Items, Members}
 use Rattle.serde_json.specs.Events.{items_len}
-use Rattle.serde_json.specs.Find.{get}
 use Rattle.x5_know.specs.Moments.{Start}
 use Rattle.x5_model.specs.Values.{Text}
 use Rattle.x5_model_tree.specs.Described.{most_agents, most_agreements, most_cut, most_with_copies}
 use Rattle.x5_model_tree.specs.World.{Agreement}
-use Rattle.x5_model_world.specs.AgentText.{Agents, all_behind, names_behind}
-use Rattle.x5_model_world.specs.ContextText.{Counts}
+use Rattle.x5_model_world.specs.AgentText.{Agents, names_behind}
 use Rattle.x5_model_world.specs.Mentioned.{first_of_two, first_at, unknown_text, unknown_in_pair, unknown_in_world}
 use Rattle.x5_model_world.specs.NetworkText.{pairs_behind, pair_of_agents, numbers_behind}
-use Rattle.x5_model_world.specs.Reading.{Read, ◌>>=◌, at, needed, if_fit, if_few, members_at, text_at, some_at, list_if_any, only}
+use Rattle.x5_model_world.specs.Reading.{Read, ◌>>=◌, needed, if_few, text_at, some_at, list_if_any, only}
 use Rattle.x5_model_world.specs.StartText.{two, year_of, is_day, is_time, start_of}
-use Rattle.x5_model_world.specs.WorldFile.{File, agreements_behind, with_copies, none_yet, network_of, world_members, world_in, if_known, format_of}
+use Rattle.x5_model_world.specs.WorldFile.{File, agreements_behind, with_copies, network_of, world_members, world_in, if_known}
 
 -- ---- the start
 

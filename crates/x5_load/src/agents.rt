@@ -52,9 +52,7 @@ impl Model for Agents {
 fn is_there(agents: &[DescribedAgent], name: &str) -> bool
     ensures { result ≡ list_any (λ a. same_octets name.now a.spec.name) agents.now }
 {
-    agents
-        .iter()
-        .any(|agent| name.as_bytes() == agent.spec.name.as_str().as_bytes())
+    agents.iter().any(|agent| name.as_bytes() == agent.spec.name.as_str().as_bytes())
 }
 
 /// Whether one of the agents has the name.
@@ -110,7 +108,11 @@ fn agent_with(
 ) -> DescribedAgent
     ensures { described_agent_view result ≡ model.agent_with name superior (map context_view contexts) references }
 {
-    let References { specific, cross, crosses } = references;
+    let References {
+        specific,
+        cross,
+        crosses,
+    } = references;
     DescribedAgent {
         spec: AgentSpec {
             name,
@@ -137,7 +139,12 @@ fn agent_behind(
     let members = members_at(alloc, place, value)?;
     let text = text_at(alloc, place, "name", value)?;
     let Agents { mut agents, counts } = before;
-    let name = new_name(alloc, &Place::Member(place, "name"), agents.as_slice(), text)?;
+    let name = new_name(
+        alloc,
+        &Place::Member(place, "name"),
+        agents.as_slice(),
+        text,
+    )?;
     let superior = agent_if_any(alloc, names, place, value)?;
     let items = list_if_any(alloc, place, "contexts", value)?;
     let used = with_these(alloc, place, counts.contexts(), items)?;
@@ -146,7 +153,12 @@ fn agent_behind(
     let list = list_if_any(alloc, place, "refs", value)?;
     few(alloc, &Place::Member(place, "refs"), MOST_REFERENCES, list)?;
     let references = references_behind(alloc, names, &Place::Member(place, "refs"), list)?;
-    only(alloc, place, &["name", "superior", "contexts", "refs"], members)?;
+    only(
+        alloc,
+        place,
+        &["name", "superior", "contexts", "refs"],
+        members,
+    )?;
     let counts = found.counts();
     agents.push(agent_with(name, superior, found.into_list(), references))?;
     Ok(Agents { agents, counts })

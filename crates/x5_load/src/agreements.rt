@@ -13,7 +13,7 @@ ghost use Rattle.x5_world_members.specs.Views.{Reads};
 
 use serde_json::Value;
 use std::alloc::Global;
-use x5_know::{Agreement, AgentNames, DescribedAgent};
+use x5_know::{AgentNames, Agreement, DescribedAgent};
 use x5_names::Name;
 use x5_ops::ContextSpec;
 use x5_world_members::{
@@ -48,10 +48,20 @@ fn agreement_in(
     let supplier = text_at(alloc, place, "supplier", value)?;
     let consumer = text_at(alloc, place, "consumer", value)?;
     let context = entry_name_at(alloc, place, "context", value)?;
-    only(alloc, place, &["id", "supplier", "consumer", "context"], members)?;
+    only(
+        alloc,
+        place,
+        &["id", "supplier", "consumer", "context"],
+        members,
+    )?;
     let supplier = agent_of(names, supplier);
     let consumer = agent_of(names, consumer);
-    Ok(Agreement { id, supplier, consumer, context })
+    Ok(Agreement {
+        id,
+        supplier,
+        consumer,
+        context,
+    })
 }
 
 /// The agreements that a list describes.
@@ -108,7 +118,11 @@ fn copies(agents: &[DescribedAgent], agreement: &Agreement) -> usize
 }
 
 /// Whether there are no more entries than a world may have, with those of all copies.
-pub(crate) fn copies_fit(agents: &[DescribedAgent], entries: usize, agreements: &[Agreement]) -> bool
+pub(crate) fn copies_fit(
+    agents: &[DescribedAgent],
+    entries: usize,
+    agreements: &[Agreement],
+) -> bool
     requires { entries ≤ 400_000 }
     ensures { result ≡ nat_le (model.with_copies (flat_map (λ a. a.contexts) (map described_agent_view agents.now)) entries agreements.now) 400_000 }
 {

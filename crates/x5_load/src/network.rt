@@ -18,9 +18,7 @@ use std::alloc::Global;
 use x5_know::{AgentNames, NetworkState, NumberList, Pair, PairList};
 use x5_memory::NoMemory;
 use x5_ops::AgentList;
-use x5_world_members::{
-    LoadFault, Place, agent_of, list_if_any, members_at, number_of, only,
-};
+use x5_world_members::{LoadFault, Place, agent_of, list_if_any, members_at, number_of, only};
 
 /// Cut pairs of a world at most.
 const MOST_CUT: u32 = 2016;
@@ -257,11 +255,7 @@ fn number_behind(
 }
 
 /// The numbers of a list, each of which stands there once.
-fn numbers_behind(
-    alloc: Global,
-    place: &Place<'_>,
-    items: &[Value],
-) -> Result<Vec<u32>, LoadFault>
+fn numbers_behind(alloc: Global, place: &Place<'_>, items: &[Value]) -> Result<Vec<u32>, LoadFault>
     ensures { Reads (λ v. v.items) result (model.numbers_behind (path_of place.now) 0 [] (items_view items.now)) }
 {
     let mut numbers = Vec::new(alloc);

@@ -108,18 +108,36 @@ impl References {
 
     /// The references with one more of the kind.
     #[tactic(auto, using(crate::proofs::Pins::specific_more, crate::proofs::Pins::cross_more))]
-    fn with(self, alloc: Global, cross: bool, pin: Name, access: Access) -> Result<References, NoMemory>
+    fn with(
+        self,
+        alloc: Global,
+        cross: bool,
+        pin: Name,
+        access: Access,
+    ) -> Result<References, NoMemory>
         ensures { IfOk result (λ r. r ≡ model.with_reference self cross (record { pin = pin; access = access })) }
     {
-        let References { mut specific, cross: mut across, mut crosses } = self;
+        let References {
+            mut specific,
+            cross: mut across,
+            mut crosses,
+        } = self;
         crosses.push(cross)?;
         if cross {
             across.push(Cross { pin, access })?;
         } else {
             let context = Name::root(alloc);
-            specific.push(Specific { context, pin, access })?;
+            specific.push(Specific {
+                context,
+                pin,
+                access,
+            })?;
         }
-        Ok(References { specific, cross: across, crosses })
+        Ok(References {
+            specific,
+            cross: across,
+            crosses,
+        })
     }
 }
 
@@ -146,7 +164,12 @@ fn reference_behind(
     let texts = list_if_any(alloc, place, "shadows", value)?;
     few(alloc, &Place::Member(place, "shadows"), MOST_SHADOWS, texts)?;
     let shadows = agents_behind(alloc, names, &Place::Member(place, "shadows"), texts)?;
-    only(alloc, place, &["kind", "name", "master", "shadows"], members)?;
+    only(
+        alloc,
+        place,
+        &["kind", "name", "master", "shadows"],
+        members,
+    )?;
     let master = agent_of(names, master);
     let references = before.with(alloc, cross, pin, Access { master, shadows })?;
     Ok(references)

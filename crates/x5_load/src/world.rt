@@ -19,7 +19,7 @@ use crate::stamp::start_of;
 use serde_json::{Map, Value};
 use std::alloc::Global;
 use x5_know::{
-    Agreement, AgreementList, AgentNames, Described, DescribedAgents, NetworkState, Start,
+    AgentNames, Agreement, AgreementList, Described, DescribedAgents, NetworkState, Start,
 };
 use x5_world_members::{LoadFault, Place, list_if_any, members_at, only, some_at, text_at};
 
@@ -72,7 +72,12 @@ fn only_listed(
         let listed = &["format", "start", "agents", "agreements", "network"];
         only(alloc, &whole, listed, members)
     } else {
-        only(alloc, &whole, &["format", "start", "agents", "agreements"], members)
+        only(
+            alloc,
+            &whole,
+            &["format", "start", "agents", "agreements"],
+            members,
+        )
     }
 }
 
@@ -125,7 +130,16 @@ fn agreed(
     if !copies_fit(&found.agents, found.counts.entries(), &agreements) {
         return Err(here.over_limit(alloc, MOST_WITH_COPIES));
     }
-    connected(alloc, names, has_network, start, value, members, found, agreements)
+    connected(
+        alloc,
+        names,
+        has_network,
+        start,
+        value,
+        members,
+        found,
+        agreements,
+    )
 }
 
 /// The world of the agents with these names, of which a list describes each.
