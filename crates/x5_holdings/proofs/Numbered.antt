@@ -1,6 +1,8 @@
--- The rows of a list's members: rows that are added one by one are the members with their places, and a key stands among
+-- The rows of a list's members: rows that are added one by one are the members with their places, and a key stands
+-- among
 -- them with a place exactly where the member there has it.
-use Rattle.std.proofs.Common.{◌≡◌, ℕ, zero, suc, ◌+◌, ◌<◌, ◌≤◌, Bool, true, false, ◌&&◌, ◌||◌, ◌==◌, List, [], ◌∷◌, ◌++◌, map, take, length, get_or, refl, sym, ap, ◌∙◌, arith, append_assoc}
+use Rattle.std.proofs.Common.{◌≡◌, ℕ, zero, suc, ◌+◌, ◌<◌, ◌≤◌, Bool, true, false, ◌&&◌, ◌||◌, ◌==◌, List, [], ◌∷◌}
+use Rattle.std.proofs.Common.{◌++◌, map, take, length, get_or, refl, sym, ap, ◌∙◌, arith, append_assoc}
 use Rattle.std.specs.Prelude.{slice_get}
 use Rattle.std.specs.List.{list_any, enumerate_from}
 use Rattle.std.specs.List.Sorted.{IsPermutation}
@@ -18,11 +20,13 @@ numbered_from i keys = map (λ p. (p.1, p.0)) (enumerate_from i keys)
 
 -- ---- one more
 
-push_from : (keys : List Key) (key : Key) (i n : ℕ) → n ≡ i + length keys → numbered_from i (keys ++ key ∷ []) ≡ numbered_from i keys ++ (key, n) ∷ []
+push_from : (keys : List Key) (key : Key) (i n : ℕ) → n ≡ i + length keys → numbered_from i (keys ++ key ∷ []) ≡
+    numbered_from i keys ++ (key, n) ∷ []
 push_from [] key i n e = let f : i ≡ n = omega arith in ap (λ (m : ℕ). (key, m) ∷ []) f
 push_from (k ∷ keys) key i n e = ap (λ (l : List KeyRow). (k, i) ∷ l) (push_from keys key (i + 1) n (omega arith))
 
-pub numbered_push : (keys : List Key) (key : Key) → numbered (keys ++ key ∷ []) ≡ numbered keys ++ (key, length keys) ∷ []
+pub numbered_push : (keys : List Key) (key : Key) → numbered (keys ++ key ∷ []) ≡ numbered keys ++ (key, length keys)
+    ∷ []
 numbered_push keys key = push_from keys key 0 (length keys) (omega arith)
 
 length_from : (keys : List Key) (i : ℕ) → length (numbered_from i keys) ≡ length keys
@@ -33,30 +37,41 @@ pub length_numbered : (keys : List Key) → length (numbered keys) ≡ length ke
 length_numbered keys = length_from keys 0
 
 -- a loop's step, behind rows of other members
-pub taken : {A : Type 0} (xs : List A) (i : ℕ) (x : A) → i < length xs → x ≡ get_or xs i x → take (i + 1) xs ≡ take i xs ++ x ∷ []
+pub taken : {A : Type 0} (xs : List A) (i : ℕ) (x : A) → i < length xs → x ≡ get_or xs i x → take (i + 1) xs ≡ take i
+    xs ++ x ∷ []
 taken [] i x lt is = absurd (omega arith)
 taken {A} (y ∷ ys) zero x lt is = ap (λ (z : A). z ∷ []) (sym is)
 taken {A} (y ∷ ys) (suc i) x lt is =
-    (let e : suc i + 1 ≡ suc (i + 1) = omega arith in ap (λ (n : ℕ). take n (y ∷ ys)) e) ∙ ap (λ (l : List A). y ∷ l) (taken ys i x (omega arith) is)
+    (let e : suc i + 1 ≡ suc (i + 1) = omega arith in ap (λ (n : ℕ). take n (y ∷ ys)) e) ∙ ap (λ (l : List A). y ∷ l)
+    (taken ys i x (omega arith) is)
 
-pub one_more_behind : {A : Type 0} (f : A → Key) (keys : List Key) (xs : List A) (i : ℕ) (x : A) (old new : List KeyRow) → i < length xs → x ≡ get_or xs i x
-    → old ≡ numbered (keys ++ map f (take i xs)) → new ≡ old ++ (f x, length old) ∷ [] → new ≡ numbered (keys ++ map f (take (i + 1) xs))
+pub one_more_behind : {A : Type 0} (f : A → Key) (keys : List Key) (xs : List A) (i : ℕ) (x : A)
+    (old new : List KeyRow) → i < length xs → x ≡ get_or xs i x
+    → old ≡ numbered (keys ++ map f (take i xs)) → new ≡ old ++ (f x, length old) ∷ [] → new ≡ numbered
+    (keys ++ map f (take (i + 1) xs))
 one_more_behind {A} f keys xs i x old new lt is e g =
     let all : keys ++ map f (take (i + 1) xs) ≡ (keys ++ map f (take i xs)) ++ f x ∷ [] =
-    ap (λ (l : List A). keys ++ map f l) (taken xs i x lt is) ∙ (ap (λ (l : List Key). keys ++ l) (map_push f (take i xs) x) ∙ sym (append_assoc keys (map f (take i xs)) (f x ∷ []))) in
-    let n : length old ≡ length (keys ++ map f (take i xs)) = ap length e ∙ length_numbered (keys ++ map f (take i xs)) in
+    ap (λ (l : List A). keys ++ map f l) (taken xs i x lt is) ∙
+    (ap (λ (l : List Key). keys ++ l) (map_push f (take i xs) x) ∙ sym
+    (append_assoc keys (map f (take i xs)) (f x ∷ []))) in
+    let n : length old ≡ length (keys ++ map f (take i xs)) = ap length e ∙ length_numbered
+    (keys ++ map f (take i xs)) in
     g ∙ (λ j. e j ++ (f x, n j) ∷ []) ∙ sym (ap numbered all ∙ numbered_push (keys ++ map f (take i xs)) (f x))
 
-pub one_more : {A : Type 0} (f : A → Key) (xs : List A) (i : ℕ) (x : A) (old new : List KeyRow) → i < length xs → x ≡ get_or xs i x
-    → old ≡ numbered (map f (take i xs)) → new ≡ old ++ (f x, length old) ∷ [] → new ≡ numbered (map f (take (i + 1) xs))
+pub one_more : {A : Type 0} (f : A → Key) (xs : List A) (i : ℕ) (x : A) (old new : List KeyRow) → i < length xs → x ≡
+    get_or xs i x
+    → old ≡ numbered (map f (take i xs)) → new ≡ old ++ (f x, length old) ∷ [] → new ≡ numbered
+    (map f (take (i + 1) xs))
 one_more f xs i x old new lt is e g = one_more_behind f [] xs i x old new lt is e g
 
-pub all_done : {A : Type 0} (f : A → Key) (xs : List A) (i : ℕ) (rows : List KeyRow) → length xs ≤ i → rows ≡ numbered (map f (take i xs)) → rows ≡ numbered (map f xs)
+pub all_done : {A : Type 0} (f : A → Key) (xs : List A) (i : ℕ) (rows : List KeyRow) → length xs ≤ i → rows ≡ numbered
+    (map f (take i xs)) → rows ≡ numbered (map f xs)
 all_done {A} f xs i rows le e = e ∙ ap (λ (l : List A). numbered (map f l)) (take_all i xs le)
 
 -- ---- which key stands where
 
-at_from : {A : Type 0} (test : A → Bool) (xs : List A) (i n m : ℕ) → m ≡ i + n → list_any (λ p. test p.1 && (p.0 == m)) (enumerate_from i xs) ≡ some_and test (slice_get xs n)
+at_from : {A : Type 0} (test : A → Bool) (xs : List A) (i n m : ℕ) → m ≡ i + n → list_any
+    (λ p. test p.1 && (p.0 == m)) (enumerate_from i xs) ≡ some_and test (slice_get xs n)
 at_from test [] i n m e = refl
 at_from {A} test (x ∷ xs) i zero m e =
     let a : (i == m) ≡ true = grind arith in
@@ -86,22 +101,26 @@ at_from test (x ∷ xs) i (suc n) m e =
     simple true c = refl
     simple false c = refl
 
-any_map : {A B : Type 0} (test : B → Bool) (f : A → B) (xs : List A) → list_any test (map f xs) ≡ list_any (λ x. test (f x)) xs
+any_map : {A B : Type 0} (test : B → Bool) (f : A → B) (xs : List A) → list_any test (map f xs) ≡ list_any
+    (λ x. test (f x)) xs
 any_map test f [] = refl
 any_map test f (x ∷ xs) = ap (λ (b : Bool). test (f x) || b) (any_map test f xs)
 
 pub numbered_places : (keys : List Key) → places_of (numbered keys) ≡ places_in keys
 numbered_places keys =
-    λ i key n. (any_map (λ (row : KeyRow). same_row row (key, n)) (λ (p : ℕ × Key). (p.1, p.0)) (enumerate_from 0 keys) ∙ at_from (λ (k : Key). same_key k key) keys 0 n n (omega arith)) i
+    λ i key n. (any_map (λ (row : KeyRow). same_row row (key, n)) (λ (p : ℕ × Key). (p.1, p.0))
+    (enumerate_from 0 keys) ∙ at_from (λ (k : Key). same_key k key) keys 0 n n (omega arith)) i
 
 -- a sort keeps the rows
-pub sorted_rows : (rows sorted : List KeyRow) → IsPermutation rows sorted → (keys : List Key) → rows ≡ numbered keys → AreRowsOf sorted keys
+pub sorted_rows : (rows sorted : List KeyRow) → IsPermutation rows sorted → (keys : List Key) → rows ≡ numbered keys →
+    AreRowsOf sorted keys
 sorted_rows rows sorted p keys e =
     (λ i key n. sym (list_any-IsPermutation (λ (row : KeyRow). same_row row (key, n)) rows sorted p) i)
     ∙ ap (λ (l : List KeyRow). places_of l) e ∙ numbered_places keys
 
 -- the table of a loop's rows
 pub made : {E : Type 0} (r : Result (List KeyRow) E) (rows : List KeyRow) (keys : List Key)
-    → IfOk r (λ p. (ks : List Key) → rows ≡ numbered ks → AreRowsOf p ks) → rows ≡ numbered keys → IfOk r (λ p. AreRowsOf p keys)
+    → IfOk r (λ p. (ks : List Key) → rows ≡ numbered ks → AreRowsOf p ks) → rows ≡ numbered keys → IfOk r
+    (λ p. AreRowsOf p keys)
 made (Ok p) rows keys h e = h keys e
 made (Err x) rows keys h e = tt

@@ -1,6 +1,8 @@
--- The index of a context's entries: where it begins with one entry, and where an entry is added, its postings stay those of the
+-- The index of a context's entries: where it begins with one entry, and where an entry is added, its postings stay
+-- those of the
 -- entries.
-use Rattle.std.proofs.Common.{◌≡◌, ◌≢◌, ℕ, Bool, true, false, if◌then◌else◌, ◌||◌, ◌==◌, List, [], ◌∷◌, Option, Some, None, refl, sym, ap, subst, ◌∙◌}
+use Rattle.std.proofs.Common.{◌≡◌, ◌≢◌, ℕ, Bool, true, false, if◌then◌else◌, ◌||◌, ◌==◌, List, [], ◌∷◌, Option, Some}
+use Rattle.std.proofs.Common.{None, refl, sym, ap, subst, ◌∙◌}
 use Rattle.std.specs.List.{list_any}
 use Rattle.std.specs.Option.{option_map}
 use Rattle.x5_model.specs.Words.{insert_sorted, first_of}
@@ -19,8 +21,10 @@ pub not_live : (nodes : List Node) (id : NodeId) → is_live nodes id ≡ false 
 not_live [] id e = refl
 not_live (n ∷ nodes) id e = by (has_id id n) refl (not_live nodes id)
   where
-    by : (b : Bool) → has_id id n ≡ b → (is_live nodes id ≡ false → node_with nodes id ≡ None) → node_with (n ∷ nodes) id ≡ None
-    by true f rest = absurd (let t : is_live (n ∷ nodes) id ≡ true = ap (λ (b : Bool). b || list_any (has_id id) nodes) f in cc)
+    by : (b : Bool) → has_id id n ≡ b → (is_live nodes id ≡ false → node_with nodes id ≡ None) → node_with (n ∷ nodes)
+        id ≡ None
+    by true f rest = absurd (let t : is_live (n ∷ nodes) id ≡ true = ap
+        (λ (b : Bool). b || list_any (has_id id) nodes) f in cc)
     by false f rest =
         ap (λ (b : Bool). if b then Some n else node_with nodes id) f
         ∙ rest (sym (ap (λ (b : Bool). b || list_any (has_id id) nodes) f) ∙ e)
@@ -46,12 +50,16 @@ module _ (x : Node) (id : NodeId) where
   find_if : Bool → Node → List Node → Option Node
   find_if b n nodes = if b then Some n else node_with nodes id
 
-  pub node_added : (nodes : List Node) → has_id id x ≡ true → is_live nodes id ≡ false → node_with (insert_sorted node_below x nodes) id ≡ Some x
+  pub node_added : (nodes : List Node) → has_id id x ≡ true → is_live nodes id ≡ false → node_with
+      (insert_sorted node_below x nodes) id ≡ Some x
   node_added [] h l = ap (λ (b : Bool). if b then Some x else None) h
   node_added (n ∷ nodes) h l = by (node_below n x) refl (has_id id n) refl (node_added nodes h)
     where
-      by : (b : Bool) → node_below n x ≡ b → (d : Bool) → has_id id n ≡ d → (is_live nodes id ≡ false → node_with (insert_sorted node_below x nodes) id ≡ Some x) → node_with (insert_sorted node_below x (n ∷ nodes)) id ≡ Some x
-      by b e true f rest = absurd (let t : is_live (n ∷ nodes) id ≡ true = ap (λ (b : Bool). b || list_any (has_id id) nodes) f in cc)
+      by : (b : Bool) → node_below n x ≡ b → (d : Bool) → has_id id n ≡ d →
+          (is_live nodes id ≡ false → node_with (insert_sorted node_below x nodes) id ≡ Some x) → node_with
+          (insert_sorted node_below x (n ∷ nodes)) id ≡ Some x
+      by b e true f rest = absurd
+          (let t : is_live (n ∷ nodes) id ≡ true = ap (λ (b : Bool). b || list_any (has_id id) nodes) f in cc)
       by true e false f rest =
           ap (λ (b : Bool). node_with (if b then n ∷ insert_sorted node_below x nodes else (x ∷ n ∷ nodes)) id) e
           ∙ (ap (λ (b : Bool). if b then Some n else node_with (insert_sorted node_below x nodes) id) f
@@ -60,11 +68,13 @@ module _ (x : Node) (id : NodeId) where
           ap (λ (b : Bool). node_with (if b then n ∷ insert_sorted node_below x nodes else (x ∷ n ∷ nodes)) id) e
           ∙ ap (λ (b : Bool). if b then Some x else node_with (n ∷ nodes) id) h
 
-  pub node_other : (nodes : List Node) → has_id id x ≡ false → node_with (insert_sorted node_below x nodes) id ≡ node_with nodes id
+  pub node_other : (nodes : List Node) → has_id id x ≡ false → node_with (insert_sorted node_below x nodes) id ≡
+      node_with nodes id
   node_other [] h = ap (λ (b : Bool). if b then Some x else None) h
   node_other (n ∷ nodes) h = by (node_below n x) refl (node_other nodes h)
     where
-      by : (b : Bool) → node_below n x ≡ b → node_with (insert_sorted node_below x nodes) id ≡ node_with nodes id → node_with (insert_sorted node_below x (n ∷ nodes)) id ≡ node_with (n ∷ nodes) id
+      by : (b : Bool) → node_below n x ≡ b → node_with (insert_sorted node_below x nodes) id ≡ node_with nodes id →
+          node_with (insert_sorted node_below x (n ∷ nodes)) id ≡ node_with (n ∷ nodes) id
       by true e rest =
           ap (λ (b : Bool). node_with (if b then n ∷ insert_sorted node_below x nodes else (x ∷ n ∷ nodes)) id) e
           ∙ ap (λ (o : Option Node). if has_id id n then Some n else o) rest
@@ -85,7 +95,8 @@ module _ (old new : List Posting) (id : NodeId) (entry : Entry) (put : IsPut old
   others_stay k e None p = absent_elsewhere old new id.0 k.0 put.others (other_number k e) p
   others_stay k e (Some n) p = entry_elsewhere old new id.0 k.0 put.others (other_number k e) (entry_in n) p
 
-  pub posted_more : (nodes : List Node) (x : Node) → x.id ≡ id → x.named.entry ≡ entry → is_live nodes id ≡ false → ArePosted old nodes → ArePosted new (insert_sorted node_below x nodes)
+  pub posted_more : (nodes : List Node) (x : Node) → x.id ≡ id → x.named.entry ≡ entry → is_live nodes id ≡ false →
+      ArePosted old nodes → ArePosted new (insert_sorted node_below x nodes)
   posted_more nodes x e f fresh are k = by (id.0 == k.0) refl
     where
       number : has_id k x ≡ (id.0 == k.0)
@@ -94,15 +105,18 @@ module _ (old new : List Posting) (id : NodeId) (entry : Entry) (put : IsPut old
       by : (b : Bool) → (id.0 == k.0) ≡ b → IsPosted new k (node_with (insert_sorted node_below x nodes) k)
       by true t =
           let same : id ≡ k = same_number ((nat_same_decides id.0 k.0).0 t) in
-          subst (λ (o : Option Node). IsPosted new k o) (sym (node_added x k nodes (number ∙ t) (subst (λ (i : NodeId). is_live nodes i ≡ false) same fresh)))
+          subst (λ (o : Option Node). IsPosted new k o)
+          (sym (node_added x k nodes (number ∙ t) (subst (λ (i : NodeId). is_live nodes i ≡ false) same fresh)))
           (subst (λ (g : Entry). IsEntryAt new k.0 g) (sym f) (at_number k t))
         where
           same_number : id.0 ≡ k.0 → id ≡ k
           same_number p = λ i. record { 0 = p i }
-      by false t = subst (λ (o : Option Node). IsPosted new k o) (sym (node_other x k nodes (number ∙ t))) (others_stay k t (node_with nodes k) (are k))
+      by false t = subst (λ (o : Option Node). IsPosted new k o) (sym (node_other x k nodes (number ∙ t)))
+          (others_stay k t (node_with nodes k) (are k))
 
 -- the prefix's entry alone
-pub posted_alone : (new : List Posting) (nodes : List Node) (e : Named) (id : NodeId) (entry : Entry) → entries_of nodes ≡ e ∷ [] → option_map id_of (first_of nodes) ≡ Some id
+pub posted_alone : (new : List Posting) (nodes : List Node) (e : Named) (id : NodeId) (entry : Entry) → entries_of
+    nodes ≡ e ∷ [] → option_map id_of (first_of nodes) ≡ Some id
     → option_map entry_in (node_with nodes id) ≡ Some entry → IsPut [] id.0 entry new → ArePosted new nodes
 posted_alone new [] e id entry h i f put = cc
 posted_alone new (n ∷ m ∷ nodes) e id entry h i f put = absurd (two (n.named) (m.named) (entries_of nodes) h)
@@ -118,4 +132,5 @@ posted_alone new (n ∷ []) e id entry h i f put = posted_more [] new id entry p
     found = (nat_same_decides n.id.0 id.0).1 (ap (λ (j : NodeId). j.0) (inside i))
 
     same : n.named.entry ≡ entry
-    same = (let g : Some n.named.entry ≡ Some entry = sym (ap (λ (b : Bool). option_map entry_in (if b then Some n else None)) found) ∙ f in cc)
+    same = (let g : Some n.named.entry ≡ Some entry = sym
+        (ap (λ (b : Bool). option_map entry_in (if b then Some n else None)) found) ∙ f in cc)

@@ -1,5 +1,7 @@
--- What an agent knows of a pin, and the longest known prefix of a name (X.501, section 22: knowledge; X.518, section 18: name
--- resolution). Of what is known of one pin a mastered context comes first, then a copy, then a subordinate reference, then
+-- What an agent knows of a pin, and the longest known prefix of a name (X.501, section 22: knowledge; X.518, section
+-- 18: name
+-- resolution). Of what is known of one pin a mastered context comes first, then a copy, then a subordinate reference,
+-- then
 -- a cross reference; which of two comes first is this project's own.
 use Rattle.std.specs.Prelude.{◌≡◌, ℕ, true, List, slice_get}
 use Rattle.std.specs.Option.{is_some, option_map}
@@ -16,7 +18,8 @@ use Rattle.x5_holdings.specs.declared.holdings.Pin.TheVariants.{Own, Copy, Subor
 -- the place of what is found in a list, the first by its key
 abbrev pub IsPlaceOf : {A B : Type 0} → (A → B) → List A → Option B → Option ℕ → Type 0
 IsPlaceOf view xs found None = found ≡ None
-IsPlaceOf view xs found (Some place) = (found ≡ option_map view (slice_get xs place)) × (is_some (slice_get xs place) ≡ true)
+IsPlaceOf view xs found (Some place) = (found ≡ option_map view (slice_get xs place)) ×
+    (is_some (slice_get xs place) ≡ true)
 
 -- the first of what is known of the pin: a place among the contexts or the copies, or a reference
 abbrev pub IsFirst : Request → Holdings → Key → Pin → Type 0
@@ -31,7 +34,8 @@ IsFirst r h p (Cross k) =
 
 abbrev pub IsKnownAt : Request → Holdings → Key → Option Pin → Type 0
 IsKnownAt r h p None =
-    (held_at h.own p ≡ None) × (copy_at h p ≡ None) × (specific_at (subordinates r h) p ≡ None) × (specific_at h.cross p ≡ None)
+    (held_at h.own p ≡ None) × (copy_at h p ≡ None) × (specific_at (subordinates r h) p ≡ None) ×
+    (specific_at h.cross p ≡ None)
 IsKnownAt r h p (Some pin) = IsFirst r h p pin
 
 -- the longest known prefix of the name, and the first of what is known of it

@@ -1,4 +1,5 @@
--- Names by their keys, each with its place in a list; in the order of keys and then of places. The tables are this project's
+-- Names by their keys, each with its place in a list; in the order of keys and then of places. The tables are this
+-- project's
 -- own.
 use Rattle.std.specs.Prelude.{◌≡◌, ℕ, ◌<◌, Bool, true, false, ◌&&◌, ◌==◌, List, map, slice_get}
 use Rattle.std.specs.List.{list_any, enumerate_from}

@@ -1,5 +1,7 @@
--- What an agent holds, as contracts see it, and what the definitions of name resolution see of it (X.501, sections 22 and 23:
--- DSA information tree; X.525: shadowed information). Moments, logs, the trees' nodes with their room and the postings are no
+-- What an agent holds, as contracts see it, and what the definitions of name resolution see of it (X.501, sections 22
+-- and 23:
+-- DSA information tree; X.525: shadowed information). Moments, logs, the trees' nodes with their room and the
+-- postings are no
 -- part of those definitions.
 use Rattle.std.specs.Prelude.{◌≡◌, ◌<◌, ℕ, Bool, false, if◌then◌else◌, List, [], length, map, ⊤}
 use Rattle.std.specs.Option.{option_map}
@@ -29,7 +31,8 @@ pub record Kept : Type 0 where
   pub subordinate : List Specific
   pub nssrs : List Nssr
 
--- a copy of a context, and the agent that supplies it: what refreshes brought, with their stamp, and nothing before the first
+-- a copy of a context, and the agent that supplies it: what refreshes brought, with their stamp, and nothing before
+-- the first
 pub record CopyKept : Type 0 where
   pub prefix : Name
   pub supplier : ℕ

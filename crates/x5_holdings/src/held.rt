@@ -10,7 +10,7 @@ ghost use Rattle.x5_ops.specs.RequestViews.{request_view};
 ghost use Rattle.x5_dse.specs.Linked.{entries_of};
 ghost use Rattle.x5_dse.specs.Changes.{Inserted, NotInserted};
 ghost use Rattle.x5_index.specs.Index.{terms_of};
-ghost use Rattle.x5_holdings.specs.State.{IsKept, OnlyEntries, brought_for, brought_references, stamp_of};
+ghost use Rattle.x5_holdings.specs.State.{IsBrought, IsKept, OnlyEntries, brought_for, brought_references, stamp_of};
 
 use crate::log::ChangeLog;
 use crate::pins::{Pins, entries_of_nssrs};
@@ -222,7 +222,8 @@ impl Copied {
 
     /// The context's prefix. No memory.
     pub fn prefix(&self) -> &Name
-        ensures { result.now ≡ self.now.prefix }
+        ensures prefix { result.now ≡ self.now.prefix }
+        ensures brought { IsBrought self.now.prefix self.now.refreshed }
     {
         &self.prefix
     }

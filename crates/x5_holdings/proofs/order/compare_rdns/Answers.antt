@@ -6,4 +6,5 @@ use Rattle.x5_dse.proofs.Comparing.{first_ends}
 use Rattle.x5_holdings.proofs.order.compare_rdns.Goals as goal
 
 pub returns-else-a-b : goal.returns-else-a-b
-returns-else-a-b c = sym (first_ends key_of_pair pair_cmp c.args.a.now c.args.b.now c.loop-i.i (omega arith) (omega arith)) ∙ c.loop-i.invariant.rest
+returns-else-a-b c = sym (first_ends key_of_pair pair_cmp c.args.a.now c.args.b.now c.loop-i.i (omega arith)
+    (omega arith)) ∙ c.loop-i.invariant.rest

@@ -8,5 +8,6 @@ use Rattle.x5_holdings.proofs.order.compare_rdns.Given as goal
 abbrev pub invariant-loop-i : goal.invariant-loop-i
 invariant-loop-i l = record {
   within : l.i ≤ length l.b;
-  rest : slice_cmp pair_cmp (map key_of_pair (drop l.i l.a)) (map key_of_pair (drop l.i l.b)) ≡ slice_cmp pair_cmp (map key_of_pair l.a) (map key_of_pair l.b);
+  rest : slice_cmp pair_cmp (map key_of_pair (drop l.i l.a)) (map key_of_pair (drop l.i l.b)) ≡ slice_cmp pair_cmp
+      (map key_of_pair l.a) (map key_of_pair l.b);
 }

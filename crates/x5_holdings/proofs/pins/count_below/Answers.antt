@@ -8,5 +8,6 @@ use Rattle.x5_holdings.proofs.pins.count_below.Goals as goal
 
 pub returns : goal.returns
 returns c =
-    c.partition_point.ensures.partitioned (λ y. key_below y.0 (key_of c.args.rdns.now)) (always_returns_same _ _ _ (λ a r f k. search (rules, of_calls)))
+    c.partition_point.ensures.partitioned (λ y. key_below y.0 (key_of c.args.rdns.now))
+    (always_returns_same _ _ _ (λ a r f k. search (rules, of_calls)))
     (partitioned c.args.rows.now c.requires (key_of c.args.rdns.now))

@@ -11,10 +11,14 @@ use Rattle.x5_holdings.proofs.below.Below.first.Goals as goal
 pub returns-in_err-place : goal.returns-in_err-place
 returns-in_err-place c = λ lists h.
     subst (λ (o : Option Spot). IsSpot lists (key_of c.args.rdns.now) o) (sym c.from_residual.ensures)
-    (no_spot (record { rows = c.self.inside.pins; spots = c.self.inside.spots.items }) lists (key_of c.args.rdns.now) (subst (λ (b : Spotted). AreBelow b lists) (sym c.self.view_is) h) c.in_err-place.ensures)
+    (no_spot (record { rows = c.self.inside.pins; spots = c.self.inside.spots.items }) lists (key_of c.args.rdns.now)
+    (subst (λ (b : Spotted). AreBelow b lists) (sym c.self.view_is) h) c.in_err-place.ensures)
 
 pub returns : goal.returns
 returns c = λ lists h.
-    let w = spot_within (record { rows = c.self.inside.pins; spots = c.self.inside.spots.items }) lists (key_of c.args.rdns.now) (subst (λ (b : Spotted). AreBelow b lists) (sym c.self.view_is) h) c.in_ok-place.place c.in_ok-place.ensures in
+    let w = spot_within (record { rows = c.self.inside.pins; spots = c.self.inside.spots.items }) lists
+    (key_of c.args.rdns.now) (subst (λ (b : Spotted). AreBelow b lists) (sym c.self.view_is) h)
+    c.in_ok-place.place c.in_ok-place.ensures in
     subst (λ (o : Option Spot). IsSpot lists (key_of c.args.rdns.now) o)
-    (sym (c.copied.ensures ∙ (item_got c.deref.result.now c.in_ok-place.place c.get.result c.get.ensures.lookup ∙ (ap (λ (l : List Spot). slice_get l c.in_ok-place.place) c.deref.ensures.value ∙ w.1.0)))) w.1.1
+    (sym (c.copied.ensures ∙ (item_got c.deref.result.now c.in_ok-place.place c.get.result c.get.ensures.lookup ∙
+    (ap (λ (l : List Spot). slice_get l c.in_ok-place.place) c.deref.ensures.value ∙ w.1.0)))) w.1.1

@@ -11,8 +11,15 @@ use Rattle.x5_holdings.proofs.below.Below.of_copies.Goals as goal
 
 pub loop-list-preserved : goal.loop-list-preserved
 loop-list-preserved c = record {
-  rows = more_pins (λ (x : CopyKept). brought_references x.refreshed) c.args.copies.now c.loop-list.list c.index-copies-list.result c.loop-list-test.true c.index-copies-list.is c.loop-list.rows.items c.add_list.new.rows.items c.loop-list.invariant.rows
-      (subst (λ (l : List Specific). (keys : List Key) → c.loop-list.rows.items ≡ numbered keys → c.add_list.new.rows.items ≡ numbered (keys ++ map (λ (k : Specific). key_of k.pin) l)) c.subordinate.ensures c.in_ok-add_list.ensures.rows);
-  spots = more_spots (λ (x : CopyKept). brought_references x.refreshed) c.args.copies.now c.loop-list.list c.index-copies-list.result c.loop-list-test.true c.index-copies-list.is c.loop-list.spots.items c.add_list.new.spots.items c.loop-list.invariant.spots
-      (subst (λ (l : List Specific). c.add_list.new.spots.items ≡ c.loop-list.spots.items ++ spots_from c.loop-list.list 0 l) c.subordinate.ensures c.in_ok-add_list.ensures.spots);
+  rows = more_pins (λ (x : CopyKept). brought_references x.refreshed) c.args.copies.now c.loop-list.list
+      c.index-copies-list.result c.loop-list-test.true c.index-copies-list.is c.loop-list.rows.items
+      c.add_list.new.rows.items c.loop-list.invariant.rows
+      (subst (λ (l : List Specific). (keys : List Key) → c.loop-list.rows.items ≡ numbered keys →
+      c.add_list.new.rows.items ≡ numbered (keys ++ map (λ (k : Specific). key_of k.pin) l)) c.subordinate.ensures
+      c.in_ok-add_list.ensures.rows);
+  spots = more_spots (λ (x : CopyKept). brought_references x.refreshed) c.args.copies.now c.loop-list.list
+      c.index-copies-list.result c.loop-list-test.true c.index-copies-list.is c.loop-list.spots.items
+      c.add_list.new.spots.items c.loop-list.invariant.spots
+      (subst (λ (l : List Specific). c.add_list.new.spots.items ≡ c.loop-list.spots.items ++ spots_from
+      c.loop-list.list 0 l) c.subordinate.ensures c.in_ok-add_list.ensures.spots);
 }

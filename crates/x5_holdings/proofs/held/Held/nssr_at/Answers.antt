@@ -12,11 +12,18 @@ use Rattle.x5_holdings.proofs.held.Held.nssr_at.Goals as goal
 
 pub returns-in_err-place : goal.returns-in_err-place
 returns-in_err-place c =
-    subst (λ (s : Kept). option_map (λ (k : Bor Nssr). nssr_view k.now) c.from_residual.result ≡ nssr_at (map nssr_view s.nssrs) (key_of c.args.rdns.now)) c.self.view_is
-    (ap (option_map (λ (k : Bor Nssr). nssr_view k.now)) c.from_residual.ensures ∙ sym (nssr_placed c.self.inside.nssrs c.self.inside.wide (key_of c.args.rdns.now) None c.self.invariant.wide c.in_err-place.ensures))
+    subst (λ (s : Kept). option_map (λ (k : Bor Nssr). nssr_view k.now) c.from_residual.result ≡ nssr_at
+    (map nssr_view s.nssrs) (key_of c.args.rdns.now)) c.self.view_is
+    (ap (option_map (λ (k : Bor Nssr). nssr_view k.now)) c.from_residual.ensures ∙ sym
+    (nssr_placed c.self.inside.nssrs c.self.inside.wide (key_of c.args.rdns.now) None c.self.invariant.wide
+    c.in_err-place.ensures))
 
 pub returns : goal.returns
 returns c =
-    subst (λ (s : Kept). option_map (λ (k : Bor Nssr). nssr_view k.now) c.get.result ≡ nssr_at (map nssr_view s.nssrs) (key_of c.args.rdns.now)) c.self.view_is
-    (viewed nssr_view c.self.inside.nssrs c.in_ok-place.place c.get.result (nssr_at (map nssr_view c.self.inside.nssrs) (key_of c.args.rdns.now))
-    (subst (λ (l : List Nssr). IsItemAt l c.in_ok-place.place c.get.result) c.as_slice.ensures c.get.ensures.lookup) (nssr_placed c.self.inside.nssrs c.self.inside.wide (key_of c.args.rdns.now) (Some c.in_ok-place.place) c.self.invariant.wide c.in_ok-place.ensures))
+    subst (λ (s : Kept). option_map (λ (k : Bor Nssr). nssr_view k.now) c.get.result ≡ nssr_at (map nssr_view s.nssrs)
+    (key_of c.args.rdns.now)) c.self.view_is
+    (viewed nssr_view c.self.inside.nssrs c.in_ok-place.place c.get.result
+    (nssr_at (map nssr_view c.self.inside.nssrs) (key_of c.args.rdns.now))
+    (subst (λ (l : List Nssr). IsItemAt l c.in_ok-place.place c.get.result) c.as_slice.ensures c.get.ensures.lookup)
+    (nssr_placed c.self.inside.nssrs c.self.inside.wide (key_of c.args.rdns.now) (Some c.in_ok-place.place)
+    c.self.invariant.wide c.in_ok-place.ensures))

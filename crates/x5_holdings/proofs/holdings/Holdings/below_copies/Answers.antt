@@ -13,16 +13,26 @@ use Rattle.x5_holdings.proofs.holdings.Holdings.below_copies.Goals as goal
 
 pub returns-in_err-spot : goal.returns-in_err-spot
 returns-in_err-spot c =
-    subst (λ (s : State). option_map (λ (k : Bor Specific). k.now) c.from_residual.result ≡ first_to (joined (below_copies s)) (key_of c.args.pin.now)) c.self.view_is
-    (ap (option_map (λ (k : Bor Specific). k.now)) c.from_residual.ensures ∙ sym (c.in_err-spot.ensures (below_copies (state_of c.self.inside)) c.self.invariant.tables.below_copies))
+    subst (λ (s : State). option_map (λ (k : Bor Specific). k.now) c.from_residual.result ≡ first_to
+    (joined (below_copies s)) (key_of c.args.pin.now)) c.self.view_is
+    (ap (option_map (λ (k : Bor Specific). k.now)) c.from_residual.ensures ∙ sym
+    (c.in_err-spot.ensures (below_copies (state_of c.self.inside)) c.self.invariant.tables.below_copies))
 
 pub returns-in_err-copy : goal.returns-in_err-copy
 returns-in_err-copy c =
-    absurd (never_lacking (λ (x : CopyKept). brought_references x.refreshed) c.self.inside.copies.items (key_of c.args.pin.now) c.in_ok-spot.spot (c.in_ok-spot.ensures (below_copies (state_of c.self.inside)) c.self.invariant.tables.below_copies)
-    (sym (ap (λ (l : List CopyKept). slice_get l c.in_ok-spot.spot.list) c.deref.ensures.value) ∙ none_got c.deref.result.now c.in_ok-spot.spot.list c.get.result c.get.ensures.lookup c.in_err-copy.was))
+    absurd (never_lacking (λ (x : CopyKept). brought_references x.refreshed) c.self.inside.copies.items
+    (key_of c.args.pin.now) c.in_ok-spot.spot
+    (c.in_ok-spot.ensures (below_copies (state_of c.self.inside)) c.self.invariant.tables.below_copies)
+    (sym (ap (λ (l : List CopyKept). slice_get l c.in_ok-spot.spot.list) c.deref.ensures.value) ∙ none_got
+    c.deref.result.now c.in_ok-spot.spot.list c.get.result c.get.ensures.lookup c.in_err-copy.was))
 
 pub returns : goal.returns
 returns c =
-    subst (λ (s : State). option_map (λ (k : Bor Specific). k.now) c.get-2.result ≡ first_to (joined (below_copies s)) (key_of c.args.pin.now)) c.self.view_is
-    (at_spot (λ (x : CopyKept). brought_references x.refreshed) c.self.inside.copies.items (key_of c.args.pin.now) c.in_ok-spot.spot (c.in_ok-spot.ensures (below_copies (state_of c.self.inside)) c.self.invariant.tables.below_copies) c.in_ok-copy.copy.now c.subordinate.result.now c.get-2.result
-    (sym (ap (λ (l : List CopyKept). slice_get l c.in_ok-spot.spot.list) c.deref.ensures.value) ∙ some_got c.deref.result.now c.in_ok-spot.spot.list c.get.result c.in_ok-copy.copy c.get.ensures.lookup c.in_ok-copy.was) c.subordinate.ensures c.get-2.ensures.lookup)
+    subst (λ (s : State). option_map (λ (k : Bor Specific). k.now) c.get-2.result ≡ first_to (joined (below_copies s))
+    (key_of c.args.pin.now)) c.self.view_is
+    (at_spot (λ (x : CopyKept). brought_references x.refreshed) c.self.inside.copies.items (key_of c.args.pin.now)
+    c.in_ok-spot.spot (c.in_ok-spot.ensures (below_copies (state_of c.self.inside))
+    c.self.invariant.tables.below_copies) c.in_ok-copy.copy.now c.subordinate.result.now c.get-2.result
+    (sym (ap (λ (l : List CopyKept). slice_get l c.in_ok-spot.spot.list) c.deref.ensures.value) ∙ some_got
+    c.deref.result.now c.in_ok-spot.spot.list c.get.result c.in_ok-copy.copy c.get.ensures.lookup
+    c.in_ok-copy.was) c.subordinate.ensures c.get-2.ensures.lookup)

@@ -10,5 +10,7 @@ use Rattle.x5_holdings.proofs.holdings.Holdings.copy_at.Goals as goal
 
 pub returns : goal.returns
 returns c =
-    subst (λ (s : State). IsPlaceOf copy_view s.copies (copy_at (holdings_view s) (key_of c.args.prefix.now)) c.first.result) c.self.view_is
-    (copy_placed (state_of c.self.inside) c.self.inside.tables (key_of c.args.prefix.now) c.self.invariant.tables c.first.result c.first.ensures)
+    subst (λ (s : State). IsPlaceOf copy_view s.copies (copy_at (holdings_view s) (key_of c.args.prefix.now))
+    c.first.result) c.self.view_is
+    (copy_placed (state_of c.self.inside) c.self.inside.tables (key_of c.args.prefix.now) c.self.invariant.tables
+    c.first.result c.first.ensures)

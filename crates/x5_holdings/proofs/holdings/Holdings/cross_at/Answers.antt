@@ -13,11 +13,18 @@ use Rattle.x5_holdings.proofs.holdings.Holdings.cross_at.Goals as goal
 
 pub returns-in_err-place : goal.returns-in_err-place
 returns-in_err-place c =
-    subst (λ (s : State). option_map (λ (k : Bor Cross). cross_view k.now) c.from_residual.result ≡ specific_at (map cross_view s.cross) (key_of c.args.pin.now)) c.self.view_is
-    (ap (option_map (λ (k : Bor Cross). cross_view k.now)) c.from_residual.ensures ∙ sym (cross_placed (state_of c.self.inside) c.self.inside.tables (key_of c.args.pin.now) c.self.invariant.tables None c.in_err-place.ensures))
+    subst (λ (s : State). option_map (λ (k : Bor Cross). cross_view k.now) c.from_residual.result ≡ specific_at
+    (map cross_view s.cross) (key_of c.args.pin.now)) c.self.view_is
+    (ap (option_map (λ (k : Bor Cross). cross_view k.now)) c.from_residual.ensures ∙ sym
+    (cross_placed (state_of c.self.inside) c.self.inside.tables (key_of c.args.pin.now) c.self.invariant.tables
+    None c.in_err-place.ensures))
 
 pub returns : goal.returns
 returns c =
-    subst (λ (s : State). option_map (λ (k : Bor Cross). cross_view k.now) c.get.result ≡ specific_at (map cross_view s.cross) (key_of c.args.pin.now)) c.self.view_is
-    (viewed cross_view c.self.inside.cross c.in_ok-place.place c.get.result (specific_at (map cross_view c.self.inside.cross) (key_of c.args.pin.now))
-    (subst (λ (l : List Cross). IsItemAt l c.in_ok-place.place c.get.result) c.as_slice.ensures c.get.ensures.lookup) (cross_placed (state_of c.self.inside) c.self.inside.tables (key_of c.args.pin.now) c.self.invariant.tables (Some c.in_ok-place.place) c.in_ok-place.ensures))
+    subst (λ (s : State). option_map (λ (k : Bor Cross). cross_view k.now) c.get.result ≡ specific_at
+    (map cross_view s.cross) (key_of c.args.pin.now)) c.self.view_is
+    (viewed cross_view c.self.inside.cross c.in_ok-place.place c.get.result
+    (specific_at (map cross_view c.self.inside.cross) (key_of c.args.pin.now))
+    (subst (λ (l : List Cross). IsItemAt l c.in_ok-place.place c.get.result) c.as_slice.ensures c.get.ensures.lookup)
+    (cross_placed (state_of c.self.inside) c.self.inside.tables (key_of c.args.pin.now) c.self.invariant.tables
+    (Some c.in_ok-place.place) c.in_ok-place.ensures))

@@ -10,5 +10,7 @@ use Rattle.x5_holdings.proofs.holdings.Holdings.own_at.Goals as goal
 
 pub returns : goal.returns
 returns c =
-    subst (λ (s : State). IsPlaceOf held_view s.own (held_at (holdings_view s).own (key_of c.args.prefix.now)) c.first.result) c.self.view_is
-    (own_placed (state_of c.self.inside) c.self.inside.tables (key_of c.args.prefix.now) c.self.invariant.tables c.first.result c.first.ensures)
+    subst (λ (s : State). IsPlaceOf held_view s.own (held_at (holdings_view s).own (key_of c.args.prefix.now))
+    c.first.result) c.self.view_is
+    (own_placed (state_of c.self.inside) c.self.inside.tables (key_of c.args.prefix.now) c.self.invariant.tables
+    c.first.result c.first.ensures)

@@ -1,0 +1,4 @@
+pub mod Lowest
+pub mod Ways
+pub mod Places
+pub mod Ends
