@@ -1,0 +1,4 @@
+pub mod NodeView
+pub mod Breaches
+pub mod FormView
+pub mod StateView
