@@ -1,1 +1,9 @@
-
+mod Arcs
+mod BitLaws
+mod Cells
+mod Heads
+mod Lists
+mod Magnitudes
+mod Reading
+mod SlotLaws
+mod Nodes

@@ -1,5 +1,5 @@
 //! BIT STRING (X.690, 8.6), and the options of service controls (X.511, 7.5).
-ghost use Rattle.std.specs.Prelude.{◌≡◌, ◌<◌, ◌++◌, OnOk, IfOk, length, take};
+ghost use Rattle.std.specs.Prelude.{◌≡◌, ◌<◌, ◌++◌, OnOk, IfOk, flat_map};
 ghost use Rattle.std.specs.Option.{option_map};
 ghost use Rattle.x5_model_typed.specs.Judged as judged;
 ghost use Rattle.x5_model_typed.specs.Leaves as leaves;
@@ -11,16 +11,38 @@ use crate::node::Node;
 use std::alloc::Global;
 use x5_memory::NoMemory;
 
-/// Adds the first bits of an octet, the highest first.
-fn add_bits(bits: &mut Vec<bool>, octet: u8, count: u8) -> Result<(), NoMemory>
-    ensures { OnOk result (bits.new.items ≡ bits.old.items ++ take count (judged.bits_of_octet octet)) }
+/// One bit of an octet.
+fn bit(octet: u8, weight: u8) -> bool
+    requires { 0 < weight }
+    ensures { result ≡ judged.bit octet weight }
 {
-    for (i, weight) in [128, 64, 32, 16, 8, 4, 2, 1].iter().enumerate() {
-        if i < usize::from(count) {
-            bits.push(octet / *weight % 2 == 1)?;
-        }
-    }
+    octet / weight % 2 == 1
+}
+
+/// Adds the bits of an octet, the highest first.
+fn add_octet(bits: &mut Vec<bool>, octet: u8) -> Result<(), NoMemory>
+    ensures { OnOk result (bits.new.items ≡ bits.old.items ++ judged.bits_of_octet octet) }
+{
+    bits.push(bit(octet, 128))?;
+    bits.push(bit(octet, 64))?;
+    bits.push(bit(octet, 32))?;
+    bits.push(bit(octet, 16))?;
+    bits.push(bit(octet, 8))?;
+    bits.push(bit(octet, 4))?;
+    bits.push(bit(octet, 2))?;
+    bits.push(bit(octet, 1))?;
     Ok(())
+}
+
+/// The bits of whole octets.
+fn whole_octets(alloc: Global, octets: &[u8]) -> Result<Vec<bool>, NoMemory>
+    ensures { IfOk result (λ bits. bits.items ≡ flat_map judged.bits_of_octet octets.now) }
+{
+    let mut bits = Vec::new(alloc);
+    for octet in octets {
+        add_octet(&mut bits, *octet)?;
+    }
+    Ok(bits)
 }
 
 /// The bits of octets, of which the last one has so many unused.
@@ -28,11 +50,9 @@ fn bits_of_octets(alloc: Global, unused: u8, octets: &[u8]) -> Result<Vec<bool>,
     requires { unused < 8 }
     ensures { IfOk result (λ bits. bits.items ≡ judged.bits_of_octets unused octets.now) }
 {
-    let mut bits = Vec::new(alloc);
-    for (i, octet) in octets.iter().enumerate() {
-        let count = if octets.len() - i == 1 { 8 - unused } else { 8 };
-        add_bits(&mut bits, *octet, count)?;
-    }
+    let mut bits = whole_octets(alloc, octets)?;
+    let count = bits.len().saturating_sub(usize::from(unused));
+    bits.truncate(count);
     Ok(bits)
 }
 

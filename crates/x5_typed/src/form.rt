@@ -5,7 +5,7 @@ ghost use Rattle.x5_model_typed.specs.Layouts as layouts;
 ghost use Rattle.x5_typed.specs.FormView.{types_view, choices_view, alternative_view, content_view};
 
 /// What a request asks for (X.511).
-#[derive(Clone, Copy, Debug, PartialEq, Eq)]
+#[derive(Clone, Copy)]
 pub enum Operation {
     Read,
     Compare,
@@ -18,7 +18,7 @@ pub enum Operation {
 }
 
 /// Types by name: whole messages, and what stands in them. `docs/FORMATS.md` says what each of them is.
-#[derive(Clone, Copy, Debug, PartialEq, Eq)]
+#[derive(Clone, Copy)]
 pub enum Named {
     DapRequest,
     DapAnswer,
@@ -80,7 +80,7 @@ pub enum Named {
 }
 
 /// Which numbers an INTEGER or ENUMERATED has.
-#[derive(Clone, Copy, Debug, PartialEq, Eq)]
+#[derive(Clone, Copy)]
 pub(crate) enum Numbers {
     Any,
     /// From the first to the second.
@@ -90,7 +90,7 @@ pub(crate) enum Numbers {
 }
 
 /// Which characters a text has.
-#[derive(Clone, Copy, Debug, PartialEq, Eq)]
+#[derive(Clone, Copy)]
 pub(crate) enum Letters {
     Numeric,
     Printable,
@@ -100,7 +100,7 @@ pub(crate) enum Letters {
 }
 
 /// Contents of octets.
-#[derive(Clone, Copy, Debug, PartialEq, Eq)]
+#[derive(Clone, Copy)]
 pub(crate) enum Leaf {
     Boolean,
     Null,
@@ -117,14 +117,14 @@ pub(crate) enum Leaf {
 }
 
 /// Contents of bits.
-#[derive(Clone, Copy, Debug, PartialEq, Eq)]
+#[derive(Clone, Copy)]
 pub(crate) enum BitLeaf {
     Options,
     Segment,
 }
 
 /// A value that a component has where it isn't there.
-#[derive(Clone, Copy, Debug, PartialEq, Eq)]
+#[derive(Clone, Copy)]
 pub(crate) enum Given {
     Vacant,
     Flag(bool),
@@ -138,7 +138,7 @@ pub(crate) enum Given {
 }
 
 /// Which codes there are, and the types that they name.
-#[derive(Clone, Copy, Debug, PartialEq, Eq)]
+#[derive(Clone, Copy)]
 pub(crate) enum Codes {
     Arguments,
     Outcomes,
@@ -148,7 +148,7 @@ pub(crate) enum Codes {
 
 /// Whether a component has to be there, and what it is where it isn't. The number of a code names the type of the
 /// component behind it.
-#[derive(Clone, Copy, Debug, PartialEq, Eq)]
+#[derive(Clone, Copy)]
 pub(crate) enum Presence {
     Required,
     Default(Given),
@@ -182,7 +182,7 @@ pub(crate) enum Content {
 }
 
 /// What the whole has to be beside.
-#[derive(Clone, Copy, Debug, PartialEq, Eq)]
+#[derive(Clone, Copy)]
 pub(crate) enum Rule {
     Any,
     Name,

@@ -48,7 +48,7 @@ fn nothing<'a>(alloc: Global) -> Node<'a>
 }
 
 fn one<'a>(alloc: Global, first: Node<'a>) -> Result<Node<'a>, NoMemory>
-    ensures { IfOk result (λ n. node_view n ≡ nodes.Many (nodes.row (node_view first ∷ []))) }
+    ensures { IfOk result (λ n. node_view n ≡ nodes.Many (nodes.row (node_view first.entry ∷ []))) }
 {
     let mut parts = Vec::new(alloc);
     parts.push(first)?;
@@ -56,7 +56,7 @@ fn one<'a>(alloc: Global, first: Node<'a>) -> Result<Node<'a>, NoMemory>
 }
 
 fn two<'a>(alloc: Global, first: Node<'a>, second: Node<'a>) -> Result<Node<'a>, NoMemory>
-    ensures { IfOk result (λ n. node_view n ≡ nodes.Many (nodes.row (node_view first ∷ node_view second ∷ []))) }
+    ensures { IfOk result (λ n. node_view n ≡ nodes.Many (nodes.row (node_view first.entry ∷ node_view second.entry ∷ []))) }
 {
     let mut parts = Vec::new(alloc);
     parts.push(first)?;

@@ -35,7 +35,7 @@ fn null<'a>(octets: &[u8]) -> Option<Node<'a>>
 }
 
 fn octet_string<'a>(octets: Bytes<'a>) -> Option<Node<'a>>
-    ensures { option_view result ≡ leaves.octet_string.reads (bytes_view octets) }
+    ensures { option_view result ≡ leaves.octet_string.reads (bytes_view octets.entry) }
 {
     if octets.as_slice().len() <= MOST_OCTETS {
         Some(Node::Octets(octets))
@@ -46,7 +46,7 @@ fn octet_string<'a>(octets: Bytes<'a>) -> Option<Node<'a>>
 
 /// What the octets of a content say, which may have been joined from segments.
 pub(crate) fn read_leaf<'a>(alloc: Global, leaf: Leaf, octets: Bytes<'a>) -> Result<Option<Node<'a>>, NoMemory>
-    ensures { IfOk result (λ n. option_view n ≡ (leaf_view leaf).reads (bytes_view octets)) }
+    ensures { IfOk result (λ n. option_view n ≡ (leaf_view leaf).reads (bytes_view octets.entry)) }
 {
     match leaf {
         Leaf::Boolean => Ok(boolean(octets.as_slice())),

@@ -1,5 +1,5 @@
 //! INTEGER and ENUMERATED: two's complement in the fewest octets (X.690, 8.3 and 8.4), here eight at most.
-ghost use Rattle.std.specs.Prelude.{◌≡◌, ◌≤◌, ◌<◌, ◌-◌, ◌*◌, ◌^◌, length};
+ghost use Rattle.std.specs.Prelude.{◌≡◌, ◌≤◌, ◌<◌, ◌-◌, ◌*◌, ◌^◌, length, pos, negsuc};
 ghost use Rattle.x5_model_octets.specs.Headers.{big_endian};
 ghost use Rattle.x5_model_typed.specs.Leaves as leaves;
 ghost use Rattle.x5_typed.specs.FormView.{numbers_view};
@@ -54,12 +54,30 @@ fn complement(octets: &[u8]) -> i64
     requires { length octets.now ≤ 8 }
     ensures { result ≡ leaves.complement octets.now }
 {
+    let Some((first, _)) = octets.split_first() else {
+        return 0;
+    };
     let number = magnitude(octets);
-    match octets {
-        [] => 0,
-        [first, ..] if *first < 128 => number as i64,
-        _ => -1 - (largest(octets.len()) - number) as i64,
+    if *first < 128 {
+        from_zero(number)
+    } else {
+        below_zero(largest(octets.len()) - number)
     }
+}
+
+fn from_zero(number: u64) -> i64
+    requires { number < 2 ^ 63 }
+    ensures { result ≡ pos number }
+{
+    number as i64
+}
+
+/// The number -1 less so much.
+fn below_zero(number: u64) -> i64
+    requires { number < 2 ^ 63 }
+    ensures { result ≡ negsuc number }
+{
+    -1 - number as i64
 }
 
 fn number_of(octets: &[u8]) -> Option<i64>

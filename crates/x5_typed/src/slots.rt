@@ -164,7 +164,7 @@ pub(crate) fn sequence_awaits(left: &Left, at: usize, class: u8, tag: u32) -> Re
 }
 
 /// Whether the slot has a value.
-fn is_taken(slots: &[Option<Node<'_>>], i: usize) -> bool
+pub(crate) fn is_taken(slots: &[Option<Node<'_>>], i: usize) -> bool
     requires { i < length slots.now }
     ensures { SlotIs result i (map option_view slots.now) }
 {

@@ -1,5 +1,5 @@
 //! Where reading stands in a constructed content.
-ghost use Rattle.std.specs.Prelude.{◌≡◌, ◌≤◌, ◌<◌, ◌+◌, ◌++◌, ◌∷◌, [], map, drop, MatchResult, IfOk, OnOk, Ok, Err, Some, length, take, slice_set};
+ghost use Rattle.std.specs.Prelude.{◌≡◌, ◌≤◌, ◌<◌, ◌+◌, ◌++◌, ◌∷◌, ◌||◌, [], map, drop, MatchResult, IfOk, OnOk, Ok, Err, Some, length, take, slice_set};
 ghost use Rattle.std.specs.List.{list_all};
 ghost use Rattle.x5_model_typed.specs.Judged as judged;
 ghost use Rattle.x5_typed.specs.Breaches.{breach_view, Gives};
@@ -12,7 +12,7 @@ use crate::fault::{Breach, ReadFault, wrong_content, wrong_tag};
 use crate::form::{Choices, Component, Content, Named};
 use crate::leaf::read_leaf;
 use crate::node::{Bytes, Node};
-use crate::slots::{Awaited, Left, Step, components_in, left_behind, sequence_awaits, set_awaits};
+use crate::slots::{Awaited, Left, Step, components_in, is_taken, left_behind, sequence_awaits, set_awaits};
 use crate::table::{BIT_SEGMENT, SEGMENT, layout};
 use std::alloc::Global;
 use x5_memory::NoMemory;
@@ -126,7 +126,7 @@ impl<'a> State<'a> {
     /// What the content is that is over.
     pub(crate) fn ended(self, alloc: Global) -> Result<Option<Node<'a>>, NoMemory>
         requires { IsState self }
-        ensures { IfOk result (λ n. option_view n ≡ judged.ended (state_view self)) }
+        ensures { IfOk result (λ n. option_view n ≡ judged.ended (state_view self.entry)) }
     {
         match self.content {
             Content::Primitive(_) | Content::Never => Ok(None),
@@ -150,7 +150,7 @@ impl<'a> State<'a> {
         requires fits { Fits step self.old }
         requires state { IsState self.old }
         ensures stepped {
-            Gives (λ _ t. state_view self.new ≡ t) (judged.stepped (state_view self.old) at (step_view step) (node_view node)) result }
+            Gives (λ _ t. state_view self.new ≡ t) (judged.stepped (state_view self.old) at (step_view step) (node_view node.entry)) result }
         ensures kept { IsState self.new }
     {
         match step {
@@ -166,7 +166,7 @@ impl<'a> State<'a> {
     fn push(&mut self, at: usize, node: Node<'a>) -> Result<(), ReadFault>
         requires state { IsState self.old }
         ensures stepped {
-            Gives (λ _ t. state_view self.new ≡ t) (judged.stepped (state_view self.old) at judged.Next (node_view node)) result }
+            Gives (λ _ t. state_view self.new ≡ t) (judged.stepped (state_view self.old) at judged.Next (node_view node.entry)) result }
         ensures kept { IsState self.new }
     {
         self.nodes.push(node)?;
@@ -178,7 +178,7 @@ impl<'a> State<'a> {
         requires state { IsState self.old }
         requires fits { i < length self.old.slots.items }
         ensures stepped {
-            Ok (state_view self.new) ≡ judged.stepped (state_view self.old) at (judged.InSlot i) (node_view node) }
+            Ok (state_view self.new) ≡ judged.stepped (state_view self.old) at (judged.InSlot i) (node_view node.entry) }
         ensures kept { IsState self.new }
     {
         fill(&mut self.slots, i, node);
@@ -189,7 +189,7 @@ impl<'a> State<'a> {
         requires fits { i < length (left_view self.old.left) }
         requires sequence { IsSequence self.old }
         ensures stepped {
-            Gives (λ _ t. state_view self.new ≡ t) (judged.stepped (state_view self.old) at (judged.InPlace i) (node_view node)) result }
+            Gives (λ _ t. state_view self.new ≡ t) (judged.stepped (state_view self.old) at (judged.InPlace i) (node_view node.entry)) result }
         ensures kept { IsState self.new }
     {
         let component = self.left.component(i);
@@ -204,8 +204,8 @@ impl<'a> State<'a> {
 
 fn fill<'a>(slots: &mut Vec<Option<Node<'a>>>, i: usize, node: Node<'a>)
     requires { i < length slots.old.items }
-    ensures items { slots.new.items ≡ slice_set slots.old.items i (Some node) }
-    ensures seen { map option_view slots.new.items ≡ slice_set (map option_view slots.old.items) i (Some (node_view node)) }
+    ensures items { slots.new.items ≡ slice_set slots.old.items i (Some node.entry) }
+    ensures seen { map option_view slots.new.items ≡ slice_set (map option_view slots.old.items) i (Some (node_view node.entry)) }
     ensures count { length slots.new.items ≡ length slots.old.items }
 {
     slots[i] = Some(node);
@@ -218,7 +218,8 @@ fn push_defaults(alloc: Global, nodes: &mut Vec<Node<'_>>, left: &Left, count: u
         OnOk result (map node_view nodes.new.items ≡ map node_view nodes.old.items ++ map judged.default_of (take count (left_view left.now))) }
 {
     for i in 0..count {
-        nodes.push(left.component(i).default_node(alloc)?)?;
+        let node = left.component(i).default_node(alloc)?;
+        nodes.push(node)?;
     }
     Ok(())
 }
@@ -244,7 +245,7 @@ fn empty<'a>(alloc: Global, components: &[Component]) -> Result<Vec<Option<Node<
 
 /// The first node, if there is one.
 fn first<'a>(mut nodes: Vec<Node<'a>>) -> Option<Node<'a>>
-    ensures { option_view result ≡ judged.only (map node_view nodes.items) }
+    ensures { option_view result ≡ judged.only (map node_view nodes.entry.items) }
 {
     if nodes.is_empty() {
         None
@@ -258,7 +259,7 @@ fn with_defaults<'a>(alloc: Global, mut nodes: Vec<Node<'a>>, left: &Left) -> Re
     ensures {
         IfOk result (λ n.
             option_view n
-            ≡ judged.some_many (list_all judged.may_be_missing (left_view left.now)) (map node_view nodes.items ++ map judged.default_of (left_view left.now))) }
+            ≡ judged.some_many (list_all judged.may_be_missing (left_view left.now)) (map node_view nodes.entry.items ++ map judged.default_of (left_view left.now))) }
 {
     if !left.may_all_be_missing() {
         return Ok(None);
@@ -273,11 +274,19 @@ fn are_filled(slots: &[Option<Node<'_>>], left: &Left) -> bool
     ensures { result ≡ judged.all_filled (left_view left.now) (map option_view slots.now) }
 {
     for i in 0..left.len() {
-        if slots[i].is_none() && !left.component(i).may_be_missing() {
+        let taken = is_taken(slots, i);
+        let missing = left.component(i).may_be_missing();
+        if !either(taken, missing) {
             return false;
         }
     }
     true
+}
+
+fn either(a: bool, b: bool) -> bool
+    ensures { result ≡ (a || b) }
+{
+    a || b
 }
 
 /// Takes what stands in a slot.
@@ -290,23 +299,42 @@ fn taken<'a>(slots: &mut Vec<Option<Node<'a>>>, i: usize) -> Option<Node<'a>>
     slots[i].take()
 }
 
+/// What a component is: what stands in its slot, or its default.
+fn filled<'a>(
+    alloc: Global,
+    slots: &mut Vec<Option<Node<'a>>>,
+    left: &Left,
+    i: usize,
+) -> Result<Node<'a>, NoMemory>
+    requires slot { i < length slots.old.items }
+    requires place { i < length (left_view left.now) }
+    ensures item {
+        IfOk result (λ node.
+            judged.filled (drop i (left_view left.now)) (drop i (map option_view slots.old.items))
+            ≡ node_view node ∷ judged.filled (drop (i + 1) (left_view left.now)) (drop (i + 1) (map option_view slots.new.items))) }
+    ensures count { length slots.new.items ≡ length slots.old.items }
+{
+    match taken(slots, i) {
+        Some(node) => Ok(node),
+        None => left.component(i).default_node(alloc),
+    }
+}
+
 /// The components of a SET, where those that aren't there may be missing.
 fn with_slots<'a>(alloc: Global, mut slots: Vec<Option<Node<'a>>>, left: &Left) -> Result<Option<Node<'a>>, NoMemory>
     requires { length slots.items ≡ length (left_view left.now) }
     ensures {
         IfOk result (λ n.
             option_view n
-            ≡ judged.some_many (judged.all_filled (left_view left.now) (map option_view slots.items)) (judged.filled (left_view left.now) (map option_view slots.items))) }
+            ≡ judged.some_many (judged.all_filled (left_view left.now) (map option_view slots.entry.items)) (judged.filled (left_view left.now) (map option_view slots.entry.items))) }
 {
     if !are_filled(&slots, left) {
         return Ok(None);
     }
     let mut nodes = Vec::new(alloc);
     for i in 0..left.len() {
-        match taken(&mut slots, i) {
-            Some(node) => nodes.push(node)?,
-            None => nodes.push(left.component(i).default_node(alloc)?)?,
-        }
+        let node = filled(alloc, &mut slots, left, i)?;
+        nodes.push(node)?;
     }
     Ok(Some(Node::Many(nodes)))
 }

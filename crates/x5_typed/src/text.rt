@@ -1,8 +1,12 @@
 //! Strings of characters (X.690, 8.23; X.680, section 41).
-ghost use Rattle.std.specs.Prelude.{◌≡◌, IfOk};
+ghost use Rattle.std.specs.Prelude.{◌≡◌, ◌++◌, ◌<◌, IfOk, OnOk, MatchOption, None, Some, codes, drop, true, length, ◌≤◌, ◌+◌, string_bytes, encode_utf8};
 ghost use Rattle.std.specs.List.{list_all};
+ghost use Rattle.std.specs.Option.{option_map};
 ghost use Rattle.x5_model.specs.Normal as normal;
+ghost use Rattle.x5_model.specs.Words.{same_octets};
 ghost use Rattle.x5_model_typed.specs.Leaves as leaves;
+ghost use Rattle.x5_model_typed.specs.Nodes as nodes;
+ghost use Rattle.x5_typed.specs.Cells.{Cell, Cut, encoded};
 ghost use Rattle.x5_typed.specs.FormView.{letters_view};
 ghost use Rattle.x5_typed.specs.NodeView.{bytes_view, option_view};
 
@@ -19,13 +23,13 @@ fn is_length(text: &[u8]) -> bool
     !text.is_empty() && text.len() <= MOST_OCTETS
 }
 
-fn is_printable(octet: u8) -> bool
+pub(crate) fn is_printable(octet: u8) -> bool
     ensures { result ≡ normal.is_printable octet }
 {
     octet.is_ascii_alphanumeric() || b" '()+,-./:=?".contains(&octet)
 }
 
-fn is_numeric(octet: u8) -> bool
+pub(crate) fn is_numeric(octet: u8) -> bool
     ensures { result ≡ leaves.is_numeric octet }
 {
     octet.is_ascii_digit() || octet == b' '
@@ -46,29 +50,56 @@ fn begins_with_letter(text: &[u8]) -> bool
     }
 }
 
+fn all_in_agent(text: &[u8]) -> bool
+    ensures { result ≡ list_all leaves.may_stand_in_agent text.now }
+{
+    text.iter().all(|octet| may_stand_in_agent(*octet))
+}
+
+fn is_user(text: &[u8]) -> bool
+    ensures { result ≡ same_octets text.now (codes "user") }
+{
+    text == b"user".as_slice()
+}
+
 fn is_agent_name(text: &[u8]) -> bool
     ensures { result ≡ leaves.is_agent_name text.now }
 {
-    begins_with_letter(text)
-        && text.iter().all(|octet| may_stand_in_agent(*octet))
-        && text.len() <= 32
-        && *text != *b"user"
+    begins_with_letter(text) && all_in_agent(text) && text.len() <= 32 && !is_user(text)
+}
+
+fn all_numeric(text: &[u8]) -> bool
+    ensures { result ≡ list_all leaves.is_numeric text.now }
+{
+    text.iter().all(|octet| is_numeric(*octet))
+}
+
+fn all_printable(text: &[u8]) -> bool
+    ensures { result ≡ list_all normal.is_printable text.now }
+{
+    text.iter().all(|octet| is_printable(*octet))
+}
+
+fn all_seven_bit(text: &[u8]) -> bool
+    ensures { result ≡ list_all leaves.is_seven_bit text.now }
+{
+    text.iter().all(|octet| *octet < 128)
 }
 
 fn is_text(letters: Letters, text: &[u8]) -> bool
     ensures { result ≡ letters_view letters text.now }
 {
     match letters {
-        Letters::Numeric => text.iter().all(|octet| is_numeric(*octet)) && is_length(text),
-        Letters::Printable => text.iter().all(|octet| is_printable(*octet)) && is_length(text),
-        Letters::SevenBit => text.iter().all(|octet| *octet < 128) && is_length(text),
+        Letters::Numeric => all_numeric(text) && is_length(text),
+        Letters::Printable => all_printable(text) && is_length(text),
+        Letters::SevenBit => all_seven_bit(text) && is_length(text),
         Letters::Agent => is_agent_name(text),
     }
 }
 
 /// The text, where its characters may stand there.
 pub(crate) fn text<'a>(letters: Letters, octets: Bytes<'a>) -> Option<Node<'a>>
-    ensures { option_view result ≡ (leaves.text_where (letters_view letters)).reads (bytes_view octets) }
+    ensures { option_view result ≡ (leaves.text_where (letters_view letters)).reads (bytes_view octets.entry) }
 {
     if is_text(letters, octets.as_slice()) {
         Some(Node::Text(octets))
@@ -77,36 +108,72 @@ pub(crate) fn text<'a>(letters: Letters, octets: Bytes<'a>) -> Option<Node<'a>>
     }
 }
 
-/// Adds the character of four octets, if they are one's number.
-fn add_character(text: &mut String, cell: &[u8]) -> Result<bool, NoMemory>
+/// The number of four octets, the highest first.
+fn cell_at(octets: &[u8], at: usize) -> Option<u32>
+    requires { at ≤ length octets.now }
+    ensures {
+        MatchOption result
+        (Cut (drop at octets.now))
+        (λ n. Cell n (drop at octets.now) (drop (at + 4) octets.now)) }
 {
-    let [a, b, c, d] = cell else {
-        return Ok(false);
-    };
-    let Some(character) = char::from_u32(u32::from_be_bytes([*a, *b, *c, *d])) else {
-        return Ok(false);
-    };
-    text.push(character)?;
-    Ok(true)
+    if octets.len() - at < 4 {
+        return None;
+    }
+    let high = u32::from(octets[at]) * 256 + u32::from(octets[at + 1]);
+    let low = u32::from(octets[at + 2]) * 256 + u32::from(octets[at + 3]);
+    Some(high * 65536 + low)
+}
+
+/// Adds the character of the number, if it is one's.
+fn add_character(text: &mut String, number: u32) -> Result<bool, NoMemory>
+    ensures {
+        IfOk result (λ added. (added ≡ leaves.is_character number)
+            × (added ≡ true → string_bytes text.new ≡ string_bytes text.old ++ encode_utf8 number)) }
+{
+    match char::from_u32(number) {
+        Some(character) => {
+            text.push(character)?;
+            Ok(true)
+        }
+        None => Ok(false),
+    }
 }
 
 /// The octets of UTF-8 of the characters that the octets are, four each, the highest first.
-pub(crate) fn universal<'a>(alloc: Global, octets: &[u8]) -> Result<Option<Node<'a>>, NoMemory>
-    ensures { IfOk result (λ n. option_view n ≡ leaves.universal_string.reads octets.now) }
+fn characters(alloc: Global, octets: &[u8]) -> Result<Option<String>, NoMemory>
+    ensures { IfOk result (λ text. option_map string_bytes text ≡ encoded (leaves.cells octets.now)) }
 {
     let mut text = String::new(alloc);
     let mut at = 0;
     while at < octets.len() {
-        let end = octets.len().min(at + 4);
-        if !add_character(&mut text, &octets[at..end])? {
+        let Some(number) = cell_at(octets, at) else {
+            return Ok(None);
+        };
+        if !add_character(&mut text, number)? {
             return Ok(None);
         }
-        at = end;
+        at += 4;
     }
-    let text = text.into_bytes();
-    Ok(if is_length(&text) {
+    Ok(Some(text))
+}
+
+/// The text of characters of four octets each.
+pub(crate) fn universal<'a>(alloc: Global, octets: &[u8]) -> Result<Option<Node<'a>>, NoMemory>
+    ensures { IfOk result (λ n. option_view n ≡ leaves.universal_string.reads octets.now) }
+{
+    let Some(text) = characters(alloc, octets)? else {
+        return Ok(None);
+    };
+    Ok(kept(text.into_bytes()))
+}
+
+/// The text, where it isn't too long.
+fn kept<'a>(text: Vec<u8>) -> Option<Node<'a>>
+    ensures { option_view result ≡ leaves.where_so (leaves.is_length text.items) (nodes.Text text.items) }
+{
+    if is_length(&text) {
         Some(Node::Text(Bytes::Kept(text)))
     } else {
         None
-    })
+    }
 }
