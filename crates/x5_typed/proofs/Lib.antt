@@ -1,9 +1,13 @@
 mod Arcs
 mod BitLaws
 mod Cells
+mod Controls
 mod Heads
+mod InOrder
 mod Lists
 mod Magnitudes
 mod Reading
 mod SlotLaws
+mod TwoParts
 mod Nodes
+mod Pairs

@@ -1,5 +1,5 @@
 -- The code's values as the definitions see them.
-use Rattle.std.specs.Prelude.{ℕ, List}
+use Rattle.std.specs.Prelude.{ℕ, List, [], ◌∷◌}
 use Rattle.std.specs.declared.option.Option.{Option}
 use Rattle.std.specs.declared.option.Option.TheVariants.{None, Some}
 use Rattle.x5_model_typed.specs.Nodes as nodes
@@ -30,3 +30,9 @@ abbrev mutual
 abbrev pub option_view : Option Node → Option nodes.Node
 option_view None = None
 option_view (Some n) = Some (node_view n)
+
+-- None, one, or three and more.
+pub data IsNotTwo : List nodes.Node → Type 0 where
+  none : IsNotTwo []
+  one : {a : nodes.Node} → IsNotTwo (a ∷ [])
+  three : {a b c : nodes.Node} {others : List nodes.Node} → IsNotTwo (a ∷ b ∷ c ∷ others)

@@ -1,7 +1,7 @@
 //! Values of types, as trees of what their elements say.
-ghost use Rattle.std.specs.Prelude.{◌≡◌, map};
+ghost use Rattle.std.specs.Prelude.{◌≡◌, ◌∷◌, [], map, MatchOption};
 ghost use Rattle.x5_model_typed.specs.Nodes as nodes;
-ghost use Rattle.x5_typed.specs.NodeView.{bytes_view, node_view};
+ghost use Rattle.x5_typed.specs.NodeView.{bytes_view, node_view, IsNotTwo};
 
 /// Octets of the input, or octets that were put together.
 #[derive(Drop)]
@@ -50,5 +50,19 @@ impl<'a> Node<'a> {
             Node::Many(members) => members,
             _ => &[],
         }
+    }
+
+    /// Its two components or members, if it has just two.
+    pub(crate) fn two_parts(&self) -> Option<(&Node<'a>, &Node<'a>)>
+        ensures {
+            MatchOption result
+            (IsNotTwo (nodes.parts (node_view self.now)))
+            (λ p. nodes.parts (node_view self.now) ≡ node_view p.0.now ∷ node_view p.1.now ∷ []) }
+    {
+        let parts = self.parts();
+        if parts.len() != 2 {
+            return None;
+        }
+        Some((&parts[0], &parts[1]))
     }
 }

@@ -1,5 +1,5 @@
 //! Pairs of a type and a value, and RDNs of them (X.501, section 8).
-ghost use Rattle.std.specs.Prelude.{◌≡◌, ◌≤◌, ◌<◌, ◌&&◌, ◌++◌, ◌∷◌, nat_lt, IfOk, OnOk, map, not, length};
+ghost use Rattle.std.specs.Prelude.{◌≡◌, ◌≤◌, ◌&&◌, nat_lt, nat_le, IfOk, OnOk, map, not, length};
 ghost use Rattle.std.specs.List.{list_all, list_any, position_or_len};
 ghost use Rattle.std.specs.Char.{is_ascii_digit};
 ghost use Rattle.x5_model.specs.Normal as normal;
@@ -91,28 +91,37 @@ fn names(kind: TypeId, value: &Node<'_>) -> bool
 }
 
 /// A type that may name, and a value of its kind.
+#[tactic(auto, using(crate::proofs::TwoParts::pair_wrong))]
 pub(crate) fn is_pair(node: &Node<'_>) -> bool
     ensures { result ≡ rules.is_pair (node_view node.now) }
 {
-    match node.parts() {
-        [kind, value] => match known_type(kind) {
+    match node.two_parts() {
+        Some((kind, value)) => match known_type(kind) {
             Some(kind) => names(kind, value),
             None => false,
         },
-        _ => false,
+        None => false,
     }
 }
 
 /// The number of a pair's type.
+#[tactic(auto, using(crate::proofs::TwoParts::pair_missing))]
 fn number_in(node: &Node<'_>) -> u8
     ensures { result ≡ (rules.pair_in (node_view node.now)).0 }
 {
-    match node.parts() {
-        [kind, _] => match known_type(kind) {
-            Some(kind) => kind.number(),
-            None => 0,
-        },
-        _ => 0,
+    match node.two_parts() {
+        Some((kind, _)) => type_number(kind),
+        None => 0,
+    }
+}
+
+/// The number of the type that the node says.
+fn type_number(node: &Node<'_>) -> u8
+    ensures { result ≡ rules.type_number (node_view node.now) }
+{
+    match known_type(node) {
+        Some(kind) => kind.number(),
+        None => 0,
     }
 }
 
@@ -178,8 +187,17 @@ pub(crate) fn rdn<'a>(alloc: Global, node: Node<'a>) -> Result<Option<Node<'a>>,
     let Node::Many(pairs) = node else {
         return Ok(None);
     };
-    if pairs.is_empty() || pairs.len() > MOST_PAIRS || !are_distinct(&pairs) {
+    if !are_pairs(&pairs) {
         return Ok(None);
     }
     Ok(Some(Node::Many(in_order(alloc, pairs)?)))
+}
+
+/// One to four of different types.
+fn are_pairs(pairs: &[Node<'_>]) -> bool
+    ensures {
+        result
+        ≡ (nat_lt 0 (length pairs.now) && nat_le (length pairs.now) normal.most_pairs && distinct rules.same_type (map node_view pairs.now)) }
+{
+    !pairs.is_empty() && pairs.len() <= MOST_PAIRS && are_distinct(pairs)
 }

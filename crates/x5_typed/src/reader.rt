@@ -1,5 +1,5 @@
 //! Reads octets as a value of a type: first as an element, whatever its type (X.690), and then by its type.
-ghost use Rattle.std.specs.Prelude.{◌≡◌, ℕ, ◌<◌, ◌≤◌, ◌+◌, List, Result, IfOk, IfErr, Ok, Some, length, drop, true, false};
+ghost use Rattle.std.specs.Prelude.{◌≡◌, ℕ, ◌<◌, ◌≤◌, ◌+◌, List, Result, IfOk, IfErr, IfSome, Ok, Some, length, drop, true, false};
 ghost use Rattle.std.specs.Option.{option_map};
 ghost use Rattle.x5_model_octets.specs.Faults as faults;
 ghost use Rattle.x5_model_octets.specs.Faults.{begins_with_end, head_at, outermost};
@@ -76,11 +76,9 @@ fn read_piece<'a>(
         → head_at outermost bytes.now at ≡ Ok (head_view head) → head.identifier.constructed ≡ false
         → Gives (λ m n. (node_view m.0 ≡ n) × (m.1 ≡ at + length octets)) (judged.judged table (choices_view choices) t) result }
 {
-    let extent = head.extent.unwrap_or(0) as usize;
-    if bytes.len() - head.content < extent {
-        return Err(ReadFault::Breach(Breach::Ber(BerFault::Truncated(bytes.len()))));
-    }
-    let end = head.content + extent;
+    let Some(end) = end_of(bytes, head)? else {
+        return Err(ReadFault::Breach(wrong_content(at)));
+    };
     let octets = &bytes[head.content..end];
     let node = read_octets(alloc, octets, choices, at, head.identifier.class, head.identifier.tag)?;
     Ok((node, end))
@@ -138,6 +136,7 @@ fn read_open<'a>(
 fn end_of(bytes: &[u8], head: Head) -> Result<Option<usize>, ReadFault>
     requires inside { head.content ≤ length bytes.now }
     ensures end { IfOk result (λ end. end ≡ option_map (λ n. head.content + n) head.extent) }
+    ensures within { IfOk result (λ end. IfSome end (λ e. (head.content ≤ e) × (e ≤ length bytes.now))) }
     ensures none { IfErr result (λ f. (n : ℕ) × (head.extent ≡ Some n) × (length bytes.now < head.content + n)) }
 {
     let Some(extent) = head.extent else {

@@ -1,5 +1,5 @@
 //! What values of types have to be as wholes, and as what they are kept.
-ghost use Rattle.std.specs.Prelude.{◌≡◌, ◌<◌, ◌≤◌, IfOk, OnOk, map, not, length};
+ghost use Rattle.std.specs.Prelude.{◌≡◌, ◌&&◌, ◌||◌, IfOk, map, not};
 ghost use Rattle.x5_model.specs.Words.{is_empty};
 ghost use Rattle.x5_model_typed.specs.Leaves.{where_so};
 ghost use Rattle.x5_model_typed.specs.Nodes as nodes;
@@ -74,11 +74,18 @@ fn in_their_places(parts: &[Node<'_>]) -> bool
     ensures { result ≡ rules.in_their_places (map node_view parts.now) }
 {
     for i in 1..parts.len() {
-        if is_final(&parts[i - 1]) || is_initial(&parts[i]) {
+        if !may_follow(&parts[i - 1], &parts[i]) {
             return false;
         }
     }
     true
+}
+
+/// Whether one part may stand behind the other.
+fn may_follow(part: &Node<'_>, next: &Node<'_>) -> bool
+    ensures { result ≡ (not (rules.is_final (node_view part.now)) && not (rules.is_initial (node_view next.now))) }
+{
+    !is_final(part) && !is_initial(next)
 }
 
 /// Parts of a substrings item (X.511, 7.8.2): one or more, each in its place.
@@ -100,13 +107,20 @@ fn is_vacant(node: &Node<'_>) -> bool
     matches!(node, Node::Vacant)
 }
 
+fn is_next(proceeding: bool, vacant: bool) -> bool
+    ensures { result ≡ ((proceeding && not vacant) || (not proceeding && vacant)) }
+{
+    proceeding != vacant
+}
+
 /// The next RDN is there exactly where name resolution is proceeding (X.518, 10.5).
+#[tactic(auto, using(crate::proofs::TwoParts::progress_wrong))]
 fn is_progress(node: &Node<'_>) -> bool
     ensures { where_so result (node_view node.now) ≡ rules.progress_rule (node_view node.now) }
 {
-    match node.parts() {
-        [phase, next] => is_proceeding(phase) != is_vacant(next),
-        _ => false,
+    match node.two_parts() {
+        Some((phase, next)) => is_next(is_proceeding(phase), is_vacant(next)),
+        None => false,
     }
 }
 

@@ -11,7 +11,7 @@ pub returns-clause-item : goal.returns-clause-item
 returns-clause-item c =
     let items = c.args.slots.now.items in
     mapped_more option_view items c.args.i c.index_mut.result.now c.requires
-    ∙ ap (λ (o : Option Node). option_view o ∷ drop (c.args.i + 1) (map option_view items)) (?)
+    ∙ ap (λ (o : Option Node). option_view o ∷ drop (c.args.i + 1) (map option_view items)) (sym c.index_mut.ensures.value ∙ sym c.take.ensures.value)
 
 pub returns-clause-later : goal.returns-clause-later
 returns-clause-later c =
