@@ -2,6 +2,7 @@ mod Arcs
 mod BitLaws
 mod Cells
 mod Controls
+mod Elements
 mod Heads
 mod InOrder
 mod Lists
@@ -9,5 +10,6 @@ mod Magnitudes
 mod Reading
 mod SlotLaws
 mod TwoParts
+mod Whole
 mod Nodes
 mod Pairs

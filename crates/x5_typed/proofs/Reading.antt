@@ -1,5 +1,6 @@
 -- What is given where an element, or members, lie in octets.
-use Rattle.std.proofs.Common.{◌≡◌, ◌<◌, ◌≤◌, ◌+◌, ◌++◌, ℕ, Bool, true, false, List, ◌∷◌, [], drop, length, ap, sym, ◌∙◌, refl, arith, nat_le, append_assoc, length-append, subst}
+use Rattle.std.proofs.Common.{◌≡◌, ◌<◌, ◌≤◌, ◌+◌, ◌-◌, ◌++◌, ℕ, Bool, true, false, List, ◌∷◌, [], take, drop, length, ap, sym, ◌∙◌, refl, arith, nat_le, append_assoc, length-append, subst}
+use Rattle.std.specs.Option.{option_map}
 use Rattle.std.specs.declared.option.Option.{Option}
 use Rattle.std.specs.declared.option.Option.TheVariants.{None, Some}
 use Rattle.std.specs.declared.result.Result.{Result}
@@ -23,7 +24,7 @@ use Rattle.x5_typed.specs.Breaches.{Gives}
 use Rattle.x5_typed.specs.FormView.{table}
 use Rattle.x5_typed.specs.NodeView.{node_view, option_view}
 use Rattle.x5_typed.specs.Places.{EndsAt, behind, is_over_at}
-use Rattle.x5_typed.proofs.Heads.{lies_tests, stands_front, stands_behind, leaf_is, branch_is}
+use Rattle.x5_typed.proofs.Heads.{lies_tests, stands_front, stands_behind, leaf_is, branch_is, LeafIs, BranchIs}
 
 -- ---- what is given
 
@@ -186,3 +187,31 @@ member_steps s t at head a n h e g =
 pub opened : (types : List forms.Alternative) (a : forms.Alternative) (at class tag : ℕ) (ts : Trees) (r : Result State Breach) → forms.by_tag class tag types ≡ Some a
     → judged_all table (judged.begun at a.content) ts ≡ r → judged.judged table types (Branch at class tag ts) ≡ and_then (λ s. judged.settled at a (judged.ended s)) r
 opened types a at class tag ts r is e = rw is (ap (λ (q : Result State Breach). and_then (λ s. judged.settled at a (judged.ended s)) q) e)
+
+-- ---- a primitive element
+
+pub piece_same : (bytes : List ℕ) (at : ℕ) (head : Head) (t : Tree) (octets : List ℕ) (b : LeafIs bytes at head t octets) (types : List forms.Alternative) (end : ℕ) (part : List ℕ)
+    → Some end ≡ option_map (λ (n : ℕ). head.content + n) head.extent → part ≡ take (end - head.content) (drop head.content bytes)
+    → (judged.judged table types t ≡ judged.judged table types (Leaf at head.identifier.class head.identifier.tag part)) × (end ≡ at + length octets)
+piece_same bytes at head t octets b types end part e is =
+    let known : Some end ≡ Some (head.content + length b.content) = e ∙ ap (λ (x : Option ℕ). option_map (λ (n : ℕ). head.content + n) x) b.extent in
+    let there : end ≡ head.content + length b.content = cc known in
+    let size : end - head.content ≡ length b.content = omega (arith, there) in
+    let same : part ≡ b.content = is ∙ ap (λ (k : ℕ). take k (drop head.content bytes)) size ∙ b.part in
+    (ap (λ (u : Tree). judged.judged table types u) b.tree ∙ ap (λ (o : List ℕ). judged.judged table types (Leaf at head.identifier.class head.identifier.tag o)) (sym same), there ∙ b.next)
+
+pub no_end : (bytes : List ℕ) (at : ℕ) (head : Head) (t : Tree) (octets : List ℕ) (b : LeafIs bytes at head t octets) → None ≡ option_map (λ (n : ℕ). head.content + n) head.extent → ⊥
+no_end bytes at head t octets b e =
+    let known : None ≡ Some (head.content + length b.content) = e ∙ ap (λ (x : Option ℕ). option_map (λ (n : ℕ). head.content + n) x) b.extent in
+    cc known
+
+pub no_fault : (bytes : List ℕ) (at : ℕ) (head : Head) (t : Tree) (octets : List ℕ) (b : LeafIs bytes at head t octets) (n : ℕ) → Stands bytes at octets → head.extent ≡ Some n → length bytes < head.content + n → ⊥
+no_fault bytes at head t octets b n s e less =
+    let same : Some n ≡ Some (length b.content) = sym e ∙ b.extent in
+    let is : n ≡ length b.content = cc same in
+    omega (arith, less, is, b.next, s.there)
+
+pub no_open_fault : (bytes : List ℕ) (depth at : ℕ) (head : Head) (t : Tree) (octets : List ℕ) (b : BranchIs bytes depth at head t octets) (n : ℕ) → head.extent ≡ Some n → length bytes < head.content + n → ⊥
+no_open_fault bytes depth at head t octets b n e less =
+    let there : EndsAt bytes (Some (head.content + n)) (head.content + length b.content) = subst (λ (x : Option ℕ). EndsAt bytes (option_map (λ (n : ℕ). head.content + n) x) (head.content + length b.content)) e b.ends in
+    omega (arith, less, there, b.stand.there)

@@ -212,7 +212,20 @@ fn read_members<'a>(
     while !is_over(bytes, place, end) {
         place = read_member(alloc, bytes, place, state)?;
     }
-    Ok(if end.is_none() { place + 2 } else { place })
+    Ok(past_end(bytes, place, end))
+}
+
+/// The place behind a content that is over at the place.
+fn past_end(bytes: &[u8], place: usize, end: Option<usize>) -> usize
+    requires inside { place ≤ length bytes.now }
+    requires over { is_over_at bytes.now place end ≡ true }
+    ensures next { result ≡ behind end place }
+    ensures inside { (place ≤ result) × (result ≤ length bytes.now) }
+{
+    match end {
+        None => place + 2,
+        Some(_) => place,
+    }
 }
 
 /// Reads the member at the place: the place behind it.

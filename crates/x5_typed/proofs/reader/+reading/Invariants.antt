@@ -3,6 +3,7 @@ use Rattle.std.proofs.Common.{◌≡◌, ◌≤◌, ◌+◌, ◌-◌, ◌*◌, �
 use Rattle.x5_ber.specs.Reading.{Stands}
 use Rattle.x5_model_typed.specs.Trees as trees
 use Rattle.x5_typed.specs.Ahead.{Ahead}
+use Rattle.x5_typed.specs.Places.{EndsAt}
 use Rattle.x5_typed.specs.StateView.{state_view, IsState}
 use Rattle.x5_typed.proofs.reader.+reading.Given as goal
 
@@ -27,6 +28,7 @@ invariant-read_members-loop-alloc l = record {
   order : l.start ≤ l.place;
   inside : l.place ≤ length l.bytes;
   ahead : (depth : ℕ) (ts : trees.Trees) (octets : List ℕ) → trees.LieAll depth l.start ts octets → Stands l.bytes l.start octets
+    → EndsAt l.bytes l.end (l.start + length octets)
     → Ahead l.bytes depth l.start ts octets (state_view l.fn.state) l.place (state_view l.state);
 }
 
