@@ -169,3 +169,18 @@ pub one_wrong_is : (bytes : List ℕ) (depth start : ℕ) (ts : Trees) (octets :
 one_wrong_is bytes depth start ts octets begun place now end w new r a e going read is =
     subst (λ (x : Result ℕ ReadFault). Gives (λ (n : ℕ) s. (new ≡ s) × (n ≡ behind end (start + length octets))) (judged_all table begun ts) x) (sym is)
     (one_wrong bytes depth start ts octets begun place now end w new a e going read)
+
+-- ---- all octets
+
+pub whole_wrong : (types these : List forms.Alternative) (t : Tree) (next : ℕ) (w : ReadFault) (r : Result Node ReadFault) → types ≡ these
+    → Gives (ReadTo next) (judged.judged table types t) (Err w) → r ≡ Err w → Gives (λ m n. node_view m ≡ n) (judged.judged table these t) r
+whole_wrong types these t next w r same g is =
+    subst (λ (x : Result Node ReadFault). Gives (λ m n. node_view m ≡ n) (judged.judged table these t) x) (sym is)
+    (subst (λ (k : List forms.Alternative). Gives {X = Node} (λ m n. node_view m ≡ n) (judged.judged table k t) (Err w)) same
+    (gives_more (ReadTo next) (λ (m : Node) (n : nodes.Node). node_view m ≡ n) (judged.judged table types t) w g))
+
+pub whole_read : (types these : List forms.Alternative) (t : Tree) (next : ℕ) (node : Node) (place : ℕ) → types ≡ these
+    → Gives (ReadTo next) (judged.judged table types t) (Ok (node, place)) → Gives {X = Node} (λ m n. node_view m ≡ n) (judged.judged table these t) (Ok node)
+whole_read types these t next node place same g =
+    subst (λ (k : List forms.Alternative). Gives {X = Node} (λ m n. node_view m ≡ n) (judged.judged table k t) (Ok node)) same
+    (gives_is (ReadTo next) (λ (m : Node) (n : nodes.Node). node_view m ≡ n) (judged.judged table types t) (node, place) node (λ n h. h.0) g)

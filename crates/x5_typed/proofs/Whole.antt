@@ -1,5 +1,5 @@
 -- What reading octets comes to: one first fault, or one element with octets behind it or none.
-use Rattle.std.proofs.Common.{◌≡◌, ◌<◌, ◌≤◌, ◌+◌, ◌++◌, ℕ, zero, List, [], ◌∷◌, length, drop, refl, ap, sym, ◌∙◌, subst, arith, append-nil, length-append, length-drop, zero-add}
+use Rattle.std.proofs.Common.{◌≡◌, ◌<◌, ◌≤◌, ◌+◌, ◌++◌, ℕ, zero, List, [], ◌∷◌, length, drop, refl, ap, sym, ◌∙◌, subst, arith, append-nil, length-append, length-drop, zero-add, IfOk}
 use Rattle.std.specs.declared.result.Result.{Result}
 use Rattle.std.specs.declared.result.Result.TheVariants.{Ok, Err}
 use Rattle.x5_model_octets.specs.Elements.{Element, Elements, Primitive, Constructed, Nil, More, Spells, SpellsAll, Encloses, definite, indefinite}
@@ -24,7 +24,20 @@ use Rattle.x5_typed.specs.Breaches.{Gives, breach_view}
 use Rattle.x5_typed.specs.Comes.{ComesTo, faulty, more, whole}
 use Rattle.x5_typed.specs.FormView.{table}
 use Rattle.x5_typed.specs.NodeView.{node_view}
+use Rattle.x5_model_typed.specs.Typed.{Spells as SpellsValue}
+use Rattle.x5_model_typed.proofs.Soundness.{judged_is}
 use Rattle.x5_typed.proofs.Heads.{stands_at}
+use Rattle.x5_typed.proofs.Reading.{gives_ok}
+
+-- With the places of its members wherever its content begins.
+enclosed : (d at class tag : ℕ) (s content : List ℕ) → d ≤ Rattle.x5_model_octets.specs.Elements.deepest → Encloses class tag content s → ((place : ℕ) → (ts : Trees) × LieAll (d + 1) place ts content)
+    → (t : Tree) × Lies d at t s
+enclosed d at class tag s content deep (definite header is e) all =
+    let inner = all (at + length header) in
+    (Branch at class tag inner.0, (refl, deep, header, content, inner.1, trees.definite is e))
+enclosed d at class tag s content deep (indefinite header is e) all =
+    let inner = all (at + length header) in
+    (Branch at class tag inner.0, (refl, deep, header, content, inner.1, trees.indefinite is e))
 
 mutual
   -- What is spelled lies there as a tree.
@@ -38,15 +51,6 @@ mutual
       let first = placed d at e p.0 p.2 in
       let others = placed_all d (at + length p.0) es p.1 p.3 in
       (Row first.0 others.0, (p.0, p.1, first.1, others.1, p.4))
-
-  enclosed : (d at class tag : ℕ) (s content : List ℕ) → d ≤ Rattle.x5_model_octets.specs.Elements.deepest → Encloses class tag content s → ((place : ℕ) → (ts : Trees) × LieAll (d + 1) place ts content)
-      → (t : Tree) × Lies d at t s
-  enclosed d at class tag s content deep (definite header is e) all =
-      let inner = all (at + length header) in
-      (Branch at class tag inner.0, (refl, deep, header, content, inner.1, trees.definite is e))
-  enclosed d at class tag s content deep (indefinite header is e) all =
-      let inner = all (at + length header) in
-      (Branch at class tag inner.0, (refl, deep, header, content, inner.1, trees.indefinite is e))
 
 -- All octets stand at their beginning, and so does a front of them.
 pub front_stands : (octets first rest : List ℕ) → octets ≡ first ++ rest → Stands octets 0 first
@@ -100,3 +104,10 @@ tree_of octets next e s full p stand is = by (drop (0 + length s) octets) stand.
         let same : s ≡ octets = sym (e' ∙ append-nil s) in
         ((placed 1 0 e s p).0, subst (λ (o : List ℕ). Lies 1 0 (placed 1 0 e s p).0 o) same (placed 1 0 e s p).1)
     by (o ∷ rest) e' = absurd (omega (arith, full, is, ap length e', length-append s (o ∷ rest)))
+
+pub spelled_by : (form : Named) (octets : List ℕ) (t : Tree) (r : Result Node ReadFault) → Lies 1 0 t octets → Gives (λ m n. node_view m ≡ n) (judged.judged table (table form) t) r
+    → IfOk r (λ m. SpellsValue table form octets (node_view m))
+spelled_by form octets t (Ok m) l g =
+    let found = gives_ok (λ (m : Node) (n : nodes.Node). node_view m ≡ n) (judged.judged table (table form) t) m g in
+    record { tree = t; lies = l; is_of = judged_is table t (table form) (node_view m) (found.1 ∙ ap (λ (n : nodes.Node). Ok n) (sym found.2)) }
+spelled_by form octets t (Err f) l g = tt
