@@ -1,6 +1,5 @@
 -- Controls are kept without their second and third components.
-use Rattle.std.proofs.Common.{◌≡◌, List, [], ◌∷◌, length, map, slice_set, refl, ap, sym, ◌∙◌, arith, Vec, Global}
-use Rattle.std.specs.declared.option.Option.{Option}
+use Rattle.std.proofs.Common.{◌≡◌, List, [], ◌∷◌, length, map, slice_set, refl, ap, ◌∙◌, arith, Vec, Global}
 use Rattle.std.specs.declared.option.Option.TheVariants.{None, Some}
 use Rattle.x5_model_typed.specs.Nodes as nodes
 use Rattle.x5_model_typed.specs.Rules as rules
@@ -17,10 +16,14 @@ kept n (a ∷ b ∷ c ∷ []) e four = absurd (omega (arith, four))
 kept n (a ∷ b ∷ c ∷ d ∷ []) e four = rw e refl
 kept n (a ∷ b ∷ c ∷ d ∷ f ∷ l) e four = absurd (omega (arith, four))
 
-pub controls_are : (v w : Vec Node Global) → w.items ≡ slice_set (slice_set v.items 1 Vacant) 2 Vacant → length v.items ≡ 4 → Some (node_view (Many w)) ≡ rules.controls_rule (node_view (Many v))
-controls_are v w e four = ap (λ (n : nodes.Node). Some n) (many_is w (slice_set (slice_set v.items 1 Vacant) 2 Vacant) e) ∙ kept (node_view (Many v)) v.items (parts_are v) four
+pub controls_are : (v w : Vec Node Global) → w.items ≡ slice_set (slice_set v.items 1 Vacant) 2 Vacant
+    → length v.items ≡ 4 → Some (node_view (Many w)) ≡ rules.controls_rule (node_view (Many v))
+controls_are v w e four = ap (λ (n : nodes.Node). Some n)
+    (many_is w (slice_set (slice_set v.items 1 Vacant) 2 Vacant) e)
+    ∙ kept (node_view (Many v)) v.items (parts_are v) four
 
-none_kept : (n : nodes.Node) (l : List Node) → nodes.parts n ≡ map node_view l → (length l ≡ 4 → ⊥) → None ≡ rules.controls_rule n
+none_kept : (n : nodes.Node) (l : List Node) → nodes.parts n ≡ map node_view l → (length l ≡ 4 → ⊥)
+    → None ≡ rules.controls_rule n
 none_kept n [] e other = rw e refl
 none_kept n (a ∷ []) e other = rw e refl
 none_kept n (a ∷ b ∷ []) e other = rw e refl

@@ -14,5 +14,9 @@ pub rdn_is : (n : nodes.Node) (l : List Node) (r : Bool) → nodes.parts n ≡ m
     → where_so r (nodes.Many (nodes.row (sorted rules.pair_below (map node_view l)))) ≡ rules.rdn_rule n
 rdn_is n l r e is =
     ap (λ (b : Bool). where_so b (nodes.Many (nodes.row (sorted rules.pair_below (map node_view l))))) is
-    ∙ sym (ap (λ (k : ℕ). where_so (nat_lt 0 k && nat_le k normal.most_pairs && distinct rules.same_type (map node_view l)) (nodes.Many (nodes.row (sorted rules.pair_below (map node_view l))))) (length-map l node_view))
-    ∙ sym (ap (λ (ps : List nodes.Node). where_so (nat_lt 0 (length ps) && nat_le (length ps) normal.most_pairs && distinct rules.same_type ps) (nodes.Many (nodes.row (sorted rules.pair_below ps)))) e)
+    ∙ sym (ap (λ (k : ℕ). where_so (nat_lt 0 k && nat_le k normal.most_pairs && distinct rules.same_type
+    (map node_view l)) (nodes.Many (nodes.row (sorted rules.pair_below (map node_view l)))))
+    (length-map l node_view))
+    ∙ sym (ap (λ (ps : List nodes.Node). where_so
+    (nat_lt 0 (length ps) && nat_le (length ps) normal.most_pairs && distinct rules.same_type ps)
+    (nodes.Many (nodes.row (sorted rules.pair_below ps)))) e)

@@ -1,13 +1,13 @@
 -- Nodes of two parts, and rules on them.
-use Rattle.std.proofs.Common.{◌≡◌, ◌<◌, ◌≤◌, ℕ, Bool, true, false, List, [], ◌∷◌, length, map, get_or, refl, ap, sym, ◌∙◌, arith, subst}
-use Rattle.std.specs.declared.option.Option.{Option}
-use Rattle.std.specs.declared.option.Option.TheVariants.{None, Some}
+use Rattle.std.proofs.Common.{◌≡◌, ◌<◌, ◌≤◌, false, List, [], ◌∷◌, length, get_or, refl}
+use Rattle.std.proofs.Common.{arith}
+use Rattle.std.specs.declared.option.Option.TheVariants.{None}
 use Rattle.x5_model_typed.specs.Nodes as nodes
-use Rattle.x5_model_typed.specs.Leaves.{where_so}
 use Rattle.x5_model_typed.specs.Rules as rules
 use Rattle.x5_typed.specs.NodeView.{IsNotTwo, none, one, three}
 
-pub just_two : {X : Type 0} (l : List X) (x y : X) → 2 ≤ length l → length l < 3 → get_or l 0 x ≡ x → get_or l 1 y ≡ y → l ≡ x ∷ y ∷ []
+pub just_two : {X : Type 0} (l : List X) (x y : X) → 2 ≤ length l → length l < 3 → get_or l 0 x ≡ x → get_or l 1 y ≡ y
+    → l ≡ x ∷ y ∷ []
 just_two [] x y more few e f = absurd (omega arith)
 just_two (a ∷ []) x y more few e f = absurd (omega arith)
 just_two (a ∷ b ∷ []) x y more few e f = cc

@@ -15,6 +15,6 @@ pub data ComesTo (form : Named) (octets : List ℕ) : Result Node Breach → Typ
   faulty : (fault : Fault) → FirstFault octets outermost 0 fault → ComesTo form octets (Err (Ber fault))
   -- an octet behind the one whole element
   more : (tree : Tree) (first rest : List ℕ) (o : ℕ) → Lies 1 0 tree first → octets ≡ first ++ (o ∷ rest)
-    → ComesTo form octets (Err (Ber (BadTag (length first))))
+      → ComesTo form octets (Err (Ber (BadTag (length first))))
   -- what the one element is judged to be
   whole : (tree : Tree) → Lies 1 0 tree octets → ComesTo form octets (judged table (table form) tree)

@@ -180,7 +180,14 @@ rule_view rule.Parts = rules.parts_rule
 rule_view rule.Progress = rules.progress_rule
 
 abbrev pub alternative_view : Alternative → forms.Alternative
-alternative_view a = record { class = a.class; tag = a.tag; content = content_view a.content; marked = a.marked; settles = rule_view a.rule }
+alternative_view a = record {
+  class = a.class;
+  tag = a.tag;
+  content = content_view a.content;
+  marked =
+      a.marked;
+  settles = rule_view a.rule;
+}
 
 abbrev pub types_view : List Alternative → List forms.Alternative
 types_view types = map alternative_view types

@@ -5,7 +5,8 @@ use Rattle.std.specs.declared.option.Option.TheVariants.{None, Some}
 use Rattle.x5_model_typed.specs.Nodes as nodes
 use Rattle.x5_typed.specs.declared.node.Bytes.{Bytes}
 use Rattle.x5_typed.specs.declared.node.Bytes.TheVariants.{Lent, Kept}
-use Rattle.x5_typed.specs.declared.node.Node.{Node, Vacant, Flag, Number, Oid, Bits, Octets, Text, Chosen', Many', Row_of-Node, end_of-Node, more_of-Node}
+use Rattle.x5_typed.specs.declared.node.Node.{Node, Vacant, Flag, Number, Oid, Bits, Octets, Text, Chosen', Many'}
+use Rattle.x5_typed.specs.declared.node.Node.{Row_of-Node, end_of-Node, more_of-Node}
 
 abbrev pub bytes_view : Bytes → List ℕ
 bytes_view (Lent octets) = octets.now

@@ -32,12 +32,21 @@ abbrev pub awaited_view : Awaited → judged.Awaited
 awaited_view a = record { types = choices_view a.choices; step = step_view a.step }
 
 abbrev pub state_view : State → judged.State
-state_view s = record { at = s.at; content = content_view s.content; left = left_view s.left; nodes = map node_view s.nodes.items; slots = map option_view s.slots.items; last = s.last }
+state_view s = record {
+  at = s.at;
+  content = content_view s.content;
+  left = left_view s.left;
+  nodes =
+      map node_view s.nodes.items;
+  slots = map option_view s.slots.items;
+  last = s.last;
+}
 
 -- What is awaited in a bit string.
 abbrev pub awaits_bits : judged.State → Result judged.Awaited judged.Breach
 awaits_bits s =
-    if judged.is_ragged (judged.last_node s.nodes) then judged.wrong_content s.last else Ok (record { types = judged.bit_segment; step = judged.Next })
+    if judged.is_ragged (judged.last_node s.nodes) then judged.wrong_content s.last else Ok
+    (record { types = judged.bit_segment; step = judged.Next })
 
 -- A SET has a slot for each component.
 abbrev pub IsState : State → Type 0

@@ -62,7 +62,11 @@ pub(crate) fn bits_of_content(alloc: Global, octets: &[u8]) -> Result<Option<Vec
 {
     match octets {
         [] => Ok(None),
-        [unused] => Ok(if *unused == 0 { Some(Vec::new(alloc)) } else { None }),
+        [unused] => Ok(if *unused == 0 {
+            Some(Vec::new(alloc))
+        } else {
+            None
+        }),
         [unused, others @ ..] => {
             if *unused < 8 {
                 Ok(Some(bits_of_octets(alloc, *unused, others)?))
@@ -109,7 +113,11 @@ fn fourth(bits: &[bool]) -> bool
 }
 
 /// The node of the options dontUseCopy and chainingProhibited.
-pub(crate) fn options_node<'a>(alloc: Global, nocopy: bool, nochain: bool) -> Result<Node<'a>, NoMemory>
+pub(crate) fn options_node<'a>(
+    alloc: Global,
+    nocopy: bool,
+    nochain: bool,
+) -> Result<Node<'a>, NoMemory>
     ensures { IfOk result (λ n. node_view n ≡ leaves.options_node nocopy nochain) }
 {
     let mut parts = Vec::new(alloc);
@@ -128,7 +136,11 @@ fn options<'a>(alloc: Global, bits: &[bool]) -> Result<Option<Node<'a>>, NoMemor
 }
 
 /// What the bits say.
-pub(crate) fn read_bits<'a>(alloc: Global, leaf: BitLeaf, bits: Vec<bool>) -> Result<Option<Node<'a>>, NoMemory>
+pub(crate) fn read_bits<'a>(
+    alloc: Global,
+    leaf: BitLeaf,
+    bits: Vec<bool>,
+) -> Result<Option<Node<'a>>, NoMemory>
     ensures { IfOk result (λ n. option_view n ≡ (bit_leaf_view leaf).reads bits.items) }
 {
     match leaf {

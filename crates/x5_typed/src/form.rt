@@ -218,8 +218,7 @@ pub(crate) enum Choices {
 impl Choices {
     /// The alternative with the tag.
     pub(crate) fn by_tag(self, class: u8, tag: u32) -> Option<Alternative>
-        ensures {
-            MatchOption result
+        ensures { MatchOption result
             (forms.by_tag class tag (choices_view self) ≡ None)
             (λ a. forms.by_tag class tag (choices_view self) ≡ Some (alternative_view a)) }
     {
@@ -232,8 +231,7 @@ impl Choices {
 }
 
 fn one_by_tag(alternative: Alternative, class: u8, tag: u32) -> Option<Alternative>
-    ensures {
-        MatchOption result
+    ensures { MatchOption result
         (forms.by_tag class tag (alternative_view alternative ∷ []) ≡ None)
         (λ a. forms.by_tag class tag (alternative_view alternative ∷ []) ≡ Some (alternative_view a)) }
 {
@@ -245,8 +243,7 @@ fn one_by_tag(alternative: Alternative, class: u8, tag: u32) -> Option<Alternati
 }
 
 fn listed_by_tag(types: &'static [Alternative], class: u8, tag: u32) -> Option<Alternative>
-    ensures {
-        MatchOption result
+    ensures { MatchOption result
         (forms.by_tag class tag (types_view types.now) ≡ None)
         (λ a. forms.by_tag class tag (types_view types.now) ≡ Some (alternative_view a)) }
 {
@@ -260,8 +257,7 @@ fn listed_by_tag(types: &'static [Alternative], class: u8, tag: u32) -> Option<A
 
 /// The content of a filter with the context tag, of so many levels at most. The 17th on its way has none.
 fn filter_content(levels: u8, tag: u32) -> Option<Content>
-    ensures {
-        MatchOption result
+    ensures { MatchOption result
         (forms.by_tag 2 tag (layouts.filter levels) ≡ None)
         (λ c. forms.by_tag 2 tag (layouts.filter levels) ≡ Some (forms.choice tag (content_view c))) }
 {
@@ -279,8 +275,7 @@ fn filter_content(levels: u8, tag: u32) -> Option<Content>
 }
 
 fn filter_by_tag(levels: u8, class: u8, tag: u32) -> Option<Alternative>
-    ensures {
-        MatchOption result
+    ensures { MatchOption result
         (forms.by_tag class tag (layouts.filter levels) ≡ None)
         (λ a. forms.by_tag class tag (layouts.filter levels) ≡ Some (alternative_view a)) }
 {

@@ -45,7 +45,11 @@ fn octet_string<'a>(octets: Bytes<'a>) -> Option<Node<'a>>
 }
 
 /// What the octets of a content say, which may have been joined from segments.
-pub(crate) fn read_leaf<'a>(alloc: Global, leaf: Leaf, octets: Bytes<'a>) -> Result<Option<Node<'a>>, NoMemory>
+pub(crate) fn read_leaf<'a>(
+    alloc: Global,
+    leaf: Leaf,
+    octets: Bytes<'a>,
+) -> Result<Option<Node<'a>>, NoMemory>
     ensures { IfOk result (λ n. option_view n ≡ (leaf_view leaf).reads (bytes_view octets.entry)) }
 {
     match leaf {
@@ -61,7 +65,11 @@ pub(crate) fn read_leaf<'a>(alloc: Global, leaf: Leaf, octets: Bytes<'a>) -> Res
     }
 }
 
-fn read_bit_content<'a>(alloc: Global, leaf: BitLeaf, octets: &[u8]) -> Result<Option<Node<'a>>, NoMemory>
+fn read_bit_content<'a>(
+    alloc: Global,
+    leaf: BitLeaf,
+    octets: &[u8],
+) -> Result<Option<Node<'a>>, NoMemory>
     ensures { IfOk result (λ n. option_view n ≡ judged.leaf_node (forms.JoinedBits (bit_leaf_view leaf)) octets.now) }
 {
     match bits_of_content(alloc, octets)? {
@@ -71,12 +79,24 @@ fn read_bit_content<'a>(alloc: Global, leaf: BitLeaf, octets: &[u8]) -> Result<O
 }
 
 /// What a primitive content says.
-pub(crate) fn leaf_node<'a>(alloc: Global, content: Content, octets: &'a [u8]) -> Result<Option<Node<'a>>, NoMemory>
+pub(crate) fn leaf_node<'a>(
+    alloc: Global,
+    content: Content,
+    octets: &'a [u8],
+) -> Result<Option<Node<'a>>, NoMemory>
     ensures { IfOk result (λ n. option_view n ≡ judged.leaf_node (content_view content) octets.now) }
 {
     match content {
-        Content::Primitive(leaf) | Content::Joined(leaf) => read_leaf(alloc, leaf, Bytes::Lent(octets)),
+        Content::Primitive(leaf) | Content::Joined(leaf) => read_leaf(
+            alloc,
+            leaf,
+            Bytes::Lent(octets),
+        ),
         Content::JoinedBits(leaf) => read_bit_content(alloc, leaf, octets),
-        Content::Explicit(_) | Content::Sequence(_) | Content::Set(_) | Content::Members(_) | Content::Never => Ok(None),
+        Content::Explicit(_)
+        | Content::Sequence(_)
+        | Content::Set(_)
+        | Content::Members(_)
+        | Content::Never => Ok(None),
     }
 }

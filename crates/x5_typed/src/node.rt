@@ -54,8 +54,7 @@ impl<'a> Node<'a> {
 
     /// Its two components or members, if it has just two.
     pub(crate) fn two_parts(&self) -> Option<(&Node<'a>, &Node<'a>)>
-        ensures {
-            MatchOption result
+        ensures { MatchOption result
             (IsNotTwo (nodes.parts (node_view self.now)))
             (λ p. nodes.parts (node_view self.now) ≡ node_view p.0.now ∷ node_view p.1.now ∷ []) }
     {

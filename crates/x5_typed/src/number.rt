@@ -15,7 +15,8 @@ fn is_shortest(octets: &[u8]) -> bool
     match octets {
         [] => false,
         [_] => true,
-        [first, second, ..] => !(*first == 0 && *second < 128) && !(*first == 255 && 128 <= *second),
+        [first, second, ..] => !(*first == 0 && *second < 128)
+            && !(*first == 255 && 128 <= *second),
     }
 }
 

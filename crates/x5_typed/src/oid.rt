@@ -16,11 +16,10 @@ const LARGE: u64 = 0x2_0000_0000;
 
 /// The numbers that the content says, all of them below 2^33. Without them the content is no object identifier.
 fn subidentifiers(alloc: Global, octets: &[u8]) -> Result<Option<Vec<u64>>, NoMemory>
-    ensures {
-        IfOk result (λ found.
-            MatchOption found
-            (leaves.oid_of octets.now ≡ None)
-            (λ v. (leaves.subidentifiers true 0 octets.now ≡ Some v.items) × (list_all (λ n. nat_lt n (2 ^ 33)) v.items ≡ true))) }
+    ensures { IfOk result (λ found.
+        MatchOption found
+        (leaves.oid_of octets.now ≡ None)
+        (λ v. (leaves.subidentifiers true 0 octets.now ≡ Some v.items) × (list_all (λ n. nat_lt n (2 ^ 33)) v.items ≡ true))) }
 {
     let mut numbers = Vec::new(alloc);
     let mut fresh = true;
@@ -56,10 +55,9 @@ fn first_arc(number: u64) -> u32
 
 /// Puts the numbers behind the arcs, if all are arcs.
 fn with_others(mut arcs: Vec<u32>, others: &[u64]) -> Result<Option<Vec<u32>>, NoMemory>
-    ensures {
-        IfOk result (λ found.
-            option_map (λ v. v.items) found
-            ≡ leaves.where_so (list_all (λ n. nat_lt n (2 ^ 32)) others.now) (arcs.items ++ others.now)) }
+    ensures { IfOk result (λ found.
+        option_map (λ v. v.items) found
+        ≡ leaves.where_so (list_all (λ n. nat_lt n (2 ^ 32)) others.now) (arcs.items ++ others.now)) }
 {
     for number in others {
         let Ok(arc) = u32::try_from(*number) else {
@@ -72,10 +70,9 @@ fn with_others(mut arcs: Vec<u32>, others: &[u64]) -> Result<Option<Vec<u32>>, N
 
 /// The arcs that the numbers are, if they are an object identifier's.
 fn arcs_of(alloc: Global, numbers: &[u64]) -> Result<Option<Vec<u32>>, NoMemory>
-    ensures {
-        IfOk result (λ found.
-            option_map (λ v. v.items) found
-            ≡ leaves.where_so (normal.is_oid (leaves.arcs_of numbers.now)) (leaves.arcs_of numbers.now)) }
+    ensures { IfOk result (λ found.
+        option_map (λ v. v.items) found
+        ≡ leaves.where_so (normal.is_oid (leaves.arcs_of numbers.now)) (leaves.arcs_of numbers.now)) }
 {
     let Some((head, others)) = numbers.split_first() else {
         return Ok(None);

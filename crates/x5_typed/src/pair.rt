@@ -195,8 +195,7 @@ pub(crate) fn rdn<'a>(alloc: Global, node: Node<'a>) -> Result<Option<Node<'a>>,
 
 /// One to four of different types.
 fn are_pairs(pairs: &[Node<'_>]) -> bool
-    ensures {
-        result
+    ensures { result
         ≡ (nat_lt 0 (length pairs.now) && nat_le (length pairs.now) normal.most_pairs && distinct rules.same_type (map node_view pairs.now)) }
 {
     !pairs.is_empty() && pairs.len() <= MOST_PAIRS && are_distinct(pairs)

@@ -27,7 +27,12 @@ use std::alloc::Global;
 use x5_ber::{BerFault, Head, read_header, read_tlv};
 
 /// The value as it is kept, by the rule of its type.
-fn settled<'a>(alloc: Global, at: usize, a: Alternative, node: Option<Node<'a>>) -> Result<Node<'a>, ReadFault>
+fn settled<'a>(
+    alloc: Global,
+    at: usize,
+    a: Alternative,
+    node: Option<Node<'a>>,
+) -> Result<Node<'a>, ReadFault>
     ensures { Gives (λ m n. node_view m ≡ n) (judged.settled at (alternative_view a) (option_view node.entry)) result }
 {
     let Some(node) = node else {
@@ -71,8 +76,7 @@ fn read_piece<'a>(
 ) -> Result<(Node<'a>, usize), ReadFault>
     requires inside { Within at head.content (length bytes.now) }
     ensures nearer { IfOk result (λ r. Within at r.1 (length bytes.now)) }
-    ensures reads {
-        (depth : ℕ) (t : trees.Tree) (octets : List ℕ) → trees.Lies depth at t octets → Stands bytes.now at octets
+    ensures reads { (depth : ℕ) (t : trees.Tree) (octets : List ℕ) → trees.Lies depth at t octets → Stands bytes.now at octets
         → head_at outermost bytes.now at ≡ Ok (head_view head) → head.identifier.constructed ≡ false
         → Gives (λ m n. (node_view m.0 ≡ n) × (m.1 ≡ at + length octets)) (judged.judged table (choices_view choices) t) result }
 {
@@ -80,7 +84,14 @@ fn read_piece<'a>(
         return Err(ReadFault::Breach(wrong_content(at)));
     };
     let octets = &bytes[head.content..end];
-    let node = read_octets(alloc, octets, choices, at, head.identifier.class, head.identifier.tag)?;
+    let node = read_octets(
+        alloc,
+        octets,
+        choices,
+        at,
+        head.identifier.class,
+        head.identifier.tag,
+    )?;
     Ok((node, end))
 }
 
@@ -95,8 +106,7 @@ fn read_element<'a>(
 ) -> Result<(Node<'a>, usize), ReadFault>
     requires inside { Within at head.content (length bytes.now) }
     ensures nearer { IfOk result (λ r. Within at r.1 (length bytes.now)) }
-    ensures reads {
-        (depth : ℕ) (t : trees.Tree) (octets : List ℕ) → trees.Lies depth at t octets → Stands bytes.now at octets
+    ensures reads { (depth : ℕ) (t : trees.Tree) (octets : List ℕ) → trees.Lies depth at t octets → Stands bytes.now at octets
         → head_at outermost bytes.now at ≡ Ok (head_view head)
         → Gives (λ m n. (node_view m.0 ≡ n) × (m.1 ≡ at + length octets)) (judged.judged table (choices_view choices) t) result }
 {
@@ -118,8 +128,7 @@ fn read_open<'a>(
 ) -> Result<(Node<'a>, usize), ReadFault>
     requires inside { Within at head.content (length bytes.now) }
     ensures nearer { IfOk result (λ r. Within at r.1 (length bytes.now)) }
-    ensures reads {
-        (depth : ℕ) (t : trees.Tree) (octets : List ℕ) → trees.Lies depth at t octets → Stands bytes.now at octets
+    ensures reads { (depth : ℕ) (t : trees.Tree) (octets : List ℕ) → trees.Lies depth at t octets → Stands bytes.now at octets
         → head_at outermost bytes.now at ≡ Ok (head_view head) → head.identifier.constructed ≡ true
         → Gives (λ m n. (node_view m.0 ≡ n) × (m.1 ≡ at + length octets)) (judged.judged table (choices_view choices) t) result }
 {
@@ -160,8 +169,7 @@ fn read_content<'a>(
 ) -> Result<(Option<Node<'a>>, usize), ReadFault>
     requires inside { place ≤ length bytes.now }
     ensures nearer { IfOk result (λ r. (place ≤ r.1) × (r.1 ≤ length bytes.now)) }
-    ensures reads {
-        (depth : ℕ) (ts : trees.Trees) (octets : List ℕ) → trees.LieAll depth place ts octets → Stands bytes.now place octets
+    ensures reads { (depth : ℕ) (ts : trees.Trees) (octets : List ℕ) → trees.LieAll depth place ts octets → Stands bytes.now place octets
         → EndsAt bytes.now end (place + length octets)
         → Gives (λ m s. (option_view m.0 ≡ judged.ended s) × (m.1 ≡ behind end (place + length octets))) (judged.judged_all table (judged.begun at (content_view content)) ts) result }
 {
@@ -203,8 +211,7 @@ fn read_members<'a>(
     requires state { IsState state.old }
     ensures kept { IsState state.new }
     ensures nearer { IfOk result (λ next. (start ≤ next) × (next ≤ length bytes.now)) }
-    ensures reads {
-        (depth : ℕ) (ts : trees.Trees) (octets : List ℕ) → trees.LieAll depth start ts octets → Stands bytes.now start octets
+    ensures reads { (depth : ℕ) (ts : trees.Trees) (octets : List ℕ) → trees.LieAll depth start ts octets → Stands bytes.now start octets
         → EndsAt bytes.now end (start + length octets)
         → Gives (λ next s. (state_view state.new ≡ s) × (next ≡ behind end (start + length octets))) (judged.judged_all table (state_view state.old) ts) result }
 {
@@ -240,8 +247,7 @@ fn read_member<'a>(
     requires state { IsState state.old }
     ensures kept { IsState state.new }
     ensures nearer { IfOk result (λ next. Within at next (length bytes.now)) }
-    ensures reads {
-        (depth : ℕ) (t : trees.Tree) (octets : List ℕ) → trees.Lies depth at t octets → Stands bytes.now at octets
+    ensures reads { (depth : ℕ) (t : trees.Tree) (octets : List ℕ) → trees.Lies depth at t octets → Stands bytes.now at octets
         → Gives (λ next s. (state_view state.new ≡ s) × (next ≡ at + length octets)) (judged.judged_member table (state_view state.old) t) result }
 {
     let head = head_of(bytes, at)?;
@@ -255,8 +261,7 @@ fn read_member<'a>(
 fn head_of(bytes: &[u8], at: usize) -> Result<Head, ReadFault>
     ensures inside { IfOk result (λ head. Within at head.content (length bytes.now)) }
     ensures head { IfOk result (λ head. head_at outermost bytes.now at ≡ Ok (head_view head)) }
-    ensures none {
-        IfErr result (λ f. (head : faults.Head) → head_at outermost bytes.now at ≡ Ok head → Within at head.content (length bytes.now) → ⊥) }
+    ensures none { IfErr result (λ f. (head : faults.Head) → head_at outermost bytes.now at ≡ Ok head → Within at head.content (length bytes.now) → ⊥) }
 {
     match read_header(bytes, at) {
         Ok(head) if at < head.content && head.content <= bytes.len() => Ok(head),
@@ -286,8 +291,7 @@ pub fn read<'a>(alloc: Global, form: Named, octets: &'a [u8]) -> Result<Node<'a>
 
 /// Octets that are one element, as a value of the type.
 fn read_whole<'a>(alloc: Global, form: Named, octets: &'a [u8]) -> Result<Node<'a>, ReadFault>
-    ensures {
-        (t : trees.Tree) → trees.Lies 1 0 t octets.now
+    ensures { (t : trees.Tree) → trees.Lies 1 0 t octets.now
         → Gives (λ m n. node_view m ≡ n) (judged.judged table (table (named_view form)) t) result }
 {
     let head = head_of(octets, 0)?;

@@ -22,7 +22,11 @@ fn kept<'a>(right: bool, node: Node<'a>) -> Option<Node<'a>>
 }
 
 /// The value as it is kept, if it is right.
-pub(crate) fn settle<'a>(alloc: Global, rule: Rule, node: Node<'a>) -> Result<Option<Node<'a>>, NoMemory>
+pub(crate) fn settle<'a>(
+    alloc: Global,
+    rule: Rule,
+    node: Node<'a>,
+) -> Result<Option<Node<'a>>, NoMemory>
     ensures { IfOk result (λ n. option_view n ≡ rule_view rule (node_view node.entry)) }
 {
     match rule {

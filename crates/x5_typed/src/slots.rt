@@ -140,10 +140,14 @@ impl Component {
 }
 
 /// In a SEQUENCE the first component that has the tag, where those before it may be missing.
-pub(crate) fn sequence_awaits(left: &Left, at: usize, class: u8, tag: u32) -> Result<Awaited, Breach>
+pub(crate) fn sequence_awaits(
+    left: &Left,
+    at: usize,
+    class: u8,
+    tag: u32,
+) -> Result<Awaited, Breach>
     ensures fits { IfOk result (λ a. IsPlace (length (left_view left.now)) a.step) }
-    ensures awaits {
-        MatchResult result
+    ensures awaits { MatchResult result
         (λ a. judged.sequence_awaits table at class tag 0 (left_view left.now) ≡ Ok (awaited_view a))
         (λ b. judged.sequence_awaits table at class tag 0 (left_view left.now) ≡ Err (breach_view b)) }
 {
@@ -181,8 +185,7 @@ pub(crate) fn set_awaits(
 ) -> Result<Awaited, Breach>
     requires { length slots.now ≡ length (left_view left.now) }
     ensures fits { IfOk result (λ a. IsSlot (length slots.now) a.step) }
-    ensures awaits {
-        MatchResult result
+    ensures awaits { MatchResult result
         (λ a. judged.set_awaits table at class tag 0 (left_view left.now) (map option_view slots.now) ≡ Ok (awaited_view a))
         (λ b. judged.set_awaits table at class tag 0 (left_view left.now) (map option_view slots.now) ≡ Err (breach_view b)) }
 {
@@ -203,9 +206,13 @@ pub(crate) fn set_awaits(
 }
 
 /// The components behind one that has this value: a code names the last one.
-pub(crate) fn left_behind(presence: Presence, node: &Node<'_>, rest: Left, at: usize) -> Result<Left, Breach>
-    ensures {
-        MatchResult result
+pub(crate) fn left_behind(
+    presence: Presence,
+    node: &Node<'_>,
+    rest: Left,
+    at: usize,
+) -> Result<Left, Breach>
+    ensures { MatchResult result
         (λ left. judged.left_behind (presence_view presence) (node_view node.now) (left_view rest) at ≡ Ok (left_view left))
         (λ b. judged.left_behind (presence_view presence) (node_view node.now) (left_view rest) at ≡ Err (breach_view b)) }
 {

@@ -12,7 +12,9 @@ use crate::fault::{Breach, ReadFault, wrong_content, wrong_tag};
 use crate::form::{Choices, Component, Content, Named};
 use crate::leaf::read_leaf;
 use crate::node::{Bytes, Node};
-use crate::slots::{Awaited, Left, Step, components_in, is_taken, left_behind, sequence_awaits, set_awaits};
+use crate::slots::{
+    Awaited, Left, Step, components_in, is_taken, left_behind, sequence_awaits, set_awaits,
+};
 use crate::table::{BIT_SEGMENT, SEGMENT, layout};
 use std::alloc::Global;
 use x5_memory::NoMemory;
@@ -63,8 +65,7 @@ impl<'a> State<'a> {
     pub(crate) fn awaits(&self, at: usize, class: u8, tag: u32) -> Result<Awaited, Breach>
         requires { IsState self.now }
         ensures fits { IfOk result (λ a. Fits a.step self.now) }
-        ensures awaits {
-            MatchResult result
+        ensures awaits { MatchResult result
             (λ a. judged.awaits table (state_view self.now) at class tag ≡ Ok (awaited_view a))
             (λ b. judged.awaits table (state_view self.now) at class tag ≡ Err (breach_view b)) }
     {
@@ -91,8 +92,7 @@ impl<'a> State<'a> {
     /// The next segment of a bit string: one with unused bits is the last.
     fn awaits_bits(&self) -> Result<Awaited, Breach>
         ensures fits { IfOk result (λ a. Fits a.step self.now) }
-        ensures awaits {
-            MatchResult result
+        ensures awaits { MatchResult result
             (λ a. awaits_bits (state_view self.now) ≡ Ok (awaited_view a))
             (λ b. awaits_bits (state_view self.now) ≡ Err (breach_view b)) }
     {
@@ -146,11 +146,16 @@ impl<'a> State<'a> {
     }
 
     /// Goes on behind a member.
-    pub(crate) fn step(&mut self, alloc: Global, at: usize, step: Step, node: Node<'a>) -> Result<(), ReadFault>
+    pub(crate) fn step(
+        &mut self,
+        alloc: Global,
+        at: usize,
+        step: Step,
+        node: Node<'a>,
+    ) -> Result<(), ReadFault>
         requires fits { Fits step self.old }
         requires state { IsState self.old }
-        ensures stepped {
-            Gives (λ _ t. state_view self.new ≡ t) (judged.stepped (state_view self.old) at (step_view step) (node_view node.entry)) result }
+        ensures stepped { Gives (λ _ t. state_view self.new ≡ t) (judged.stepped (state_view self.old) at (step_view step) (node_view node.entry)) result }
         ensures kept { IsState self.new }
     {
         match step {
@@ -165,8 +170,7 @@ impl<'a> State<'a> {
 
     fn push(&mut self, at: usize, node: Node<'a>) -> Result<(), ReadFault>
         requires state { IsState self.old }
-        ensures stepped {
-            Gives (λ _ t. state_view self.new ≡ t) (judged.stepped (state_view self.old) at judged.Next (node_view node.entry)) result }
+        ensures stepped { Gives (λ _ t. state_view self.new ≡ t) (judged.stepped (state_view self.old) at judged.Next (node_view node.entry)) result }
         ensures kept { IsState self.new }
     {
         self.nodes.push(node)?;
@@ -177,8 +181,7 @@ impl<'a> State<'a> {
     fn put(&mut self, at: usize, i: usize, node: Node<'a>)
         requires state { IsState self.old }
         requires fits { i < length self.old.slots.items }
-        ensures stepped {
-            Ok (state_view self.new) ≡ judged.stepped (state_view self.old) at (judged.InSlot i) (node_view node.entry) }
+        ensures stepped { Ok (state_view self.new) ≡ judged.stepped (state_view self.old) at (judged.InSlot i) (node_view node.entry) }
         ensures kept { IsState self.new }
     {
         fill(&mut self.slots, i, node);
@@ -188,8 +191,7 @@ impl<'a> State<'a> {
     fn place(&mut self, alloc: Global, at: usize, i: usize, node: Node<'a>) -> Result<(), ReadFault>
         requires fits { i < length (left_view self.old.left) }
         requires sequence { IsSequence self.old }
-        ensures stepped {
-            Gives (λ _ t. state_view self.new ≡ t) (judged.stepped (state_view self.old) at (judged.InPlace i) (node_view node.entry)) result }
+        ensures stepped { Gives (λ _ t. state_view self.new ≡ t) (judged.stepped (state_view self.old) at (judged.InPlace i) (node_view node.entry)) result }
         ensures kept { IsState self.new }
     {
         let component = self.left.component(i);
@@ -212,10 +214,14 @@ fn fill<'a>(slots: &mut Vec<Option<Node<'a>>>, i: usize, node: Node<'a>)
 }
 
 /// Puts the values of the first components, which are missing.
-fn push_defaults(alloc: Global, nodes: &mut Vec<Node<'_>>, left: &Left, count: usize) -> Result<(), NoMemory>
+fn push_defaults(
+    alloc: Global,
+    nodes: &mut Vec<Node<'_>>,
+    left: &Left,
+    count: usize,
+) -> Result<(), NoMemory>
     requires { count ≤ length (left_view left.now) }
-    ensures {
-        OnOk result (map node_view nodes.new.items ≡ map node_view nodes.old.items ++ map judged.default_of (take count (left_view left.now))) }
+    ensures { OnOk result (map node_view nodes.new.items ≡ map node_view nodes.old.items ++ map judged.default_of (take count (left_view left.now))) }
 {
     for i in 0..count {
         let node = left.component(i).default_node(alloc)?;
@@ -255,11 +261,14 @@ fn first<'a>(mut nodes: Vec<Node<'a>>) -> Option<Node<'a>>
 }
 
 /// The components of a SEQUENCE, where those that are left may be missing.
-fn with_defaults<'a>(alloc: Global, mut nodes: Vec<Node<'a>>, left: &Left) -> Result<Option<Node<'a>>, NoMemory>
-    ensures {
-        IfOk result (λ n.
-            option_view n
-            ≡ judged.some_many (list_all judged.may_be_missing (left_view left.now)) (map node_view nodes.entry.items ++ map judged.default_of (left_view left.now))) }
+fn with_defaults<'a>(
+    alloc: Global,
+    mut nodes: Vec<Node<'a>>,
+    left: &Left,
+) -> Result<Option<Node<'a>>, NoMemory>
+    ensures { IfOk result (λ n.
+        option_view n
+        ≡ judged.some_many (list_all judged.may_be_missing (left_view left.now)) (map node_view nodes.entry.items ++ map judged.default_of (left_view left.now))) }
 {
     if !left.may_all_be_missing() {
         return Ok(None);
@@ -308,10 +317,9 @@ fn filled<'a>(
 ) -> Result<Node<'a>, NoMemory>
     requires slot { i < length slots.old.items }
     requires place { i < length (left_view left.now) }
-    ensures item {
-        IfOk result (λ node.
-            judged.filled (drop i (left_view left.now)) (drop i (map option_view slots.old.items))
-            ≡ node_view node ∷ judged.filled (drop (i + 1) (left_view left.now)) (drop (i + 1) (map option_view slots.new.items))) }
+    ensures item { IfOk result (λ node.
+        judged.filled (drop i (left_view left.now)) (drop i (map option_view slots.old.items))
+        ≡ node_view node ∷ judged.filled (drop (i + 1) (left_view left.now)) (drop (i + 1) (map option_view slots.new.items))) }
     ensures count { length slots.new.items ≡ length slots.old.items }
 {
     match taken(slots, i) {
@@ -321,12 +329,15 @@ fn filled<'a>(
 }
 
 /// The components of a SET, where those that aren't there may be missing.
-fn with_slots<'a>(alloc: Global, mut slots: Vec<Option<Node<'a>>>, left: &Left) -> Result<Option<Node<'a>>, NoMemory>
+fn with_slots<'a>(
+    alloc: Global,
+    mut slots: Vec<Option<Node<'a>>>,
+    left: &Left,
+) -> Result<Option<Node<'a>>, NoMemory>
     requires { length slots.items ≡ length (left_view left.now) }
-    ensures {
-        IfOk result (λ n.
-            option_view n
-            ≡ judged.some_many (judged.all_filled (left_view left.now) (map option_view slots.entry.items)) (judged.filled (left_view left.now) (map option_view slots.entry.items))) }
+    ensures { IfOk result (λ n.
+        option_view n
+        ≡ judged.some_many (judged.all_filled (left_view left.now) (map option_view slots.entry.items)) (judged.filled (left_view left.now) (map option_view slots.entry.items))) }
 {
     if !are_filled(&slots, left) {
         return Ok(None);

@@ -111,8 +111,7 @@ pub(crate) fn text<'a>(letters: Letters, octets: Bytes<'a>) -> Option<Node<'a>>
 /// The number of four octets, the highest first.
 fn cell_at(octets: &[u8], at: usize) -> Option<u32>
     requires { at ≤ length octets.now }
-    ensures {
-        MatchOption result
+    ensures { MatchOption result
         (Cut (drop at octets.now))
         (λ n. Cell n (drop at octets.now) (drop (at + 4) octets.now)) }
 {
@@ -126,9 +125,8 @@ fn cell_at(octets: &[u8], at: usize) -> Option<u32>
 
 /// Adds the character of the number, if it is one's.
 fn add_character(text: &mut String, number: u32) -> Result<bool, NoMemory>
-    ensures {
-        IfOk result (λ added. (added ≡ leaves.is_character number)
-            × (added ≡ true → string_bytes text.new ≡ string_bytes text.old ++ encode_utf8 number)) }
+    ensures { IfOk result (λ added. (added ≡ leaves.is_character number)
+        × (added ≡ true → string_bytes text.new ≡ string_bytes text.old ++ encode_utf8 number)) }
 {
     match char::from_u32(number) {
         Some(character) => {

@@ -4,4 +4,5 @@ use Rattle.x5_model.specs.Normal as normal
 use Rattle.x5_typed.proofs.oid.has_room.Given as goal
 
 abbrev pub invariant-loop-arc : goal.invariant-loop-arc
-invariant-loop-arc l = nat_le (sum (map normal.subidentifier_len (drop l.arc-index l.arcs))) l.room ≡ nat_le (sum (map normal.subidentifier_len l.arcs)) l.fn.room
+invariant-loop-arc l = nat_le (sum (map normal.subidentifier_len (drop l.arc-index l.arcs))) l.room
+    ≡ nat_le (sum (map normal.subidentifier_len l.arcs)) l.fn.room

@@ -1,3 +1,4 @@
+-- Where reading stands in the octets.
 use Rattle.x5_typed.specs.Arcs.{IsRead}
 use Rattle.x5_typed.proofs.oid.subidentifiers.Given as goal
 

@@ -6,5 +6,6 @@ use Rattle.x5_typed.proofs.oid.with_others.Given as goal
 
 abbrev pub invariant-loop-number : goal.invariant-loop-number
 invariant-loop-number l =
-    leaves.where_so (list_all (λ n. nat_lt n (2 ^ 32)) (drop l.number-index l.others)) (l.arcs.items ++ drop l.number-index l.others)
+    leaves.where_so (list_all (λ n. nat_lt n (2 ^ 32)) (drop l.number-index l.others))
+    (l.arcs.items ++ drop l.number-index l.others)
     ≡ leaves.where_so (list_all (λ n. nat_lt n (2 ^ 32)) l.others) (l.fn.arcs.items ++ l.others)

@@ -1,3 +1,4 @@
+-- The place among all is so many on as the place among those that are left.
 use Rattle.std.proofs.Common.{◌≡◌, ◌+◌, not, drop, map}
 use Rattle.std.specs.List.{position_or_len}
 use Rattle.x5_model_typed.specs.Rules as rules

@@ -1,4 +1,5 @@
-use Rattle.std.proofs.Common.{◌≡◌, ◌&&◌, nat_lt, nat_le, List, Bool, true, false, ap, sym, ◌∙◌, refl, length, map}
+-- The rule of an RDN over the members.
+use Rattle.std.proofs.Common.{◌≡◌, ◌&&◌, nat_lt, nat_le, List, Bool, true, false, ap, sym, ◌∙◌, length, map}
 use Rattle.std.specs.declared.option.Option.TheVariants.{Some}
 use Rattle.x5_model.specs.Normal as normal
 use Rattle.x5_model.specs.Words.{distinct}
@@ -15,11 +16,16 @@ test l = nat_lt 0 (length l) && nat_le (length l) normal.most_pairs && distinct 
 
 pub returns-then-not-are_pairs : goal.returns-then-not-are_pairs
 returns-then-not-are_pairs c =
-    let wrong : false ≡ test c.in-Many.pairs.items = sym c.if-not-are_pairs.true ∙ c.are_pairs.ensures ∙ ap test c.deref.ensures.value in
-    rdn_is (node_view (Rattle.x5_typed.specs.declared.node.Node.Many c.in-Many.pairs)) c.in-Many.pairs.items false (parts_are c.in-Many.pairs) wrong ∙ sym (ap (λ (n : Node). rules.rdn_rule (node_view n)) c.in-Many.is)
+    let wrong : false ≡ test c.in-Many.pairs.items = sym c.if-not-are_pairs.true ∙ c.are_pairs.ensures
+    ∙ ap test c.deref.ensures.value in
+    rdn_is (node_view (Rattle.x5_typed.specs.declared.node.Node.Many c.in-Many.pairs)) c.in-Many.pairs.items false
+    (parts_are c.in-Many.pairs) wrong ∙ sym (ap (λ (n : Node). rules.rdn_rule (node_view n)) c.in-Many.is)
 
 pub returns : goal.returns
 returns c =
-    let right : true ≡ test c.in-Many.pairs.items = sym c.if-not-are_pairs.false ∙ c.are_pairs.ensures ∙ ap test c.deref.ensures.value in
-    ap (λ (n : nodes.Node). Some n) (sym (many_of_items c.in_ok-in_order.field-0) ∙ ap (λ (l : List nodes.Node). nodes.Many (nodes.row l)) c.in_ok-in_order.ensures)
-    ∙ rdn_is (node_view (Rattle.x5_typed.specs.declared.node.Node.Many c.in-Many.pairs)) c.in-Many.pairs.items true (parts_are c.in-Many.pairs) right ∙ sym (ap (λ (n : Node). rules.rdn_rule (node_view n)) c.in-Many.is)
+    let right : true ≡ test c.in-Many.pairs.items = sym c.if-not-are_pairs.false ∙ c.are_pairs.ensures
+    ∙ ap test c.deref.ensures.value in
+    ap (λ (n : nodes.Node). Some n) (sym (many_of_items c.in_ok-in_order.field-0)
+    ∙ ap (λ (l : List nodes.Node). nodes.Many (nodes.row l)) c.in_ok-in_order.ensures)
+    ∙ rdn_is (node_view (Rattle.x5_typed.specs.declared.node.Node.Many c.in-Many.pairs)) c.in-Many.pairs.items true
+    (parts_are c.in-Many.pairs) right ∙ sym (ap (λ (n : Node). rules.rdn_rule (node_view n)) c.in-Many.is)

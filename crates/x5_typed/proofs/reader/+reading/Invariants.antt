@@ -1,5 +1,5 @@
 -- Reading ends since each element is read from a later place: five steps to each octet that is left.
-use Rattle.std.proofs.Common.{◌≡◌, ◌≤◌, ◌+◌, ◌-◌, ◌*◌, ℕ, List, length}
+use Rattle.std.proofs.Common.{◌≤◌, ◌+◌, ◌-◌, ◌*◌, ℕ, List, length}
 use Rattle.x5_ber.specs.Reading.{Stands}
 use Rattle.x5_model_typed.specs.Trees as trees
 use Rattle.x5_typed.specs.Ahead.{Ahead}
@@ -27,9 +27,10 @@ invariant-read_members-loop-alloc l = record {
   kept : IsState l.state;
   order : l.start ≤ l.place;
   inside : l.place ≤ length l.bytes;
-  ahead : (depth : ℕ) (ts : trees.Trees) (octets : List ℕ) → trees.LieAll depth l.start ts octets → Stands l.bytes l.start octets
-    → EndsAt l.bytes l.end (l.start + length octets)
-    → Ahead l.bytes depth l.start ts octets (state_view l.fn.state) l.place (state_view l.state);
+  ahead : (depth : ℕ) (ts : trees.Trees) (octets : List ℕ) → trees.LieAll depth l.start ts octets
+      → Stands l.bytes l.start octets
+      → EndsAt l.bytes l.end (l.start + length octets)
+      → Ahead l.bytes depth l.start ts octets (state_view l.fn.state) l.place (state_view l.state);
 }
 
 abbrev pub decreases-read_members-loop-alloc : goal.decreases-read_members-loop-alloc

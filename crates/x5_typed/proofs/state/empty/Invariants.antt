@@ -1,3 +1,4 @@
+-- There is an empty slot for each component so far.
 use Rattle.std.proofs.Common.{◌≡◌, map, take}
 use Rattle.x5_typed.proofs.state.empty.Given as goal
 use Rattle.x5_typed.specs.NodeView.{option_view}

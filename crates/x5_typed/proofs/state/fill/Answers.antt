@@ -1,3 +1,4 @@
+-- A slot that is set, through the view.
 use Rattle.std.specs.declared.option.Option.TheVariants.{Some}
 use Rattle.std.proofs.lemmas.List.{map-set}
 use Rattle.x5_typed.proofs.state.fill.Goals as goal

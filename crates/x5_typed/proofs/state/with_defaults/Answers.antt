@@ -1,4 +1,5 @@
-use Rattle.std.proofs.Common.{◌≡◌, ◌≤◌, ◌++◌, ℕ, Bool, true, List, map, take, length, ap, sym, ◌∙◌, arith}
+-- The nodes, and the values of the components that are left, are the parts.
+use Rattle.std.proofs.Common.{◌≡◌, ◌++◌, true, List, map, take, ap, sym, ◌∙◌, arith}
 use Rattle.std.proofs.lemmas.List.{take_all}
 use Rattle.std.specs.List.{list_all}
 use Rattle.std.specs.declared.option.Option.TheVariants.{Some}
@@ -14,7 +15,9 @@ pub returns : goal.returns
 returns c =
     let left = left_view c.args.left.now in
     let before = map node_view c.args.nodes.items in
-    let all : list_all judged.may_be_missing left ≡ true = cc (c.may_all_be_missing.ensures, c.if-not-may_all_be_missing.false, c.if-not-may_all_be_missing.ensures) in
+    let all : list_all judged.may_be_missing left ≡ true =
+    cc (c.may_all_be_missing.ensures, c.if-not-may_all_be_missing.false, c.if-not-may_all_be_missing.ensures) in
     let whole : take c.len.result left ≡ left = take_all c.len.result left (omega (arith, c.len.ensures)) in
     rw all (ap (λ (n : nodes.Node). Some n) (sym (many_of_items c.push_defaults.new.nodes)
-    ∙ ap (λ (l : List nodes.Node). nodes.Many (nodes.row l)) (c.in_ok-push_defaults.ensures ∙ ap (λ (cs : List forms.Component). before ++ map judged.default_of cs) whole)))
+    ∙ ap (λ (l : List nodes.Node). nodes.Many (nodes.row l)) (c.in_ok-push_defaults.ensures
+    ∙ ap (λ (cs : List forms.Component). before ++ map judged.default_of cs) whole)))

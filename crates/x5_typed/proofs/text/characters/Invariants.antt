@@ -8,7 +8,8 @@ use Rattle.x5_typed.proofs.text.characters.Given as goal
 abbrev pub invariant-loop-at : goal.invariant-loop-at
 invariant-loop-at l = record {
   there : l.at ≤ length l.octets;
-  same : option_map (λ (t : List ℕ). string_bytes l.text ++ t) (encoded (leaves.cells (drop l.at l.octets))) ≡ encoded (leaves.cells l.octets);
+  same : option_map (λ (t : List ℕ). string_bytes l.text ++ t) (encoded (leaves.cells (drop l.at l.octets)))
+      ≡ encoded (leaves.cells l.octets);
 }
 
 abbrev pub decreases-loop-at : goal.decreases-loop-at
