@@ -1,7 +1,7 @@
 //! Identifier and length octets (X.690, 8.1.2 and 8.1.3), read from octets that lie in two pieces.
 ghost use Rattle.std.specs.Prelude.{◌≡◌, ℕ, List, ◌+◌, ◌-◌, ◌^◌, ◌<◌, ◌≤◌, Bool, [], ◌∷◌, ◌++◌, length, take, drop, MatchOption, MatchResult, Ok, Err};
 ghost use Rattle.x5_model_octets.specs.Headers.{groups_at, identifier_at, identifier_of, length_at, big_endian};
-ghost use Rattle.x5_model_octets.specs.Faults.{runs_out, begins_with_end, seen, end_fault, may_extend, head_at};
+ghost use Rattle.x5_model_octets.specs.Faults.{runs_out, begins_with_end, seen, end_fault, may_extend, head_at, outermost};
 ghost use Rattle.x5_ber.specs.Views.{stop_of, identifier_view, head_view, around_view, fault_view};
 
 use crate::element::BerFault;
@@ -18,9 +18,10 @@ pub(crate) enum Stop {
     Malformed,
 }
 
-/// What identifier octets say.
+/// What identifier octets say: the class (0 universal, 1 application, 2 context-specific, 3 private),
+/// whether the content is elements, and the tag number, which is below 2^31.
 #[derive(Clone, Copy, Debug, PartialEq, Eq)]
-pub(crate) struct Identifier {
+pub struct Identifier {
     pub class: u8,
     pub constructed: bool,
     pub tag: u32,
@@ -29,7 +30,7 @@ pub(crate) struct Identifier {
 /// A header: its identifier, its length or `None` for the indefinite form, and the place of the
 /// first content octet.
 #[derive(Clone, Copy, Debug, PartialEq, Eq)]
-pub(crate) struct Head {
+pub struct Head {
     pub identifier: Identifier,
     pub extent: Option<u64>,
     pub content: usize,
@@ -280,4 +281,18 @@ pub(crate) fn read_head(
     } else {
         Err(BerFault::BadLength(place))
     }
+}
+
+/// Reads the header of an element that has to begin at the place, as if it lay in no other: what an
+/// element within octets that `read_tlv` has read begins with. The content isn't looked at.
+///
+/// # Errors
+/// The header's first fault.
+pub fn read_header(bytes: &[u8], at: usize) -> Result<Head, BerFault>
+    ensures {
+        MatchResult result
+        (λ head. head_at outermost bytes.now at ≡ Ok (head_view head))
+        (λ fault. head_at outermost bytes.now at ≡ Err (fault_view fault)) }
+{
+    read_head(&[], bytes, &Around::OUTERMOST, at)
 }

@@ -11,6 +11,7 @@ mod writer;
 
 pub use crate::element::{BerFault, Tlv, read_tlv};
 pub use crate::feeder::{FeedFault, Feeder, LONGEST};
+pub use crate::header::{Head, Identifier, read_header};
 pub use crate::laws::{canonical_spells, spellings_are_apart};
 pub use crate::writer::put_tlv;
 pub use x5_memory::NoMemory;

@@ -1,6 +1,8 @@
-//! Tests of the edges through their public calls: elements of octets; files and a sink, in memory and real. Nothing stands on it.
+//! Tests of the edges through their public calls: elements of octets, and messages; files and a sink, in memory and real. Nothing stands on it.
 #![tactic(auto)]
 
+#[cfg(test)]
+mod messages;
 #[cfg(test)]
 mod octets;
 #[cfg(test)]

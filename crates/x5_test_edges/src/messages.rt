@@ -1,0 +1,74 @@
+//! Octets as values of the types of messages: a request to read /C=NL, and octets that are none, by hand.
+use std::alloc::Global;
+use std::test::Fail;
+use x5_ber::BerFault;
+use x5_typed::{Breach, Named, Node, ReadFault, read};
+
+/// A request to read the name /C=NL, with an octet of another one behind it.
+const REQUEST: [u8; 28] = [
+    0xa1, 0x19, 0x02, 0x01, 0x01, 0x02, 0x01, 0x01, 0x31, 0x11, 0xa0, 0x0f, 0x30, 0x0d, 0x31, 0x0b,
+    0x30, 0x09, 0x06, 0x03, 0x55, 0x04, 0x06, 0x13, 0x02, 0x4e, 0x4c, 0xa1,
+];
+
+/// How many components an argument has whose request is the node.
+fn components(node: &Node<'_>) -> usize {
+    match node {
+        Node::Chosen(1, request) => match request.parts() {
+            [Node::Number(1), Node::Number(1), argument] => argument.parts().len(),
+            _ => 0,
+        },
+        _ => 0,
+    }
+}
+
+fn breach(alloc: Global, form: Named, octets: &[u8]) -> Option<Breach> {
+    match read(alloc, form, octets) {
+        Err(ReadFault::Breach(breach)) => Some(breach),
+        _ => None,
+    }
+}
+
+#[test]
+fn a_request_is_read(rt: HostRuntime) -> Result<(), Fail> {
+    let node = read(rt.alloc(), Named::DapRequest, &REQUEST[..27])?;
+    assert_eq!(rt; components(&node), 3);
+    Ok(())
+}
+
+#[test]
+fn octets_have_their_first_breach(rt: HostRuntime) {
+    for (form, octets, breach_there) in [
+        (
+            Named::DapRequest,
+            REQUEST.as_slice(),
+            Breach::Ber(BerFault::BadTag(27)),
+        ),
+        (
+            Named::DapRequest,
+            &REQUEST[..26],
+            Breach::Ber(BerFault::Truncated(26)),
+        ),
+        (
+            Named::DapAnswer,
+            &REQUEST[..27],
+            Breach::Ber(BerFault::BadTag(0)),
+        ),
+        (
+            Named::DapRequest,
+            [0xa1, 0x06, 0x02, 0x01, 0x01, 0x02, 0x01, 0x03].as_slice(),
+            Breach::Unrecognised(3),
+        ),
+        (
+            Named::Value,
+            [0x33, 0x06, 0x04, 0x01, 0x41, 0x13, 0x01, 0x41].as_slice(),
+            Breach::Ber(BerFault::BadTag(5)),
+        ),
+        (
+            Named::Selection,
+            [0x31, 0x08, 0xa1, 0x02, 0x31, 0x00, 0xa1, 0x02, 0x31, 0x00].as_slice(),
+            Breach::Ber(BerFault::BadContent(6)),
+        ),
+    ] {
+        assert_eq!(rt; breach(rt.alloc(), form, octets), Some(breach_there));
+    }
+}

@@ -1,0 +1,9 @@
+-- The bits so far, and those of the segments that are left, are all.
+use Rattle.std.proofs.Common.{◌≡◌, ◌++◌, drop, map}
+use Rattle.x5_model_typed.specs.Judged as judged
+use Rattle.x5_typed.specs.NodeView.{node_view}
+use Rattle.x5_typed.proofs.state.joined_bits.Given as goal
+
+abbrev pub invariant-loop-node : goal.invariant-loop-node
+invariant-loop-node l = l.bits.items ++ judged.joined_bits (map node_view (drop l.node-index l.nodes))
+    ≡ judged.joined_bits (map node_view l.nodes)

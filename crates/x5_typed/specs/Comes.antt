@@ -1,0 +1,20 @@
+-- What reading octets as a value of a type comes to. They are read twice: first as an element, whatever its type, and
+-- nothing behind it; then by the type.
+use Rattle.std.specs.Prelude.{◌≡◌, ℕ, List, ◌∷◌, ◌++◌, length}
+use Rattle.std.specs.declared.result.Result.{Result}
+use Rattle.std.specs.declared.result.Result.TheVariants.{Err}
+use Rattle.x5_model_octets.specs.Faults.{Fault, BadTag, FirstFault, outermost}
+use Rattle.x5_model_typed.specs.Trees.{Tree, Lies}
+use Rattle.x5_model_typed.specs.Nodes.{Node}
+use Rattle.x5_model_typed.specs.Named.{Named}
+use Rattle.x5_model_typed.specs.Judged.{Breach, Ber, judged}
+use Rattle.x5_typed.specs.FormView.{table}
+
+pub data ComesTo (form : Named) (octets : List ℕ) : Result Node Breach → Type 0 where
+  -- the first fault of the element (X.690)
+  faulty : (fault : Fault) → FirstFault octets outermost 0 fault → ComesTo form octets (Err (Ber fault))
+  -- an octet behind the one whole element
+  more : (tree : Tree) (first rest : List ℕ) (o : ℕ) → Lies 1 0 tree first → octets ≡ first ++ (o ∷ rest)
+      → ComesTo form octets (Err (Ber (BadTag (length first))))
+  -- what the one element is judged to be
+  whole : (tree : Tree) → Lies 1 0 tree octets → ComesTo form octets (judged table (table form) tree)
