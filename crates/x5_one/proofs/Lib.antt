@@ -7,5 +7,3 @@ pub mod Pins
 pub mod Worlds
 pub mod Telling
 pub mod Sound
-pub mod Changing
-pub mod Making

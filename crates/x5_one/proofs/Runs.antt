@@ -1,5 +1,5 @@
 -- The entries at a key and below it are a run of those in order.
-use Rattle.std.proofs.Common.{◌≡◌, ℕ, zero, suc, ◌+◌, ◌-◌, ◌<◌, ◌≤◌, Bool, true, false, ◌&&◌, ◌||◌, cond, ◌⊎◌, inl, inr, List, [], ◌∷◌, ◌++◌, length, map, take, drop, get_or, refl, sym, ap, subst, ◌∙◌, arith, Option, Some, None, Ok, Err}
+use Rattle.std.proofs.Common.{◌≡◌, ℕ, zero, suc, ◌+◌, ◌-◌, ◌<◌, Bool, true, false, ◌&&◌, ◌||◌, cond, ◌⊎◌, inl, inr, List, [], ◌∷◌, ◌++◌, length, take, drop, get_or, refl, sym, ap, subst, ◌∙◌, arith, Option, Some, None, Ok, Err}
 use Rattle.std.proofs.lemmas.List.{append-nil, get_or-map, length-map, length-drop, get_or-drop, drop_more, take-map}
 use Rattle.std.specs.Prelude.{slice_get}
 use Rattle.std.specs.List.{filter, drop-map}

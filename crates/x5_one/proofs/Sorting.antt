@@ -1,11 +1,11 @@
 -- A stable sort has one outcome: two lists in order, of which each class of ties is the same, are one list.
-use Rattle.std.proofs.Common.{◌≡◌, ℕ, suc, ◌+◌, ◌<◌, Bool, true, false, cond, not, ◌&&◌, ◌⊎◌, inl, inr, List, [], ◌∷◌, length, get_or, refl, sym, ap, subst, ◌∙◌, arith}
+use Rattle.std.proofs.Common.{◌≡◌, ℕ, suc, ◌+◌, ◌<◌, Bool, true, false, cond, not, ◌⊎◌, inl, inr, List, [], ◌∷◌, length, get_or, refl, sym, ap, subst, ◌∙◌, arith}
 use Rattle.std.specs.Prelude.{⊤}
 use Rattle.std.specs.List.{filter}
 use Rattle.std.specs.List.Sorted.{ties, IsSortedBy, IsStableBy}
 use Rattle.std.specs.Cmp.{IsStrictWeakOrder}
 use Rattle.x5_model.specs.Words.{insert_sorted, sorted}
-use Rattle.x5_model.specs.Members.{In, here, there}
+use Rattle.x5_model.specs.Members.{In, here}
 use Rattle.x5_model.proofs.Lists.{both_true, and_true, not_true, true_or_false, in_first, in_filter, of_filter}
 use Rattle.x5_model.proofs.Ascending.{of_insert}
 

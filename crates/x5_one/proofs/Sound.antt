@@ -1,20 +1,18 @@
 -- What a sound tree gives: each entry belongs to a context, so what is answered from an entry has a source.
-use Rattle.std.proofs.Common.{◌≡◌, ℕ, ◌<◌, Bool, true, false, List, length, map, refl, sym, ap, subst, ◌∙◌, Option, Some, None, Result, Ok, Err, IfOk}
-use Rattle.x5_model.specs.Words.{in_option, ascending}
+use Rattle.std.proofs.Common.{◌≡◌, ℕ, ◌<◌, true, false, List, length, map, sym, ap, subst, ◌∙◌, Option, Some, None, Result, Ok, Err, IfOk}
+use Rattle.x5_model.specs.Words.{in_option}
 use Rattle.x5_model.specs.Members.{In, Once}
 use Rattle.x5_model.specs.Keys.{Key, same_key}
 use Rattle.x5_model.specs.Values.{Name, key_of}
 use Rattle.x5_model.specs.Entries.{Named}
-use Rattle.x5_model.specs.Requests.{Body, Request}
-use Rattle.x5_model.specs.Answers.{DirError, Source, Reply, Failed}
+use Rattle.x5_model.specs.Requests.{Request}
+use Rattle.x5_model.specs.Answers.{DirError, Source, Failed}
 use Rattle.x5_model.specs.Statics.{fault_of}
 use Rattle.x5_model.proofs.KeyLaws.{key_decides}
 use Rattle.x5_model.proofs.Lists.{of_map, not_found}
-use Rattle.x5_model_tree.specs.Tree.{Tree, key_at, named_below, entry_at, longest}
+use Rattle.x5_model_tree.specs.Tree.{Tree, key_at, entry_at, longest}
 use Rattle.x5_model_tree.specs.Ask.{Told, Refuses, absent, at_object, ask, ask_body}
 use Rattle.x5_model_tree.proofs.Longest.{longest_is}
-use Rattle.x5_model_theory.specs.Knowledge.{Area}
-use Rattle.x5_model_theory.proofs.Cohering.{map_map}
 use Rattle.x5_model_updates.proofs.Trees.{area_of_pin, of_part}
 use Rattle.x5_model_updates.proofs.Lookups.{entry_found}
 use Rattle.x5_one.specs.One.{Held, pin_in, context_with, context_at}

@@ -1,19 +1,19 @@
 -- What is gathered of a world, agent by agent, is its whole tree, which is sound where knowledge is consistent.
-use Rattle.std.proofs.Common.{◌≡◌, ℕ, ◌+◌, List, [], ◌∷◌, ◌++◌, map, refl, sym, ap, subst, ◌∙◌}
+use Rattle.std.proofs.Common.{◌≡◌, ℕ, ◌+◌, List, [], ◌∷◌, ◌++◌, map, refl, sym, ap, ◌∙◌}
 use Rattle.std.proofs.lemmas.List.{append_assoc, map-append}
 use Rattle.std.specs.List.{flat_map, enumerate_from}
 use Rattle.x5_model.specs.Keys.{Key}
 use Rattle.x5_model.specs.Entries.{Named}
 use Rattle.x5_model_tree.specs.World.{Context, Agent, World}
-use Rattle.x5_model_tree.specs.Tree.{Tree, sorted_entries}
-use Rattle.x5_model_tree.specs.Masters.{Mastered, pin_of, mastered, pins, all_entries, whole}
+use Rattle.x5_model_tree.specs.Tree.{sorted_entries}
+use Rattle.x5_model_tree.specs.Masters.{Mastered, pin_of, all_entries, whole}
 use Rattle.x5_model_tree.specs.Described.{IsDescribed}
 use Rattle.x5_model_tree.specs.Consistent.{IsConsistent}
 use Rattle.x5_model_theory.specs.Described.{knowledge_of}
 use Rattle.x5_model_theory.specs.Changing.{with_entries}
 use Rattle.x5_model_updates.specs.Keeping.{keys_in}
 use Rattle.x5_model_updates.proofs.Stood.{begins}
-use Rattle.x5_one.specs.One.{Held, One, pin_in, tree_in, contexts_by, contexts_of, entries_by, entries_of}
+use Rattle.x5_one.specs.One.{One, pin_in, tree_in, contexts_by, contexts_of, entries_by, entries_of}
 use Rattle.x5_one.specs.Parts.{IsSound}
 
 abbrev by_agent : ℕ × Agent → List Mastered

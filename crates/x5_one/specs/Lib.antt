@@ -4,5 +4,4 @@ pub mod Replies
 pub mod Places
 pub mod Scopes
 pub mod Parts
-pub mod Making
 pub mod Kept

@@ -105,11 +105,7 @@ fn is_found(subset: Subset, base: &Key, filter: &Filter, named: &Named) -> bool
 }
 
 /// The entries just below the key, of those at it and below it.
-fn just_below<'a>(
-    alloc: Global,
-    scope: &'a [Named],
-    key: &Key,
-) -> Result<Vec<&'a Named>, NoMemory>
+fn just_below<'a>(alloc: Global, scope: &'a [Named], key: &Key) -> Result<Vec<&'a Named>, NoMemory>
     ensures { IfOk result (λ found. found_in found.items ≡ filter (λ e. keys.is_child key.now (tree.key_at e)) scope.now) }
 {
     let mut found = Vec::new(alloc);
@@ -173,11 +169,7 @@ fn subs_of(alloc: Global, found: &[&Named]) -> Result<SubList, NoMemory>
 }
 
 /// What a search tells of the entries.
-fn infos_of(
-    alloc: Global,
-    selection: &Selection,
-    found: &[&Named],
-) -> Result<EntryList, NoMemory>
+fn infos_of(alloc: Global, selection: &Selection, found: &[&Named]) -> Result<EntryList, NoMemory>
     ensures { IfOk result (λ infos. map info_view infos ≡ map (model.info_of (λ key. false) (selection_view selection.now)) (found_in found.now)) }
 {
     let mut infos = Vec::new(alloc);

@@ -8,6 +8,5 @@ mod contexts;
 mod entries;
 mod places;
 mod tree;
-mod updating;
 
 pub use tree::OneTree;

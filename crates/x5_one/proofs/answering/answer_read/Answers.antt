@@ -1,16 +1,14 @@
 -- What is told at the entry has the entry's context as its source.
-use Rattle.std.proofs.Common.{◌≡◌, ℕ, List, Some, None, sym, ap, ◌∙◌}
+use Rattle.std.proofs.Common.{◌≡◌, ℕ, List, Some, sym, ap, ◌∙◌}
 use Rattle.std.specs.Option.{option_copied}
-use Rattle.x5_model.specs.Keys.{Key}
 use Rattle.x5_model.specs.Values.{Name, key_of}
-use Rattle.x5_model.specs.Entries.{Named}
 use Rattle.x5_model.specs.Requests.{Body}
 use Rattle.x5_model_tree.specs.Tree.{entry_at}
 use Rattle.x5_model_tree.specs.Ask.{at_object}
 use Rattle.x5_ops.specs.AnswerViews.{reply_view, source_view}
 use Rattle.x5_ops.specs.RequestViews.{body_view, name_of}
 use Rattle.x5_ops.specs.declared.answers.Reply.{Reply}
-use Rattle.x5_one.specs.One.{Held, context_at}
+use Rattle.x5_one.specs.One.{context_at}
 use Rattle.x5_one.specs.Parts.{tree_of, read_told}
 use Rattle.x5_one.specs.Replies.{reply_of, source_at}
 use Rattle.x5_one.proofs.Sound.{pins_filled, context_there, told_there, source_there, ok_by}

@@ -1,16 +1,15 @@
 -- Those just below in the run are those of all entries, and the limit leaves a beginning.
-use Rattle.std.proofs.Common.{◌≡◌, ℕ, Bool, true, false, nat_lt, List, [], map, length, take, sym, ap, ◌∙◌, arith}
+use Rattle.std.proofs.Common.{◌≡◌, ℕ, false, nat_lt, List, map, length, take, sym, ap, ◌∙◌}
 use Rattle.std.proofs.lemmas.List.{length-map, take-map}
 use Rattle.std.specs.Borrow.{Bor}
 use Rattle.std.specs.List.{filter}
 use Rattle.x5_model.specs.Entries.{Named}
 use Rattle.x5_model.specs.Keys.{Key, is_child, is_prefix}
 use Rattle.x5_model.specs.Values.{key_of}
-use Rattle.x5_model.specs.Answers.{Answered, Listed, Source, Outcome}
-use Rattle.x5_model.specs.References.{Reference}
+use Rattle.x5_model.specs.Answers.{Answered, Listed}
 use Rattle.x5_model_tree.specs.Tree.{key_at}
 use Rattle.x5_model_tree.specs.Ask.{sub_of}
-use Rattle.x5_ops.specs.AnswerViews.{sub_view, source_view, outcome_view}
+use Rattle.x5_ops.specs.AnswerViews.{sub_view, source_view}
 use Rattle.x5_ops.specs.ReferenceViews.{reference_view}
 use Rattle.x5_one.specs.Scopes.{found_in, left_of}
 use Rattle.x5_one.proofs.Telling.{list_replied, below_in_run}

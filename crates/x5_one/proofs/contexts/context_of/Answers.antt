@@ -1,5 +1,5 @@
 -- The first beginning of the key that is a pin, from the longest on, is the longest.
-use Rattle.std.proofs.Common.{◌≡◌, ◌≤◌, ◌<◌, ℕ, List, length, map, get_or, take, arith, sym, ap, subst, ◌∙◌, Err, Ok}
+use Rattle.std.proofs.Common.{◌≡◌, ◌≤◌, ◌<◌, ℕ, length, map, get_or, arith, ap, subst, ◌∙◌, Err, Ok}
 use Rattle.std.proofs.lemmas.List.{length-map}
 use Rattle.x5_model.specs.Keys.{Key}
 use Rattle.x5_one.specs.Places.{IsPlace}

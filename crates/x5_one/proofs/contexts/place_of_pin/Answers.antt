@@ -1,7 +1,7 @@
 -- The closure compares with the pin that is looked for.
 use Rattle.std.proofs.Common.{rules, of_calls}
 use Rattle.std.proofs.lemmas.Fn.{always_returns_same}
-use Rattle.x5_model.specs.Keys.{Key, key_cmp}
+use Rattle.x5_model.specs.Keys.{key_cmp}
 use Rattle.x5_one.specs.Rows.{Row}
 use Rattle.x5_one.proofs.Searching.{place_by_halves}
 use Rattle.x5_one.proofs.contexts.place_of_pin.Goals as goal

@@ -2,7 +2,6 @@
 use Rattle.std.proofs.Common.{List, map, rules, of_calls, ap, ◌∙◌}
 use Rattle.std.proofs.lemmas.Fn.{always_returns_same}
 use Rattle.std.proofs.lemmas.List.MinMax.{ranks_by}
-use Rattle.x5_model.specs.Entries.{Named}
 use Rattle.x5_model.proofs.KeyLaws.{key_cmp_total}
 use Rattle.x5_model_tree.specs.Tree.{key_at, named_below, sorted_entries}
 use Rattle.x5_know.specs.WorldView.{world_view, described_agent_view}

@@ -1,7 +1,6 @@
 -- A static refusal comes first; else what is answered from the parts is answered from the tree.
-use Rattle.std.proofs.Common.{◌≡◌, ℕ, false, List, [], Some, None, sym, ap, ◌∙◌}
+use Rattle.std.proofs.Common.{◌≡◌, ℕ, false, List, [], None, sym, ap, ◌∙◌}
 use Rattle.std.specs.Option.{option_map}
-use Rattle.x5_model.specs.Requests.{Body}
 use Rattle.x5_model.specs.Statics.{fault_of}
 use Rattle.x5_model.specs.Values.{key_of}
 use Rattle.x5_model_tree.specs.Ask.{ask, ask_body}
