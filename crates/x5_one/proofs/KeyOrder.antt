@@ -1,4 +1,5 @@
--- The order of keys and their beginnings: what stands at a key or below it stands together, right behind what is below the key.
+-- The order of keys and their beginnings: what stands at a key or below it stands together,
+-- right behind what is below the key.
 use Rattle.std.proofs.Common.{◌≡◌, true, false, [], ◌∷◌, length, take, refl, sym, ap, ◌∙◌}
 use Rattle.std.specs.Cmp.{tied_itself, Equal-is}
 use Rattle.std.specs.Ordering.{is_lt, ordering_then, ordering_reverse}
@@ -33,21 +34,28 @@ pub between : (a x z : Key) → key_below x a ≡ false → key_below z x ≡ fa
 between [] x z p q h = refl
 between (r ∷ a) [] z p q h = cc
 between (r ∷ a) (s ∷ x) [] p q h = cc
-between (r ∷ a) (s ∷ x) (t ∷ z) p q h = by (rdn_cmp s r) refl (λ p_rest q_rest. between a x z p_rest q_rest (rest_same t r (take (length a) z) a h))
+between (r ∷ a) (s ∷ x) (t ∷ z) p q h = by (rdn_cmp s r) refl (λ p_rest q_rest. between a x z p_rest q_rest
+    (rest_same t r (take (length a) z) a h))
   where
     same : t ≡ r
     same = first_same t r (take (length a) z) a h
 
-    by : (o : Ordering) → rdn_cmp s r ≡ o → (key_below x a ≡ false → key_below z x ≡ false → IsPrefix a x) → IsPrefix (r ∷ a) (s ∷ x)
-    by Less e rest = absurd (let f : is_lt (ordering_then (rdn_cmp s r) (key_cmp x a)) ≡ true = ap (λ (o : Ordering). is_lt (ordering_then o (key_cmp x a))) e in let g : true ≡ false = sym f ∙ p in cc)
+    by : (o : Ordering) → rdn_cmp s r ≡ o → (key_below x a ≡ false → key_below z x ≡ false → IsPrefix a x)
+        → IsPrefix (r ∷ a) (s ∷ x)
+    by Less e rest = absurd (let f : is_lt (ordering_then (rdn_cmp s r) (key_cmp x a))
+        ≡ true = ap (λ (o : Ordering). is_lt (ordering_then o (key_cmp x a))) e in let g : true ≡ false = sym f
+        ∙ p in cc)
     by Greater e rest = absurd (
-        let back : rdn_cmp t s ≡ Less = ap (λ (u : KeyRdn). rdn_cmp u s) same ∙ rdn_cmp_total.antisymm r s ∙ ap ordering_reverse e in
-        let f : is_lt (ordering_then (rdn_cmp t s) (key_cmp z x)) ≡ true = ap (λ (o : Ordering). is_lt (ordering_then o (key_cmp z x))) back in
+        let back : rdn_cmp t s ≡ Less = ap (λ (u : KeyRdn). rdn_cmp u s) same ∙ rdn_cmp_total.antisymm r s
+        ∙ ap ordering_reverse e in
+        let f : is_lt (ordering_then (rdn_cmp t s) (key_cmp z x))
+        ≡ true = ap (λ (o : Ordering). is_lt (ordering_then o (key_cmp z x))) back in
         let g : true ≡ false = sym f ∙ q in cc)
     by Equal e rest =
         let is : s ≡ r = equal_rdns s r e in
         let back : rdn_cmp t s ≡ Equal = (λ i. rdn_cmp (same i) (is i)) ∙ tied_itself rdn_cmp_total r in
         let p_rest : key_below x a ≡ false = sym (ap (λ (o : Ordering). is_lt (ordering_then o (key_cmp x a))) e) ∙ p in
-        let q_rest : key_below z x ≡ false = sym (ap (λ (o : Ordering). is_lt (ordering_then o (key_cmp z x))) back) ∙ q in
+        let q_rest : key_below z x ≡ false = sym (ap (λ (o : Ordering). is_lt (ordering_then o
+        (key_cmp z x))) back) ∙ q in
         let behind : take (length a) x ≡ a = rest p_rest q_rest in
         λ i. is i ∷ behind i

@@ -6,7 +6,8 @@ use Rattle.x5_model.specs.Entries.{Named}
 use Rattle.x5_model_tree.specs.Tree.{entry_at, lowest_within}
 
 -- where there is no entry at a beginning of the key, the lowest is within a shorter one
-pub pass_over : (entries : List Named) (key : Key) (left : ℕ) → 0 < left → entry_at entries (take left key) ≡ None → lowest_within entries key (left - 1) ≡ lowest_within entries key left
+pub pass_over : (entries : List Named) (key : Key) (left : ℕ) → 0 < left
+    → entry_at entries (take left key) ≡ None → lowest_within entries key (left - 1) ≡ lowest_within entries key left
 pass_over entries key zero l e = absurd (omega arith)
 pass_over entries key (suc n) l e = let less : suc n - 1 ≡ n = omega arith in rw less (rw e refl)
 

@@ -1,5 +1,7 @@
 -- Pins in order, each with the place of its context: where a key is among them, and the longest on the way to a key.
-use Rattle.std.proofs.Common.{◌≡◌, ℕ, suc, ◌+◌, ◌-◌, ◌<◌, ◌≤◌, Bool, true, false, ◌&&◌, ◌==◌, inl, inr, List, [], ◌∷◌, length, map, take, drop, get_or, refl, sym, ap, subst, ◌∙◌, arith, Option, Some, None, Ok, Err}
+use Rattle.std.proofs.Common.{◌≡◌, ℕ, suc, ◌+◌, ◌-◌, ◌<◌, ◌≤◌, Bool, true, false, ◌&&◌, ◌==◌, inl, inr, List, [], ◌∷◌}
+use Rattle.std.proofs.Common.{length, map, take, drop, get_or, refl, sym, ap, subst, ◌∙◌, arith, Option, Some, None}
+use Rattle.std.proofs.Common.{Ok, Err}
 use Rattle.std.proofs.lemmas.List.{length-map, length-take-le, get_or-map, drop_more}
 use Rattle.x5_model.specs.Words.{ascending, sorted, in_option}
 use Rattle.x5_model.specs.Members.{In, here, there, Once}
@@ -30,7 +32,9 @@ head_is i ks key w = same (sym (drop_more ks i key w.0) ∙ w.1)
 
 -- ---- the rows of contexts
 
-pub row_held : (n : ℕ) (hs : List Held) (r : Row) → In r (rows_from n hs) → (h : Held) × In h hs × (r.0 ≡ pin_in h) × (n ≤ r.1) × (r.1 - n < length hs) × ((d : Held) → get_or hs (r.1 - n) d ≡ h)
+pub row_held : (n : ℕ) (hs : List Held) (r : Row) → In r (rows_from n hs)
+    → (h : Held) × In h hs × (r.0 ≡ pin_in h) × (n ≤ r.1) × (r.1 - n < length hs) × ((d : Held)
+    → get_or hs (r.1 - n) d ≡ h)
 row_held n [] r i = elim i [ ]
 row_held n (h ∷ hs) r i =
     elim (in_first r (row_of (n, h)) (rows_from (n + 1) hs) i) [
@@ -40,8 +44,15 @@ row_held n (h ∷ hs) r i =
           (h, here, ap (λ (x : Row). x.0) p, omega arith, omega arith, λ d. ap (λ (k : ℕ). get_or (h ∷ hs) k d) z)
       | inr j ↦
           let w = row_held (n + 1) hs r j in
-          let s : r.1 - n ≡ suc (r.1 - (n + 1)) = omega (arith, w.3) in
-          (w.0, there w.1, w.2, omega (arith, w.3), omega (arith, w.4, w.3), λ d. ap (λ (k : ℕ). get_or (h ∷ hs) k d) s ∙ w.5 d)
+          let s : r.1 - n ≡ suc (r.1 - (n + 1)) = omega (arith, w.3) in (
+            w.0,
+            there w.1,
+            w.2,
+            omega (arith, w.3),
+            omega (arith, w.4, w.3),
+            λ d. ap (λ (k : ℕ). get_or
+                (h ∷ hs) k d) s ∙ w.5 d,
+          )
     ]
 
 pub held_row : (n : ℕ) (hs : List Held) (h : Held) → In h hs → (r : Row) × In r (rows_from n hs) × (r.0 ≡ pin_in h)
@@ -57,7 +68,8 @@ rows_apart n [] once = tt
 rows_apart n (h ∷ hs) once = (
   λ z i. (let w = row_held (n + 1) hs z i in
       keys_apart (pin_in h) z.0 (elim (true_or_false (same_key (pin_in h) z.0)) [
-        | inl t ↦ absurd (once.0 (subst (λ (k : Key). In k (map pin_in hs)) (sym w.2 ∙ sym ((key_decides (pin_in h) z.0).0 t)) (in_map pin_in w.0 hs w.1)))
+        | inl t ↦ absurd (once.0 (subst (λ (k : Key). In k (map pin_in hs)) (sym w.2
+            ∙ sym ((key_decides (pin_in h) z.0).0 t)) (in_map pin_in w.0 hs w.1)))
         | inr f ↦ f
       ])),
   rows_apart (n + 1) hs once.1,
@@ -71,17 +83,20 @@ pins_ascend [] = refl
 pins_ascend (x ∷ []) = refl
 pins_ascend (x ∷ y ∷ ys) = ap (λ (b : Bool). row_below x y && b) (pins_ascend (y ∷ ys))
 
-module _ (held : List Held) (pins : List Row) (rows : pins ≡ sorted row_below (rows_of held)) (once : Once (map pin_in held)) where
+module _ (held : List Held) (pins : List Row) (rows : pins
+    ≡ sorted row_below (rows_of held)) (once : Once (map pin_in held)) where
   pub pins_in_order : ascending key_below (map pin_at pins) ≡ true
   pins_in_order =
-      sym (pins_ascend pins) ∙ ap (ascending row_below) rows ∙ sorted_ascending row_below row_chain (rows_of held) (rows_apart 0 held once)
+      sym (pins_ascend pins) ∙ ap (ascending row_below) rows
+      ∙ sorted_ascending row_below row_chain (rows_of held) (rows_apart 0 held once)
 
   pub pin_of_held : (q : Key) → In q (map pin_in held) → In q (map pin_at pins)
   pin_of_held q i =
       let h = of_map pin_in q held i in
       let r = held_row 0 held h.0 h.1 in
       subst (λ (k : Key). In k (map pin_at pins)) (r.2 ∙ sym h.2)
-      (in_map pin_at r.0 pins (subst (λ (rs : List Row). In r.0 rs) (sym rows) (in_sorted row_below r.0 (rows_of held) r.1)))
+      (in_map pin_at r.0 pins (subst (λ (rs : List Row). In r.0 rs) (sym rows) (in_sorted row_below r.0
+      (rows_of held) r.1)))
 
   pub row_there : (r : Row) → In r pins → In r (rows_of held)
   row_there r i = of_sorted row_below r (rows_of held) (subst (λ (rs : List Row). In r rs) rows i)
@@ -95,7 +110,8 @@ module _ (held : List Held) (pins : List Row) (rows : pins ≡ sorted row_below 
   -- no pin has a key that would go somewhere
   pub no_pin : (key : Key) (i : ℕ) → IsPlace (map pin_at pins) key (Err i) → In key (map pin_in held) → ⊥
   no_pin key i w m =
-      elim (in_either key (take i (map pin_at pins)) (drop i (map pin_at pins)) (subst (λ (ks : List Key). In key ks) (sym (parts_of i (map pin_at pins))) (pin_of_held key m))) [
+      elim (in_either key (take i (map pin_at pins)) (drop i (map pin_at pins)) (subst (λ
+      (ks : List Key). In key ks) (sym (parts_of i (map pin_at pins))) (pin_of_held key m))) [
         | inl a ↦ never_below key (w.1 key a)
         | inr b ↦ never_below key (w.2 key b)
       ]
@@ -105,7 +121,8 @@ module _ (held : List Held) (pins : List Row) (rows : pins ≡ sorted row_below 
   abbrev pub NoneOver : Key → ℕ → Type 0
   NoneOver key left = (q : Key) → In q (map pin_in held) → IsPrefix q key → length q ≤ left
 
-  pub none_over_less : (key : Key) (left i : ℕ) → NoneOver key left → IsPlace (map pin_at pins) (take left key) (Err i) → NoneOver key (left - 1)
+  pub none_over_less : (key : Key) (left i : ℕ) → NoneOver key left
+      → IsPlace (map pin_at pins) (take left key) (Err i) → NoneOver key (left - 1)
   none_over_less key left i f w q m p = by (length q == left) refl
     where
       less : length q ≤ left
@@ -114,8 +131,11 @@ module _ (held : List Held) (pins : List Row) (rows : pins ≡ sorted row_below 
       by : (b : Bool) → (length q == left) ≡ b → length q ≤ left - 1
       by true e = absurd (
           let n : length q ≡ left = grind arith in
-          no_pin (take left key) i w (subst (λ (k : Key). In k (map pin_in held)) (sym p ∙ ap (λ (k : ℕ). take k key) n) m))
-      by false e = (let n : (length q ≡ left) → ⊥ = (λ (s : length q ≡ left). let t : (length q == left) ≡ true = grind arith in cc) in omega (arith, less, n))
+          no_pin (take left key) i w (subst (λ (k : Key). In k (map pin_in held)) (sym p
+          ∙ ap (λ (k : ℕ). take k key) n) m))
+      by false e = (let n : (length q ≡ left)
+          → ⊥ = (λ (s : length q ≡ left). let t : (length q == left) ≡ true = grind arith in cc) in
+          omega (arith, less, n))
 
   find_held : (h : Held) (p : Key) → In h held → pin_in h ≡ p → context_with held p ≡ Some h
   find_held h p i same = by (context_with held p) refl
@@ -135,24 +155,31 @@ module _ (held : List Held) (pins : List Row) (rows : pins ≡ sorted row_below 
       let row = row_held 0 held r (row_there r (subst (λ (x : Row). In x pins) (sym is) (in_get pins at r l))) in
       omega (arith, row.4)
 
-  pub context_found : (key : Key) (left at : ℕ) (r : Row) (h : Held) → left ≤ length key → NoneOver key left → IsPlace (map pin_at pins) (take left key) (Ok at)
+  pub context_found : (key : Key) (left at : ℕ) (r : Row) (h : Held) → left ≤ length key → NoneOver key left
+      → IsPlace (map pin_at pins) (take left key) (Ok at)
       → r ≡ get_or pins at r → h ≡ get_or held r.1 h → Some h ≡ context_at held key
   context_found key left at r h l f w is there_h =
       let within : at < length pins = omega (arith, w.0, length-map pins pin_at) in
       let row_in : In r pins = subst (λ (x : Row). In x pins) (sym is) (in_get pins at r within) in
       let row = row_held 0 held r (row_there r row_in) in
-      let same : h ≡ row.0 = there_h ∙ ap (λ (k : ℕ). get_or held k h) (let z : r.1 ≡ r.1 - 0 = omega arith in z) ∙ row.5 h in
-      let pin : r.0 ≡ take left key = ap pin_at is ∙ sym (get_or-map pin_at pins at r (take left key) within) ∙ head_is at (map pin_at pins) (take left key) w in
+      let same : h ≡ row.0 = there_h ∙ ap (λ (k : ℕ). get_or held k h) (let z : r.1 ≡ r.1 - 0 = omega arith in
+      z) ∙ row.5 h in
+      let pin : r.0 ≡ take left key = ap pin_at is ∙ sym (get_or-map pin_at pins at r (take left key) within)
+      ∙ head_is at (map pin_at pins) (take left key) w in
       let on : IsPrefix (take left key) key = ap (λ (k : ℕ). take k key) (length-take-le left key l) in
-      let long : longest (map pin_in held) key ≡ Some (take left key) = longest_is (map pin_in held) key (take left key) (
+      let long : longest (map pin_in held) key
+      ≡ Some (take left key) = longest_is (map pin_in held) key (take left key) (
         subst (λ (k : Key). In k (map pin_in held)) pin (held_of_pin r.0 (in_map pin_at r pins row_in)),
         (on, λ q i p. let a : length q ≤ left = f q i p in omega (arith, length-take-le left key l, a)),
       ) in
-      sym (ap (λ (o : Option Key). in_context held o) long ∙ find_held row.0 (take left key) row.1 (sym row.2 ∙ pin) ∙ ap (λ (x : Held). Some x) (sym same))
+      sym (ap (λ (o : Option Key). in_context held o) long ∙ find_held row.0 (take left key) row.1 (sym row.2
+      ∙ pin) ∙ ap (λ (x : Held). Some x) (sym same))
 
-  pub context_none : (key : Key) → NoneOver key 0 → ((q : Key) → In q (map pin_in held) → 0 < length q) → None ≡ context_at held key
+  pub context_none : (key : Key) → NoneOver key 0 → ((q : Key) → In q (map pin_in held) → 0 < length q)
+      → None ≡ context_at held key
   context_none key f full = by (longest (map pin_in held) key) refl
     where
       by : (o : Option Key) → longest (map pin_in held) key ≡ o → None ≡ in_context held o
       by None e = refl
-      by (Some p) e = absurd (let w = longest_some (map pin_in held) key p e in let l : length p ≤ 0 = f p w.0 w.1 in let m : 0 < length p = full p w.0 in omega arith)
+      by (Some p) e = absurd (let w = longest_some (map pin_in held) key p e in
+          let l : length p ≤ 0 = f p w.0 w.1 in let m : 0 < length p = full p w.0 in omega arith)

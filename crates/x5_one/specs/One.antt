@@ -1,6 +1,6 @@
--- The one tree of a world as it is kept: all entries, and the naming contexts with the agents that master them (X.501,
--- section 7: the directory information tree; section 22: naming contexts). Who masters a context is told as the source of an
--- answer, which is this project's own.
+-- The one tree of a world as it is kept: all entries, and the naming contexts with the agents that master them
+-- (X.501, section 7: the directory information tree; section 22: naming contexts). Who masters a context is told as
+-- the source of an answer, which is this project's own.
 use Rattle.std.specs.Prelude.{List, map}
 use Rattle.std.specs.List.{find, flat_map}
 use Rattle.std.specs.declared.option.Option.{Option}

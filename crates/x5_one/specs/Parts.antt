@@ -1,7 +1,8 @@
 -- The one tree by its parts, what always holds of it, and what a read or compare tells at an entry.
 use Rattle.std.specs.Prelude.{Bool, true, false, List, map}
 use Rattle.x5_model.specs.Entries.{Named}
-use Rattle.x5_model.specs.Requests.{Body, Read, Compare, ListBelow, Search, AddEntry, RemoveEntry, ModifyEntry, ModifyDn}
+use Rattle.x5_model.specs.Requests.{Body, Read, Compare, ListBelow, Search, AddEntry, RemoveEntry, ModifyEntry}
+use Rattle.x5_model.specs.Requests.{ModifyDn}
 use Rattle.x5_model_tree.specs.Tree.{Tree}
 use Rattle.x5_model_tree.specs.Ask as model
 use Rattle.x5_model_theory.specs.Knowledge.{Knowledge}

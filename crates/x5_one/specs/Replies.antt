@@ -1,12 +1,10 @@
--- What the one tree replies (X.511, sections 9 to 11): what it tells. A read or compare has the context that it was answered
--- from as its source, at its master; a list or search has no sources, and nothing is unexplored.
+-- What the one tree replies (X.511, sections 9 to 11): what it tells. A read or compare has the context that it was
+-- answered from as its source, at its master; a list or search has no sources, and nothing is unexplored.
 use Rattle.std.specs.Prelude.{ℕ, List, []}
 use Rattle.std.specs.declared.option.Option.TheVariants.{None}
-use Rattle.std.specs.declared.result.Result.TheVariants.{Ok, Err}
 use Rattle.x5_model.specs.Words.{in_option}
 use Rattle.x5_model.specs.Keys.{Key}
 use Rattle.x5_model.specs.Answers.{Source, EntryFound, Matched, Listed, Found, Changed, Reply, Answered, Failed}
-use Rattle.x5_model_tree.specs.Apply.{Applied}
 use Rattle.x5_model_tree.specs.Ask.{Told, Shows, Compares, Lists, Finds, Changes, Refuses}
 use Rattle.x5_ops.specs.AgentNames.{agent_of}
 use Rattle.x5_one.specs.One.{Held, context_at}
@@ -30,8 +28,3 @@ reply_of source (Lists subs cut) = Answered (Listed subs [] (record { limited = 
 reply_of source (Finds infos cut) = Answered (Found infos [] (record { limited = cut; unexplored = [] }))
 reply_of source Changes = Answered Changed
 reply_of source (Refuses x) = Failed x
-
--- the reply to an update: that it's done, or its refusal
-abbrev pub update_reply : Applied → Reply
-update_reply (Ok t) = Answered Changed
-update_reply (Err x) = Failed x

@@ -25,8 +25,10 @@ tree_with entries = record { entries = entries; pins = [] }
 
 abbrev pub list_told : List Named → Name → Option ℕ → Told
 list_told entries name size =
-    if is_there_or_root entries (key_of name) then limited_list (λ key. false) size (just_below (tree_with entries) name) else absent (tree_with entries) name
+    if is_there_or_root entries (key_of name) then limited_list (λ key. false) size (just_below
+    (tree_with entries) name) else absent (tree_with entries) name
 
 abbrev pub search_told : List Named → Name → Subset → Filter → Selection → Option ℕ → Told
 search_told entries base subset f selection size =
-    if is_there_or_root entries (key_of base) then limited_found (λ key. false) size selection (searched (tree_with entries) base subset f) else absent (tree_with entries) base
+    if is_there_or_root entries (key_of base) then limited_found (λ key. false) size selection (searched
+    (tree_with entries) base subset f) else absent (tree_with entries) base

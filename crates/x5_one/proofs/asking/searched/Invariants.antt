@@ -1,3 +1,4 @@
+-- Those found so far, with those that the rest has, are those of the scope.
 use Rattle.std.proofs.Common.{◌≡◌, ◌&&◌, ◌++◌, drop}
 use Rattle.std.specs.List.{filter}
 use Rattle.x5_model.specs.Truth.{selects_entry}
@@ -10,5 +11,7 @@ use Rattle.x5_one.proofs.asking.searched.Given as goal
 
 abbrev pub invariant-loop-named : goal.invariant-loop-named
 invariant-loop-named l =
-    found_in l.found.items ++ filter (λ e. in_subset (subset_view l.subset) l.base (key_at e) && selects_entry (filter_view l.wanted) e.entry) (drop l.named-index l.scope)
-    ≡ filter (λ e. in_subset (subset_view l.subset) l.base (key_at e) && selects_entry (filter_view l.wanted) e.entry) l.scope
+    found_in l.found.items ++ filter (λ e. in_subset (subset_view l.subset) l.base (key_at e) && selects_entry
+    (filter_view l.wanted) e.entry) (drop l.named-index l.scope)
+    ≡ filter (λ e. in_subset (subset_view l.subset) l.base (key_at e) && selects_entry
+    (filter_view l.wanted) e.entry) l.scope

@@ -1,3 +1,4 @@
+-- The contexts so far, with those of the agents that are left, are all.
 use Rattle.std.proofs.Common.{◌≡◌, ◌++◌, map, drop}
 use Rattle.std.specs.List.{flat_map}
 use Rattle.x5_know.specs.WorldView.{described_agent_view}
@@ -6,4 +7,5 @@ use Rattle.x5_one.proofs.contexts.gathered.Given as goal
 
 abbrev pub invariant-loop-agent : goal.invariant-loop-agent
 invariant-loop-agent l =
-    l.held.items ++ flat_map contexts_by (map described_agent_view (drop l.agent-index l.agents)) ≡ flat_map contexts_by (map described_agent_view l.agents)
+    l.held.items ++ flat_map contexts_by (map described_agent_view (drop l.agent-index l.agents))
+    ≡ flat_map contexts_by (map described_agent_view l.agents)

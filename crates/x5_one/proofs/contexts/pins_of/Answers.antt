@@ -11,6 +11,8 @@ use Rattle.x5_one.proofs.contexts.pins_of.Goals as goal
 pub returns : goal.returns
 returns c =
     stable_sort row_below (ranks_by key_cmp_total (λ (r : Row). r.0)) c.in_ok-pins.pins.items c.sort_by.new.self.items
-    (c.in_ok-sort_by.ensures.sorted row_below (ranks_by key_cmp_total (λ (r : Row). r.0)) (always_returns_same _ _ _ (λ a r f k. search (rules, of_calls))))
-    (c.in_ok-sort_by.ensures.stable row_below (ranks_by key_cmp_total (λ (r : Row). r.0)) (always_returns_same _ _ _ (λ a r f k. search (rules, of_calls))))
+    (c.in_ok-sort_by.ensures.sorted row_below (ranks_by key_cmp_total (λ (r : Row). r.0))
+    (always_returns_same _ _ _ (λ a r f k. search (rules, of_calls))))
+    (c.in_ok-sort_by.ensures.stable row_below (ranks_by key_cmp_total (λ (r : Row). r.0))
+    (always_returns_same _ _ _ (λ a r f k. search (rules, of_calls))))
     ∙ ap (λ (rs : List Row). sorted row_below rs) c.in_ok-pins.ensures

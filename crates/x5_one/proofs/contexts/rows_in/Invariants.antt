@@ -1,3 +1,4 @@
+-- The pins so far, with those of the contexts that are left, are all.
 use Rattle.std.proofs.Common.{◌≡◌, ◌++◌, drop}
 use Rattle.x5_one.specs.Rows.{rows_from, rows_of}
 use Rattle.x5_one.proofs.contexts.rows_in.Given as goal

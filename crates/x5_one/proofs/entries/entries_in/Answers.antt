@@ -14,6 +14,10 @@ use Rattle.x5_one.proofs.entries.entries_in.Goals as goal
 pub returns : goal.returns
 returns c =
     stable_sort named_below (ranks_by key_cmp_total key_at) c.in_ok-entries.entries.items c.sort_by.new.self.items
-    (c.in_ok-sort_by.ensures.sorted named_below (ranks_by key_cmp_total key_at) (always_returns_same _ _ _ (λ a r f k. search (rules, of_calls))))
-    (c.in_ok-sort_by.ensures.stable named_below (ranks_by key_cmp_total key_at) (always_returns_same _ _ _ (λ a r f k. search (rules, of_calls))))
-    ∙ ap sorted_entries (c.in_ok-entries.ensures ∙ ap (λ (agents : List DescribedAgent). entries_of (map described_agent_view agents)) c.as_slice.ensures ∙ all_gathered (world_view c.args.world.now))
+    (c.in_ok-sort_by.ensures.sorted named_below (ranks_by key_cmp_total key_at) (always_returns_same _ _ _
+    (λ a r f k. search (rules, of_calls))))
+    (c.in_ok-sort_by.ensures.stable named_below (ranks_by key_cmp_total key_at) (always_returns_same _ _ _
+    (λ a r f k. search (rules, of_calls))))
+    ∙ ap sorted_entries (c.in_ok-entries.ensures
+    ∙ ap (λ (agents : List DescribedAgent). entries_of (map described_agent_view agents)) c.as_slice.ensures
+    ∙ all_gathered (world_view c.args.world.now))

@@ -1,3 +1,4 @@
+-- The entries so far, with those that are left, are all.
 use Rattle.std.proofs.Common.{◌≡◌, ◌++◌, drop}
 use Rattle.x5_one.proofs.entries.with_copies.Given as goal
 

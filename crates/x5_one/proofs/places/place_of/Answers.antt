@@ -9,5 +9,7 @@ use Rattle.x5_one.proofs.places.place_of.Goals as goal
 
 pub returns : goal.returns
 returns c =
-    place_by_halves c.args.key.now key_at c.args.entries.now (sym (keys_ascend c.args.entries.now) ∙ c.requires) c.binary_search_by.result c.binary_search_by.ensures.bound
-    (c.binary_search_by.ensures.position (λ y. key_cmp (key_at y) c.args.key.now) (always_returns_same _ _ _ (λ a r f k. search (rules, of_calls))))
+    place_by_halves c.args.key.now key_at c.args.entries.now (sym (keys_ascend c.args.entries.now)
+    ∙ c.requires) c.binary_search_by.result c.binary_search_by.ensures.bound
+    (c.binary_search_by.ensures.position (λ y. key_cmp (key_at y) c.args.key.now) (always_returns_same _ _ _
+    (λ a r f k. search (rules, of_calls))))

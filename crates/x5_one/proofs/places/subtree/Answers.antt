@@ -11,9 +11,14 @@ use Rattle.x5_one.proofs.places.subtree.Goals as goal
 
 pub returns : goal.returns
 returns c =
-    let rest : take (length c.args.entries.now - c.start_of.result) (drop c.start_of.result c.args.entries.now) ≡ drop c.start_of.result c.args.entries.now = take_rest c.args.entries.now c.start_of.result in
+    let rest : take (length c.args.entries.now - c.start_of.result) (drop c.start_of.result c.args.entries.now)
+    ≡ drop c.start_of.result c.args.entries.now = take_rest c.args.entries.now c.start_of.result in
     ap (take c.partition_point-count.result) rest
-    ∙ run_is c.args.entries.now c.args.key.now c.start_of.result c.requires c.start_of.ensures c.partition_point-count.result
-    (subst (λ (ys : List Named). IsPartitionPoint (λ e. is_prefix c.args.key.now (key_at e) ≡ true) (λ e. is_prefix c.args.key.now (key_at e) ≡ false) ys c.partition_point-count.result) rest
-    (c.partition_point-count.ensures.partitioned (λ e. is_prefix c.args.key.now (key_at e)) (always_returns_same _ _ _ (λ a r f k. search (rules, of_calls)))
-    (subst (λ (ys : List Named). IsPartitionedBy (λ e. is_prefix c.args.key.now (key_at e)) ys) (sym rest) (rest_partitioned c.args.entries.now c.args.key.now c.start_of.result c.requires c.start_of.ensures))))
+    ∙ run_is c.args.entries.now c.args.key.now c.start_of.result c.requires c.start_of.ensures
+    c.partition_point-count.result
+    (subst (λ (ys : List Named). IsPartitionPoint (λ e. is_prefix c.args.key.now (key_at e)
+    ≡ true) (λ e. is_prefix c.args.key.now (key_at e) ≡ false) ys c.partition_point-count.result) rest
+    (c.partition_point-count.ensures.partitioned (λ e. is_prefix c.args.key.now (key_at e))
+    (always_returns_same _ _ _ (λ a r f k. search (rules, of_calls)))
+    (subst (λ (ys : List Named). IsPartitionedBy (λ e. is_prefix c.args.key.now (key_at e)) ys) (sym rest)
+    (rest_partitioned c.args.entries.now c.args.key.now c.start_of.result c.requires c.start_of.ensures))))

@@ -19,17 +19,33 @@ given entries contexts = record { entries = entries; contexts = contexts }
 
 pub returns-in-Some : goal.returns-in-Some
 returns-in-Some c names =
-    told_refused (source_at names c.args.self.now.contexts (key_of (name_of (body_view c.args.request.now.body)))) (tree_in c.args.self.now) (request_view c.args.request.now) (error_view names c.in-Some.error)
+    told_refused (source_at names c.args.self.now.contexts (key_of (name_of (body_view c.args.request.now.body))))
+    (tree_in c.args.self.now) (request_view c.args.request.now) (error_view names c.in-Some.error)
     (sym (ap (option_map (error_view names)) c.in-Some.is) ∙ c.in_ok-error.ensures names)
 
 pub returns : goal.returns
 returns c =
-    let none : None ≡ fault_of (body_view c.args.request.now.body) = sym (ap (option_map (error_view [])) c.in_default.is) ∙ c.in_ok-error.ensures [] in
-    let whole : given c.deref.result.now c.deref-2.result.now ≡ c.args.self.now = (λ i. record { entries = c.deref.ensures.value i; contexts = c.deref-2.ensures.value i }) ∙ c.self.view_is in
-    ok_by (λ (reply : Reply). (names : List (List ℕ)) → reply_view names reply ≡ reply_of (source_at names c.deref-2.result.now (key_of (name_of (body_view c.args.request.now.body)))) (ask_body (λ key. false) (tree_of c.deref.result.now c.deref-2.result.now) (request_view c.args.request.now) (body_view c.args.request.now.body)))
-    (λ (reply : Reply). (names : List (List ℕ)) → reply_view names reply ≡ reply_of (source_at names c.args.self.now.contexts (key_of (name_of (body_view c.args.request.now.body)))) (ask (tree_in c.args.self.now) (request_view c.args.request.now)))
+    let none : None ≡ fault_of (body_view c.args.request.now.body) = sym (ap (option_map
+    (error_view [])) c.in_default.is) ∙ c.in_ok-error.ensures [] in
+    let whole : given c.deref.result.now c.deref-2.result.now
+    ≡ c.args.self.now = (λ i. record {
+      entries = c.deref.ensures.value i;
+      contexts =
+          c.deref-2.ensures.value i;
+    }) ∙ c.self.view_is in
+    ok_by (λ (reply : Reply). (names : List (List ℕ))
+    → reply_view names reply ≡ reply_of (source_at names c.deref-2.result.now (key_of (name_of
+    (body_view c.args.request.now.body)))) (ask_body (λ key. false)
+    (tree_of c.deref.result.now c.deref-2.result.now) (request_view c.args.request.now)
+    (body_view c.args.request.now.body)))
+    (λ (reply : Reply). (names : List (List ℕ))
+    → reply_view names reply ≡ reply_of (source_at names c.args.self.now.contexts (key_of (name_of
+    (body_view c.args.request.now.body)))) (ask (tree_in c.args.self.now) (request_view c.args.request.now)))
     (λ reply told names.
     told names
-    ∙ ap (λ (o : One). reply_of (source_at names o.contexts (key_of (name_of (body_view c.args.request.now.body)))) (ask_body (λ key. false) (tree_in o) (request_view c.args.request.now) (body_view c.args.request.now.body))) whole
-    ∙ told_after (source_at names c.args.self.now.contexts (key_of (name_of (body_view c.args.request.now.body)))) (tree_in c.args.self.now) (request_view c.args.request.now) none)
+    ∙ ap (λ (o : One). reply_of (source_at names o.contexts (key_of (name_of
+    (body_view c.args.request.now.body)))) (ask_body (λ key. false) (tree_in o)
+    (request_view c.args.request.now) (body_view c.args.request.now.body))) whole
+    ∙ told_after (source_at names c.args.self.now.contexts (key_of (name_of (body_view c.args.request.now.body))))
+    (tree_in c.args.self.now) (request_view c.args.request.now) none)
     c.answer.result c.answer.ensures

@@ -11,11 +11,20 @@ use Rattle.x5_one.proofs.tree.OneTree.new.Goals as goal
 
 pub invariant_of-result : goal.invariant_of-result
 invariant_of-result c = (
-  subst (λ (t : Tree). IsSound t) (sym (whole_gathered (world_view c.args.world.now) (record { entries = c.in_ok-entries.entries.items; contexts = c.in_ok-contexts.contexts.items }) c.in_ok-entries.ensures c.in_ok-contexts.ensures))
+  subst (λ (t : Tree). IsSound t) (sym (whole_gathered (world_view c.args.world.now) (record {
+    entries =
+        c.in_ok-entries.entries.items;
+    contexts =
+        c.in_ok-contexts.contexts.items;
+  }) c.in_ok-entries.ensures c.in_ok-contexts.ensures))
       (whole_sound (world_view c.args.world.now) c.requires.described c.requires.consistent),
   c.in_ok-pins.ensures ∙ ap (λ (hs : List Held). sorted row_below (rows_of hs)) c.deref.ensures.value,
 )
 
 pub returns-clause-tree : goal.returns-clause-tree
 returns-clause-tree c =
-    whole_gathered (world_view c.args.world.now) (record { entries = c.in_ok-entries.entries.items; contexts = c.in_ok-contexts.contexts.items }) c.in_ok-entries.ensures c.in_ok-contexts.ensures
+    whole_gathered (world_view c.args.world.now) (record {
+      entries = c.in_ok-entries.entries.items;
+      contexts =
+          c.in_ok-contexts.contexts.items;
+    }) c.in_ok-entries.ensures c.in_ok-contexts.ensures
