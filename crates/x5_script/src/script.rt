@@ -116,6 +116,18 @@ fn line_behind(
     Ok(command)
 }
 
+/// The lost replies with that of the command.
+fn lost_behind(lost: usize, command: &Command) -> usize
+    requires { scripts.loses_reply (command_view command.now) ≡ true → lost < 16 }
+    ensures { result ≡ scripts.lost_with lost (command_view command.now) }
+{
+    if loses_reply(command) {
+        lost + 1
+    } else {
+        lost
+    }
+}
+
 /// Reads a script whole: what its lines ask for, one command a line, or the first line that is refused. A line ends at a line feed or
 /// at the end of the octets, a last line feed begins no line, and line 100,001 is too long, whatever it holds; so is a line that asks
 /// for the 17th lost reply, of which the world has so many by itself.
@@ -137,9 +149,7 @@ pub fn read_script(
             Ok(command) => command,
             Err(fault) => return Err(refusal(before + 1, fault)),
         };
-        if loses_reply(&command) {
-            lost += 1;
-        }
+        lost = lost_behind(lost, &command);
         commands.push(command)?;
         rest = behind;
         before += 1;
