@@ -26,6 +26,9 @@ use Rattle.x5_ops.specs.KnowledgeViews.{agent_view, specific_view, cross_view}
 use Rattle.x5_ops.specs.declared.knowledge.AgentSpec.{AgentSpec}
 use Rattle.x5_ops.specs.declared.knowledge.Cross.{Cross}
 use Rattle.x5_ops.specs.declared.knowledge.Specific.{Specific}
+use Rattle.x5_model_star.proofs.Consistency.{star_is_consistent}
+use Rattle.x5_model_tree.specs.Consistent.{IsConsistent}
+use Rattle.xdir.proofs.Shapes.{stars_have_shape, shapes_are_stars}
 use Rattle.xdir.specs.Run.{names_in}
 use Rattle.xdir.specs.Shape.{are_seats, is_idle, is_shaped, IsShaped}
 use Rattle.xdir.specs.Star.{star_file, IsReady, IsStarOf}
@@ -240,7 +243,7 @@ pub ready : (d : Described) (s : Star) → IsDescribed (world_view d) → IsStar
     → s.agents ≡ map (λ a. a.spec) d.agents → s.names ≡ map (λ a. a.name) s.agents → IsStarOf d (Some s)
 ready d s described star start agents names =
     let same : world_view d ≡ star_world s.agents =
-        same_world d described star ∙ ap (λ (as : List AgentSpec). star_world as) (sym agents) in
+        same_world d described star ∙ ap (λ (some : List AgentSpec). star_world some) (sym agents) in
     let so : IsDescribed (star_world s.agents) = subst IsDescribed same described in
     (
       record {
@@ -251,3 +254,32 @@ ready d s described star start agents names =
       },
       λ i. record { start = sym start i; world = same i },
     )
+
+module _ (d : Described) (described : IsDescribed (world_view d)) (star : IsStar (world_view d)) (agents : List AgentSpec) (are : agents ≡ map (λ a. a.spec) d.agents) where
+  pub specs_described : IsDescribed (star_world agents)
+  specs_described = subst IsDescribed (same_world d described star ∙ ap (λ (some : List AgentSpec). star_world some) (sym are)) described
+
+  pub specs_apart : distinct same_octets (map (λ a. a.name) agents) ≡ true
+  specs_apart = apart agents specs_described
+
+-- ---- whether a world is a star
+
+pub not_shaped : (w : World) (b : Bool) → IsDescribed w → b ≡ is_shaped w → b ≡ false → IsStar w → ⊥
+not_shaped w b d is no s = let yes : is_shaped w ≡ true = shape_shown w (stars_have_shape w d s) in cc
+
+pub not_consistent : (w : World) (b : Bool) → IsDescribed w → (IsConsistent w → b ≡ true) → b ≡ false → IsStar w → ⊥
+not_consistent w b d is no s = let yes : b ≡ true = is (star_is_consistent w d s) in cc
+
+pub is_found : (w : World) (b c : Bool) → IsDescribed w → b ≡ is_shaped w → b ≡ true → (c ≡ true → IsConsistent w) → c ≡ true → IsStar w
+is_found w b c d is yes consistent so = shapes_are_stars w d (consistent so) (shape_of w (sym is ∙ yes))
+
+pub same_lengths : (s : Star) → IsReady s → length s.names ≡ length s.agents
+same_lengths s r = ap (λ (ns : List Text). length ns) (r.named ∙ sym (same_names s.agents)) ∙ length-map s.agents (λ a. a.name)
+
+-- ---- what was found
+
+pub found : (d : Described) (o : Option Star) (s : Star) → o ≡ Some s → IsStarOf d o → IsStarOf d (Some s)
+found d o s e h = subst (IsStarOf d) e h
+
+pub found_none : (d : Described) (o : Option Star) → o ≡ None → IsStarOf d o → IsStar (world_view d) → ⊥
+found_none d o e h = subst (IsStarOf d) e h

@@ -6,7 +6,7 @@ use Rattle.x5_port.proofs.Octets.{with_octets-with_octets}
 use Rattle.xdir.specs.declared.top.Status.{Status}
 use Rattle.xdir.specs.declared.top.Status.TheVariants.{Done, Refused, Usage, ReadFault, WriteFault, NoMemory, Inconsistent, TooLong}
 use Rattle.xdir.specs.Outcomes.{Wrote, Broke, Ends}
-use Rattle.xdir.specs.Steps.{WritesLine, WritesSuchLine}
+use Rattle.xdir.specs.Steps.{WritesLine, WritesSuchLine, Prints}
 
 -- a count that rose later
 pub rose_later : (before mid after : ℕ) → before ≤ mid → Rose mid after → Rose before after
@@ -80,3 +80,14 @@ module _ {P Q : List ℕ → Type 0} (more : (text : List ℕ) → P text → Q 
   such_ends output first TooLong old new before after w = absurd w
   such_ends output first Usage old new before after w = w
   such_ends output first Inconsistent old new before after w = w
+
+pub such_prints : (status : Status) (P : List ℕ → Type 0) (old new : Option (List ℕ)) (before after : ℕ)
+    → WritesSuchLine status P old new before after → Prints status
+such_prints Refused P old new before after w = tt
+such_prints WriteFault P old new before after w = tt
+such_prints NoMemory P old new before after w = tt
+such_prints Done P old new before after w = absurd w
+such_prints ReadFault P old new before after w = w
+such_prints TooLong P old new before after w = w
+such_prints Usage P old new before after w = w
+such_prints Inconsistent P old new before after w = w

@@ -1,6 +1,5 @@
 -- What is written of a script over a star, and of the files that hold them.
 use Rattle.std.proofs.Common.{◌≡◌, ◌≤◌, ◌++◌, inl, inr, ◌⊎◌, ℕ, List, [], map, length, IsSomeAnd, Option, Some, None, refl, sym, ap, subst, ◌∙◌, Ok, Err, append-nil}
-use Rattle.std.specs.Result.{Result}
 use Rattle.x5_know.specs.WorldView.{world_view}
 use Rattle.x5_know.specs.declared.described.Described.{Described}
 use Rattle.x5_load.specs.Views.{Loads, file_view}

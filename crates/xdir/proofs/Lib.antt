@@ -5,3 +5,5 @@ pub mod Files
 pub mod Shapes
 pub mod Agents
 pub mod Taken
+pub mod Few
+pub mod Checks

@@ -30,23 +30,23 @@ so_not false e = refl
 -- one line
 module _ (names : List (List ℕ)) where
   pub taken : (c : Command) → is_other (command_view c) ≡ false → AreNamed names (command_view c) → IsTaken (length names) c
-  taken Nothing no named = tt
-  taken (Ask to request) no named =
+  taken Nothing other_no named = tt
+  taken (Ask to request) other_no named =
       let r : Request = request_view request in
-      let b = both_true (is_read r.body) (not r.controls.nochain) (not_so (is_read r.body && not r.controls.nochain) no) in
+      let b = both_true (is_read r.body) (not r.controls.nochain) (not_so (is_read r.body && not r.controls.nochain) other_no) in
       (All-head (λ a. a < length names) to [] named, record { reads = b.0; chains = so_not r.controls.nochain b.1 })
-  taken (Outage change) no named = cc
-  taken (Refresh id push total) no named = cc
-  taken (Deliver dsp to octets) no named = cc
-  taken (Lose reply k) no named = cc
+  taken (Outage change) other_no named = cc
+  taken (Refresh id push total) other_no named = cc
+  taken (Deliver dsp to octets) other_no named = cc
+  taken (Lose reply k) other_no named = cc
 
   as_run : (c : Command) → is_other (command_view c) ≡ false → command_view c ≡ lines.Runs (run_view c)
-  as_run Nothing no = refl
-  as_run (Ask to request) no = refl
-  as_run (Outage change) no = cc
-  as_run (Refresh id push total) no = cc
-  as_run (Deliver dsp to octets) no = cc
-  as_run (Lose reply k) no = cc
+  as_run Nothing other_no = refl
+  as_run (Ask to request) other_no = refl
+  as_run (Outage change) other_no = cc
+  as_run (Refresh id push total) other_no = cc
+  as_run (Deliver dsp to octets) other_no = cc
+  as_run (Lose reply k) other_no = cc
 
 -- all of them
 abbrev other : Command → Bool

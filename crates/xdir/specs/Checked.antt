@@ -27,8 +27,11 @@ pub record ShowsKnowledge (P : World → Type 0) (octets text : List ℕ) : Type
   pub holds : P file.world
   pub is_line : text ≡ knowledge_text file.world
 
+abbrev pub IsAny : World → Type 0
+IsAny w = ⊤
+
 abbrev pub IsCheckLine : List ℕ → List ℕ → Type 0
-IsCheckLine octets text = ShowsKnowledge IsConsistent octets text ⊎ (ShowsKnowledge IsInconsistent octets text ⊎ RefusesFile octets text)
+IsCheckLine octets text = ShowsKnowledge IsAny octets text ⊎ RefusesFile octets text
 
 -- what is written of a world's knowledge, by how that ends
 abbrev pub WritesKnowledge : Status → World → Option (List ℕ) → Option (List ℕ) → ℕ → ℕ → Type 0

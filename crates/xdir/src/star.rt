@@ -216,7 +216,8 @@ pub fn find_star(alloc: Global, world: Described) -> Result<Option<Star>, NoMemo
     if !is_shaped(&world) {
         return Ok(None);
     }
-    if !is_consistent(alloc, &world)? {
+    let is_sound = is_consistent(alloc, &world)?;
+    if !is_sound {
         return Ok(None);
     }
     Ok(Some(star_of(alloc, world)?))
