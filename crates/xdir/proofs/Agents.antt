@@ -265,13 +265,13 @@ module _ (d : Described) (described : IsDescribed (world_view d)) (star : IsStar
 -- ---- whether a world is a star
 
 pub not_shaped : (w : World) (b : Bool) → IsDescribed w → b ≡ is_shaped w → b ≡ false → IsStar w → ⊥
-not_shaped w b d is no s = let yes : is_shaped w ≡ true = shape_shown w (stars_have_shape w d s) in cc
+not_shaped w b d is off s = let on : is_shaped w ≡ true = shape_shown w (stars_have_shape w d s) in cc
 
 pub not_consistent : (w : World) (b : Bool) → IsDescribed w → (IsConsistent w → b ≡ true) → b ≡ false → IsStar w → ⊥
-not_consistent w b d is no s = let yes : b ≡ true = is (star_is_consistent w d s) in cc
+not_consistent w b d is off s = let on : b ≡ true = is (star_is_consistent w d s) in cc
 
 pub is_found : (w : World) (b c : Bool) → IsDescribed w → b ≡ is_shaped w → b ≡ true → (c ≡ true → IsConsistent w) → c ≡ true → IsStar w
-is_found w b c d is yes consistent so = shapes_are_stars w d (consistent so) (shape_of w (sym is ∙ yes))
+is_found w b c d is on consistent so = shapes_are_stars w d (consistent so) (shape_of w (sym is ∙ on))
 
 pub same_lengths : (s : Star) → IsReady s → length s.names ≡ length s.agents
 same_lengths s r = ap (λ (ns : List Text). length ns) (r.named ∙ sym (same_names s.agents)) ∙ length-map s.agents (λ a. a.name)

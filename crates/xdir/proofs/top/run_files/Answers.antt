@@ -22,12 +22,12 @@ returns-in-Ok-load-clause-writes g c =
     c.run_world.result (g.K.Sink.octets c.args.out.now) (g.K.Sink.octets c.run_world.new.out) (g.K.Sink.fault_count c.args.out.now) (g.K.Sink.fault_count c.run_world.new.out)
     (subst (λ (told : Option (List File)). WritesOver c.run_world.result told c.args.script.now (file_view c.in-Ok-load.world) (g.K.Sink.octets c.args.out.now) (g.K.Sink.octets c.run_world.new.out) (g.K.Sink.fault_count c.args.out.now) (g.K.Sink.fault_count c.run_world.new.out)) c.read_whole.ensures.same_contents c.run_world.ensures.writes)
 
-pub returns-in-Err-clause-reads : goal.returns-in-Err-clause-reads
-returns-in-Err-clause-reads g c =
+pub returns-in-Ok-clause-reads : goal.returns-in-Ok-clause-reads
+returns-in-Ok-clause-reads g c =
     reads_first (g.F.Files.contents c.args.files.now) (record { world = c.args.world.now; script = c.args.script.now }) c.deref.result.now (subst (λ (octets : List ℕ). IsContent (g.F.Files.contents c.args.files.now) c.args.world.now octets) (sym c.deref.ensures.value) c.in-Ok.ensures.content) c.in-Err.fault c.in-Err.ensures
-    c.refuse_world.result (g.F.Files.fault_count c.args.files.now) _ (g.K.Sink.fault_count c.args.out.now) (g.K.Sink.fault_count c.refuse_world.new.out) _ (g.K.Sink.octets c.args.out.now) (g.K.Sink.octets c.refuse_world.new.out) (readable (g.F.Files.contents c.args.files.now) c.args.world.now c.in-Ok.octets.items c.in-Ok.ensures.content c.in-Ok.ensures.fits) c.refuse_world.ensures
+    c.refuse_world.result (g.F.Files.fault_count c.args.files.now) (g.F.Files.fault_count c.read_whole.new.self) (g.K.Sink.fault_count c.args.out.now) (g.K.Sink.fault_count c.refuse_world.new.out) (g.F.Files.last_failed c.read_whole.new.self) (g.K.Sink.octets c.args.out.now) (g.K.Sink.octets c.refuse_world.new.out) (readable (g.F.Files.contents c.args.files.now) c.args.world.now c.in-Ok.octets.items c.in-Ok.ensures.content c.in-Ok.ensures.fits) c.refuse_world.ensures
 
-pub returns-in-Err-clause-writes : goal.returns-in-Err-clause-writes
-returns-in-Err-clause-writes g c =
+pub returns-in-Ok-clause-writes : goal.returns-in-Ok-clause-writes
+returns-in-Ok-clause-writes g c =
     refuses_file (g.F.Files.contents c.args.files.now) (record { world = c.args.world.now; script = c.args.script.now }) c.deref.result.now (subst (λ (octets : List ℕ). IsContent (g.F.Files.contents c.args.files.now) c.args.world.now octets) (sym c.deref.ensures.value) c.in-Ok.ensures.content) c.in-Err.fault c.in-Err.ensures
     c.refuse_world.result (g.K.Sink.octets c.args.out.now) (g.K.Sink.octets c.refuse_world.new.out) (g.K.Sink.fault_count c.args.out.now) (g.K.Sink.fault_count c.refuse_world.new.out) c.refuse_world.ensures
