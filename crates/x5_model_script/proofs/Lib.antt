@@ -1,3 +1,4 @@
 pub mod GatherLaws
 pub mod Places
 pub mod ScriptLaws
+pub mod NamedLaws

@@ -9,7 +9,7 @@ use Rattle.std.specs.List.{position, slice_split, onto_first, position_or_len, b
 use Rattle.x5_model.specs.Values.{Text}
 use Rattle.x5_model_script.specs.Lines.{Asked}
 use Rattle.x5_model_script.specs.Words.{Fault}
-use Rattle.x5_model_script.specs.Script.{is_line_feed, without_last_empty, lines_of, line_behind, with_others, lines_from, script_of}
+use Rattle.x5_model_script.specs.Script.{is_line_feed, without_last_empty, lines_of, line_behind, lost_with, lost_behind, with_others, lines_from, script_of}
 use Rattle.x5_model_script.proofs.Places.{position_some, position_none}
 
 -- ---- lines
@@ -87,36 +87,41 @@ behind_one : (number : ℕ) (done : List Asked) (one : Asked) (rest : Result (Li
 behind_one number done one (Ok asked) = ap Ok (sym (append_assoc done (one ∷ []) asked))
 behind_one number done one (Err fault) = refl
 
--- what is left to read of a script, behind the asked that were read of so many lines
-abbrev pub left : List Text → List Asked → ℕ → Text → Result (List Asked) (ℕ × Fault)
-left names done before rest = behind done (lines_from names before (lines_of rest))
+-- what is left to read of a script, behind the asked that were read of so many lines, with so many lost replies
+abbrev pub left : List Text → List Asked → ℕ → ℕ → Text → Result (List Asked) (ℕ × Fault)
+left names done before lost rest = behind done (lines_from names before lost (lines_of rest))
 
-pub line_taken : (names : List Text) (done : List Asked) (before : ℕ) (rest : Text) (one : Asked) → 0 < length rest
-    → line_behind names before (before_first is_line_feed rest) ≡ Ok one
-    → left names done before rest ≡ left names (done ++ one ∷ []) (before + 1) (after_first is_line_feed rest)
-line_taken names done before [] one some h = absurd (omega arith)
-line_taken names done before (b ∷ bs) one some h =
-    let others = lines_from names (before + 1) (lines_of (after_first is_line_feed (b ∷ bs))) in
-    ap (λ ls. behind done (lines_from names before ls)) (lines_next b bs)
-    ∙ ap (λ r. behind done (with_others (before + 1) r others)) h
-    ∙ behind_one (before + 1) done one others
+-- what is read of the lines behind a line, by what is read of it
+abbrev others : List Text → ℕ → ℕ → Text → Result Asked Fault → Result (List Asked) (ℕ × Fault)
+others names before lost rest r =
+    with_others (before + 1) r (lines_from names (before + 1) (lost_behind lost r) (lines_of rest))
 
-pub line_refused : (names : List Text) (done : List Asked) (before : ℕ) (rest : Text) (fault : Fault)
-    → 0 < length rest → line_behind names before (before_first is_line_feed rest) ≡ Err fault
-    → left names done before rest ≡ Err (before + 1, fault)
-line_refused names done before [] fault some h = absurd (omega arith)
-line_refused names done before (b ∷ bs) fault some h =
-    let others = lines_from names (before + 1) (lines_of (after_first is_line_feed (b ∷ bs))) in
-    ap (λ ls. behind done (lines_from names before ls)) (lines_next b bs)
-    ∙ ap (λ r. behind done (with_others (before + 1) r others)) h
+pub line_taken : (names : List Text) (done : List Asked) (before lost : ℕ) (rest : Text) (one : Asked) → 0 < length rest
+    → line_behind names before lost (before_first is_line_feed rest) ≡ Ok one
+    → left names done before lost rest
+      ≡ left names (done ++ one ∷ []) (before + 1) (lost_with lost one) (after_first is_line_feed rest)
+line_taken names done before lost [] one some h = absurd (omega arith)
+line_taken names done before lost (b ∷ bs) one some h =
+    ap (λ ls. behind done (lines_from names before lost ls)) (lines_next b bs)
+    ∙ ap (λ r. behind done (others names before lost (after_first is_line_feed (b ∷ bs)) r)) h
+    ∙ behind_one (before + 1) done one
+      (lines_from names (before + 1) (lost_with lost one) (lines_of (after_first is_line_feed (b ∷ bs))))
 
-pub all_lines : (names : List Text) (done : List Asked) (before : ℕ) (rest : Text) → length rest ≡ 0
-    → left names done before rest ≡ Ok done
-all_lines names done before [] h = ap Ok (append-nil done)
-all_lines names done before (b ∷ bs) h = absurd (omega arith)
+pub line_refused : (names : List Text) (done : List Asked) (before lost : ℕ) (rest : Text) (fault : Fault)
+    → 0 < length rest → line_behind names before lost (before_first is_line_feed rest) ≡ Err fault
+    → left names done before lost rest ≡ Err (before + 1, fault)
+line_refused names done before lost [] fault some h = absurd (omega arith)
+line_refused names done before lost (b ∷ bs) fault some h =
+    ap (λ ls. behind done (lines_from names before lost ls)) (lines_next b bs)
+    ∙ ap (λ r. behind done (others names before lost (after_first is_line_feed (b ∷ bs)) r)) h
 
-pub nothing_read : (names : List Text) (octets : Text) → left names [] 0 octets ≡ script_of names octets
-nothing_read names octets = by (script_of names octets)
+pub all_lines : (names : List Text) (done : List Asked) (before lost : ℕ) (rest : Text) → length rest ≡ 0
+    → left names done before lost rest ≡ Ok done
+all_lines names done before lost [] h = ap Ok (append-nil done)
+all_lines names done before lost (b ∷ bs) h = absurd (omega arith)
+
+pub nothing_read : (names : List Text) (lost : ℕ) (octets : Text) → left names [] 0 lost octets ≡ script_of names lost octets
+nothing_read names lost octets = by (script_of names lost octets)
   where
     by : (r : Result (List Asked) (ℕ × Fault)) → behind [] r ≡ r
     by (Ok asked) = refl

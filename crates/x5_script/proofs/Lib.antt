@@ -3,3 +3,4 @@ pub mod WordLaws
 pub mod NumberLaws
 pub mod ValueLaws
 pub mod FaultLaws
+pub mod ReaderLaws

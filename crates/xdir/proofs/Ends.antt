@@ -6,6 +6,7 @@ use Rattle.x5_port.proofs.Octets.{with_octets-with_octets}
 use Rattle.xdir.specs.declared.top.Status.{Status}
 use Rattle.xdir.specs.declared.top.Status.TheVariants.{Done, Refused, Usage, ReadFault, WriteFault, NoMemory, Inconsistent, TooLong}
 use Rattle.xdir.specs.Outcomes.{Wrote, Broke, Ends}
+use Rattle.xdir.specs.Steps.{WritesLine, WritesSuchLine, Prints}
 
 -- a count that rose later
 pub rose_later : (before mid after : ℕ) → before ≤ mid → Rose mid after → Rose before after
@@ -42,3 +43,51 @@ module _ {output first refusal output' first' refusal' : List ℕ → Type 0} (o
   ends_more TooLong old new before after w = w
   ends_more Usage old new before after w = absurd w
   ends_more Inconsistent old new before after w = absurd w
+
+-- ---- a line that is written alone
+
+pub such_line : (P : List ℕ → Type 0) (line : List ℕ) → P line → (status : Status) (old new : Option (List ℕ)) (before after : ℕ)
+    → WritesLine status line old new before after → WritesSuchLine status P old new before after
+such_line P line is Refused old new before after w = record { text = line; is = is; whole = w }
+such_line P line is WriteFault old new before after w = (w.0, record { text = line; is = is; part = w.1 })
+such_line P line is Done old new before after w = absurd w
+such_line P line is NoMemory old new before after w = absurd w
+such_line P line is ReadFault old new before after w = absurd w
+such_line P line is TooLong old new before after w = absurd w
+such_line P line is Usage old new before after w = w
+such_line P line is Inconsistent old new before after w = w
+
+module _ {P Q : List ℕ → Type 0} (more : (text : List ℕ) → P text → Q text) where
+  pub such_more : (status : Status) (old new : Option (List ℕ)) (before after : ℕ)
+      → WritesSuchLine status P old new before after → WritesSuchLine status Q old new before after
+  such_more Refused old new before after w = wrote_more more old new w
+  such_more WriteFault old new before after w = (w.0, broke_more more old new w.1)
+  such_more NoMemory old new before after w = w
+  such_more Done old new before after w = absurd w
+  such_more ReadFault old new before after w = absurd w
+  such_more TooLong old new before after w = absurd w
+  such_more Usage old new before after w = w
+  such_more Inconsistent old new before after w = w
+
+  -- where it is a refusal, it ends a run
+  pub such_ends : (output first : List ℕ → Type 0) (status : Status) (old new : Option (List ℕ)) (before after : ℕ)
+      → WritesSuchLine status P old new before after → Ends output first Q status old new before after
+  such_ends output first Refused old new before after w = wrote_more more old new w
+  such_ends output first WriteFault old new before after w = (w.0, broke_more (λ text p. inr (more text p)) old new w.1)
+  such_ends output first NoMemory old new before after w = inl w
+  such_ends output first Done old new before after w = absurd w
+  such_ends output first ReadFault old new before after w = absurd w
+  such_ends output first TooLong old new before after w = absurd w
+  such_ends output first Usage old new before after w = w
+  such_ends output first Inconsistent old new before after w = w
+
+pub such_prints : (status : Status) (P : List ℕ → Type 0) (old new : Option (List ℕ)) (before after : ℕ)
+    → WritesSuchLine status P old new before after → Prints status
+such_prints Refused P old new before after w = tt
+such_prints WriteFault P old new before after w = tt
+such_prints NoMemory P old new before after w = tt
+such_prints Done P old new before after w = absurd w
+such_prints ReadFault P old new before after w = w
+such_prints TooLong P old new before after w = w
+such_prints Usage P old new before after w = w
+such_prints Inconsistent P old new before after w = w

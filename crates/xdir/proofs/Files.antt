@@ -1,171 +1,235 @@
 -- What is written of a script over a star, and of the files that hold them.
-use Rattle.std.proofs.lemmas.Bool.{leb-true}
-use Rattle.std.proofs.lemmas.List.{length-map}
-use Rattle.std.proofs.Common.{◌≡◌, ◌≤◌, ◌∷◌, ◌&&◌, Bool, arith, inl, inr, ℕ, List, [], map, length, IsTrue, IsSomeAnd, Option, Some, None, refl, sym, ap, subst, ◌∙◌, Ok, Err, append-nil}
-use Rattle.std.specs.List.{list_all}
-use Rattle.x5_model_tree.specs.World.{World}
+use Rattle.std.proofs.Common.{◌≡◌, ◌≤◌, ◌++◌, inl, inr, ◌⊎◌, ℕ, List, [], map, length, IsSomeAnd, Option, Some, None, refl, sym, ap, subst, ◌∙◌, Ok, Err, append-nil}
+use Rattle.x5_know.specs.WorldView.{world_view}
+use Rattle.x5_know.specs.declared.described.Described.{Described}
+use Rattle.x5_load.specs.Views.{Loads, file_view}
 use Rattle.x5_model_run.specs.Run.{Command}
-use Rattle.x5_ops.specs.declared.knowledge.AgentSpec.{AgentSpec}
-use Rattle.x5_star.specs.Views.{star_world}
-use Rattle.x5_port.specs.Outside.{File, IsContent}
-use Rattle.x5_star.specs.WorldFile.{DescribesStar, DescribesNone, IsNoJson}
-use Rattle.x5_star_script.specs.Lines.{LineFault}
-use Rattle.x5_star_script.specs.Script.{script_of}
+use Rattle.x5_model_script.specs.Lines.{Asked}
+use Rattle.x5_model_script.specs.Lines as lines
+use Rattle.x5_model_script.specs.Script.{script_of}
+use Rattle.x5_model_script.specs.Words as words
+use Rattle.x5_model_star.specs.Star.{IsStar}
+use Rattle.x5_model_world.specs.Reading as model
+use Rattle.x5_model_world.specs.WorldFile.{File, Describes}
+use Rattle.x5_port.specs.Outside as outside
+use Rattle.x5_port.specs.Outside.{IsContent}
+use Rattle.x5_script.specs.Views.{IsLineFault}
+use Rattle.x5_script.specs.declared.command.ScriptFault.{ScriptFault}
+use Rattle.x5_script.specs.declared.command.ScriptFault.TheVariants as script
+use Rattle.x5_world_members.specs.declared.fault.LoadFault.{LoadFault}
+use Rattle.x5_world_members.specs.declared.fault.LoadFault.TheVariants as world
+use Rattle.x5_words.specs.Forms.{FileNames}
 use Rattle.xdir.specs.declared.top.Status.{Status}
 use Rattle.xdir.specs.declared.top.Status.TheVariants.{Done, Refused, Usage, ReadFault, WriteFault, NoMemory, Inconsistent, TooLong}
-use Rattle.xdir.specs.Text.{refused_line_text}
-use Rattle.x5_words.specs.Forms.{FileNames}
-use Rattle.xdir.specs.Outcomes.{Ends, IsReadable, most_octets}
-use Rattle.xdir.specs.Run.{names_in, IsOutput, Runs, RunsSoFar, RefusesContent, Refuses, Writes, TakesWorld, Reads}
-use Rattle.xdir.specs.Steps.{IsFirstOutput, WritesLine, WritesRun, IsScriptOutput, IsFirstScriptOutput, IsLineRefusal, WritesScript, OfScript, WritesScriptFile, ReadsFile}
-use Rattle.x5_model_tree.specs.Described.{IsDescribed}
-use Rattle.x5_model_star.specs.Star.{IsStar}
-use Rattle.x5_ops.specs.KnowledgeViews.{agent_view, specific_view}
-use Rattle.x5_dispatch.specs.Star.{are_short}
-use Rattle.x5_star.specs.WorldFile as file
-use Rattle.x5_star.specs.WorldFile.{knows_short_names, is_star_world}
-use Rattle.x5_star.proofs.Stars.{tested, described, is_a_star, short, few}
-use Rattle.xdir.proofs.Ends.{ends_more, rose_later}
+use Rattle.xdir.specs.Faults.{IsWorldLine, IsScriptLine}
+use Rattle.xdir.specs.Outcomes.{Ends, Wrote, Broke, IsReadable, most_octets}
+use Rattle.xdir.specs.Run.{names_in, lost_in, AsksFor, IsOutput, Runs, RunsSoFar, RefusesFile, no_json, faulty, RefusesStar, RefusesWorld, RefusesScript, faulty_line, not_yet, Refuses, Writes, TakesWorld, Reads}
+use Rattle.xdir.specs.Steps.{IsFirstOutput, WritesLine, WritesSuchLine, WritesRun, IsAskedOutput, IsFirstAskedOutput, IsNotYet, WritesAsked, IsScriptOutput, IsFirstScriptOutput, WritesScript, OfScript, WritesScriptFile, RefusesOver, WritesOver, ReadsOver, ReadsFile}
+use Rattle.xdir.specs.Text.{not_yet_text}
+use Rattle.xdir.proofs.Ends.{ends_more, rose_later, wrote_more, broke_more, such_ends, such_more}
 
--- the agents' names are those of their star
-pub same_names : (agents : List AgentSpec) → map (λ a. a.name) agents ≡ names_in (star_world agents)
-same_names [] = refl
-same_names (a ∷ more) = ap (λ (names : List (List ℕ)). a.name ∷ names) (same_names more)
+-- ---- what is asked for, as it is run
 
--- a script whose commands are run
-module _ (star : World) (script : List ℕ) (commands : List Command) (asked : script_of (names_in star) script ≡ Ok commands) where
-  output : (text : List ℕ) → IsOutput star commands text → IsScriptOutput star script text
-  output text p = record { commands = commands; asked = asked; prints = p }
+module _ (f : File) (asked : List Asked) (commands : List Command) (are : asked ≡ map lines.Runs commands) where
+  asked_output : (text : List ℕ) → IsOutput f commands text → IsAskedOutput f asked text
+  asked_output text p = record { commands = commands; are = are; prints = p }
 
-  first_output : (text : List ℕ) → IsFirstOutput star commands text → IsFirstScriptOutput star script text
-  first_output text p = record { commands = commands; asked = asked; first = p }
+  first_asked : (text : List ℕ) → IsFirstOutput f commands text → IsFirstAskedOutput f asked text
+  first_asked text p = record { commands = commands; are = are; first = p }
 
-  none : (text : List ℕ) → ⊥ → IsLineRefusal star script text
-  none text p = absurd p
+  nothing : (text : List ℕ) → ⊥ → IsNotYet asked text
+  nothing text p = absurd p
 
-  pub runs_script : (status : Status) (old new : Option (List ℕ)) (before after : ℕ) → WritesRun status star commands old new before after → WritesScript status star script old new before after
-  runs_script status old new before after w = ends_more output first_output none status old new before after w
+  pub runs_asked : (status : Status) (old new : Option (List ℕ)) (before after : ℕ) → WritesRun status f commands old new before after
+      → WritesAsked status f asked old new before after
+  runs_asked status old new before after w = ends_more asked_output first_asked nothing status old new before after w
 
--- a line that is written alone
-pub line_ends : (output first refusal : List ℕ → Type 0) (line : List ℕ) → refusal line → (status : Status) (old new : Option (List ℕ)) (before after : ℕ) → WritesLine status line old new before after → Ends output first refusal status old new before after
-line_ends output first refusal line is Refused old new before after w = record { text = line; is = is; whole = w }
-line_ends output first refusal line is WriteFault old new before after w = (w.0, record { text = line; is = inr is; part = w.1 })
-line_ends output first refusal line is Done old new before after w = absurd w
-line_ends output first refusal line is NoMemory old new before after w = absurd w
-line_ends output first refusal line is ReadFault old new before after w = absurd w
-line_ends output first refusal line is TooLong old new before after w = absurd w
-line_ends output first refusal line is Usage old new before after w = w
-line_ends output first refusal line is Inconsistent old new before after w = w
+-- ---- a script over a star
 
-pub refuses_line : (star : World) (script : List ℕ) (number : ℕ) (fault : LineFault) (line : List ℕ) → script_of (names_in star) script ≡ Err (number, fault) → line ≡ refused_line_text number fault → (status : Status) (old new : Option (List ℕ)) (before after : ℕ) → WritesLine status line old new before after → WritesScript status star script old new before after
-refuses_line star script number fault line refused is status old new before after w =
-    line_ends (IsScriptOutput star script) (IsFirstScriptOutput star script) (IsLineRefusal star script) line
-    (record { number = number; fault = fault; refused = refused; is_line = is }) status old new before after w
+module _ (f : File) (octets : List ℕ) (asked : List Asked) (asks : AsksFor f.world octets asked) where
+  as_commands : (commands : List Command) → asked ≡ map lines.Runs commands → AsksFor f.world octets (map lines.Runs commands)
+  as_commands commands are = asks ∙ ap Ok are
+
+  script_output : (text : List ℕ) → IsAskedOutput f asked text → IsScriptOutput f octets text
+  script_output text p = record { commands = p.commands; asked = as_commands p.commands p.are; prints = p.prints }
+
+  first_script : (text : List ℕ) → IsFirstAskedOutput f asked text → IsFirstScriptOutput f octets text
+  first_script text p = record { commands = p.commands; asked = as_commands p.commands p.are; first = p.first }
+
+  other_line : (text : List ℕ) → IsNotYet asked text → RefusesScript f.world octets text
+  other_line text p = not_yet asked p.before asks p.first p.is_line
+
+  pub runs_script : (status : Status) (old new : Option (List ℕ)) (before after : ℕ) → WritesAsked status f asked old new before after
+      → WritesScript status f octets old new before after
+  runs_script status old new before after w = ends_more script_output first_script other_line status old new before after w
+
+-- the line of a script's first line that is refused
+refuses_as : (f : File) (octets : List ℕ) (number : ℕ) (fault : ScriptFault) → IsLineFault number fault (script_of (names_in f.world) (lost_in f.world) octets)
+    → (text : List ℕ) → IsScriptLine number fault text → RefusesScript f.world octets text
+refuses_as f octets number (script.BadWord column) h text is = faulty_line number (words.BadWord column) h is
+refuses_as f octets number (script.BadName column) h text is = faulty_line number (words.BadName column) h is
+refuses_as f octets number (script.BadFilter column) h text is = faulty_line number (words.BadFilter column) h is
+refuses_as f octets number (script.BadHex column) h text is = faulty_line number (words.BadHex column) h is
+refuses_as f octets number script.LineTooLong h text is = faulty_line number words.Long h is
+refuses_as f octets number script.NoMemory h text is = absurd is
+
+pub refuses_line : (f : File) (octets : List ℕ) (number : ℕ) (fault : ScriptFault) → IsLineFault number fault (script_of (names_in f.world) (lost_in f.world) octets)
+    → (status : Status) (old new : Option (List ℕ)) (before after : ℕ) → WritesSuchLine status (IsScriptLine number fault) old new before after
+    → WritesScript status f octets old new before after
+refuses_line f octets number fault h status old new before after w =
+    such_ends (refuses_as f octets number fault h) (IsScriptOutput f octets) (IsFirstScriptOutput f octets) status old new before after w
 
 -- the script of a file
-pub of_file : (told : Option (List File)) (name script : List ℕ) (star : World) → IsContent told name script → (status : Status) (old new : Option (List ℕ)) (before after : ℕ) → WritesScript status star script old new before after → WritesScriptFile status told name star old new before after
-of_file told name script star is status old new before after w =
-    ends_more (λ text. λ p. (script, is, p)) (λ text. λ p. (script, is, p)) (λ text. λ p. (script, is, p)) status old new before after w
+pub of_file : (told : Option (List outside.File)) (name octets : List ℕ) (f : File) → IsContent told name octets
+    → (status : Status) (old new : Option (List ℕ)) (before after : ℕ) → WritesScript status f octets old new before after
+    → WritesScriptFile status told name f old new before after
+of_file told name octets f is status old new before after w =
+    ends_more (λ text p. (octets, is, p)) (λ text p. (octets, is, p)) (λ text p. (octets, is, p)) status old new before after w
 
--- over the star that another file describes
-module _ (told : Option (List File)) (names : FileNames) (world : List ℕ) (star : World) (world_is : IsContent told names.world world) (described : DescribesStar world star) where
-  run_of : (text : List ℕ) → OfScript told names.script (IsScriptOutput star) text → Runs told names [] text
-  run_of text p = record {
-    world = world;
-    script = p.0;
-    world_is = world_is;
-    script_is = p.1;
-    star = star;
-    described = described;
-    commands = p.2.commands;
-    asked = p.2.asked ∙ ap (λ (c : List Command). Ok c) (sym (append-nil p.2.commands));
-    prints = p.2.prints;
-  }
+-- ---- over a world that is a star, or none
 
-  first_of : (text : List ℕ) → OfScript told names.script (IsFirstScriptOutput star) text → RunsSoFar told names text
-  first_of text p = record {
-    rest = p.2.first.rest;
-    runs = record {
-      world = world;
-      script = p.0;
-      world_is = world_is;
-      script_is = p.1;
-      star = star;
-      described = described;
-      commands = p.2.first.first;
-      asked = p.2.asked ∙ ap (λ (c : List Command). Ok c) p.2.first.parts;
-      prints = p.2.first.prints;
-    };
-  }
+over_star : (told : Option (List outside.File)) (name : List ℕ) (f : File) → IsStar f.world → (text : List ℕ)
+    → OfScript told name (RefusesScript f.world) text → RefusesOver told name f text
+over_star told name f star text p = inr (star, p)
 
-  refusal_of : (text : List ℕ) → OfScript told names.script (IsLineRefusal star) text → Refuses told names text
-  refusal_of text p = inr (record {
-    world = world;
-    script = p.0;
-    world_is = world_is;
-    script_is = p.1;
-    star = star;
-    described = described;
-    number = p.2.number;
-    fault = p.2.fault;
-    refused = p.2.refused;
-    is_line = p.2.is_line;
-  })
+pub star_over : (told : Option (List outside.File)) (name : List ℕ) (f : File) → IsStar f.world
+    → (status : Status) (old new : Option (List ℕ)) (before after : ℕ) → WritesScriptFile status told name f old new before after
+    → WritesOver status told name f old new before after
+star_over told name f star status old new before after w =
+    ends_more (λ text p. p) (λ text p. p) (over_star told name f star) status old new before after w
 
-  pub of_files : (status : Status) (old new : Option (List ℕ)) (before after : ℕ) → WritesScriptFile status told names.script star old new before after → Writes status told names old new before after
-  of_files status old new before after w = ends_more run_of first_of refusal_of status old new before after w
+pub none_over : (told : Option (List outside.File)) (name : List ℕ) (f : File)
+    → (status : Status) (old new : Option (List ℕ)) (before after : ℕ) → WritesSuchLine status (RefusesStar f) old new before after
+    → WritesOver status told name f old new before after
+none_over told name f status old new before after w =
+    such_ends (λ text p. inl p) (OfScript told name (IsScriptOutput f)) (OfScript told name (IsFirstScriptOutput f)) status old new before after w
 
--- a world file that isn't taken
-module _ (told : Option (List File)) (names : FileNames) (world : List ℕ) (world_is : IsContent told names.world world) where
-  refuses : (line : List ℕ) → RefusesContent world line → Refuses told names line
-  refuses line r = inl (record { world = world; world_is = world_is; refuses = r })
+pub star_reads : (told : Option (List outside.File)) (name : List ℕ) (f : File) → IsStar f.world
+    → (status : Status) (before after : ℕ) (failed old new : Option (List ℕ)) → ReadsFile status name told before after failed
+    → ReadsOver status f name told before after failed old new
+star_reads told name f star Done before after failed old new r = r
+star_reads told name f star Refused before after failed old new r = inr r
+star_reads told name f star WriteFault before after failed old new r = inr r
+star_reads told name f star NoMemory before after failed old new r = tt
+star_reads told name f star ReadFault before after failed old new r = (star, r.0, r.1)
+star_reads told name f star TooLong before after failed old new r = (star, r)
+star_reads told name f star Usage before after failed old new r = absurd r
+star_reads told name f star Inconsistent before after failed old new r = r
 
-  pub refuses_world : (line : List ℕ) → RefusesContent world line → (status : Status) (old new : Option (List ℕ)) (before after : ℕ) → WritesLine status line old new before after → Writes status told names old new before after
-  refuses_world line r status old new before after w =
-      line_ends (Runs told names []) (RunsSoFar told names) (Refuses told names) line (refuses line r) status old new before after w
+pub none_reads : (told : Option (List outside.File)) (name : List ℕ) (f : File)
+    → (status : Status) (before after rising risen : ℕ) (failed old new : Option (List ℕ)) → WritesSuchLine status (RefusesStar f) old new rising risen
+    → ReadsOver status f name told before after failed old new
+none_reads told name f Refused before after rising risen failed old new w = inl w
+none_reads told name f WriteFault before after rising risen failed old new w = inl w.1
+none_reads told name f NoMemory before after rising risen failed old new w = tt
+none_reads told name f Done before after rising risen failed old new w = absurd w
+none_reads told name f ReadFault before after rising risen failed old new w = absurd w
+none_reads told name f TooLong before after rising risen failed old new w = absurd w
+none_reads told name f Usage before after rising risen failed old new w = w
+none_reads told name f Inconsistent before after rising risen failed old new w = w
 
--- ---- what is read of both files
+-- the line of a file that is no JSON, or in which something is wrong
+pub wrong : (octets : List ℕ) (fault : LoadFault) → Loads (Err fault) octets → (text : List ℕ) → IsWorldLine fault text → RefusesFile octets text
+wrong octets world.NotJson h text is = no_json h is
+wrong octets (world.BadShape path) h text is = faulty (model.BadShape path) h is
+wrong octets (world.BadName path) h text is = faulty (model.BadName path) h is
+wrong octets (world.OverLimit path limit) h text is = faulty (model.OverLimit path limit) h is
+wrong octets (world.RepeatedAgent path) h text is = faulty (model.RepeatedAgent path) h is
+wrong octets (world.UnknownAgent path) h text is = faulty (model.UnknownAgent path) h is
+wrong octets world.NoMemory h text is = absurd is
 
-pub reads_both : (status : Status) (names : FileNames) (told : Option (List File)) (first before after : ℕ) (failed old new : Option (List ℕ)) → TakesWorld told names.world → first ≤ before → ReadsFile status names.script told before after failed → Reads status names told first after failed old new
-reads_both Done names told first before after failed old new world le r = (world.readable, r)
-reads_both Refused names told first before after failed old new world le r = (world.readable, inr r)
-reads_both WriteFault names told first before after failed old new world le r = (world.readable, inr r)
-reads_both NoMemory names told first before after failed old new world le r = tt
-reads_both ReadFault names told first before after failed old new world le r = (rose_later first before after le r.0, inr (r.1, world))
-reads_both TooLong names told first before after failed old new world le r = inr (r, world)
-reads_both Usage names told first before after failed old new world le r = absurd r
-reads_both Inconsistent names told first before after failed old new world le r = r
+-- ---- over the world that another file describes
 
--- ---- what the star's reader says, as the run needs it
-
-all_map : {X Y : Type 0} (test : Y → Bool) (f : X → Y) (xs : List X) → list_all test (map f xs) ≡ list_all (λ x. test (f x)) xs
-all_map test f [] = refl
-all_map test f (x ∷ xs) = ap (λ (b : Bool). test (f x) && b) (all_map test f xs)
-
-shorts : (agents : List AgentSpec) → list_all knows_short_names (map agent_view agents) ≡ are_short agents
-shorts [] = refl
-shorts (a ∷ more) = ap (λ (b : Bool). b && list_all knows_short_names (map agent_view more)) (all_map file.is_short specific_view a.specific)
-    ∙ ap (λ (c : Bool). list_all (λ k. file.is_short (specific_view k)) a.specific && c) (shorts more)
-
-module _ (octets : List ℕ) (agents : List AgentSpec) (d : DescribesStar octets (star_world agents)) where
-  test : IsTrue (is_star_world (star_world agents))
-  test = tested d.value (star_world agents) d.is_star
-
-  pub is_described : IsDescribed (star_world agents)
-  is_described = described (map agent_view agents) test
-
-  pub is_star : IsStar (star_world agents)
-  is_star = is_a_star (map agent_view agents) test
-
-  pub is_short : IsTrue (are_short agents)
-  is_short = sym (shorts agents) ∙ short (map agent_view agents) test
-
-  pub are_few : length agents ≤ 64
-  are_few =
-      let m : length (map agent_view agents) ≤ 64 = leb-true (length (map agent_view agents)) 64 (few d.value (map agent_view agents) d.is_star) in
-      let n : length (map agent_view agents) ≡ length agents = length-map agents agent_view in
-      omega arith
-
-pub readable : (told : Option (List File)) (name octets : List ℕ) → IsContent told name octets → length octets ≤ most_octets → IsReadable told name
+pub readable : (told : Option (List outside.File)) (name octets : List ℕ) → IsContent told name octets → length octets ≤ most_octets → IsReadable told name
 readable None name octets is le = tt
 readable (Some files) name octets is le = subst (λ (o : Option (List ℕ)). IsSomeAnd o (λ content. length content ≤ most_octets)) (sym is) le
+
+module _ (told : Option (List outside.File)) (names : FileNames) (octets : List ℕ) (octets_is : IsContent told names.world octets) where
+  -- one that is described
+  module _ (f : File) (described : Describes octets (Ok f)) where
+    run_of : (text : List ℕ) → OfScript told names.script (IsScriptOutput f) text → Runs told names [] text
+    run_of text p = record {
+      world = octets;
+      script = p.0;
+      world_is = octets_is;
+      script_is = p.1;
+      file = f;
+      described = described;
+      commands = p.2.commands;
+      asked = p.2.asked ∙ ap (λ (c : List Command). Ok (map lines.Runs c)) (sym (append-nil p.2.commands));
+      prints = p.2.prints;
+    }
+
+    first_of : (text : List ℕ) → OfScript told names.script (IsFirstScriptOutput f) text → RunsSoFar told names text
+    first_of text p = record {
+      rest = p.2.first.rest;
+      runs = record {
+        world = octets;
+        script = p.0;
+        world_is = octets_is;
+        script_is = p.1;
+        file = f;
+        described = described;
+        commands = p.2.first.first;
+        asked = p.2.asked ∙ ap (λ (c : List Command). Ok (map lines.Runs c)) p.2.first.parts;
+        prints = p.2.first.prints;
+      };
+    }
+
+    no_star_of : (text : List ℕ) → RefusesStar f text → RefusesWorld told names.world text
+    no_star_of text r =
+        record { world = octets; world_is = octets_is; refuses = inr (record { file = f; described = described; refuses = r }) }
+
+    refusal_of : (text : List ℕ) → RefusesOver told names.script f text → Refuses told names text
+    refusal_of text (inl r) = inl (no_star_of text r)
+    refusal_of text (inr p) = inr (record {
+      world = octets;
+      script = p.1.0;
+      world_is = octets_is;
+      script_is = p.1.1;
+      file = f;
+      described = described;
+      star = p.0;
+      refuses = p.1.2;
+    })
+
+    pub of_files : (status : Status) (old new : Option (List ℕ)) (before after : ℕ) → WritesOver status told names.script f old new before after
+        → Writes status told names old new before after
+    of_files status old new before after w = ends_more run_of first_of refusal_of status old new before after w
+
+    takes : IsReadable told names.world → IsStar f.world → TakesWorld told names.world
+    takes r star = record { readable = r; world = octets; world_is = octets_is; file = f; described = described; star = star }
+
+    pub reads_both : (status : Status) (first before after : ℕ) (failed old new : Option (List ℕ)) → IsReadable told names.world → first ≤ before
+        → ReadsOver status f names.script told before after failed old new → Reads status names told first after failed old new
+    reads_both Done first before after failed old new r le o = (r, o)
+    reads_both Refused first before after failed old new r le (inl o) = (r, inl (wrote_more no_star_of old new o))
+    reads_both Refused first before after failed old new r le (inr o) = (r, inr o)
+    reads_both WriteFault first before after failed old new r le (inl o) = (r, inl (broke_more no_star_of old new o))
+    reads_both WriteFault first before after failed old new r le (inr o) = (r, inr o)
+    reads_both NoMemory first before after failed old new r le o = tt
+    reads_both ReadFault first before after failed old new r le o = (rose_later first before after le o.1, inr (o.2, takes r o.0))
+    reads_both TooLong first before after failed old new r le o = inr (o.1, takes r o.0)
+    reads_both Usage first before after failed old new r le o = absurd o
+    reads_both Inconsistent first before after failed old new r le o = o
+
+  -- one that isn't
+  module _ (fault : LoadFault) (faults : Loads (Err fault) octets) where
+    wrong_as : (text : List ℕ) → IsWorldLine fault text → RefusesWorld told names.world text
+    wrong_as text is = record { world = octets; world_is = octets_is; refuses = inl (wrong octets fault faults text is) }
+
+    pub refuses_file : (status : Status) (old new : Option (List ℕ)) (before after : ℕ) → WritesSuchLine status (IsWorldLine fault) old new before after
+        → Writes status told names old new before after
+    refuses_file status old new before after w =
+        such_ends (λ text p. inl (wrong_as text p)) (Runs told names []) (RunsSoFar told names) status old new before after w
+
+    pub reads_first : (status : Status) (first after rising risen : ℕ) (failed old new : Option (List ℕ)) → IsReadable told names.world
+        → WritesSuchLine status (IsWorldLine fault) old new rising risen → Reads status names told first after failed old new
+    reads_first Refused first after rising risen failed old new r w = (r, inl (wrote_more wrong_as old new w))
+    reads_first WriteFault first after rising risen failed old new r w = (r, inl (broke_more wrong_as old new w.1))
+    reads_first NoMemory first after rising risen failed old new r w = tt
+    reads_first Done first after rising risen failed old new r w = absurd w
+    reads_first ReadFault first after rising risen failed old new r w = absurd w
+    reads_first TooLong first after rising risen failed old new r w = absurd w
+    reads_first Usage first after rising risen failed old new r w = w
+    reads_first Inconsistent first after rising risen failed old new r w = w

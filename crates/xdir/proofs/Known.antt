@@ -6,7 +6,7 @@ use Rattle.x5_model.specs.Words.{same_octets}
 use Rattle.x5_model.specs.Requests.{Request}
 use Rattle.x5_model.proofs.Lists.{or_left, or_right}
 use Rattle.x5_model.specs.Answers as told
-use Rattle.x5_model_tree.specs.World.{World}
+use Rattle.x5_model_world.specs.WorldFile.{File}
 use Rattle.x5_model_run.specs.Journal as messages
 use Rattle.x5_model_run.specs.Run.{Asks, Replies}
 use Rattle.x5_model_output.specs.Output as print
@@ -21,11 +21,10 @@ use Rattle.x5_ops.specs.declared.journal.Line.{Line}
 use Rattle.x5_ops.specs.declared.journal.Line.TheVariants.{Msg, Dis, Raw}
 use Rattle.x5_ops.specs.declared.journal.Journal.{Journal}
 use Rattle.x5_dispatch.specs.Star.{IsNamed, IsNamedLine, AreNamedLines, IsNamedAnswer, IsNamedReply, AnswersStar}
-use Rattle.x5_know.specs.Moments.{Start, moment_text}
+use Rattle.x5_know.specs.Moments.{moment_text}
 use Rattle.x5_report.specs.Views.{is_known, line_known, journal_known, reply_known, answer_known}
 use Rattle.x5_report.specs.Blocks.{block_known, IsBlock, names_in}
 use Rattle.x5_report.specs.declared.report.LineOutcome.TheVariants.{Answered}
-use Rattle.xdir.specs.Run.{start_so_far}
 use Rattle.xdir.specs.Blocks.{IsReadBlock}
 
 both : (a b : Bool) → a ≡ true → b ≡ true → (a && b) ≡ true
@@ -69,9 +68,9 @@ module _ (names : List (List ℕ)) where
   reply_is (replies.Refer reference) n = absurd n
 
 -- the block of what a star answers
-module _ (star : World) (sent line to : ℕ) (r : Request) (reply : Reply) (journal : Journal) (text : List ℕ) (a : AnswersStar star sent to r reply journal) where
+module _ (f : File) (sent line to : ℕ) (r : Request) (reply : Reply) (journal : Journal) (text : List ℕ) (a : AnswersStar f.world sent to r reply journal) where
   abbrev pub names : List (List ℕ)
-  names = names_in star
+  names = names_in f.world
 
   accepted_known : list_all (is_known names) journal.accepted ≡ true
   accepted_known = ap (list_all (is_known names)) a.accepted_are
@@ -85,14 +84,14 @@ module _ (star : World) (sent line to : ℕ) (r : Request) (reply : Reply) (jour
   nobody : reverse a.sends.accepted ≡ map (agent_of names) journal.accepted
   nobody = ap (λ (j : messages.Journal). reverse j.accepted) a.reads.journal_is ∙ sym (ap (map (agent_of names)) a.accepted_are)
 
-  pub read_block : (start : Start) → start ≡ start_so_far → (block_known names journal (Answered reply) ≡ true → IsBlock (names_of star (moment_text start)) names line journal (Answered reply) text) → IsReadBlock star sent line to r text
-  read_block start e prints = record {
+  pub read_block : (block_known names journal (Answered reply) ≡ true → IsBlock (names_of f.world (moment_text f.start)) names line journal (Answered reply) text)
+      → IsReadBlock f sent line to r text
+  read_block prints = record {
     journal = a.sends;
     reply = a.answers;
     reads = a.reads;
     printed = prints known_block (Asks to r) a.sends (sym a.lines_are, nobody)
-        ∙ ap (λ (x : told.Reply). print.block_text (names_of star (moment_text start)) line (Asks to r) (Replies a.sends x)) a.reply_is
-        ∙ ap (λ (s : Start). print.block_text (names_of star (moment_text s)) line (Asks to r) (Replies a.sends a.answers)) e;
+        ∙ ap (λ (x : told.Reply). print.block_text (names_of f.world (moment_text f.start)) line (Asks to r) (Replies a.sends x)) a.reply_is;
   }
 
 pub if_ok_more : {T E : Type 0} {P Q : T → Type 0} (result : Result T E) → ((x : T) → P x → Q x) → IfOk result P → IfOk result Q

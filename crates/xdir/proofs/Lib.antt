@@ -2,3 +2,8 @@ pub mod Ends
 pub mod SoFar
 pub mod Known
 pub mod Files
+pub mod Shapes
+pub mod Agents
+pub mod Taken
+pub mod Few
+pub mod Checks

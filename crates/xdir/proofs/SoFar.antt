@@ -16,14 +16,15 @@ use Rattle.std.proofs.Common.{All}
 use Rattle.std.proofs.lemmas.List.Elements.{All-get_or}
 use Rattle.x5_ops.specs.declared.knowledge.AgentSpec.{AgentSpec}
 use Rattle.x5_ops.specs.KnowledgeViews.{agent_view}
-use Rattle.x5_star.specs.Views.{star_world}
-use Rattle.x5_star_script.specs.declared.line.Command.{Command as Asked}
-use Rattle.x5_star_script.specs.declared.line.Command.TheVariants.{Nothing, Ask}
-use Rattle.x5_star_script.specs.Views.{IsTaken, command_view}
+use Rattle.x5_dispatch.specs.Star.{star_world}
+use Rattle.x5_model_world.specs.WorldFile.{File}
+use Rattle.x5_script.specs.declared.command.Command.{Command as Asked}
+use Rattle.x5_script.specs.declared.command.Command.TheVariants.{Nothing, Ask, Outage, Refresh, Deliver, Lose}
+use Rattle.xdir.specs.Star.{IsTaken, run_view}
 use Rattle.xdir.specs.declared.top.Status.{Status}
 use Rattle.xdir.specs.declared.top.Status.TheVariants.{Done, Refused, Usage, ReadFault, WriteFault, NoMemory, Inconsistent, TooLong}
 use Rattle.xdir.specs.Outcomes.{Wrote}
-use Rattle.xdir.specs.Run.{IsOutput, start_so_far}
+use Rattle.xdir.specs.Run.{IsOutput}
 use Rattle.xdir.specs.Steps.{IsFirstOutput, Prints, WritesRun}
 use Rattle.x5_know.specs.Moments.{moment_text}
 use Rattle.xdir.specs.Blocks.{IsReadBlock, IsBlock, WritesBlock}
@@ -41,49 +42,53 @@ blocks_text-snoc names n (d ∷ ds) (x ∷ xs) c b e =
     ∙ ap (λ (k : ℕ). (block_text names n d x ++ blocks_text names (n + 1) ds xs) ++ block_text names k c b) (let z : n + 1 + length ds ≡ n + suc (length ds) = omega arith in z)
 
 -- how agents and moments are printed
-abbrev pub printing : World → Names
-printing star = names_of star (moment_text start_so_far)
+abbrev pub printing : File → Names
+printing f = names_of f.world (moment_text f.start)
 
 -- the text is the output of these commands, which are reads and comments over the star
-pub record IsText (star : World) (commands : List Command) (text : List ℕ) : Type 0 where
+pub record IsText (f : File) (commands : List Command) (text : List ℕ) : Type 0 where
   pub blocks : List Block
   pub past : List Did
-  pub runs : IsStarRun star commands blocks past
+  pub runs : IsStarRun f.world commands blocks past
   pub as_many : length blocks ≡ length commands
-  pub printed : text ≡ codes "knowledge consistent\n" ++ blocks_text (printing star) 1 commands blocks
+  pub printed : text ≡ codes "knowledge consistent\n" ++ blocks_text (printing f) 1 commands blocks
 
-pub of_nothing : (star : World) (text : List ℕ) → text ≡ codes "knowledge consistent\n" → IsText star [] text
-of_nothing star text e = record { blocks = []; past = []; runs = begin; as_many = refl; printed = e }
+pub of_nothing : (f : File) (text : List ℕ) → text ≡ codes "knowledge consistent\n" → IsText f [] text
+of_nothing f text e = record { blocks = []; past = []; runs = begin; as_many = refl; printed = e }
 
 -- which commands are taken
 abbrev pub IsAsked : World → Command → Type 0
-IsAsked star Blank = Unit {0}
-IsAsked star (Asks to r) = (to < length star.agents) × IsRead r
-IsAsked star (Changes outage) = ⊥
-IsAsked star (Drops reply number) = ⊥
-IsAsked star (Updates number pushes total) = ⊥
+IsAsked w Blank = Unit {0}
+IsAsked w (Asks to r) = (to < length w.agents) × IsRead r
+IsAsked w (Changes outage) = ⊥
+IsAsked w (Drops reply number) = ⊥
+IsAsked w (Updates number pushes total) = ⊥
 
-pub is_asked : (agents : List AgentSpec) (c : Asked) → IsTaken (length agents) c → IsAsked (star_world agents) (command_view c)
+pub is_asked : (agents : List AgentSpec) (c : Asked) → IsTaken (length agents) c → IsAsked (star_world agents) (run_view c)
 is_asked agents Nothing t = t
 is_asked agents (Ask to request) t = (subst (λ (n : ℕ). to < n) (sym (length-map agents agent_view)) t.0, t.1)
+is_asked agents (Outage change) t = absurd t
+is_asked agents (Refresh id push total) t = absurd t
+is_asked agents (Deliver dsp to octets) t = absurd t
+is_asked agents (Lose reply k) t = absurd t
 
-pub asked : (agents : List AgentSpec) (commands : List Asked) (i : ℕ) (c : Asked) → i < length commands → c ≡ get_or commands i c → All (IsTaken (length agents)) commands → IsAsked (star_world agents) (command_view c)
+pub asked : (agents : List AgentSpec) (commands : List Asked) (i : ℕ) (c : Asked) → i < length commands → c ≡ get_or commands i c → All (IsTaken (length agents)) commands → IsAsked (star_world agents) (run_view c)
 asked agents commands i c within is all =
     is_asked agents c (subst (λ (x : Asked). IsTaken (length agents) x) (sym is) (All-get_or (IsTaken (length agents)) commands i c within all))
 
-module _ (star : World) (commands : List Command) (text : List ℕ) (far : IsText star commands text) where
+module _ (f : File) (commands : List Command) (text : List ℕ) (far : IsText f commands text) where
   snoc_length : {X Y : Type 0} (xs : List X) (ys : List Y) (x : X) (y : Y) → length xs ≡ length ys → length (xs ++ x ∷ []) ≡ length (ys ++ y ∷ [])
   snoc_length xs ys x y e = length-append xs (x ∷ []) ∙ ap (λ (k : ℕ). k + 1) e ∙ sym (length-append ys (y ∷ []))
 
   -- what is printed with one block more
-  grown : (c : Command) (b : Block) (block : List ℕ) → block ≡ block_text (printing star) (1 + length commands) c b → text ++ block ≡ codes "knowledge consistent\n" ++ blocks_text (printing star) 1 (commands ++ c ∷ []) (far.blocks ++ b ∷ [])
+  grown : (c : Command) (b : Block) (block : List ℕ) → block ≡ block_text (printing f) (1 + length commands) c b → text ++ block ≡ codes "knowledge consistent\n" ++ blocks_text (printing f) 1 (commands ++ c ∷ []) (far.blocks ++ b ∷ [])
   grown c b block is =
       ap (λ (t : List ℕ). t ++ block) far.printed
-      ∙ ap (λ (t : List ℕ). (codes "knowledge consistent\n" ++ blocks_text (printing star) 1 commands far.blocks) ++ t) is
-      ∙ append_assoc (codes "knowledge consistent\n") (blocks_text (printing star) 1 commands far.blocks) (block_text (printing star) (1 + length commands) c b)
-      ∙ ap (λ (t : List ℕ). codes "knowledge consistent\n" ++ t) (sym (blocks_text-snoc (printing star) 1 commands far.blocks c b far.as_many))
+      ∙ ap (λ (t : List ℕ). (codes "knowledge consistent\n" ++ blocks_text (printing f) 1 commands far.blocks) ++ t) is
+      ∙ append_assoc (codes "knowledge consistent\n") (blocks_text (printing f) 1 commands far.blocks) (block_text (printing f) (1 + length commands) c b)
+      ∙ ap (λ (t : List ℕ). codes "knowledge consistent\n" ++ t) (sym (blocks_text-snoc (printing f) 1 commands far.blocks c b far.as_many))
 
-  pub one_more : (c : Command) (block : List ℕ) → IsAsked star c → IsBlock star (length commands + 1) c block → IsText star (commands ++ c ∷ []) (text ++ block)
+  pub one_more : (c : Command) (block : List ℕ) → IsAsked f.world c → IsBlock f (length commands + 1) c block → IsText f (commands ++ c ∷ []) (text ++ block)
   one_more Blank block asked is = record {
     blocks = far.blocks ++ Silent ∷ [];
     past = did_by Blank Silent ∷ far.past;
@@ -92,22 +97,22 @@ module _ (star : World) (commands : List Command) (text : List ℕ) (far : IsTex
     printed = grown Blank Silent block is;
   }
   one_more (Asks to r) block asked is =
-      let b : IsReadBlock star (sent_before far.past) (length commands + 1) to r block = is (sent_before far.past) in
+      let b : IsReadBlock f (sent_before far.past) (length commands + 1) to r block = is (sent_before far.past) in
       record {
         blocks = far.blocks ++ Replies b.journal b.reply ∷ [];
         past = did_by (Asks to r) (Replies b.journal b.reply) ∷ far.past;
         runs = read to r b.journal b.reply far.runs asked.0 asked.1 b.reads;
         as_many = snoc_length far.blocks commands (Replies b.journal b.reply) (Asks to r) far.as_many;
-        printed = grown (Asks to r) (Replies b.journal b.reply) block (b.printed ∙ ap (λ (k : ℕ). block_text (printing star) k (Asks to r) (Replies b.journal b.reply)) (let z : length commands + 1 ≡ 1 + length commands = omega arith in z));
+        printed = grown (Asks to r) (Replies b.journal b.reply) block (b.printed ∙ ap (λ (k : ℕ). block_text (printing f) k (Asks to r) (Replies b.journal b.reply)) (let z : length commands + 1 ≡ 1 + length commands = omega arith in z));
       }
   one_more (Changes outage) block asked is = absurd asked
   one_more (Drops reply number) block asked is = absurd asked
   one_more (Updates number pushes total) block asked is = absurd asked
 
   -- it is the output of a run
-  pub is_output : IsDescribed star → IsStar star → IsOutput star commands text
+  pub is_output : IsDescribed f.world → IsStar f.world → IsOutput f commands text
   is_output described is_star =
-      subst (λ (t : List ℕ). IsOutput star commands t) (sym far.printed) (star_prints_run star described is_star (moment_text start_so_far) commands far.blocks far.past far.runs)
+      subst (λ (t : List ℕ). IsOutput f commands t) (sym far.printed) (star_prints_run f.world described is_star (moment_text f.start) commands far.blocks far.past far.runs)
 
 -- ---- commands by their places
 
@@ -136,31 +141,31 @@ module _ {X : Type 0} (view : X → Command) (xs : List X) (i : ℕ) (x : X) (wi
 
 -- ---- the output so far, of which the text was written
 
-pub record IsSoFar (star : World) (commands : List Command) (old now : Option (List ℕ)) : Type 0 where
+pub record IsSoFar (f : File) (commands : List Command) (old now : Option (List ℕ)) : Type 0 where
   pub text : List ℕ
-  pub is_text : IsText star commands text
+  pub is_text : IsText f commands text
   pub whole : now ≡ with_octets text old
 
-pub so_far_more : (star : World) (commands : List Command) (command : Command) (old mid new : Option (List ℕ)) (before after : ℕ) → IsAsked star command → IsSoFar star commands old mid → WritesBlock Done star (length commands + 1) command mid new before after → IsSoFar star (commands ++ command ∷ []) old new
-so_far_more star commands command old mid new before after asked far wrote = record {
+pub so_far_more : (f : File) (commands : List Command) (command : Command) (old mid new : Option (List ℕ)) (before after : ℕ) → IsAsked f.world command → IsSoFar f commands old mid → WritesBlock Done f (length commands + 1) command mid new before after → IsSoFar f (commands ++ command ∷ []) old new
+so_far_more f commands command old mid new before after asked far wrote = record {
   text = far.text ++ wrote.text;
-  is_text = one_more star commands far.text far.is_text command wrote.text asked wrote.is;
+  is_text = one_more f commands far.text far.is_text command wrote.text asked wrote.is;
   whole = wrote.whole ∙ ap (λ (taken : Option (List ℕ)). with_octets wrote.text taken) far.whole ∙ with_octets-with_octets far.text wrote.text old;
 }
 
-module _ (star : World) (described : IsDescribed star) (is_star : IsStar star) where
-  pub first_output : (commands first rest : List Command) (text : List ℕ) → commands ≡ first ++ rest → IsText star first text → IsFirstOutput star commands text
+module _ (f : File) (described : IsDescribed f.world) (is_star : IsStar f.world) where
+  pub first_output : (commands first rest : List Command) (text : List ℕ) → commands ≡ first ++ rest → IsText f first text → IsFirstOutput f commands text
   first_output commands first rest text parts is =
-      record { first = first; rest = rest; parts = parts; prints = is_output star first text is described is_star }
+      record { first = first; rest = rest; parts = parts; prints = is_output f first text is described is_star }
 
   -- a block that can't be written ends the run
-  pub writes_stopped : (status : Status) (commands first : List Command) (command : Command) (rest : List Command) (old mid new : Option (List ℕ)) (begun before after : ℕ) → commands ≡ first ++ command ∷ rest → IsAsked star command → (status ≡ Done → ⊥) → begun ≤ before → IsSoFar star first old mid → WritesBlock status star (length first + 1) command mid new before after → WritesRun status star commands old new begun after
+  pub writes_stopped : (status : Status) (commands first : List Command) (command : Command) (rest : List Command) (old mid new : Option (List ℕ)) (begun before after : ℕ) → commands ≡ first ++ command ∷ rest → IsAsked f.world command → (status ≡ Done → ⊥) → begun ≤ before → IsSoFar f first old mid → WritesBlock status f (length first + 1) command mid new before after → WritesRun status f commands old new begun after
   writes_stopped Done commands first command rest old mid new begun before after parts asked n le far w = absurd (n refl)
   writes_stopped WriteFault commands first command rest old mid new begun before after parts asked n le far w = (
     rose_later begun before after le w.0,
     record {
       text = far.text ++ w.1.text;
-      is = inl (first_output commands (first ++ command ∷ []) rest (far.text ++ w.1.text) (parts ∙ sym (append_assoc first (command ∷ []) rest)) (one_more star first far.text far.is_text command w.1.text asked w.1.is));
+      is = inl (first_output commands (first ++ command ∷ []) rest (far.text ++ w.1.text) (parts ∙ sym (append_assoc first (command ∷ []) rest)) (one_more f first far.text far.is_text command w.1.text asked w.1.is));
       part = took_after far.text w.1.text old mid new far.whole w.1.part;
     },
   )
@@ -173,16 +178,16 @@ module _ (star : World) (described : IsDescribed star) (is_star : IsStar star) w
   writes_stopped TooLong commands first command rest old mid new begun before after parts asked n le far w = absurd w
 
   -- all commands are done
-  pub writes_all : (commands : List Command) (old new : Option (List ℕ)) → IsSoFar star commands old new → Wrote (IsOutput star commands) old new
+  pub writes_all : (commands : List Command) (old new : Option (List ℕ)) → IsSoFar f commands old new → Wrote (IsOutput f commands) old new
   writes_all commands old new far =
-      record { text = far.text; is = is_output star commands far.text far.is_text described is_star; whole = far.whole }
+      record { text = far.text; is = is_output f commands far.text far.is_text described is_star; whole = far.whole }
 
-pub prints_block : (status : Status) (star : World) (line : ℕ) (command : Command) (old new : Option (List ℕ)) (before after : ℕ) → WritesBlock status star line command old new before after → Prints status
-prints_block Done star line command old new before after w = tt
-prints_block WriteFault star line command old new before after w = tt
-prints_block NoMemory star line command old new before after w = tt
-prints_block Refused star line command old new before after w = absurd w
-prints_block Usage star line command old new before after w = w
-prints_block ReadFault star line command old new before after w = w
-prints_block Inconsistent star line command old new before after w = w
-prints_block TooLong star line command old new before after w = w
+pub prints_block : (status : Status) (f : File) (line : ℕ) (command : Command) (old new : Option (List ℕ)) (before after : ℕ) → WritesBlock status f line command old new before after → Prints status
+prints_block Done f line command old new before after w = tt
+prints_block WriteFault f line command old new before after w = tt
+prints_block NoMemory f line command old new before after w = tt
+prints_block Refused f line command old new before after w = absurd w
+prints_block Usage f line command old new before after w = w
+prints_block ReadFault f line command old new before after w = w
+prints_block Inconsistent f line command old new before after w = w
+prints_block TooLong f line command old new before after w = w

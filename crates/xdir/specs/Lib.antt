@@ -3,7 +3,11 @@ pub mod Text
 pub mod Outcomes
 pub mod Run
 pub mod Steps
+pub mod Faults
+pub mod Shape
+pub mod Star
 pub mod Shown
+pub mod Checked
 pub mod Made
 pub mod Forms
 pub mod Blocks

@@ -1,22 +1,25 @@
--- What the steps of a run read and write, from the script on; and of a file that is read, by how that ends.
-use Rattle.std.specs.Prelude.{◌≡◌, ℕ, List, ◌++◌, Option, Some, Ok, Err, ⊤}
+-- What the steps of a run read and write, from the described world on; and of a file that is read, by how that ends.
+use Rattle.std.specs.Prelude.{◌≡◌, ℕ, ◌+◌, List, ◌++◌, ◌⊎◌, map, Option, Some, ⊤}
+use Rattle.std.specs.List.{position}
 use Rattle.x5_model_run.specs.Run.{Command}
-use Rattle.x5_model_tree.specs.World.{World}
-use Rattle.x5_port.specs.Outside.{File, IsContent, IsLonger, Rose, with_octets, TookPrefix}
-use Rattle.x5_star_script.specs.Lines.{LineFault}
-use Rattle.x5_star_script.specs.Script.{script_of}
-use Rattle.xdir.specs.Outcomes.{most_octets, Ends, IsReadable}
-use Rattle.xdir.specs.Run.{names_in, IsOutput}
-use Rattle.xdir.specs.Text.{refused_line_text}
+use Rattle.x5_model_script.specs.Lines.{Asked}
+use Rattle.x5_model_script.specs.Lines as lines
+use Rattle.x5_model_star.specs.Star.{IsStar}
+use Rattle.x5_model_world.specs.WorldFile.{File}
+use Rattle.x5_port.specs.Outside as outside
+use Rattle.x5_port.specs.Outside.{IsContent, IsLonger, Rose, with_octets, TookPrefix}
+use Rattle.xdir.specs.Outcomes.{most_octets, Wrote, Broke, Ends, IsReadable}
+use Rattle.xdir.specs.Run.{AsksFor, is_other, IsOutput, RefusesStar, RefusesScript}
+use Rattle.xdir.specs.Text.{not_yet_text}
 use Rattle.xdir.specs.declared.top.Status.{Status}
 use Rattle.xdir.specs.declared.top.Status.TheVariants.{Done, Refused, Usage, ReadFault, WriteFault, NoMemory, Inconsistent, TooLong}
 
 -- the output of a run of the first of these commands
-pub record IsFirstOutput (star : World) (commands : List Command) (text : List ℕ) : Type 0 where
+pub record IsFirstOutput (f : File) (commands : List Command) (text : List ℕ) : Type 0 where
   pub first : List Command
   pub rest : List Command
   pub parts : commands ≡ first ++ rest
-  pub prints : IsOutput star first text
+  pub prints : IsOutput f first text
 
 -- the line of a file that isn't taken was written, or a first part of it
 abbrev pub WritesLine : Status → List ℕ → Option (List ℕ) → Option (List ℕ) → ℕ → ℕ → Type 0
@@ -29,42 +32,88 @@ WritesLine TooLong line old new before after = ⊥
 WritesLine Usage line old new before after = ⊥
 WritesLine Inconsistent line old new before after = ⊥
 
--- what a run of these commands over this star writes
-abbrev pub WritesRun : Status → World → List Command → Option (List ℕ) → Option (List ℕ) → ℕ → ℕ → Type 0
-WritesRun status star commands old new before after = Ends (IsOutput star commands) (IsFirstOutput star commands) (λ text. ⊥) status old new before after
+-- such a line was, or memory ran out before
+abbrev pub WritesSuchLine : Status → (List ℕ → Type 0) → Option (List ℕ) → Option (List ℕ) → ℕ → ℕ → Type 0
+WritesSuchLine Refused P old new before after = Wrote P old new
+WritesSuchLine WriteFault P old new before after = Rose before after × Broke P old new
+WritesSuchLine NoMemory P old new before after = new ≡ old
+WritesSuchLine Done P old new before after = ⊥
+WritesSuchLine ReadFault P old new before after = ⊥
+WritesSuchLine TooLong P old new before after = ⊥
+WritesSuchLine Usage P old new before after = ⊥
+WritesSuchLine Inconsistent P old new before after = ⊥
 
--- the output of the script's commands over this star, of the first of them, and the line of the first that isn't taken
-pub record IsScriptOutput (star : World) (script text : List ℕ) : Type 0 where
+-- what a run of these commands over the star of this file writes
+abbrev pub WritesRun : Status → File → List Command → Option (List ℕ) → Option (List ℕ) → ℕ → ℕ → Type 0
+WritesRun status f commands old new before after = Ends (IsOutput f commands) (IsFirstOutput f commands) (λ text. ⊥) status old new before after
+
+-- the output of what is asked for, of the first part of it, and the line of what no run does so far
+pub record IsAskedOutput (f : File) (asked : List Asked) (text : List ℕ) : Type 0 where
   pub commands : List Command
-  pub asked : script_of (names_in star) script ≡ Ok commands
-  pub prints : IsOutput star commands text
+  pub are : asked ≡ map lines.Runs commands
+  pub prints : IsOutput f commands text
 
-pub record IsFirstScriptOutput (star : World) (script text : List ℕ) : Type 0 where
+pub record IsFirstAskedOutput (f : File) (asked : List Asked) (text : List ℕ) : Type 0 where
   pub commands : List Command
-  pub asked : script_of (names_in star) script ≡ Ok commands
-  pub first : IsFirstOutput star commands text
+  pub are : asked ≡ map lines.Runs commands
+  pub first : IsFirstOutput f commands text
 
-pub record IsLineRefusal (star : World) (script text : List ℕ) : Type 0 where
-  pub number : ℕ
-  pub fault : LineFault
-  pub refused : script_of (names_in star) script ≡ Err (number, fault)
-  pub is_line : text ≡ refused_line_text number fault
+pub record IsNotYet (asked : List Asked) (text : List ℕ) : Type 0 where
+  pub before : ℕ
+  pub first : position is_other asked ≡ Some before
+  pub is_line : text ≡ not_yet_text (before + 1)
+
+-- what a run of what is asked for writes
+abbrev pub WritesAsked : Status → File → List Asked → Option (List ℕ) → Option (List ℕ) → ℕ → ℕ → Type 0
+WritesAsked status f asked old new before after =
+    Ends (IsAskedOutput f asked) (IsFirstAskedOutput f asked) (IsNotYet asked) status old new before after
+
+-- the output of the script's commands over this star, and of the first of them
+pub record IsScriptOutput (f : File) (script text : List ℕ) : Type 0 where
+  pub commands : List Command
+  pub asked : AsksFor f.world script (map lines.Runs commands)
+  pub prints : IsOutput f commands text
+
+pub record IsFirstScriptOutput (f : File) (script text : List ℕ) : Type 0 where
+  pub commands : List Command
+  pub asked : AsksFor f.world script (map lines.Runs commands)
+  pub first : IsFirstOutput f commands text
 
 -- what a run of this script over this star writes
-abbrev pub WritesScript : Status → World → List ℕ → Option (List ℕ) → Option (List ℕ) → ℕ → ℕ → Type 0
-WritesScript status star script old new before after =
-    Ends (IsScriptOutput star script) (IsFirstScriptOutput star script) (IsLineRefusal star script) status old new before after
+abbrev pub WritesScript : Status → File → List ℕ → Option (List ℕ) → Option (List ℕ) → ℕ → ℕ → Type 0
+WritesScript status f script old new before after =
+    Ends (IsScriptOutput f script) (IsFirstScriptOutput f script) (RefusesScript f.world script) status old new before after
 
 -- what a run of the script in this file over this star writes
-abbrev pub OfScript : Option (List File) → List ℕ → (List ℕ → List ℕ → Type 0) → List ℕ → Type 0
+abbrev pub OfScript : Option (List outside.File) → List ℕ → (List ℕ → List ℕ → Type 0) → List ℕ → Type 0
 OfScript told name P text = (script : List ℕ) × IsContent told name script × P script text
 
-abbrev pub WritesScriptFile : Status → Option (List File) → List ℕ → World → Option (List ℕ) → Option (List ℕ) → ℕ → ℕ → Type 0
-WritesScriptFile status told name star old new before after =
-    Ends (OfScript told name (IsScriptOutput star)) (OfScript told name (IsFirstScriptOutput star)) (OfScript told name (IsLineRefusal star)) status old new before after
+abbrev pub WritesScriptFile : Status → Option (List outside.File) → List ℕ → File → Option (List ℕ) → Option (List ℕ) → ℕ → ℕ → Type 0
+WritesScriptFile status told name f old new before after =
+    Ends (OfScript told name (IsScriptOutput f)) (OfScript told name (IsFirstScriptOutput f)) (OfScript told name (RefusesScript f.world)) status old new before after
+
+-- the line of a script over a star, or of a world that is none
+abbrev pub RefusesOver : Option (List outside.File) → List ℕ → File → List ℕ → Type 0
+RefusesOver told name f text = RefusesStar f text ⊎ (IsStar f.world × OfScript told name (RefusesScript f.world) text)
+
+-- what a run over this world writes, star or not
+abbrev pub WritesOver : Status → Option (List outside.File) → List ℕ → File → Option (List ℕ) → Option (List ℕ) → ℕ → ℕ → Type 0
+WritesOver status told name f old new before after =
+    Ends (OfScript told name (IsScriptOutput f)) (OfScript told name (IsFirstScriptOutput f)) (RefusesOver told name f) status old new before after
+
+-- what is known of the script's file after such a run: it isn't read where the world is no star
+abbrev pub ReadsOver : Status → File → List ℕ → Option (List outside.File) → ℕ → ℕ → Option (List ℕ) → Option (List ℕ) → Option (List ℕ) → Type 0
+ReadsOver Done f name told before after failed old new = IsReadable told name
+ReadsOver Refused f name told before after failed old new = Wrote (RefusesStar f) old new ⊎ IsReadable told name
+ReadsOver WriteFault f name told before after failed old new = Broke (RefusesStar f) old new ⊎ IsReadable told name
+ReadsOver NoMemory f name told before after failed old new = ⊤
+ReadsOver ReadFault f name told before after failed old new = IsStar f.world × Rose before after × (failed ≡ Some name)
+ReadsOver TooLong f name told before after failed old new = IsStar f.world × IsLonger told name most_octets
+ReadsOver Usage f name told before after failed old new = ⊥
+ReadsOver Inconsistent f name told before after failed old new = ⊥
 
 -- what is known of a file that is read, by how that ends: a script's over a world that was read, or one that is shown
-abbrev pub ReadsFile : Status → List ℕ → Option (List File) → ℕ → ℕ → Option (List ℕ) → Type 0
+abbrev pub ReadsFile : Status → List ℕ → Option (List outside.File) → ℕ → ℕ → Option (List ℕ) → Type 0
 ReadsFile Done name told before after failed = IsReadable told name
 ReadsFile Refused name told before after failed = IsReadable told name
 ReadsFile WriteFault name told before after failed = IsReadable told name

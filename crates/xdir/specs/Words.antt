@@ -3,9 +3,10 @@ use Rattle.std.specs.Prelude.{ℕ, Bool, true, false, List, Option, Some, None, 
 use Rattle.x5_words.specs.Forms as forms
 use Rattle.x5_words.specs.Forms.{FileNames}
 
--- a run that prints its blocks, the world or the script of a number, the elements in a file
+-- a run that prints its blocks, the line on a world's knowledge, the world or the script of a number, the elements in a file
 pub data Form : Type 0 where
   Run : FileNames → Form
+  Check : List ℕ → Form
   GenWorld : ℕ → Form
   GenScript : ℕ → Form
   Show : List ℕ → Form
@@ -14,7 +15,7 @@ pub data Form : Type 0 where
 abbrev pub form_so_far : forms.Form → Option Form
 form_so_far (forms.Run names false) = Some (Run names)
 form_so_far (forms.Run names true) = None
-form_so_far (forms.Check name) = None
+form_so_far (forms.Check name) = Some (Check name)
 form_so_far (forms.Tree names) = None
 form_so_far (forms.GenRun number) = None
 form_so_far (forms.GenWorld number) = Some (GenWorld number)
@@ -27,6 +28,7 @@ form_in words = option_and_then form_so_far (forms.form_in words)
 -- no file is read for it
 abbrev pub is_made : Form → Bool
 is_made (Run names) = false
+is_made (Check name) = false
 is_made (GenWorld number) = true
 is_made (GenScript number) = true
 is_made (Show name) = false

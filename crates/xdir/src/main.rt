@@ -2,11 +2,14 @@
 #![tactic(auto)]
 
 mod asked;
+mod check;
 mod explained;
+mod knowledge;
 mod made;
 mod refusals;
 mod run;
 mod show;
+mod star;
 mod told;
 mod top;
 
@@ -22,6 +25,7 @@ use x5_port::{RealFiles, RealSink};
 // The forms that are taken so far, one a line.
 const USAGE: &str = "usage:
   xdir run WORLD SCRIPT
+  xdir check WORLD
   xdir gen N world
   xdir gen N script
   xdir show FILE

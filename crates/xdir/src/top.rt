@@ -1,23 +1,26 @@
 //! The top call: a run of a script over a world, a file that is made of a number, or what a file shows, from files to a sink.
-ghost use Rattle.std.specs.Prelude.{◌≡◌, ◌↔◌, None, IfSome, IsTrue, true, ◌≤◌, length, map, string_bytes};
+ghost use Rattle.std.specs.Prelude.{◌≡◌, ◌↔◌, None, IfSome, true, map, string_bytes};
+ghost use Rattle.x5_know.specs.WorldView.{world_view};
+ghost use Rattle.x5_load.specs.Views.{file_view};
 ghost use Rattle.x5_model_tree.specs.Described.{IsDescribed};
-ghost use Rattle.x5_model_star.specs.Star.{IsStar};
-ghost use Rattle.x5_dispatch.specs.Star.{are_short};
-ghost use Rattle.x5_star.specs.Views.{star_world};
 ghost use Rattle.xdir.specs.Forms.{ReadsForm, WritesForm};
-ghost use Rattle.xdir.specs.Run.{IsWorldLine, Reads, StopsAtWorld, Writes};
-ghost use Rattle.xdir.specs.Steps.{Prints, ReadsFile, WritesScript, WritesScriptFile, WritesLine};
+ghost use Rattle.xdir.specs.Run.{Reads, Writes};
+ghost use Rattle.xdir.specs.Star.{IsReady, star_file};
+ghost use Rattle.xdir.specs.Steps.{Prints, ReadsFile, ReadsOver, WritesOver, WritesScript, WritesScriptFile};
 ghost use Rattle.xdir.specs.Words.{form_in, is_made};
 
+use crate::check::check_file;
 use crate::made::{print_made_script, print_made_world};
-use crate::refusals::{NO_STAR, NOT_JSON, refused_line};
-use crate::run::print_run;
+use crate::refusals::{NO_STAR, put_refusal, refuse_line, refuse_world};
+use crate::run::run_commands;
 use crate::show::show_file;
+use crate::star::{Star, find_star};
 use std::alloc::Global;
-use x5_ops::AgentSpecs;
-use x5_port::{Failed, FileFault, Files, Sink, put_all};
-use x5_star::{WorldFault, read_star};
-use x5_star_script::{LineFault, ScriptFault, read_script};
+use x5_know::Described;
+use x5_load::load;
+use x5_memory::NoMemory;
+use x5_port::{FileFault, Files, Sink};
+use x5_script::{ScriptRefusal, read_script};
 use x5_words::{Words, read_words};
 
 /// The most octets of a file: 16 MiB.
@@ -69,16 +72,15 @@ pub fn xdir<F: Files, K: Sink>(
         Some(Words::Run(names, false)) => {
             run_files(alloc, names.world, names.script, files, out)
         }
+        Some(Words::Check(name)) => check_file(alloc, name, files, out),
         Some(Words::GenWorld(number)) => print_made_world(alloc, number, out),
         Some(Words::GenScript(number)) => print_made_script(alloc, number, out),
         Some(Words::Show(name)) => show_file(alloc, name, files, out),
-        Some(Words::Run(_, true) | Words::Check(_) | Words::Tree(_) | Words::GenRun(_)) | None => {
-            Status::Usage
-        }
+        Some(Words::Run(_, true) | Words::Tree(_) | Words::GenRun(_)) | None => { Status::Usage }
     }
 }
 
-/// Runs the script of one file over the star that another describes.
+/// Runs the script of one file over the world that another describes.
 fn run_files<F: Files, K: Sink>(
     alloc: Global,
     world: &str,
@@ -90,11 +92,9 @@ fn run_files<F: Files, K: Sink>(
     ensures writes { Writes result (F.contents files.old) (record { world = world.now; script = script.now }) (K.octets out.old) (K.octets out.new) (K.fault_count out.old) (K.fault_count out.new) }
 {
     match files.read_whole(alloc, world, MOST_OCTETS) {
-        Ok(octets) => match read_star(alloc, &octets) {
-            Ok(agents) => run_script(alloc, &agents, script, files, out),
-            Err(WorldFault::NotJson) => put_refusal(NOT_JSON, out),
-            Err(WorldFault::NotYet) => put_refusal(NO_STAR, out),
-            Err(WorldFault::NoMemory) => Status::NoMemory,
+        Ok(octets) => match load(alloc, &octets) {
+            Ok(world) => run_world(alloc, world, script, files, out),
+            Err(fault) => refuse_world(alloc, &fault, out),
         },
         Err(FileFault::Failed) => Status::ReadFault,
         Err(FileFault::TooLong) => Status::TooLong,
@@ -102,54 +102,54 @@ fn run_files<F: Files, K: Sink>(
     }
 }
 
-/// Prints the line of a file that isn't taken.
-fn put_refusal<K: Sink>(line: &str, out: &mut K) -> Status
-    ensures { WritesLine result line.now (K.octets out.old) (K.octets out.new) (K.fault_count out.old) (K.fault_count out.new) }
-{
-    match put_all(out, line.as_bytes()) {
-        Ok(()) => Status::Refused,
-        Err(Failed) => Status::WriteFault,
-    }
-}
-
-/// Runs the script of a file.
-fn run_script<F: Files, K: Sink>(
+/// Runs the script of a file over a world, if that is a star.
+fn run_world<F: Files, K: Sink>(
     alloc: Global,
-    agents: &AgentSpecs,
+    world: Described,
     script: &str,
     files: &mut F,
     out: &mut K,
 ) -> Status
-    requires described { IsDescribed (star_world agents.now) }
-    requires star { IsStar (star_world agents.now) }
-    requires short { IsTrue (are_short agents.now) }
-    requires few { length agents.now ≤ 64 }
+    requires { IsDescribed (world_view world) }
+    ensures reads { ReadsOver result (file_view world) script.now (F.contents files.old) (F.fault_count files.old) (F.fault_count files.new) (F.last_failed files.new) (K.octets out.old) (K.octets out.new) }
+    ensures writes { WritesOver result (F.contents files.old) script.now (file_view world) (K.octets out.old) (K.octets out.new) (K.fault_count out.old) (K.fault_count out.new) }
+{
+    match find_star(alloc, world) {
+        Ok(Some(star)) => run_script(alloc, &star, script, files, out),
+        Ok(None) => put_refusal(NO_STAR, out),
+        Err(NoMemory) => Status::NoMemory,
+    }
+}
+
+/// Runs the script of a file over a star.
+fn run_script<F: Files, K: Sink>(
+    alloc: Global,
+    star: &Star,
+    script: &str,
+    files: &mut F,
+    out: &mut K,
+) -> Status
+    requires { IsReady star.now }
     ensures reads { ReadsFile result script.now (F.contents files.old) (F.fault_count files.old) (F.fault_count files.new) (F.last_failed files.new) }
-    ensures writes { WritesScriptFile result (F.contents files.old) script.now (star_world agents.now) (K.octets out.old) (K.octets out.new) (K.fault_count out.old) (K.fault_count out.new) }
+    ensures writes { WritesScriptFile result (F.contents files.old) script.now (star_file star.now) (K.octets out.old) (K.octets out.new) (K.fault_count out.old) (K.fault_count out.new) }
 {
     match files.read_whole(alloc, script, MOST_OCTETS) {
-        Ok(octets) => run_octets(alloc, agents, &octets, out),
+        Ok(octets) => run_octets(alloc, star, &octets, out),
         Err(FileFault::Failed) => Status::ReadFault,
         Err(FileFault::TooLong) => Status::TooLong,
         Err(FileFault::NoMemory) => Status::NoMemory,
     }
 }
 
-/// Runs a script, or prints the line of its first line that isn't taken.
-fn run_octets<K: Sink>(alloc: Global, agents: &AgentSpecs, script: &[u8], out: &mut K) -> Status
-    requires described { IsDescribed (star_world agents.now) }
-    requires star { IsStar (star_world agents.now) }
-    requires short { IsTrue (are_short agents.now) }
-    requires few { length agents.now ≤ 64 }
+/// Runs a script, or prints the line of its first line that isn't taken. A star loses no replies by itself.
+fn run_octets<K: Sink>(alloc: Global, star: &Star, script: &[u8], out: &mut K) -> Status
+    requires { IsReady star.now }
     ensures prints { Prints result }
-    ensures writes { WritesScript result (star_world agents.now) script.now (K.octets out.old) (K.octets out.new) (K.fault_count out.old) (K.fault_count out.new) }
+    ensures writes { WritesScript result (star_file star.now) script.now (K.octets out.old) (K.octets out.new) (K.fault_count out.old) (K.fault_count out.new) }
 {
-    match read_script(alloc, agents, script) {
-        Ok(commands) => print_run(alloc, agents, &commands, out),
-        Err(ScriptFault::Line { number, fault }) => match refused_line(alloc, number, fault) {
-            Ok(line) => put_refusal(&line, out),
-            Err(_) => Status::NoMemory,
-        },
-        Err(ScriptFault::NoMemory) => Status::NoMemory,
+    match read_script(alloc, script, &star.names, 0) {
+        Ok(commands) => run_commands(alloc, star, &commands, out),
+        Err(ScriptRefusal::Line { number, fault }) => refuse_line(alloc, number, fault, out),
+        Err(ScriptRefusal::NoMemory) => Status::NoMemory,
     }
 }

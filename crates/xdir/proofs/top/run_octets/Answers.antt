@@ -1,29 +1,49 @@
-use Rattle.std.proofs.Common.{◌≡◌, ℕ, List, ◌≤◌, length, map, sym, subst, ◌∙◌, Ok, Err}
+use Rattle.std.proofs.Common.{◌≡◌, ℕ, List, ◌≤◌, length, map, sym, subst, ◌∙◌, Ok, Err, All}
 use Rattle.std.proofs.lemmas.List.{length-map}
-use Rattle.x5_star_script.proofs.Few.{few}
-use Rattle.x5_star_script.specs.Script.{script_of}
-use Rattle.x5_star_script.specs.declared.script.ScriptFault.{ScriptFault}
-use Rattle.x5_star_script.specs.declared.script.ScriptFault.TheVariants.{Line}
-use Rattle.x5_star_script.specs.declared.line.LineFault.{LineFault}
-use Rattle.x5_star.specs.Views.{star_world}
-use Rattle.x5_star_script.specs.Views.{command_view, fault_view, ReadsScript}
-use Rattle.x5_star_script.specs.declared.line.Command.{Command as Asked}
-use Rattle.xdir.specs.Run.{names_in}
-use Rattle.xdir.proofs.Files.{runs_script, refuses_line, same_names}
+use Rattle.std.proofs.lemmas.Result.{IfOk-at_ok}
+use Rattle.x5_model_script.specs.Lines.{Asked}
+use Rattle.x5_model_script.specs.Named.{AreNamed}
+use Rattle.x5_model_script.specs.Script.{script_of}
+use Rattle.x5_model_script.proofs.NamedLaws.{script_named}
+use Rattle.x5_script.specs.Views.{command_view, IsLineFault, ReadsScript}
+use Rattle.x5_script.specs.declared.command.Command.{Command}
+use Rattle.x5_script.specs.declared.command.ScriptFault.{ScriptFault}
+use Rattle.x5_script.specs.declared.script.ScriptRefusal.{ScriptRefusal}
+use Rattle.x5_script.specs.declared.script.ScriptRefusal.TheVariants.{Line}
+use Rattle.xdir.specs.Star.{star_file}
+use Rattle.xdir.proofs.Ends.{such_prints}
+use Rattle.xdir.proofs.Few.{few}
+use Rattle.xdir.proofs.Files.{runs_script, refuses_line}
 use Rattle.xdir.proofs.top.run_octets.Goals as goal
 
-told : {fault : ScriptFault} {number : ℕ} {line : LineFault} (names : List (List ℕ)) (script : List ℕ) → fault ≡ Line number line → ReadsScript (Err fault) names script → script_of names script ≡ Err (number, fault_view line)
-told {fault} {number} {line} names script is reads = subst (λ (f : ScriptFault). ReadsScript (Err f) names script) is reads
+told : {refusal : ScriptRefusal} {number : ℕ} {fault : ScriptFault} (names : List (List ℕ)) (script : List ℕ) → refusal ≡ Line number fault
+    → ReadsScript (Err refusal) names 0 script → IsLineFault number fault (script_of names 0 script)
+told {refusal} {number} {fault} names script is reads = subst (λ (r : ScriptRefusal). ReadsScript (Err r) names 0 script) is reads
+
+pub run_commands-requires-clause-few : goal.run_commands-requires-clause-few
+run_commands-requires-clause-few g c =
+    let f = few c.args.star.now.names 0 c.args.script.now (map command_view c.in-Ok.commands.items) c.in-Ok.ensures in
+    subst (λ (cs : List Command). length cs ≤ 100000) (sym c.deref.ensures.value)
+    (subst (λ (n : ℕ). n ≤ 100000) (length-map c.in-Ok.commands.items command_view) f)
+
+pub run_commands-requires-clause-named : goal.run_commands-requires-clause-named
+run_commands-requires-clause-named g c =
+    subst (λ (cs : List Command). All (AreNamed c.args.star.now.names) (map command_view cs)) (sym c.deref.ensures.value)
+    (IfOk-at_ok (All (AreNamed c.args.star.now.names)) c.in-Ok.ensures (script_named c.args.star.now.names 0 c.args.script.now))
 
 pub returns-in-Ok-clause-writes : goal.returns-in-Ok-clause-writes
 returns-in-Ok-clause-writes g c =
-    runs_script (star_world c.args.agents.now) c.args.script.now (map command_view c.deref.result.now) (subst (λ (cs : List Asked). script_of (names_in (star_world c.args.agents.now)) c.args.script.now ≡ Ok (map command_view cs)) (sym c.deref.ensures.value) (subst (λ (names : List (List ℕ)). script_of names c.args.script.now ≡ Ok (map command_view c.in-Ok.commands.items)) (same_names c.args.agents.now) c.in-Ok.ensures.reads)) c.print_run.result (g.K.Sink.octets c.args.out.now) (g.K.Sink.octets c.print_run.new.out) (g.K.Sink.fault_count c.args.out.now) (g.K.Sink.fault_count c.print_run.new.out) c.print_run.ensures.writes
+    runs_script (star_file c.args.star.now) c.args.script.now (map command_view c.deref.result.now)
+    (subst (λ (names : List (List ℕ)). script_of names 0 c.args.script.now ≡ Ok (map command_view c.deref.result.now)) c.requires.named
+      (subst (λ (cs : List Command). script_of c.args.star.now.names 0 c.args.script.now ≡ Ok (map command_view cs)) (sym c.deref.ensures.value) c.in-Ok.ensures))
+    c.run_commands.result (g.K.Sink.octets c.args.out.now) (g.K.Sink.octets c.run_commands.new.out) (g.K.Sink.fault_count c.args.out.now) (g.K.Sink.fault_count c.run_commands.new.out) c.run_commands.ensures.writes
 
-pub returns-in-Ok-refused_line-clause-writes : goal.returns-in-Ok-refused_line-clause-writes
-returns-in-Ok-refused_line-clause-writes g c =
-    refuses_line (star_world c.args.agents.now) c.args.script.now c.in-Err-Line.number (fault_view c.in-Err-Line.fault) c.deref-in-Ok-refused_line.result.now (subst (λ (names : List (List ℕ)). script_of names c.args.script.now ≡ Err (c.in-Err-Line.number, fault_view c.in-Err-Line.fault)) (same_names c.args.agents.now) (told (map (λ a. a.name) c.args.agents.now) c.args.script.now c.in-Err-Line.field-0-is c.in-Err-Line.ensures.reads)) (c.deref-in-Ok-refused_line.ensures ∙ c.in-Ok-refused_line.ensures) c.put_refusal.result (g.K.Sink.octets c.args.out.now) (g.K.Sink.octets c.put_refusal.new.out) (g.K.Sink.fault_count c.args.out.now) (g.K.Sink.fault_count c.put_refusal.new.out) c.put_refusal.ensures
+pub returns-in-Err-Line-clause-prints : goal.returns-in-Err-Line-clause-prints
+returns-in-Err-Line-clause-prints g c = such_prints c.refuse_line.result _ _ _ _ _ c.refuse_line.ensures
 
-pub print_run-requires-clause-few : goal.print_run-requires-clause-few
-print_run-requires-clause-few g c =
-    let f = few (map (λ a. a.name) c.args.agents.now) c.args.script.now (map command_view c.in-Ok.commands.items) c.in-Ok.ensures.reads in
-    subst (λ (cs : List Asked). length cs ≤ 100000) (sym c.deref.ensures.value) (subst (λ (n : ℕ). n ≤ 100000) (length-map c.in-Ok.commands.items command_view) f)
+pub returns-in-Err-Line-clause-writes : goal.returns-in-Err-Line-clause-writes
+returns-in-Err-Line-clause-writes g c =
+    refuses_line (star_file c.args.star.now) c.args.script.now c.in-Err-Line.number c.in-Err-Line.fault
+    (subst (λ (names : List (List ℕ)). IsLineFault c.in-Err-Line.number c.in-Err-Line.fault (script_of names 0 c.args.script.now)) c.requires.named
+      (told c.args.star.now.names c.args.script.now c.in-Err-Line.field-0-is c.in-Err-Line.ensures))
+    c.refuse_line.result (g.K.Sink.octets c.args.out.now) (g.K.Sink.octets c.refuse_line.new.out) (g.K.Sink.fault_count c.args.out.now) (g.K.Sink.fault_count c.refuse_line.new.out) c.refuse_line.ensures

@@ -1,9 +1,0 @@
-use Rattle.std.proofs.Common.{◌≡◌, map, drop}
-use Rattle.std.specs.List.{list_all}
-use Rattle.x5_model_tree.specs.Described as described
-use Rattle.x5_star.specs.Views.{star_world}
-use Rattle.x5_ops.specs.KnowledgeViews.{agent_view}
-use Rattle.x5_star.proofs.star.are_agents.Given as goal
-
-abbrev pub invariant-loop-agent : goal.invariant-loop-agent
-invariant-loop-agent l = list_all (described.is_agent (star_world l.agents)) (map agent_view (drop l.agent-index l.agents)) ≡ list_all (described.is_agent (star_world l.agents)) (map agent_view l.agents)
