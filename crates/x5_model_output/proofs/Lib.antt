@@ -1,2 +1,2 @@
-mod Counting
-mod Telling
+pub mod Counting
+pub mod Telling

@@ -1,11 +1,18 @@
 -- What a request's block prints on the one tree (docs/FORMATS.md, output): nothing passes between agents there, so the
 -- block has no messages; nobody accepts, nothing is a copy, and no agent is a source. All of it is this project's own.
-use Rattle.std.specs.Prelude.{◌≡◌, ℕ, false, List, [], ◌∷◌, ◌++◌, length, map, codes}
+use Rattle.std.specs.Prelude.{◌≡◌, ℕ, ◌+◌, false, List, [], ◌∷◌, ◌++◌, length, map, codes}
 use Rattle.std.specs.List.{concat, flat_map}
 use Rattle.x5_model.specs.Values.{Text}
 use Rattle.x5_model.specs.Answers.{EntryInfo, Sub, Answer, EntryFound, Matched, Listed, Found, Changed, Reply, Answered, Failed, Referred}
-use Rattle.x5_model_tree.specs.Ask.{Told, Shows, Compares, Lists, Finds, Changes, Refuses, rest_of, unexplored_of}
-use Rattle.x5_model_output.specs.Output.{Names, number_line, entry_lines, match_line, sub_line, count_line, limit_line, answer_lines, error_line, reply_lines}
+use Rattle.x5_model.specs.Requests.{Request}
+use Rattle.x5_model_tree.specs.World.{World}
+use Rattle.x5_model_tree.specs.Tree.{Tree}
+use Rattle.x5_model_tree.specs.Masters.{whole}
+use Rattle.x5_model_tree.specs.Consistent.{first_breach}
+use Rattle.x5_model_tree.specs.Ask.{Told, Shows, Compares, Lists, Finds, Changes, Refuses, rest_of, unexplored_of, ask}
+use Rattle.x5_model_run.specs.History.{tree_with}
+use Rattle.x5_model_run.specs.Run.{Command, Blank, Asks}
+use Rattle.x5_model_output.specs.Output.{Names, names_of, knowledge_line, number_line, entry_lines, match_line, sub_line, count_line, limit_line, answer_lines, error_line, reply_lines}
 
 -- not as a copy
 abbrev pub plain_info : EntryInfo → EntryInfo
@@ -43,3 +50,27 @@ told_lines names (Refuses x) = error_line names x
 
 abbrev pub PlainIsTold : Type 0
 PlainIsTold = (names : Names) (a : Answer) → unexplored_of a ≡ [] → plain_answer_lines names a ≡ told_lines names (rest_of a)
+
+-- the tree after a request: an update that isn't refused has changed it
+abbrev pub tree_left : Tree → Request → Told → Tree
+tree_left t r Changes = tree_with t r
+tree_left t r other = t
+
+abbrev pub tree_after : Tree → Command → Tree
+tree_after t (Asks to r) = tree_left t r (ask t r)
+tree_after t other = t
+
+-- what is printed for line n: nothing for a comment or an empty line, and `set` for a line that is no request
+abbrev pub plain_text : Names → ℕ → Tree → Command → Text
+plain_text names n t Blank = []
+plain_text names n t (Asks to r) = number_line n ++ told_lines names (ask t r)
+plain_text names n t other = number_line n ++ codes "set\n"
+
+abbrev pub plain_texts : Names → ℕ → Tree → List Command → Text
+plain_texts names n t [] = []
+plain_texts names n t (c ∷ cs) = plain_text names n t c ++ plain_texts names (n + 1) (tree_after t c) cs
+
+-- the whole output of a script on the one tree of a world whose knowledge is consistent
+abbrev pub tree_text : World → (ℕ → Text) → List Command → Text
+tree_text w moment commands =
+    knowledge_line (names_of w moment) (first_breach w) ++ plain_texts (names_of w moment) 1 (whole w) commands

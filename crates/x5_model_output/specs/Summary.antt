@@ -94,10 +94,8 @@ capped_counts c =
 
 abbrev pub summary_line : Counts → Text
 summary_line c =
-    concat (codes "summary requests " ∷ decimal c.requests ∷ codes " entries " ∷ decimal c.entries
-    ∷ codes " subs " ∷ decimal c.subs ∷ codes " errors " ∷ decimal c.errors
-    ∷ codes " referrals " ∷ decimal c.referrals ∷ codes " unexplored " ∷ decimal c.unexplored
-    ∷ codes " accepted " ∷ decimal c.accepted ∷ codes " refreshed " ∷ decimal c.refreshed ∷ codes "\n" ∷ [])
+    concat (codes "summary requests " ∷ decimal c.requests ∷ codes " entries " ∷ decimal c.entries ∷ codes " subs " ∷ decimal c.subs ∷ codes " errors " ∷ decimal c.errors ∷ [])
+    ++ concat (codes " referrals " ∷ decimal c.referrals ∷ codes " unexplored " ∷ decimal c.unexplored ∷ codes " accepted " ∷ decimal c.accepted ∷ codes " refreshed " ∷ decimal c.refreshed ∷ codes "\n" ∷ [])
 
 -- the whole output of a run over a world of which a summary is asked
 abbrev pub summary_text : World → (ℕ → Text) → List Block → Text
