@@ -1,7 +1,7 @@
 -- Counts of blocks are sums of numbers: what holds of sums holds of each kind of line.
-use Rattle.std.proofs.Common.{◌≡◌, ℕ, ◌+◌, ◌-◌, ◌^◌, ◌≤◌, min, List, [], ◌∷◌, ◌++◌, refl, sym, ap, ◌∙◌, arith}
-use Rattle.x5_model_run.specs.Run.{Block}
-use Rattle.x5_model_output.specs.Summary.{Counts, no_counts, both, block_counts, counts_of, capped, capped_counts, OneMoreAdds, CappedOnTheWay}
+use Rattle.std.proofs.Common.{◌≡◌, ℕ, ◌+◌, [], ◌∷◌, ap, ◌∙◌, arith}
+use Rattle.x5_model_output.specs.Summary.{Counts, no_counts, both, block_counts, counts_of, capped}
+use Rattle.x5_model_output.specs.Summary.{OneMoreAdds, CappedOnTheWay}
 
 none_first : (n : ℕ) → n + 0 ≡ 0 + n
 none_first n = omega arith

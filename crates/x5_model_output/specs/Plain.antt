@@ -3,7 +3,8 @@
 use Rattle.std.specs.Prelude.{◌≡◌, ℕ, ◌+◌, false, List, [], ◌∷◌, ◌++◌, length, map, codes}
 use Rattle.std.specs.List.{concat, flat_map}
 use Rattle.x5_model.specs.Values.{Text}
-use Rattle.x5_model.specs.Answers.{EntryInfo, Sub, Answer, EntryFound, Matched, Listed, Found, Changed, Reply, Answered, Failed, Referred}
+use Rattle.x5_model.specs.Answers.{EntryInfo, Sub, Answer, EntryFound, Matched, Listed, Found, Changed, Reply}
+use Rattle.x5_model.specs.Answers.{Answered, Failed, Referred}
 use Rattle.x5_model.specs.Requests.{Request}
 use Rattle.x5_model_tree.specs.World.{World}
 use Rattle.x5_model_tree.specs.Tree.{Tree}
@@ -12,7 +13,8 @@ use Rattle.x5_model_tree.specs.Consistent.{first_breach}
 use Rattle.x5_model_tree.specs.Ask.{Told, Shows, Compares, Lists, Finds, Changes, Refuses, rest_of, unexplored_of, ask}
 use Rattle.x5_model_run.specs.History.{tree_with}
 use Rattle.x5_model_run.specs.Run.{Command, Blank, Asks}
-use Rattle.x5_model_output.specs.Output.{Names, names_of, knowledge_line, number_line, entry_lines, match_line, sub_line, count_line, limit_line, answer_lines, error_line, reply_lines}
+use Rattle.x5_model_output.specs.Output.{Names, names_of, knowledge_line, number_line, entry_lines, match_line}
+use Rattle.x5_model_output.specs.Output.{sub_line, count_line, limit_line, answer_lines, error_line, reply_lines}
 
 -- not as a copy
 abbrev pub plain_info : EntryInfo → EntryInfo
@@ -42,14 +44,17 @@ abbrev pub told_lines : Names → Told → Text
 told_lines names (Shows info) = entry_lines (plain_info info)
 told_lines names (Compares equal copy) = match_line equal false
 told_lines names (Lists subs cut) =
-    concat (count_line (codes "listed") (length subs) ∷ flat_map (λ s. sub_line (plain_sub s)) subs ∷ limit_line cut ∷ [])
+    concat (count_line (codes "listed") (length subs) ∷ flat_map (λ s. sub_line (plain_sub s)) subs ∷ limit_line cut
+    ∷ [])
 told_lines names (Finds infos cut) =
-    concat (count_line (codes "found") (length infos) ∷ flat_map (λ i. entry_lines (plain_info i)) infos ∷ limit_line cut ∷ [])
+    concat (count_line (codes "found") (length infos) ∷ flat_map (λ i. entry_lines (plain_info i)) infos
+    ∷ limit_line cut ∷ [])
 told_lines names Changes = codes "changed\n"
 told_lines names (Refuses x) = error_line names x
 
 abbrev pub PlainIsTold : Type 0
-PlainIsTold = (names : Names) (a : Answer) → unexplored_of a ≡ [] → plain_answer_lines names a ≡ told_lines names (rest_of a)
+PlainIsTold = (names : Names) (a : Answer) → unexplored_of a ≡ []
+    → plain_answer_lines names a ≡ told_lines names (rest_of a)
 
 -- the tree after a request: an update that isn't refused has changed it
 abbrev pub tree_left : Tree → Request → Told → Tree

@@ -4,10 +4,10 @@ use Rattle.std.specs.Prelude.{◌≡◌, ℕ, ◌+◌, ◌-◌, ◌^◌, List, [
 use Rattle.std.specs.List.{concat}
 use Rattle.std.specs.Fmt.{decimal}
 use Rattle.x5_model.specs.Values.{Text}
-use Rattle.x5_model.specs.Answers.{Outcome, Answer, EntryFound, Matched, Listed, Found, Changed, Reply, Answered, Failed, Referred}
+use Rattle.x5_model.specs.Answers.{Answer, EntryFound, Matched, Listed, Found, Changed, Reply, Answered}
+use Rattle.x5_model.specs.Answers.{Failed, Referred}
 use Rattle.x5_model_tree.specs.World.{World}
 use Rattle.x5_model_tree.specs.Consistent.{first_breach}
-use Rattle.x5_model_run.specs.Journal.{Journal}
 use Rattle.x5_model_run.specs.Refresh as refresh
 use Rattle.x5_model_run.specs.Refresh.{RefreshOutcome, Unheard, Problem, Missed, NotConsistent}
 use Rattle.x5_model_run.specs.Run.{Block, Silent, Set, Replies, Refreshing}
@@ -94,12 +94,15 @@ capped_counts c =
 
 abbrev pub summary_line : Counts → Text
 summary_line c =
-    concat (codes "summary requests " ∷ decimal c.requests ∷ codes " entries " ∷ decimal c.entries ∷ codes " subs " ∷ decimal c.subs ∷ codes " errors " ∷ decimal c.errors ∷ [])
-    ++ concat (codes " referrals " ∷ decimal c.referrals ∷ codes " unexplored " ∷ decimal c.unexplored ∷ codes " accepted " ∷ decimal c.accepted ∷ codes " refreshed " ∷ decimal c.refreshed ∷ codes "\n" ∷ [])
+    concat (codes "summary requests " ∷ decimal c.requests ∷ codes " entries " ∷ decimal c.entries ∷ codes " subs "
+    ∷ decimal c.subs ∷ codes " errors " ∷ decimal c.errors ∷ [])
+    ++ concat (codes " referrals " ∷ decimal c.referrals ∷ codes " unexplored " ∷ decimal c.unexplored
+    ∷ codes " accepted " ∷ decimal c.accepted ∷ codes " refreshed " ∷ decimal c.refreshed ∷ codes "\n" ∷ [])
 
 -- the whole output of a run over a world of which a summary is asked
 abbrev pub summary_text : World → (ℕ → Text) → List Block → Text
-summary_text w moment blocks = knowledge_line (names_of w moment) (first_breach w) ++ summary_line (capped_counts (counts_of blocks))
+summary_text w moment blocks = knowledge_line (names_of w moment) (first_breach w) ++ summary_line (capped_counts
+    (counts_of blocks))
 
 -- a block more at the end adds its counts
 abbrev pub OneMoreAdds : Type 0
