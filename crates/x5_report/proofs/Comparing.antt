@@ -27,28 +27,34 @@ keyed_rank = ranks_by rdn_cmp_total (λ (k : KeyRdn × Rdn). k.0)
 
 reference_total : IsTotalOrder reference_cmp
 reference_total =
-    then_total (then_total (on_total (λ (r : Reference). key_of r.target) key_cmp_total) (on_total (λ (r : Reference). is_wide (kind_view r.kind)) bool_cmp_total))
+    then_total (then_total (on_total (λ (r : Reference). key_of r.target) key_cmp_total) (on_total (λ
+    (r : Reference). is_wide (kind_view r.kind)) bool_cmp_total))
     (on_total (λ (r : Reference). first_agent r.agents) nat_list_cmp_total)
 
 -- the order of the definition is that of the three comparisons
-by_kind : (v w : Bool) (third : Ordering) → is_lt (ordering_then (bool_cmp v w) third) ≡ ((not v && w) || ((not v || w) && is_lt third))
+by_kind : (v w : Bool) (third : Ordering)
+    → is_lt (ordering_then (bool_cmp v w) third) ≡ ((not v && w) || ((not v || w) && is_lt third))
 by_kind false false third = refl
 by_kind false true third = refl
 by_kind true false third = refl
 by_kind true true third = refl
 
-by_target : (first : Ordering) (v w : Bool) (third : Ordering) → is_lt (ordering_then (ordering_then first (bool_cmp v w)) third) ≡ (is_lt first || (is_eq first && ((not v && w) || ((not v || w) && is_lt third))))
+by_target : (first : Ordering) (v w : Bool) (third : Ordering)
+    → is_lt (ordering_then (ordering_then first (bool_cmp v w)) third) ≡ (is_lt first || (is_eq first &&
+    ((not v && w) || ((not v || w) && is_lt third))))
 by_target Less v w third = refl
 by_target Equal v w third = by_kind v w third
 by_target Greater v w third = refl
 
 pub reference_is : (a b : Reference) → is_lt (reference_cmp a b) ≡ reference_below a b
 reference_is a b =
-    by_target (key_cmp (key_of a.target) (key_of b.target)) (is_wide (kind_view a.kind)) (is_wide (kind_view b.kind)) (slice_cmp nat_cmp (first_agent a.agents) (first_agent b.agents))
+    by_target (key_cmp (key_of a.target) (key_of b.target)) (is_wide (kind_view a.kind)) (is_wide (kind_view b.kind))
+    (slice_cmp nat_cmp (first_agent a.agents) (first_agent b.agents))
     ∙ (λ i. is_lt (key_cmp (key_of a.target) (key_of b.target))
     || (sym (key_ties (key_of a.target) (key_of b.target)) i
     && ((not (is_wide (kind_view a.kind)) && is_wide (kind_view b.kind))
-    || ((not (is_wide (kind_view a.kind)) || is_wide (kind_view b.kind)) && is_lt (slice_cmp nat_cmp (first_agent a.agents) (first_agent b.agents))))))
+    || ((not (is_wide (kind_view a.kind)) || is_wide (kind_view b.kind)) && is_lt (slice_cmp nat_cmp
+    (first_agent a.agents) (first_agent b.agents))))))
 
 pub references_rank : IsStrictWeakOrder (λ (a b : Reference). is_lt (reference_cmp a b))
 references_rank = ranks_by reference_total (λ (r : Reference). r)

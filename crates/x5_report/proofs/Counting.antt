@@ -3,7 +3,8 @@ use Rattle.std.proofs.Common.{◌≡◌, ℕ, List, [], ◌∷◌, ◌++◌, len
 use Rattle.std.proofs.lemmas.List.{length-map, length-reverse}
 use Rattle.x5_model_run.specs.Journal as model
 use Rattle.x5_model_run.specs.Run as run
-use Rattle.x5_model_output.specs.Summary.{Counts, both, block_counts, request_counts, refresh_counts, counts_of, capped_counts, OneMoreAdds, CappedOnTheWay}
+use Rattle.x5_model_output.specs.Summary.{Counts, both, block_counts, request_counts, refresh_counts, counts_of}
+use Rattle.x5_model_output.specs.Summary.{capped_counts, OneMoreAdds, CappedOnTheWay}
 use Rattle.x5_ops.specs.AgentNames.{agent_of}
 use Rattle.x5_ops.specs.AnswerViews.{reply_view}
 use Rattle.x5_ops.specs.declared.journal.Journal.{Journal}
@@ -13,11 +14,13 @@ use Rattle.x5_report.specs.declared.report.LineOutcome.{LineOutcome}
 use Rattle.x5_report.specs.declared.report.LineOutcome.TheVariants.{Set, Answered, Plain, Refreshed, NotConsistent}
 
 -- as many agents accepted
-as_many : (names : List (List ℕ)) (j : Journal) (m : model.Journal) → IsJournal names j m → length j.accepted ≡ length m.accepted
+as_many : (names : List (List ℕ)) (j : Journal) (m : model.Journal) → IsJournal names j m
+    → length j.accepted ≡ length m.accepted
 as_many names j m same =
     sym (length-map j.accepted (agent_of names)) ∙ sym (ap length same.1) ∙ length-reverse m.accepted
 
-pub of_block : (names : List (List ℕ)) (j : Journal) (o : LineOutcome) (b : run.Block) → IsOf names j o b → told_counts names j o ≡ block_counts b
+pub of_block : (names : List (List ℕ)) (j : Journal) (o : LineOutcome) (b : run.Block) → IsOf names j o b
+    → told_counts names j o ≡ block_counts b
 of_block names j Set b e = ap block_counts (sym e)
 of_block names j (Answered reply) b w =
     ap (λ n. request_counts n (reply_view names reply)) (as_many names j w.0 w.1) ∙ ap block_counts (sym w.2)
@@ -26,7 +29,8 @@ of_block names j (Refreshed number f heard) b w = ap refresh_counts (sym w.1) �
 of_block names j NotConsistent b w = ap refresh_counts (sym w.1) ∙ ap block_counts (sym w.2)
 
 pub of_run : OneMoreAdds → CappedOnTheWay → (names : List (List ℕ)) (j : Journal) (o : LineOutcome) (old new : Counts)
-    → new ≡ capped_counts (both old (told_counts names j o)) → (b : run.Block) (blocks : List run.Block) → IsOf names j o b
+    → new ≡ capped_counts (both old (told_counts names j o)) → (b : run.Block) (blocks : List run.Block)
+    → IsOf names j o b
     → old ≡ capped_counts (counts_of blocks) → new ≡ capped_counts (counts_of (blocks ++ b ∷ []))
 of_run more capped names j o old new adds b blocks w before =
     adds

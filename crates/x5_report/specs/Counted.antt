@@ -36,7 +36,9 @@ told_counts names j NotConsistent = refresh_counts refresh.NotConsistent
 -- The values stand for the block of a run. Those of the one tree stand for none.
 abbrev pub IsOf : List (List ℕ) → Journal → LineOutcome → run.Block → Type 0
 IsOf names j Set b = b ≡ run.Set
-IsOf names j (Answered reply) b = (m : model.Journal) × IsJournal names j m × (b ≡ run.Replies m (reply_view names reply))
+IsOf names j (Answered reply) b = (m : model.Journal) × IsJournal names j m × (b ≡ run.Replies m
+    (reply_view names reply))
 IsOf names j (Plain reply) b = ⊥
-IsOf names j (Refreshed number f heard) b = (r : refresh.RefreshBlock) × (r.outcome ≡ refreshed_view heard number f) × (b ≡ run.Refreshing r)
+IsOf names j (Refreshed number f heard) b = (r : refresh.RefreshBlock) × (r.outcome ≡ refreshed_view heard number f)
+    × (b ≡ run.Refreshing r)
 IsOf names j NotConsistent b = (r : refresh.RefreshBlock) × (r.outcome ≡ refresh.NotConsistent) × (b ≡ run.Refreshing r)

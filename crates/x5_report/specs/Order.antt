@@ -14,7 +14,8 @@ use Rattle.x5_report.specs.Spelled.{first_agent}
 -- by target; of one target the specific ones come first, and then the names of the first agents count
 abbrev pub reference_cmp : Reference → Reference → Ordering
 reference_cmp a b =
-    ordering_then (ordering_then (key_cmp (key_of a.target) (key_of b.target)) (bool_cmp (is_wide (kind_view a.kind)) (is_wide (kind_view b.kind))))
+    ordering_then (ordering_then (key_cmp (key_of a.target) (key_of b.target)) (bool_cmp (is_wide (kind_view a.kind))
+    (is_wide (kind_view b.kind))))
     (slice_cmp nat_cmp (first_agent a.agents) (first_agent b.agents))
 
 -- an RDN behind its key

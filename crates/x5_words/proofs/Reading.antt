@@ -26,14 +26,16 @@ pub is_free_app : (a : App) → a ≡ xdir_app → is_simple_and_free a ≡ true
 is_free_app a e = ap is_simple_and_free e ∙ free
 
 module _ (a : App) (is : a ≡ xdir_app) (words : List Text) (fits : list_all is_fit words ≡ true) where
-  pub matches_read : (rows : Option (Text × List Row)) → fault_of a words ≡ [] → rows ≡ subcommand_of a words → form_found rows ≡ form_in words
+  pub matches_read : (rows : Option (Text × List Row)) → fault_of a words ≡ [] → rows ≡ subcommand_of a words
+      → form_found rows ≡ form_in words
   matches_read rows none found = by (reads words fits)
     where
       by : Reads words → form_found rows ≡ form_in words
       by (inl e) = ap form_found (found ∙ ap (λ (b : App). subcommand_of b words) is) ∙ e.1
       by (inr e) = absurd (subst Faulty (ap (λ (b : App). fault_of b words) (sym is) ∙ none) e.0)
 
-  pub error_read : (k : ErrorKind) → is_want_of_memory k ≡ false → (k ≡ OutOfMemory) ⊎ IsAmong k (fault_of a words) → form_in words ≡ None
+  pub error_read : (k : ErrorKind) → is_want_of_memory k ≡ false → (k ≡ OutOfMemory) ⊎ IsAmong k (fault_of a words)
+      → form_in words ≡ None
   error_read k other (inl e) = absurd (let f : true ≡ false = sym (ap is_want_of_memory e) ∙ other in cc)
   error_read k other (inr i) = by (reads words fits)
     where

@@ -1,5 +1,7 @@
 -- What the words of the command line come to: the first names the subcommand, whose words are those behind it.
-use Rattle.std.proofs.Common.{◌≡◌, Bool, true, false, ◌||◌, List, [], ◌∷◌, ◌++◌, Option, None, Some, if◌then◌else◌, option_map, is_some, fold, append_assoc, rules, refl, sym, ap, subst, ◌∙◌, codes, ◌⊎◌, inl, inr}
+use Rattle.std.proofs.Common.{◌≡◌, Bool, true, false, ◌||◌, List, [], ◌∷◌, ◌++◌, Option, None, Some, if◌then◌else◌}
+use Rattle.std.proofs.Common.{option_map, is_some, fold, append_assoc, rules, refl, sym, ap, subst, ◌∙◌, codes, ◌⊎◌}
+use Rattle.std.proofs.Common.{inl, inr}
 use Rattle.std.specs.List.{list_all}
 use Rattle.std.specs.Str.{bytes_eq}
 use Rattle.std.specs.Cmp.Lexicographic.{bytes_decides, nat_list_eq_equiv}
@@ -7,12 +9,14 @@ use Rattle.clap.specs.Words.{Row, Text, Kinds, built, fault_of, subcommand_of, f
 use Rattle.clap.specs.Kinds.{or_else}
 use Rattle.clap.specs.Simple.{Shape, names_of, entered, rows_at}
 use Rattle.clap.specs.Walk.{Names, Walk, idle, subcommand_met, nothing_held, walk_from, walked, settled, finished}
-use Rattle.clap.specs.Faults.{walk_fault, turn_fault, level_fault, entered_fault, settle_fault, defaults_fault, check_fault}
+use Rattle.clap.specs.Faults.{walk_fault, turn_fault, level_fault, entered_fault, settle_fault, defaults_fault}
+use Rattle.clap.specs.Faults.{check_fault}
 use Rattle.clap.proofs.OnLiterals.{clap_on_literals}
 use Rattle.x5_words.specs.Forms.{Form, Check, Show, run_in, name_in, tree_in, gen_in, form_behind, form_in}
 use Rattle.x5_words.specs.Command.{xdir_app, is_fit, form_read, form_found, run_read, tree_read, gen_read}
 use Rattle.x5_words.proofs.Walking.{Faulty, faulty_first, Says, at, level_is, rows_are, word_stands, fit_word, both_fit}
-use Rattle.x5_words.proofs.Leaves.{run_shape, check_shape, tree_shape, gen_shape, show_shape, run_says, check_says, tree_says, gen_says, show_says}
+use Rattle.x5_words.proofs.Leaves.{run_shape, check_shape, tree_shape, gen_shape, show_shape, run_says, check_says}
+use Rattle.x5_words.proofs.Leaves.{tree_says, gen_says, show_says}
 
 abbrev top : Shape
 top = (built xdir_app).top
@@ -25,7 +29,8 @@ names = names_of (built xdir_app)
 abbrev stopped : Text → List Text → Walk
 stopped name words = record (at nothing_held 1) { stopped = Some (name, words) }
 
-walks_on : (name : Text) (before words : List Text) → fold (walked [] names) (stopped name before) words ≡ stopped name (before ++ words)
+walks_on : (name : Text) (before words : List Text)
+    → fold (walked [] names) (stopped name before) words ≡ stopped name (before ++ words)
 unfolding walked
 walks_on name before [] = search rules
 walks_on name before (w ∷ words) =
@@ -43,24 +48,30 @@ or_none (x ∷ xs) = refl
 -- what is found is asked for, and there is no fault; or there is one, and nothing is asked for
 abbrev pub Reads : List Text → Type 0
 Reads words =
-    ((fault_of xdir_app words ≡ []) × (form_found (subcommand_of xdir_app words) ≡ form_in words)) ⊎ (Faulty (fault_of xdir_app words) × (form_in words ≡ None))
+    ((fault_of xdir_app words ≡ []) × (form_found (subcommand_of xdir_app words) ≡ form_in words)) ⊎ (Faulty
+    (fault_of xdir_app words) × (form_in words ≡ None))
 
 abbrev below_at : Shape → List Text → Kinds
 below_at s words = level_fault s [] nothing_held words false []
 
 -- by what the words behind a name come to
-module _ (name : Text) (s : Shape) (words : List Text) (fault : fault_of xdir_app (name ∷ words) ≡ below_at s words) (rows : subcommand_of xdir_app (name ∷ words) ≡ Some (rows_at s words)) where
-  by_says : {X : Type 0} (read : List Row → Option X) (f : X → Form) (wanted : Option X) → ((r : List Row) → form_read s.name r ≡ option_map f (read r)) → form_in (name ∷ words) ≡ option_map f wanted → Says s read (walk_from nothing_held) words wanted → Reads (name ∷ words)
+module _ (name : Text) (s : Shape) (words : List Text) (fault : fault_of xdir_app (name ∷ words) ≡ below_at s words)
+    (rows : subcommand_of xdir_app (name ∷ words) ≡ Some (rows_at s words)) where
+  by_says : {X : Type 0} (read : List Row → Option X) (f : X → Form) (wanted : Option X) → ((r : List Row)
+      → form_read s.name r ≡ option_map f (read r)) → form_in (name ∷ words) ≡ option_map f wanted
+      → Says s read (walk_from nothing_held) words wanted → Reads (name ∷ words)
   by_says read f wanted reads form (inl e) =
       inl (
         fault ∙ level_is s words ∙ e.0,
-        ap form_found rows ∙ reads (rows_at s words).1 ∙ ap (λ r. option_map f (read r)) (rows_are s words) ∙ ap (option_map f) e.1 ∙ sym form,
+        ap form_found rows ∙ reads (rows_at s words).1 ∙ ap (λ r. option_map f (read r)) (rows_are s words) ∙ ap
+            (option_map f) e.1 ∙ sym form,
       )
   by_says read f wanted reads form (inr e) =
       inr (subst Faulty (sym (fault ∙ level_is s words)) e.0, form ∙ ap (option_map f) e.1)
 
 module _ (words : List Text) where
-  stop_is : (name : Text) → walked [] names (walk_from nothing_held) name ≡ stopped name [] → fold (walked [] names) (walk_from nothing_held) (name ∷ words) ≡ stopped name words
+  stop_is : (name : Text) → walked [] names (walk_from nothing_held) name ≡ stopped name []
+      → fold (walked [] names) (walk_from nothing_held) (name ∷ words) ≡ stopped name words
   stop_is name to = ap (λ (w : Walk). fold (walked [] names) w words) to ∙ walks_on name [] words
 
 -- the faults of a command line, by the end of its walk
@@ -128,34 +139,43 @@ as_it_is (Some x) = refl
 
 run_reads : (words : List Text) → list_all is_fit words ≡ true → Reads (codes "run" ∷ words)
 run_reads words fits =
-    by_says (codes "run") run_shape words (run_fault words) (run_rows words) run_read (λ f. f) (run_in words) (λ r. as_it_is (run_read r)) (as_it_is (run_in words)) (run_says words fits)
+    by_says (codes "run") run_shape words (run_fault words) (run_rows words) run_read (λ f. f) (run_in words)
+    (λ r. as_it_is (run_read r)) (as_it_is (run_in words)) (run_says words fits)
 
 check_reads : (words : List Text) → list_all is_fit words ≡ true → Reads (codes "check" ∷ words)
 check_reads words fits =
-    by_says (codes "check") check_shape words (check_fault_is words) (check_rows words) (first_of (codes "world")) Check (name_in words) (λ r. refl) refl (check_says words fits)
+    by_says (codes "check") check_shape words (check_fault_is words) (check_rows words) (first_of
+    (codes "world")) Check (name_in words) (λ r. refl) refl (check_says words fits)
 
 tree_reads : (words : List Text) → list_all is_fit words ≡ true → Reads (codes "tree" ∷ words)
 tree_reads words fits =
-    by_says (codes "tree") tree_shape words (tree_fault words) (tree_rows words) tree_read (λ f. f) (tree_in words) (λ r. as_it_is (tree_read r)) (as_it_is (tree_in words)) (tree_says words fits)
+    by_says (codes "tree") tree_shape words (tree_fault words) (tree_rows words) tree_read (λ f. f) (tree_in words)
+    (λ r. as_it_is (tree_read r)) (as_it_is (tree_in words)) (tree_says words fits)
 
 gen_reads : (words : List Text) → list_all is_fit words ≡ true → Reads (codes "gen" ∷ words)
 gen_reads words fits =
-    by_says (codes "gen") gen_shape words (gen_fault words) (gen_rows words) gen_read (λ f. f) (gen_in words) (λ r. as_it_is (gen_read r)) (as_it_is (gen_in words)) (gen_says words fits)
+    by_says (codes "gen") gen_shape words (gen_fault words) (gen_rows words) gen_read (λ f. f) (gen_in words)
+    (λ r. as_it_is (gen_read r)) (as_it_is (gen_in words)) (gen_says words fits)
 
 show_reads : (words : List Text) → list_all is_fit words ≡ true → Reads (codes "show" ∷ words)
 show_reads words fits =
-    by_says (codes "show") show_shape words (show_fault words) (show_rows words) (first_of (codes "file")) Show (name_in words) (λ r. refl) refl (show_says words fits)
+    by_says (codes "show") show_shape words (show_fault words) (show_rows words) (first_of (codes "file")) Show
+    (name_in words) (λ r. refl) refl (show_says words fits)
 
 -- ---- a first word that names no subcommand
 
-first_fault : (name : Text) (words : List Text) → Faulty (turn_fault top names (walk_from nothing_held) name) → Faulty (fault_of xdir_app (name ∷ words))
+first_fault : (name : Text) (words : List Text) → Faulty (turn_fault top names (walk_from nothing_held) name)
+    → Faulty (fault_of xdir_app (name ∷ words))
 unfolding walk_fault
 first_fault name words f =
-    faulty_first (or_else (turn_fault top names (walk_from nothing_held) name) (walk_fault top names (walked [] names (walk_from nothing_held) name) words)) _
+    faulty_first (or_else (turn_fault top names (walk_from nothing_held) name) (walk_fault top names (walked [] names
+    (walk_from nothing_held) name) words)) _
     (faulty_first (turn_fault top names (walk_from nothing_held) name) _ f)
 
 module _ (name : Text) (words : List Text) (fit : is_fit name ≡ true)
-    (a : bytes_eq name (codes "run") ≡ false) (b : bytes_eq name (codes "check") ≡ false) (c : bytes_eq name (codes "tree") ≡ false) (d : bytes_eq name (codes "gen") ≡ false) (e : bytes_eq name (codes "show") ≡ false) where
+    (a : bytes_eq name (codes "run") ≡ false) (b : bytes_eq name (codes "check") ≡ false) (c : bytes_eq name
+    (codes "tree") ≡ false) (d : bytes_eq name (codes "gen") ≡ false) (e : bytes_eq name (codes "show")
+    ≡ false) where
   turned : (word : Text) → bytes_eq name word ≡ false → bytes_eq word name ≡ false
   turned word f = nat_list_eq_equiv.symm word name ∙ f
 
@@ -181,8 +201,16 @@ module _ (name : Text) (words : List Text) (fit : is_fit name ≡ true)
   unfolding clap_on_literals
   other_reads =
       elim (fit_word name fit) [
-        | inl p ↦ inr (first_fault name words (subst Faulty (sym (word_stands top names nothing_held 1 name p unmet)) tt), no_form)
-        | inr f ↦ inr (subst (λ (n : Text). Faulty (fault_of xdir_app (n ∷ words))) (sym f) (first_fault (codes "--summary") words tt), no_form)
+        | inl p ↦ inr (
+          first_fault name words (subst Faulty (sym
+              (word_stands top names nothing_held 1 name p unmet)) tt),
+          no_form,
+        )
+        | inr f ↦ inr (
+          subst (λ (n : Text). Faulty (fault_of xdir_app (n ∷ words))) (sym f) (first_fault
+              (codes "--summary") words tt),
+          no_form,
+        )
       ]
 
 either : (t : Bool) → (t ≡ true) ⊎ (t ≡ false)
@@ -192,7 +220,8 @@ either false = inr refl
 named : (name word : Text) (words : List Text) → Reads (word ∷ words) → bytes_eq name word ≡ true → Reads (name ∷ words)
 named name word words r e = subst (λ (n : Text). Reads (n ∷ words)) (sym ((bytes_decides name word).0 e)) r
 
--- words of which none is another flag: what is found is what they ask for, and a fault comes exactly where they ask for nothing
+-- words of which none is another flag: what is found is what they ask for, and a fault comes exactly where they ask
+-- for nothing
 pub reads : (words : List Text) → list_all is_fit words ≡ true → Reads words
 unfolding clap_on_literals
 reads [] fits = inr (tt, refl)

@@ -1,12 +1,14 @@
--- The command line as it is told to `clap`: five subcommands with their arguments, no help and no version; and what the matches
--- of a subcommand say. This project's own.
-use Rattle.std.specs.Prelude.{ℕ, Bool, true, false, List, ◌||◌, Option, Some, None, option_map, option_and_then, if◌then◌else◌, codes}
+-- The command line as it is told to `clap`: five subcommands with their arguments, no help and no version; and what
+-- the matches of a subcommand say. This project's own.
+use Rattle.std.specs.Prelude.{ℕ, Bool, true, false, List, ◌||◌, Option, Some, None, option_map, option_and_then}
+use Rattle.std.specs.Prelude.{if◌then◌else◌, codes}
 use Rattle.std.specs.Str.{bytes_eq}
 use Rattle.clap.specs.Words.{App, Row, Rule, Text, new_app, new_rule, with_rule, with_subcommand, first_of}
 use Rattle.clap.specs.declared.builder.action.ArgAction.TheVariants.{SetTrue}
 use Rattle.clap.specs.declared.error.kind.ErrorKind.{ErrorKind}
 use Rattle.clap.specs.declared.error.kind.ErrorKind.TheVariants.{OutOfMemory}
-use Rattle.x5_words.specs.Forms.{FileNames, Form, Run, Check, Tree, GenRun, GenWorld, GenScript, Show, is_file_name, is_summary, number_in}
+use Rattle.x5_words.specs.Forms.{FileNames, Form, Run, Check, Tree, GenRun, GenWorld, GenScript, Show, is_file_name}
+use Rattle.x5_words.specs.Forms.{is_summary, number_in}
 
 -- an argument by its place, which must be there
 abbrev pub needed : Text → Rule
@@ -66,7 +68,8 @@ is_fit word = is_file_name word || is_summary word
 
 abbrev pub files_read : List Row → Option FileNames
 files_read rows =
-    option_and_then (λ world. option_map (λ script. record { world = world; script = script }) (first_of (codes "script") rows))
+    option_and_then (λ world. option_map (λ script. record { world = world; script = script }) (first_of
+    (codes "script") rows))
     (first_of (codes "world") rows)
 
 abbrev pub is_marked : List Row → Bool
@@ -90,7 +93,8 @@ abbrev pub tree_read : List Row → Option Form
 tree_read rows = option_map Tree (files_read rows)
 
 abbrev pub gen_read : List Row → Option Form
-gen_read rows = option_and_then (made_of (first_of (codes "what") rows)) (option_and_then number_in (first_of (codes "number") rows))
+gen_read rows = option_and_then (made_of (first_of (codes "what") rows)) (option_and_then number_in (first_of
+    (codes "number") rows))
 
 abbrev pub check_read : List Row → Option Form
 check_read rows = option_map Check (first_of (codes "world") rows)

@@ -9,5 +9,7 @@ use Rattle.x5_report.proofs.order.put_in_order.Goals as goal
 pub returns : goal.returns
 returns c =
     stable_sort keyed_below keyed_rank c.args.keyed.now.items c.sort_by.new.self.items
-    (c.in_ok-sort_by.ensures.sorted keyed_below keyed_rank (always_returns_same _ _ _ (λ a r f k. search (rules, of_calls))))
-    (c.in_ok-sort_by.ensures.stable keyed_below keyed_rank (always_returns_same _ _ _ (λ a r f k. search (rules, of_calls))))
+    (c.in_ok-sort_by.ensures.sorted keyed_below keyed_rank (always_returns_same _ _ _ (λ a r f k. search
+    (rules, of_calls))))
+    (c.in_ok-sort_by.ensures.stable keyed_below keyed_rank (always_returns_same _ _ _ (λ a r f k. search
+    (rules, of_calls))))

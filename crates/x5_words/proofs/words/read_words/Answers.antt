@@ -10,19 +10,24 @@ use Rattle.x5_words.proofs.words.read_words.Goals as goal
 
 pub returns-then-not-are_fit : goal.returns-then-not-are_fit
 returns-then-not-are_fit c =
-    sym (none_asked (map string_bytes c.args.words.now) (list_all-map is_fit string_bytes c.args.words.now ∙ sym c.if-not-are_fit.ensures))
+    sym (none_asked (map string_bytes c.args.words.now) (list_all-map is_fit string_bytes c.args.words.now
+    ∙ sym c.if-not-are_fit.ensures))
 
 pub returns-in-Ok : goal.returns-in-Ok
 returns-in-Ok c =
-    let fits : list_all is_fit (map string_bytes c.args.words.now) ≡ true = list_all-map is_fit string_bytes c.args.words.now ∙ sym c.if-not-are_fit.ensures in
+    let fits : list_all is_fit (map string_bytes c.args.words.now)
+    ≡ true = list_all-map is_fit string_bytes c.args.words.now ∙ sym c.if-not-are_fit.ensures in
     c.found.ensures
-    ∙ matches_read (app_of c.in_ok-command.command) c.in_ok-command.ensures (map string_bytes c.args.words.now) fits (subcommand_rows_of c.in-Ok.matches)
+    ∙ matches_read (app_of c.in_ok-command.command) c.in_ok-command.ensures (map string_bytes c.args.words.now) fits
+    (subcommand_rows_of c.in-Ok.matches)
     (c.in-Ok.ensures.kinds (is_free_app (app_of c.in_ok-command.command) c.in_ok-command.ensures))
     (c.in-Ok.ensures.matches (is_simple_app (app_of c.in_ok-command.command) c.in_ok-command.ensures)).1
 
 pub returns : goal.returns
 returns c =
-    let fits : list_all is_fit (map string_bytes c.args.words.now) ≡ true = list_all-map is_fit string_bytes c.args.words.now ∙ sym c.if-not-are_fit.ensures in
-    sym (error_read (app_of c.in_ok-command.command) c.in_ok-command.ensures (map string_bytes c.args.words.now) fits (kind_of c.in-Err.error)
+    let fits : list_all is_fit (map string_bytes c.args.words.now)
+    ≡ true = list_all-map is_fit string_bytes c.args.words.now ∙ sym c.if-not-are_fit.ensures in
+    sym (error_read (app_of c.in_ok-command.command) c.in_ok-command.ensures (map string_bytes c.args.words.now) fits
+    (kind_of c.in-Err.error)
     (sym c.ran_out.ensures ∙ c.if-ran_out.false)
     (c.in-Err.ensures.kinds (is_free_app (app_of c.in_ok-command.command) c.in_ok-command.ensures)))

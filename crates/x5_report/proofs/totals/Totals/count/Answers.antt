@@ -10,4 +10,5 @@ pub returns-clause-of_run : goal.returns-clause-of_run
 returns-clause-of_run c =
     λ names b blocks. of_run one_more_adds capped_on_the_way names c.args.journal.now c.args.outcome.now
     (totals_view c.args.self.now) (totals_view c.with.result)
-    (c.with.ensures ∙ ap (λ k. capped_counts (both (totals_view c.args.self.now) k)) (c.of_block-more.ensures names)) b blocks
+    (c.with.ensures ∙ ap (λ k. capped_counts (both (totals_view c.args.self.now) k))
+    (c.of_block-more.ensures names)) b blocks
