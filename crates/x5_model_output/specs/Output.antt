@@ -300,14 +300,14 @@ abbrev pub shadow_line : Names → ShadowLine → Text
 shadow_line names l =
     concat (codes "dis " ∷ names.agent l.sender ∷ codes " " ∷ names.agent l.receiver ∷ codes " " ∷ shadow_operation l.operation ∷ codes " " ∷ decimal l.agreement ∷ codes " " ∷ fate_word l.fate ∷ codes "\n" ∷ [])
 
--- an incremental refresh without steps is none
+-- an incremental refresh without steps is none; one whose taking wasn't heard of is marked
 abbrev pub extent_word : Bool → ℕ → Text
 extent_word true count = codes "total"
 extent_word false count = if count == 0 then codes "none" else codes "incremental"
 
 abbrev pub refreshed_line : Names → Refreshed → Text
 refreshed_line names f =
-    concat (codes "refreshed " ∷ decimal f.agreement ∷ codes " " ∷ extent_word f.total f.count ∷ codes " " ∷ names.moment f.stamp ∷ codes " " ∷ decimal f.count ∷ codes "\n" ∷ [])
+    concat (codes "refreshed " ∷ decimal f.agreement ∷ codes " " ∷ extent_word f.total f.count ∷ codes " " ∷ names.moment f.stamp ∷ codes " " ∷ decimal f.count ∷ mark (not f.acknowledged) (codes "unacknowledged") ∷ codes "\n" ∷ [])
 
 abbrev pub held_text : Names → Option ℕ → Text
 held_text names None = codes "-"

@@ -1,8 +1,7 @@
 -- The text of a block is what the definitions print.
-use Rattle.std.proofs.Common.{◌≡◌, ℕ, Bool, true, false, ◌&&◌, ◌==◌, if◌then◌else◌, List, [], ◌∷◌, ◌++◌, Option, None, Some, refl, sym, ap, subst, ◌∙◌, codes}
+use Rattle.std.proofs.Common.{◌≡◌, ℕ, Bool, true, false, ◌==◌, if◌then◌else◌, List, [], ◌∷◌, ◌++◌, Option, None, Some, refl, sym, ap, subst, ◌∙◌, codes}
 use Rattle.std.specs.Option.{option_map}
 use Rattle.std.proofs.lemmas.Option.{slice_get-map}
-use Rattle.std.specs.Fmt.{decimal}
 use Rattle.std.specs.List.{concat, flat_map}
 use Rattle.x5_model.specs.Values.{Text}
 use Rattle.x5_model.specs.Words.{in_option}
@@ -17,10 +16,10 @@ use Rattle.x5_ops.specs.declared.journal.Refreshed.TheVariants as refreshes
 use Rattle.x5_know.specs.Moments.{Start, moment_text}
 use Rattle.x5_report.specs.Spelled as spelled
 use Rattle.x5_report.specs.Blocks.{block_text, block_known, outcome_known, names_in, IsBlock}
-use Rattle.x5_report.specs.Views.{names_with, journal_known, problem_view, refreshed_view, shadows_view}
+use Rattle.x5_report.specs.Views.{names_with, journal_known, problem_view, refreshed_view}
 use Rattle.x5_report.specs.declared.report.LineOutcome.{LineOutcome}
-use Rattle.x5_report.specs.declared.report.LineOutcome.TheVariants.{Set, Answered, Refreshed as Became, NotConsistent}
-use Rattle.x5_report.proofs.Naming.{journal_is, shadows_are, reply_is}
+use Rattle.x5_report.specs.declared.report.LineOutcome.TheVariants.{Set, Answered, Plain, Refreshed as Became, NotConsistent}
+use Rattle.x5_report.proofs.Naming.{journal_is, shadows_are, reply_is, plain_reply_is}
 
 module _ (names : List (List ℕ)) (start : Start) where
   held_is : (m : Option ℕ) → print.held_text (names_with names start) m ≡ spelled.held_text start m
@@ -34,7 +33,7 @@ module _ (names : List (List ℕ)) (start : Start) where
       by true = λ i. concat (codes "error shadow missedPrevious " ∷ held_is held i ∷ codes " " ∷ held_is given i ∷ codes "\n" ∷ [])
       by false = refl
 
-  refreshed_is : (heard : Bool) (number : ℕ) (f : Refreshed) → print.refresh_line (names_with names start) number (refreshed_view heard number f) ≡ spelled.refreshed_text start number f
+  refreshed_is : (heard : Bool) (number : ℕ) (f : Refreshed) → print.refresh_line (names_with names start) number (refreshed_view heard number f) ≡ spelled.refreshed_text start number f heard
   refreshed_is heard number (refreshes.Total m n) = refl
   refreshed_is heard number (refreshes.Incremental m n) = refl
   refreshed_is heard number (refreshes.Nothing m) = refl
@@ -47,9 +46,12 @@ module _ (names : List (List ℕ)) (start : Start) where
       let w = both_true (journal_known names j) (outcome_known names (Answered reply)) h in
       λ command m same.
       e ∙ sym (λ i. concat (print.number_line line ∷ journal_is names start j m w.0 same.0 same.1 i ∷ reply_is names start reply w.1 i ∷ []))
-  block_is line j (Became number f) text e h =
-      let w = both_true (journal_known names j) (outcome_known names (Became number f)) h in
-      λ command b heard of lines outcome.
+  block_is line j (Plain reply) text e h =
+      let w = both_true (journal_known names j) (outcome_known names (Plain reply)) h in
+      e ∙ sym (ap (λ t. print.number_line line ++ t) (plain_reply_is names start reply w.1))
+  block_is line j (Became number f heard) text e h =
+      let w = both_true (journal_known names j) (outcome_known names (Became number f heard)) h in
+      λ command b of lines outcome.
       e ∙ sym (λ i. concat (print.number_line line ∷ (ap (flat_map (print.shadow_line (names_with names start))) lines ∙ shadows_are names start j w.0) i ∷ ((λ k. print.refresh_line (names_with names start) (of k) (outcome k)) ∙ refreshed_is heard number f) i ∷ []))
   block_is line j NotConsistent text e h =
       let w = both_true (journal_known names j) (outcome_known names NotConsistent) h in

@@ -1,5 +1,7 @@
 pub mod Joined
-pub mod Placing
 pub mod Mapped
+pub mod Sorting
+pub mod Comparing
 pub mod Naming
 pub mod Blocks
+mod Counting

@@ -1,5 +1,5 @@
 -- Maps of lists whose members go the same way, and of lists in order.
-use Rattle.std.proofs.Common.{◌≡◌, ℕ, Bool, true, false, List, [], ◌∷◌, ◌++◌, map, refl, sym, ap, ap₂, ◌∙◌, ◌⊎◌, inl, inr}
+use Rattle.std.proofs.Common.{◌≡◌, ℕ, Bool, true, false, List, [], ◌∷◌, ◌++◌, map, refl, ap, ap₂, ◌∙◌, inl, inr}
 use Rattle.std.specs.List.{flat_map}
 use Rattle.x5_model.specs.Members.{In, here, there}
 use Rattle.x5_model.specs.Words.{insert_sorted, sorted}
@@ -37,3 +37,7 @@ module _ {A B : Type 0} (f : A → B) (below : A → A → Bool) (above : B → 
   sorted_map (x ∷ xs) h =
       ap (insert_sorted above (f x)) (sorted_map xs (λ y z i j. h y z (there i) (there j)))
       ∙ insert_map x (sorted below xs) (λ y i. h y x (there (of_sorted below y xs i)) here)
+
+pub map_twice : {A B C : Type 0} (f : A → B) (g : B → C) (xs : List A) → map g (map f xs) ≡ map (λ x. g (f x)) xs
+map_twice f g [] = refl
+map_twice f g (x ∷ xs) = ap (λ l. g (f x) ∷ l) (map_twice f g xs)

@@ -1,24 +1,23 @@
 -- Where all who are named are agents of the world, the texts that are spelled with their names are those that the
 -- definitions print by their places.
-use Rattle.std.proofs.Common.{◌≡◌, ℕ, ◌+◌, Bool, true, false, not, ◌&&◌, ◌||◌, ◌==◌, List, [], ◌∷◌, ◌++◌, length, map, reverse, slice_get, Option, None, Some, refl, sym, ap, ap₂, ◌∙◌, ◌⊎◌, inl, inr, subst, one-add, append_assoc, append-nil, codes, rules, arith}
+use Rattle.std.proofs.Common.{◌≡◌, ℕ, Bool, true, false, not, ◌&&◌, ◌||◌, List, [], ◌∷◌, ◌++◌, map, reverse, slice_get, Option, None, Some, refl, sym, ap, ap₂, ◌∙◌, one-add, append-nil, codes}
 use Rattle.std.proofs.lemmas.List.Folds.{concat-append, flat_map-map}
 use Rattle.std.proofs.lemmas.Grind.{flat_map-append}
 use Rattle.std.proofs.lemmas.List.{length-map}
 use Rattle.std.specs.Cmp.Lexicographic.{same_text}
 use Rattle.std.specs.Option.{option_map}
 use Rattle.std.specs.Fmt.{decimal}
-use Rattle.std.specs.List.{concat, flat_map, join_with_byte, list_any, list_all, position_or_len}
+use Rattle.std.specs.List.{concat, flat_map, join_with_byte, list_all}
 use Rattle.x5_model.specs.Members.{In, here, there}
-use Rattle.x5_model.specs.Words.{in_option, insert_sorted, sorted, same_octets, octets_below}
+use Rattle.x5_model.specs.Words.{in_option, sorted, same_octets, octets_below}
 use Rattle.x5_model.specs.Keys.{same_key, key_below}
-use Rattle.x5_model.specs.Values.{Text, key_of}
-use Rattle.x5_model.specs.References as model
-use Rattle.x5_model.proofs.Lists.{both_true, of_all}
-use Rattle.x5_model.proofs.Ascending.{of_insert}
+use Rattle.x5_model.specs.Values.{key_of}
+use Rattle.x5_model.proofs.Lists.{both_true, and_true, of_all}
 use Rattle.x5_model_text.specs.NameText.{text_of_name}
 use Rattle.x5_model_run.specs.Journal as journal
 use Rattle.x5_model_output.specs.Output as print
 use Rattle.x5_model_output.specs.Output.{Names}
+use Rattle.x5_model_output.specs.Plain.{plain_info, plain_sub, plain_answer_lines, plain_reply_lines}
 use Rattle.x5_ops.specs.AgentNames.{agent_of}
 use Rattle.x5_ops.specs.AnswerViews.{shown_view, info_view, sub_view, source_view, outcome_view, answer_view, error_view, reply_view}
 use Rattle.x5_ops.specs.JournalViews.{fate_view, printed_view, messages_view}
@@ -43,7 +42,7 @@ use Rattle.x5_ops.specs.declared.answers.Reply.TheVariants.{Done, Failed, Refer}
 use Rattle.x5_know.specs.Moments.{Start}
 use Rattle.x5_report.specs.Spelled as spelled
 use Rattle.x5_report.specs.Views.{names_with, is_known, line_known, journal_known, reference_known, item_known, source_known, sources_known, answer_known, error_known, reply_known, shadow_view, shadows_view, operation_view}
-use Rattle.x5_report.proofs.Mapped.{flat_map_same, map_same, sorted_map, of_sorted}
+use Rattle.x5_report.proofs.Mapped.{flat_map_same, sorted_map, of_sorted}
 
 -- the name at the place that a name stands for
 named : (names : List (List ℕ)) (a : List ℕ) → is_known names a ≡ true → in_option [] (λ n. n) (slice_get names (agent_of names a)) ≡ a
@@ -168,11 +167,14 @@ module _ (names : List (List ℕ)) (start : Start) where
       let w = both_true (list_all (source_known names) sources) (list_all (reference_known names) o.unexplored) h in
       λ i. concat (sources_are sources w.0 i ∷ unexplored_are o.unexplored w.1 i ∷ print.limit_line o.limited ∷ [])
 
-  entry_is : (e : EntryInfo) → print.entry_lines (info_view e) ≡ spelled.entry_text e
-  entry_is e =
-      ap (λ t. concat (codes "entry " ∷ text_of_name e.name ∷ print.mark e.copy (codes "copy") ∷ codes "\n" ∷ []) ++ t)
+  entry_with_is : (e : EntryInfo) (copy : Bool) → print.entry_lines (record (info_view e) { copy = copy }) ≡ spelled.entry_with (print.mark copy (codes "copy")) e
+  entry_with_is e copy =
+      ap (λ t. concat (codes "entry " ∷ text_of_name e.name ∷ print.mark copy (codes "copy") ∷ codes "\n" ∷ []) ++ t)
       (flat_map-map print.attribute_lines shown_view e.attributes
       ∙ flat_map_same _ _ e.attributes (λ a i. flat_map-map (print.attribute_line (type_view a.kind)) value_view a.values))
+
+  entry_is : (e : EntryInfo) → print.entry_lines (info_view e) ≡ spelled.entry_text e
+  entry_is e = entry_with_is e e.copy
 
   answer_is : (a : Answer) → answer_known names a ≡ true → print.answer_lines (names_with names start) (answer_view names a) ≡ spelled.answer_text start a
   answer_is (answers.Entry entry source) h = ap₂ ◌++◌ (entry_is entry) (source_is source h)
@@ -198,6 +200,26 @@ module _ (names : List (List ℕ)) (start : Start) where
   error_is (errors.Service problem reference item) h =
       let w = both_true (in_option true (reference_known names) reference) (in_option true (item_known names) item) h in
       λ i. concat (codes "error service " ∷ print.service_problem problem ∷ reference_after_is reference w.0 i ∷ item_after_is item w.1 i ∷ codes "\n" ∷ [])
+
+  plain_answer_is : (a : Answer) → answer_known names a ≡ true → plain_answer_lines (names_with names start) (answer_view names a) ≡ spelled.plain_answer_text start a
+  plain_answer_is (answers.Entry entry source) h = entry_with_is entry false
+  plain_answer_is (answers.Match matched copy source) h = refl
+  plain_answer_is (answers.Listed subs sources outcome) h =
+      let w = both_true (list_all (source_known names) sources) (list_all (reference_known names) outcome.unexplored) h in
+      λ i. concat (print.count_line (codes "listed") ((length-map (map sub_view subs) plain_sub ∙ length-map subs sub_view) i)
+      ∷ (flat_map-map print.sub_line plain_sub (map sub_view subs) ∙ flat_map-map (λ s. print.sub_line (plain_sub s)) sub_view subs) i
+      ∷ outcome_is [] outcome (and_true true (list_all (reference_known names) outcome.unexplored) refl w.1) i ∷ [])
+  plain_answer_is (answers.Found entries sources outcome) h =
+      let w = both_true (list_all (source_known names) sources) (list_all (reference_known names) outcome.unexplored) h in
+      λ i. concat (print.count_line (codes "found") ((length-map (map info_view entries) plain_info ∙ length-map entries info_view) i)
+      ∷ (flat_map-map print.entry_lines plain_info (map info_view entries) ∙ flat_map-map (λ e. print.entry_lines (plain_info e)) info_view entries ∙ flat_map_same _ _ entries (λ e k. entry_with_is e false)) i
+      ∷ outcome_is [] outcome (and_true true (list_all (reference_known names) outcome.unexplored) refl w.1) i ∷ [])
+  plain_answer_is answers.Changed h = refl
+
+  pub plain_reply_is : (r : Reply) → reply_known names r ≡ true → plain_reply_lines (names_with names start) (reply_view names r) ≡ spelled.plain_reply_text start r
+  plain_reply_is (Done answer) h = plain_answer_is answer h
+  plain_reply_is (Failed error) h = error_is error h
+  plain_reply_is (Refer reference) h = λ i. concat (codes "referral " ∷ reference_is reference h i ∷ codes "\n" ∷ [])
 
   pub reply_is : (r : Reply) → reply_known names r ≡ true → print.reply_lines (names_with names start) (reply_view names r) ≡ spelled.reply_text start r
   reply_is (Done answer) h = answer_is answer h

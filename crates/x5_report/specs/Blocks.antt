@@ -7,6 +7,7 @@ use Rattle.x5_model_run.specs.Journal as model
 use Rattle.x5_model_run.specs.Refresh as refresh
 use Rattle.x5_model_run.specs.Run as run
 use Rattle.x5_model_output.specs.Output as print
+use Rattle.x5_model_output.specs.Plain.{plain_block_text}
 use Rattle.x5_ops.specs.AgentNames.{agent_of}
 use Rattle.x5_ops.specs.AnswerViews.{reply_view}
 use Rattle.x5_ops.specs.JournalViews.{messages_view}
@@ -15,20 +16,22 @@ use Rattle.x5_know.specs.Moments.{Start}
 use Rattle.x5_report.specs.Spelled as spelled
 use Rattle.x5_report.specs.Views.{journal_known, reply_known, shadows_view, refreshed_view}
 use Rattle.x5_report.specs.declared.report.LineOutcome.{LineOutcome}
-use Rattle.x5_report.specs.declared.report.LineOutcome.TheVariants.{Set, Answered, Refreshed, NotConsistent}
+use Rattle.x5_report.specs.declared.report.LineOutcome.TheVariants.{Set, Answered, Plain, Refreshed, NotConsistent}
 
 -- the block, each agent by the text that its name is there
 abbrev pub block_text : Start → ℕ → Journal → LineOutcome → Text
 block_text start line j Set = print.number_line line ++ codes "set\n"
 block_text start line j (Answered reply) = concat (print.number_line line ∷ spelled.journal_text j ∷ spelled.reply_text start reply ∷ [])
-block_text start line j (Refreshed number f) =
-    concat (print.number_line line ∷ flat_map spelled.shadow_text j.lines ∷ spelled.refreshed_text start number f ∷ [])
+block_text start line j (Plain reply) = print.number_line line ++ spelled.plain_reply_text start reply
+block_text start line j (Refreshed number f heard) =
+    concat (print.number_line line ∷ flat_map spelled.shadow_text j.lines ∷ spelled.refreshed_text start number f heard ∷ [])
 block_text start line j NotConsistent =
     concat (print.number_line line ∷ flat_map spelled.shadow_text j.lines ∷ codes "error shadow inconsistent\n" ∷ [])
 
 -- all who are named are agents of the world
 abbrev pub outcome_known : List (List ℕ) → LineOutcome → Bool
 outcome_known names (Answered reply) = reply_known names reply
+outcome_known names (Plain reply) = reply_known names reply
 outcome_known names other = true
 
 abbrev pub block_known : List (List ℕ) → Journal → LineOutcome → Bool
@@ -42,14 +45,15 @@ IsJournal names j m = (map model.printed_line (reverse m.lines) ≡ messages_vie
 abbrev pub names_in : World → List (List ℕ)
 names_in w = map (λ a. a.name) w.agents
 
--- The text is that of the block, with these names and moments. Of a request it is so for every journal that the code's stands for, and of a refresh for
--- every block of these messages and this outcome.
+-- The text is that of the block, with these names and moments. Of a request it is so for every journal that the code's stands
+-- for, and of a refresh for every block of these messages and this outcome. A plain reply's is that of the one tree.
 abbrev pub IsBlock : print.Names → List (List ℕ) → ℕ → Journal → LineOutcome → Text → Type 0
 IsBlock printing names line j Set text = (command : run.Command) → text ≡ print.block_text printing line command run.Set
 IsBlock printing names line j (Answered reply) text =
     (command : run.Command) (m : model.Journal) → IsJournal names j m → text ≡ print.block_text printing line command (run.Replies m (reply_view names reply))
-IsBlock printing names line j (Refreshed number f) text =
-    (command : run.Command) (b : refresh.RefreshBlock) (heard : Bool) → print.number_of command ≡ number → b.lines ≡ shadows_view names j.lines → b.outcome ≡ refreshed_view heard number f →
+IsBlock printing names line j (Plain reply) text = text ≡ plain_block_text printing line (reply_view names reply)
+IsBlock printing names line j (Refreshed number f heard) text =
+    (command : run.Command) (b : refresh.RefreshBlock) → print.number_of command ≡ number → b.lines ≡ shadows_view names j.lines → b.outcome ≡ refreshed_view heard number f →
     text ≡ print.block_text printing line command (run.Refreshing b)
 IsBlock printing names line j NotConsistent text =
     (command : run.Command) (b : refresh.RefreshBlock) → b.lines ≡ shadows_view names j.lines → b.outcome ≡ refresh.NotConsistent →

@@ -1,3 +1,5 @@
 pub mod Views
 pub mod Spelled
+pub mod Order
 pub mod Blocks
+pub mod Counted

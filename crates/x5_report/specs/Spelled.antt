@@ -1,6 +1,6 @@
 -- What is printed of journals and replies, each agent by the text that its name is there. `Blocks` says that
 -- this is what the definitions print by the places of agents.
-use Rattle.std.specs.Prelude.{◌≡◌, ℕ, Bool, true, false, not, ◌&&◌, ◌||◌, ◌==◌, if◌then◌else◌, List, [], ◌∷◌, ◌++◌, length, map, codes}
+use Rattle.std.specs.Prelude.{ℕ, Bool, true, false, not, ◌&&◌, ◌||◌, ◌==◌, if◌then◌else◌, List, [], ◌∷◌, ◌++◌, length, map, codes}
 use Rattle.std.specs.List.{concat, flat_map, join_with_byte}
 use Rattle.std.specs.Fmt.{decimal}
 use Rattle.std.specs.declared.option.Option.{Option}
@@ -13,6 +13,7 @@ use Rattle.x5_model_text.specs.NameText.{text_of_name, text_of_value}
 use Rattle.x5_model_run.specs.Journal as journal
 use Rattle.x5_model_run.specs.Journal.{is_wide}
 use Rattle.x5_model_output.specs.Output as print
+use Rattle.x5_model_output.specs.Plain.{plain_sub}
 use Rattle.x5_syntax.specs.TypeView.{type_view}
 use Rattle.x5_syntax.specs.ValueView.{value_view}
 use Rattle.x5_syntax.specs.declared.values.Value.{Value}
@@ -30,6 +31,7 @@ use Rattle.x5_ops.specs.declared.references.TraceItem.{TraceItem}
 use Rattle.x5_ops.specs.declared.requests.Attribute.{Attribute}
 use Rattle.x5_ops.specs.declared.answers.EntryInfo.{EntryInfo}
 use Rattle.x5_ops.specs.declared.answers.Source.{Source}
+use Rattle.x5_ops.specs.declared.answers.Sub.{Sub}
 use Rattle.x5_ops.specs.declared.answers.Outcome.{Outcome}
 use Rattle.x5_ops.specs.declared.answers.Answer.{Answer}
 use Rattle.x5_ops.specs.declared.answers.Answer.TheVariants as answers
@@ -98,9 +100,17 @@ value_text kind v = concat (codes "attr " ∷ kind ∷ codes "=" ∷ text_of_val
 abbrev pub attribute_text : Attribute → Text
 attribute_text a = flat_map (value_text (text_of_type (type_view a.kind))) a.values
 
+-- an entry whose first line ends so
+abbrev pub entry_with : Text → EntryInfo → Text
+entry_with copy e =
+    concat (codes "entry " ∷ text_of_name e.name ∷ copy ∷ codes "\n" ∷ []) ++ flat_map attribute_text e.attributes
+
 abbrev pub entry_text : EntryInfo → Text
-entry_text e =
-    concat (codes "entry " ∷ text_of_name e.name ∷ print.mark e.copy (codes "copy") ∷ codes "\n" ∷ []) ++ flat_map attribute_text e.attributes
+entry_text e = entry_with (print.mark e.copy (codes "copy")) e
+
+-- not as a copy
+abbrev pub plain_entry_text : EntryInfo → Text
+plain_entry_text e = entry_with [] e
 
 abbrev pub held_at : Start → Option ℕ → Text
 held_at start None = codes "now"
@@ -165,16 +175,41 @@ error_text (errors.Update problem) = concat (codes "error update " ∷ print.upd
 error_text (errors.Service problem reference item) =
     concat (codes "error service " ∷ print.service_problem problem ∷ reference_after reference ∷ item_after item ∷ codes "\n" ∷ [])
 
+abbrev pub referral_text : Reference → Text
+referral_text r = concat (codes "referral " ∷ reference_text r ∷ codes "\n" ∷ [])
+
 abbrev pub reply_text : Start → Reply → Text
 reply_text start (Done answer) = answer_text start answer
 reply_text start (Failed error) = error_text error
-reply_text start (Refer reference) = concat (codes "referral " ∷ reference_text reference ∷ codes "\n" ∷ [])
+reply_text start (Refer reference) = referral_text reference
+
+-- on the one tree: without marks of copies and without sources
+abbrev pub plain_listed : Start → List Sub → Outcome → Text
+plain_listed start subs outcome =
+    concat (print.count_line (codes "listed") (length subs) ∷ flat_map (λ s. print.sub_line (plain_sub (sub_view s))) subs
+    ∷ outcome_text start [] outcome ∷ [])
+
+abbrev pub plain_found : Start → List EntryInfo → Outcome → Text
+plain_found start entries outcome =
+    concat (print.count_line (codes "found") (length entries) ∷ flat_map plain_entry_text entries ∷ outcome_text start [] outcome ∷ [])
+
+abbrev pub plain_answer_text : Start → Answer → Text
+plain_answer_text start (answers.Entry entry source) = plain_entry_text entry
+plain_answer_text start (answers.Match matched copy source) = print.match_line matched false
+plain_answer_text start (answers.Listed subs sources outcome) = plain_listed start subs outcome
+plain_answer_text start (answers.Found entries sources outcome) = plain_found start entries outcome
+plain_answer_text start answers.Changed = codes "changed\n"
+
+abbrev pub plain_reply_text : Start → Reply → Text
+plain_reply_text start (Done answer) = plain_answer_text start answer
+plain_reply_text start (Failed error) = reply_text start (Failed error)
+plain_reply_text start (Refer reference) = reply_text start (Refer reference)
 
 -- ---- refreshes
 
-abbrev pub done_text : Start → ℕ → Bool → ℕ → ℕ → Text
-done_text start number total stamp count =
-    concat (codes "refreshed " ∷ decimal number ∷ codes " " ∷ print.extent_word total count ∷ codes " " ∷ moment_text start stamp ∷ codes " " ∷ decimal count ∷ codes "\n" ∷ [])
+abbrev pub done_text : Start → ℕ → Bool → ℕ → ℕ → Bool → Text
+done_text start number total stamp count heard =
+    concat (codes "refreshed " ∷ decimal number ∷ codes " " ∷ print.extent_word total count ∷ codes " " ∷ moment_text start stamp ∷ codes " " ∷ decimal count ∷ print.mark (not heard) (codes "unacknowledged") ∷ codes "\n" ∷ [])
 
 abbrev pub held_text : Start → Option ℕ → Text
 held_text start None = codes "-"
@@ -185,9 +220,9 @@ problem_text start problem held given =
     if problem == 5 then concat (codes "error shadow missedPrevious " ∷ held_text start held ∷ codes " " ∷ held_text start given ∷ codes "\n" ∷ [])
     else concat (codes "error shadow " ∷ print.shadow_problem problem ∷ codes "\n" ∷ [])
 
-abbrev pub refreshed_text : Start → ℕ → Refreshed → Text
-refreshed_text start number (refreshes.Total m n) = done_text start number true m n
-refreshed_text start number (refreshes.Incremental m n) = done_text start number false m n
-refreshed_text start number (refreshes.Nothing m) = done_text start number false m 0
-refreshed_text start number refreshes.Lost = concat (codes "unrefreshed " ∷ decimal number ∷ codes "\n" ∷ [])
-refreshed_text start number (refreshes.Failed problem held given) = problem_text start problem held given
+abbrev pub refreshed_text : Start → ℕ → Refreshed → Bool → Text
+refreshed_text start number (refreshes.Total m n) heard = done_text start number true m n heard
+refreshed_text start number (refreshes.Incremental m n) heard = done_text start number false m n heard
+refreshed_text start number (refreshes.Nothing m) heard = done_text start number false m 0 heard
+refreshed_text start number refreshes.Lost heard = concat (codes "unrefreshed " ∷ decimal number ∷ codes "\n" ∷ [])
+refreshed_text start number (refreshes.Failed problem held given) heard = problem_text start problem held given

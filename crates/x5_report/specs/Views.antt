@@ -1,9 +1,8 @@
 -- What the messages of a refresh and what became of it stand for, given the names of the world's agents; who is named;
 -- and the names and moments that the definitions print with.
-use Rattle.std.specs.Prelude.{◌≡◌, ℕ, Bool, true, false, ◌&&◌, ◌==◌, if◌then◌else◌, List, [], ◌∷◌, slice_get}
+use Rattle.std.specs.Prelude.{ℕ, Bool, true, false, ◌&&◌, ◌==◌, if◌then◌else◌, List, [], ◌∷◌, slice_get}
 use Rattle.std.specs.List.{list_any, list_all, flat_map}
 use Rattle.std.specs.declared.option.Option.{Option}
-use Rattle.std.specs.declared.option.Option.TheVariants.{None, Some}
 use Rattle.x5_model.specs.Words.{in_option, same_octets}
 use Rattle.x5_model.specs.Values.{Text}
 use Rattle.x5_model_run.specs.Refresh as refresh
@@ -57,7 +56,7 @@ shadows_view names lines = flat_map (shadow_view names) lines
 abbrev pub problem_view : ℕ → Option ℕ → Option ℕ → RefreshOutcome
 problem_view n held given = if n == 5 then refresh.Missed held given else refresh.Problem n
 
--- what became of the refresh of an agreement; whether the consumer's reply was heard isn't printed
+-- what became of the refresh of an agreement; `heard` where the supplier knows that it was taken
 abbrev pub refreshed_view : Bool → ℕ → Refreshed → RefreshOutcome
 refreshed_view heard number (refreshes.Total m n) = refresh.Done (record { agreement = number; total = true; stamp = m; count = n; acknowledged = heard })
 refreshed_view heard number (refreshes.Incremental m n) = refresh.Done (record { agreement = number; total = false; stamp = m; count = n; acknowledged = heard })

@@ -6,13 +6,15 @@ ghost use Rattle.std.specs.Fmt.{decimal};
 ghost use Rattle.x5_model_output.specs.Output as print;
 ghost use Rattle.x5_model_text.specs.NameText.{text_of_rdn};
 ghost use Rattle.x5_ops.specs.ReferenceViews.{progress_view};
+ghost use Rattle.x5_model.specs.Words.{sorted};
+ghost use Rattle.x5_report.specs.Order as order;
 ghost use Rattle.x5_report.specs.Spelled as spelled;
 
 use crate::order::sorted_rdns;
 use crate::words::{fate_word, kind_word, operation_word, shadow_operation, tried_mark, wide_mark};
 use std::alloc::{AllocError, Global};
 use x5_memory::NoMemory;
-use x5_names::{Name, Rdn};
+use x5_names::{KeyRdn, Name, Rdn};
 use x5_ops::{AccessPoint, AgentName, Fate, Line, Progress, Reference, TraceItem};
 
 /// The sender of a message.
@@ -177,22 +179,23 @@ fn agents(alloc: Global, agents: &[AccessPoint]) -> Result<String, NoMemory>
     Ok(with_commas(alloc, texts.as_slice())?)
 }
 
-/// The texts of RDNs.
-fn rdn_texts(alloc: Global, rdns: &[Rdn]) -> Result<Vec<String>, NoMemory>
-    ensures { IfOk result (λ texts. map string_bytes texts.items ≡ map text_of_rdn rdns.now) }
+/// The texts of RDNs, which stand behind their keys.
+fn rdn_texts(alloc: Global, rdns: &[(KeyRdn, Rdn)]) -> Result<Vec<String>, NoMemory>
+    ensures { IfOk result (λ texts. map string_bytes texts.items ≡ map order.keyed_text rdns.now) }
 {
     let mut texts = Vec::new(alloc);
     for rdn in rdns {
-        texts.push(rdn.text(alloc)?.into_string())?;
+        texts.push(rdn.1.text(alloc)?.into_string())?;
     }
     Ok(texts)
 }
 
-/// RDNs with commas between them.
+/// RDNs in the order of their keys, with commas between them.
 fn rdns(alloc: Global, rdns: &[Rdn]) -> Result<String, NoMemory>
-    ensures { IfOk result (λ text. string_bytes text ≡ join_with_byte print.comma (map text_of_rdn rdns.now)) }
+    ensures { IfOk result (λ text. string_bytes text ≡ join_with_byte print.comma (map text_of_rdn (sorted print.rdn_below rdns.now))) }
 {
-    let texts = rdn_texts(alloc, rdns)?;
+    let ordered = sorted_rdns(alloc, rdns)?;
+    let texts = rdn_texts(alloc, ordered.as_slice())?;
     Ok(with_commas(alloc, texts.as_slice())?)
 }
 
@@ -203,8 +206,7 @@ fn exclusions(alloc: Global, excluded: &[Rdn]) -> Result<String, NoMemory>
     if excluded.is_empty() {
         return Ok(String::new(alloc));
     }
-    let ordered = sorted_rdns(alloc, excluded)?;
-    let rdns = rdns(alloc, ordered.as_slice())?;
+    let rdns = rdns(alloc, excluded)?;
     Ok(format!(in alloc; " less {rdns}")?)
 }
 

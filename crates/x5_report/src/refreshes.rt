@@ -7,7 +7,7 @@ ghost use Rattle.x5_know.specs.Moments.{moment_text};
 ghost use Rattle.x5_model_output.specs.Output as print;
 ghost use Rattle.x5_report.specs.Spelled as spelled;
 
-use crate::words::shadow_problem;
+use crate::words::{shadow_problem, unheard_mark};
 use std::alloc::Global;
 use x5_know::Start;
 use x5_memory::NoMemory;
@@ -34,13 +34,15 @@ fn done(
     total: bool,
     stamp: Moment,
     count: u64,
+    heard: bool,
 ) -> Result<String, NoMemory>
-    ensures { IfOk result (λ text. string_bytes text ≡ spelled.done_text start.now number total stamp count) }
+    ensures { IfOk result (λ text. string_bytes text ≡ spelled.done_text start.now number total stamp count heard) }
 {
     let extent = extent(total, count);
     let moment = start.moment_text(alloc, stamp)?;
     let moment = moment.as_str();
-    Ok(format!(in alloc; "refreshed {number} {extent} {moment} {count}\n")?)
+    let unheard = unheard_mark(heard);
+    Ok(format!(in alloc; "refreshed {number} {extent} {moment} {count}{unheard}\n")?)
 }
 
 /// The moment that an agent has; `-` where it has none.
@@ -73,19 +75,22 @@ fn problem(
     }
 }
 
-/// The line of what became of a refresh.
+/// The line of what became of a refresh; `heard` says whether the supplier knows that it was taken.
 pub(crate) fn refreshed(
     alloc: Global,
     start: &Start,
     number: u32,
     outcome: &Refreshed,
+    heard: bool,
 ) -> Result<String, NoMemory>
-    ensures { IfOk result (λ text. string_bytes text ≡ spelled.refreshed_text start.now number outcome.now) }
+    ensures { IfOk result (λ text. string_bytes text ≡ spelled.refreshed_text start.now number outcome.now heard) }
 {
     match outcome {
-        Refreshed::Total(stamp, count) => done(alloc, start, number, true, *stamp, *count),
-        Refreshed::Incremental(stamp, count) => done(alloc, start, number, false, *stamp, *count),
-        Refreshed::Nothing(stamp) => done(alloc, start, number, false, *stamp, 0),
+        Refreshed::Total(stamp, count) => done(alloc, start, number, true, *stamp, *count, heard),
+        Refreshed::Incremental(stamp, count) => {
+            done(alloc, start, number, false, *stamp, *count, heard)
+        }
+        Refreshed::Nothing(stamp) => done(alloc, start, number, false, *stamp, 0, heard),
         Refreshed::Lost => Ok(format!(in alloc; "unrefreshed {number}\n")?),
         Refreshed::Failed {
             problem: found,

@@ -54,17 +54,23 @@ fn attributes(alloc: Global, attributes: &[Attribute]) -> Result<String, NoMemor
     Ok(text)
 }
 
-/// The lines of an entry.
-fn entry(alloc: Global, entry: &EntryInfo) -> Result<String, NoMemory>
-    ensures { IfOk result (λ text. string_bytes text ≡ spelled.entry_text entry.now) }
+/// The lines of an entry, the first of which ends so.
+pub(crate) fn entry_with(alloc: Global, copy: &str, entry: &EntryInfo) -> Result<String, NoMemory>
+    ensures { IfOk result (λ text. string_bytes text ≡ spelled.entry_with copy.now entry.now) }
 {
     let name = entry.name.text(alloc)?;
     let name = name.as_str();
-    let copy = copy_mark(entry.copy);
     let mut text = format!(in alloc; "entry {name}{copy}\n")?;
     let attributes = attributes(alloc, entry.attributes.as_slice())?;
     text.push_str(attributes.as_str())?;
     Ok(text)
+}
+
+/// The lines of an entry.
+fn entry(alloc: Global, entry: &EntryInfo) -> Result<String, NoMemory>
+    ensures { IfOk result (λ text. string_bytes text ≡ spelled.entry_text entry.now) }
+{
+    entry_with(alloc, copy_mark(entry.copy), entry)
 }
 
 /// The lines of entries.
@@ -164,7 +170,7 @@ fn unexplored(alloc: Global, references: &[Reference]) -> Result<String, NoMemor
 }
 
 /// What ends a list or a search.
-fn outcome(
+pub(crate) fn outcome(
     alloc: Global,
     start: &Start,
     from: &[Source],
@@ -265,7 +271,7 @@ fn item_after(alloc: Global, named: &Option<TraceItem>) -> Result<String, NoMemo
 }
 
 /// The line of an error.
-fn error(alloc: Global, error: &DirError) -> Result<String, NoMemory>
+pub(crate) fn error(alloc: Global, error: &DirError) -> Result<String, NoMemory>
     ensures { IfOk result (λ text. string_bytes text ≡ spelled.error_text error.now) }
 {
     match error {
@@ -297,6 +303,14 @@ fn error(alloc: Global, error: &DirError) -> Result<String, NoMemory>
     }
 }
 
+/// The line of a referral.
+pub(crate) fn referral(alloc: Global, named: &Reference) -> Result<String, NoMemory>
+    ensures { IfOk result (λ text. string_bytes text ≡ spelled.referral_text named.now) }
+{
+    let reference = reference(alloc, named)?;
+    Ok(format!(in alloc; "referral {reference}\n")?)
+}
+
 /// What is printed of a reply.
 pub(crate) fn reply(alloc: Global, start: &Start, reply: &Reply) -> Result<String, NoMemory>
     ensures { IfOk result (λ text. string_bytes text ≡ spelled.reply_text start.now reply.now) }
@@ -304,9 +318,6 @@ pub(crate) fn reply(alloc: Global, start: &Start, reply: &Reply) -> Result<Strin
     match reply {
         Reply::Done(done) => answer(alloc, start, done),
         Reply::Failed(failed) => error(alloc, failed),
-        Reply::Refer(referral) => {
-            let reference = reference(alloc, referral)?;
-            Ok(format!(in alloc; "referral {reference}\n")?)
-        }
+        Reply::Refer(named) => referral(alloc, named),
     }
 }

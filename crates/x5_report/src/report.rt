@@ -10,6 +10,7 @@ ghost use Rattle.x5_know.specs.Moments.{moment_text};
 ghost use Rattle.x5_model_tree.specs.World.{World};
 
 use crate::lines::{accepted, messages, shadows};
+use crate::plain::plain_reply;
 use crate::refreshes::refreshed;
 use crate::replies::reply;
 use std::alloc::{AllocError, Global};
@@ -18,13 +19,15 @@ use x5_memory::NoMemory;
 use x5_ops::{Journal, Refreshed, Reply};
 use x5_syntax::Text;
 
-/// What came of a command: a changed network; the reply to a request; what became of the refresh of the agreement with the
-/// number; or that knowledge doesn't hold together, so that there are no refreshes.
+/// What came of a command: a changed network; the reply to a request, of agents or (`Plain`) of the one tree; what became of
+/// the refresh of the agreement with the number, true where the supplier knows that it was taken; or that knowledge doesn't
+/// hold together, so that there are no refreshes.
 #[derive(Debug, Drop)]
 pub enum LineOutcome {
     Set,
     Answered(Reply),
-    Refreshed(u32, Refreshed),
+    Plain(Reply),
+    Refreshed(u32, Refreshed, bool),
     NotConsistent,
 }
 
@@ -78,9 +81,14 @@ fn block_string(
             let told = reply(alloc, start, answer)?;
             Ok(joined(alloc, &number, &messages, told.as_str())?)
         }
-        LineOutcome::Refreshed(agreement, became) => {
+        LineOutcome::Plain(answer) => {
+            let told = plain_reply(alloc, start, answer)?;
+            number.push_str(told.as_str())?;
+            Ok(number)
+        }
+        LineOutcome::Refreshed(agreement, became, heard) => {
             let messages = shadows(alloc, journal.lines.as_slice())?;
-            let told = refreshed(alloc, start, *agreement, became)?;
+            let told = refreshed(alloc, start, *agreement, became, *heard)?;
             Ok(joined(alloc, &number, &messages, told.as_str())?)
         }
         LineOutcome::NotConsistent => {
@@ -91,7 +99,8 @@ fn block_string(
     }
 }
 
-/// What is printed of the command in the line: the line's number, the messages of its journal, and what came of it.
+/// What is printed of the command in the line: the line's number, the messages of its journal, and what came of it; of a reply
+/// of the one tree no messages, no mark of a copy and no source.
 /// Moments are counted from the start. Agents are named by the texts of their names, which are those of a world's agents if each
 /// of them is the name of one.
 pub fn block(

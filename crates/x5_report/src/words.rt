@@ -1,6 +1,6 @@
 //! Words of the output, each for a number or a variant; a number that stands for nothing has no word.
 
-ghost use Rattle.std.specs.Prelude.{◌≡◌, codes};
+ghost use Rattle.std.specs.Prelude.{◌≡◌, codes, not};
 ghost use Rattle.x5_model_output.specs.Output as print;
 ghost use Rattle.x5_ops.specs.JournalViews.{fate_view};
 ghost use Rattle.x5_ops.specs.ReferenceViews.{kind_view};
@@ -159,6 +159,13 @@ pub(crate) fn wide_mark(wide: bool) -> &'static str
     ensures { result.now ≡ print.mark wide (codes "nonSpecific") }
 {
     if wide { " nonSpecific" } else { "" }
+}
+
+/// What the line of a refresh ends with, where the supplier doesn't know that it was taken.
+pub(crate) fn unheard_mark(heard: bool) -> &'static str
+    ensures { result.now ≡ print.mark (not heard) (codes "unacknowledged") }
+{
+    if heard { "" } else { " unacknowledged" }
 }
 
 /// The line that says that a size limit cut an answer.

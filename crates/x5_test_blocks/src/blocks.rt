@@ -8,7 +8,7 @@ use x5_ops::{
     Moment, Name, Outcome, Progress, Rdn, RdnList, RefType, Reference, ReferenceList, Refreshed,
     Reply, Source, SourceList,
 };
-use x5_report::{LineOutcome, block};
+use x5_report::{LineOutcome, Totals, block, summary};
 use x5_syntax::Text;
 
 fn agent(alloc: Global, text: &str) -> Result<AgentName, Fail> {
@@ -158,7 +158,7 @@ fn outcome(alloc: Global) -> Result<Outcome, Fail> {
     })
 }
 
-fn found(alloc: Global) -> Result<LineOutcome, Fail> {
+fn found(alloc: Global) -> Result<Reply, Fail> {
     let entries = entries(alloc)?;
     let sources = sources(alloc)?;
     let outcome = outcome(alloc)?;
@@ -167,7 +167,7 @@ fn found(alloc: Global) -> Result<LineOutcome, Fail> {
         sources,
         outcome,
     };
-    Ok(LineOutcome::Answered(Reply::Done(found)))
+    Ok(Reply::Done(found))
 }
 
 /// The first second of 1993.
@@ -194,7 +194,13 @@ fn printed(alloc: Global, journal: &Journal, outcome: &LineOutcome) -> Result<Te
 
 /// What is printed of the search without messages.
 fn search(alloc: Global) -> Result<Text, Fail> {
-    let outcome = found(alloc)?;
+    let outcome = LineOutcome::Answered(found(alloc)?);
+    printed(alloc, &journal(alloc, Vec::new(alloc)), &outcome)
+}
+
+/// What is printed of the same answer of the one tree.
+fn plain_search(alloc: Global) -> Result<Text, Fail> {
+    let outcome = LineOutcome::Plain(found(alloc)?);
     printed(alloc, &journal(alloc, Vec::new(alloc)), &outcome)
 }
 
@@ -205,6 +211,40 @@ fn a_search_prints_sources_and_what_is_unexplored_in_order(rt: HostRuntime) -> R
     assert_eq!(rt;
         text.as_str(),
         "#2\nfound 1\nentry /C=NL/O=Acme/CN=Desk copy\nsource /C=NL/O=Acme Epsilon 19930101000001Z\nsource /C=NL/O=Acme/OU=Shop Delta now\nunexplored subordinate /C=NL/O=Acme done Gamma\nunexplored nonSpecific /C=NL/O=Acme done Delta tried\nunexplored nonSpecific /C=NL/O=Acme done Gamma less OU=Shop tried\nlimit sizeLimitExceeded\n"
+    );
+    Ok(())
+}
+
+#[test]
+fn on_the_one_tree_nothing_is_a_copy_and_nobody_a_source(rt: HostRuntime) -> Result<(), Fail> {
+    let alloc = rt.alloc();
+    let text = plain_search(alloc)?;
+    assert_eq!(rt;
+        text.as_str(),
+        "#2\nfound 1\nentry /C=NL/O=Acme/CN=Desk\nunexplored subordinate /C=NL/O=Acme done Gamma\nunexplored nonSpecific /C=NL/O=Acme done Delta tried\nunexplored nonSpecific /C=NL/O=Acme done Gamma less OU=Shop tried\nlimit sizeLimitExceeded\n"
+    );
+    Ok(())
+}
+
+/// The summary of a run with the search in one line and a refresh in the next.
+fn summed(alloc: Global) -> Result<Text, Fail> {
+    let journal = journal(alloc, Vec::new(alloc));
+    let mut totals = Totals::new();
+    totals.count(&journal, &LineOutcome::Answered(found(alloc)?));
+    totals.count(
+        &journal,
+        &LineOutcome::Refreshed(1, Refreshed::Nothing(Moment(1)), true),
+    );
+    Ok(summary(alloc, &totals)?)
+}
+
+#[test]
+fn a_summary_counts_lines_by_their_first_words(rt: HostRuntime) -> Result<(), Fail> {
+    let alloc = rt.alloc();
+    let text = summed(alloc)?;
+    assert_eq!(rt;
+        text.as_str(),
+        "summary requests 1 entries 1 subs 0 errors 0 referrals 0 unexplored 3 accepted 0 refreshed 1\n"
     );
     Ok(())
 }
@@ -222,22 +262,27 @@ fn asked(alloc: Global) -> Result<Line, Fail> {
     })
 }
 
-/// What is printed of a refresh with one message.
-fn refresh(alloc: Global, number: u32, refreshed: Refreshed) -> Result<Text, Fail> {
+/// What is printed of a refresh with one message, of which the supplier knows that it was taken or doesn't.
+fn refresh(alloc: Global, number: u32, refreshed: Refreshed, heard: bool) -> Result<Text, Fail> {
     let lines = vec![in alloc; asked(alloc)?]?;
-    let outcome = LineOutcome::Refreshed(number, refreshed);
+    let outcome = LineOutcome::Refreshed(number, refreshed, heard);
     printed(alloc, &journal(alloc, lines), &outcome)
 }
 
 #[test]
 fn a_refresh_prints_its_messages_and_what_became_of_it(rt: HostRuntime) -> Result<(), Fail> {
     let alloc = rt.alloc();
-    let total = refresh(alloc, 1, Refreshed::Total(Moment(1), 2))?;
+    let total = refresh(alloc, 1, Refreshed::Total(Moment(1), 2), true)?;
     assert_eq!(rt;
         total.as_str(),
         "#2\ndis Epsilon Beta requestShadowUpdate 1 sent\nrefreshed 1 total 19930101000001Z 2\n"
     );
-    let lost = refresh(alloc, 7, Refreshed::Lost)?;
+    let unheard = refresh(alloc, 1, Refreshed::Incremental(Moment(4), 1), false)?;
+    assert_eq!(rt;
+        unheard.as_str(),
+        "#2\ndis Epsilon Beta requestShadowUpdate 1 sent\nrefreshed 1 incremental 19930101000004Z 1 unacknowledged\n"
+    );
+    let lost = refresh(alloc, 7, Refreshed::Lost, true)?;
     assert_eq!(rt;
         lost.as_str(),
         "#2\ndis Epsilon Beta requestShadowUpdate 1 sent\nunrefreshed 7\n"

@@ -1,2 +1,7 @@
 mod Numbers
 mod Examples
+mod Walking
+mod Leaves
+mod Top
+mod Unfit
+mod Reading

@@ -1,8 +1,17 @@
 //! The words of the command line, and the forms that they may have.
-ghost use Rattle.std.specs.Prelude.{◌≡◌, map, string_bytes};
+ghost use Rattle.std.specs.Prelude.{◌≡◌, IfOk, map, string_bytes};
+ghost use Rattle.std.specs.List.{list_all};
 ghost use Rattle.std.specs.Option.{option_map};
+ghost use Rattle.clap.specs.Words.{first_of, found_of, kind_of, rows_of, subcommand_rows_of};
+ghost use Rattle.x5_words.specs.Command as told;
 ghost use Rattle.x5_words.specs.Forms as forms;
 ghost use Rattle.x5_words.specs.Views.{form_of, names_of};
+
+use crate::command::command;
+use clap::error::ErrorKind;
+use clap::{ArgMatches, Error};
+use std::alloc::Global;
+use x5_memory::NoMemory;
 
 /// The forms of the command line, one a line.
 pub const FORMS: &str = "xdir run [--summary] WORLD SCRIPT
@@ -38,11 +47,17 @@ pub enum Words<'a> {
     Show(&'a str),
 }
 
-// The name of a file is a word that doesn't begin with `-`.
-fn is_file_name(word: &String) -> bool
-    ensures { result ≡ forms.is_file_name (string_bytes word.now) }
+// A word that begins with `-` is none, but for the one flag.
+fn is_fit(word: &String) -> bool
+    ensures { result ≡ told.is_fit (string_bytes word.now) }
 {
-    !word.as_bytes().starts_with(b"-")
+    !word.as_bytes().starts_with(b"-") || word.as_str() == "--summary"
+}
+
+fn are_fit(words: &[String]) -> bool
+    ensures { result ≡ list_all (λ word. told.is_fit (string_bytes word)) words.now }
+{
+    words.iter().all(|word| is_fit(word))
 }
 
 fn are_digits(octets: &[u8]) -> bool
@@ -52,138 +67,160 @@ fn are_digits(octets: &[u8]) -> bool
 }
 
 // One to ten digits, of a number below 2^32.
-fn number(word: &String) -> Option<u32>
-    ensures { result ≡ forms.number_in (string_bytes word.now) }
+fn number(text: &str) -> Option<u32>
+    ensures { result ≡ forms.number_in text.now }
 {
-    let text = word.as_str();
     if !are_digits(text.as_bytes()) || text.is_empty() || text.len() > 10 {
         return None;
     }
     text.parse().ok()
 }
 
-// Two names of files.
-fn two_files<'a>(world: &'a String, script: &'a String) -> Option<Files<'a>>
-    ensures { option_map names_of result ≡ forms.files_in (string_bytes world.entry.now) (string_bytes script.entry.now) }
+// The text of an argument.
+fn text<'a>(matches: &ArgMatches<'a>, id: &str) -> Option<&'a str>
+    ensures { option_map (λ s. s.now) result ≡ first_of id.now (rows_of (found_of matches.now)) }
 {
-    if is_file_name(world) && is_file_name(script) {
-        Some(Files {
-            world: world.as_str(),
-            script: script.as_str(),
-        })
-    } else {
-        None
+    matches.get_str(id)
+}
+
+// The names of a world file and of a script.
+fn two_files<'a>(matches: &ArgMatches<'a>) -> Option<Files<'a>>
+    ensures { option_map names_of result ≡ told.files_read (rows_of (found_of matches.now)) }
+{
+    match (text(matches, "world"), text(matches, "script")) {
+        (Some(world), Some(script)) => Some(Files { world, script }),
+        _ => None,
     }
 }
 
-// A run of the two files, if they are such.
-fn run_of<'a>(world: &'a String, script: &'a String, summary: bool) -> Option<Words<'a>>
-    ensures { option_map form_of result ≡ option_map (λ files. forms.Run files summary) (forms.files_in (string_bytes world.entry.now) (string_bytes script.entry.now)) }
+// Whether the flag was given.
+fn is_marked(matches: &ArgMatches<'_>) -> bool
+    ensures { result ≡ told.is_marked (rows_of (found_of matches.now)) }
 {
-    match two_files(world, script) {
-        Some(files) => Some(Words::Run(files, summary)),
+    match text(matches, "summary") {
+        Some(text) => text == "true",
+        None => false,
+    }
+}
+
+// What stands behind `run`.
+fn run<'a>(matches: &ArgMatches<'a>) -> Option<Words<'a>>
+    ensures { option_map form_of result ≡ told.run_read (rows_of (found_of matches.now)) }
+{
+    match two_files(matches) {
+        Some(files) => Some(Words::Run(files, is_marked(matches))),
         None => None,
     }
 }
 
-fn is_summary(word: &String) -> bool
-    ensures { result ≡ forms.is_summary (string_bytes word.now) }
+// What stands behind `tree`.
+fn tree<'a>(matches: &ArgMatches<'a>) -> Option<Words<'a>>
+    ensures { option_map form_of result ≡ told.tree_read (rows_of (found_of matches.now)) }
 {
-    word.as_str() == "--summary"
+    match two_files(matches) {
+        Some(files) => Some(Words::Tree(files)),
+        None => None,
+    }
 }
 
-// What stands behind `run`.
-fn run(words: &[String]) -> Option<Words<'_>>
-    ensures { option_map form_of result ≡ forms.run_in (map string_bytes words.entry.now) }
+// What is made of a number, and what of it is printed: its run, where nothing is said.
+fn made<'a>(n: u32, what: Option<&'a str>) -> Option<Words<'a>>
+    ensures { option_map form_of result ≡ told.made_of (option_map (λ s. s.now) what.entry) n }
 {
-    match words {
-        [a, b] => run_of(a, b, false),
-        [a, b, c] => {
-            if is_summary(a) {
-                run_of(b, c, true)
-            } else if is_summary(b) {
-                run_of(a, c, true)
-            } else if is_summary(c) {
-                run_of(a, b, true)
+    match what {
+        None => Some(Words::GenRun(n)),
+        Some(what) => {
+            if what == "world" {
+                Some(Words::GenWorld(n))
+            } else if what == "script" {
+                Some(Words::GenScript(n))
             } else {
                 None
             }
         }
-        _ => None,
     }
 }
 
 // What stands behind `gen`.
-fn generated(words: &[String]) -> Option<Words<'_>>
-    ensures { option_map form_of result ≡ forms.gen_in (map string_bytes words.entry.now) }
+fn generated<'a>(matches: &ArgMatches<'a>) -> Option<Words<'a>>
+    ensures { option_map form_of result ≡ told.gen_read (rows_of (found_of matches.now)) }
 {
-    match words {
-        [n] => match number(n) {
-            Some(n) => Some(Words::GenRun(n)),
-            None => None,
-        },
-        [n, what] => match number(n) {
-            Some(n) => {
-                if what.as_str() == "world" {
-                    Some(Words::GenWorld(n))
-                } else if what.as_str() == "script" {
-                    Some(Words::GenScript(n))
-                } else {
-                    None
-                }
-            }
-            None => None,
-        },
-        _ => None,
+    let n = number(text(matches, "number")?)?;
+    made(n, text(matches, "what"))
+}
+
+// The one file that stands behind `check`.
+fn check<'a>(matches: &ArgMatches<'a>) -> Option<Words<'a>>
+    ensures { option_map form_of result ≡ told.check_read (rows_of (found_of matches.now)) }
+{
+    match text(matches, "world") {
+        Some(file) => Some(Words::Check(file)),
+        None => None,
     }
 }
 
-// The one word that stands behind `check` or `show`.
-fn file(words: &[String]) -> Option<&str>
-    ensures { option_map (λ x. x.now) result ≡ forms.name_in (map string_bytes words.entry.now) }
+// The one file that stands behind `show`.
+fn show<'a>(matches: &ArgMatches<'a>) -> Option<Words<'a>>
+    ensures { option_map form_of result ≡ told.show_read (rows_of (found_of matches.now)) }
 {
-    match words {
-        [word] => {
-            if is_file_name(word) {
-                Some(word.as_str())
-            } else {
-                None
-            }
-        }
-        _ => None,
+    match text(matches, "file") {
+        Some(file) => Some(Words::Show(file)),
+        None => None,
     }
 }
 
-// What stands behind `tree`.
-fn tree(words: &[String]) -> Option<Words<'_>>
-    ensures { option_map form_of result ≡ forms.tree_in (map string_bytes words.entry.now) }
+// What a subcommand with its arguments asks for.
+fn named<'a>(name: &str, matches: &ArgMatches<'a>) -> Option<Words<'a>>
+    ensures { option_map form_of result ≡ told.form_read name.now (rows_of (found_of matches.now)) }
 {
-    match words {
-        [a, b] => match two_files(a, b) {
-            Some(files) => Some(Words::Tree(files)),
-            None => None,
-        },
-        _ => None,
-    }
-}
-
-/// What the words behind the program's name ask for; none where they are none of the forms. No memory.
-pub fn read_words(words: &[String]) -> Option<Words<'_>>
-    ensures { option_map form_of result ≡ forms.form_in (map string_bytes words.entry.now) }
-{
-    let (command, words) = words.split_first()?;
-    let command = command.as_str();
-    if command == "run" {
-        run(words)
-    } else if command == "check" {
-        Some(Words::Check(file(words)?))
-    } else if command == "tree" {
-        tree(words)
-    } else if command == "gen" {
-        generated(words)
-    } else if command == "show" {
-        Some(Words::Show(file(words)?))
+    if name == "run" {
+        run(matches)
+    } else if name == "check" {
+        check(matches)
+    } else if name == "tree" {
+        tree(matches)
+    } else if name == "gen" {
+        generated(matches)
+    } else if name == "show" {
+        show(matches)
     } else {
         None
+    }
+}
+
+// What the matches ask for.
+fn found<'a>(matches: &ArgMatches<'a>) -> Option<Words<'a>>
+    ensures { option_map form_of result ≡ told.form_found (subcommand_rows_of matches.now) }
+{
+    match matches.subcommand() {
+        Some((name, below)) => named(name, below),
+        None => None,
+    }
+}
+
+// Whether memory ran out.
+fn ran_out(error: &Error) -> bool
+    ensures { result ≡ told.is_want_of_memory (kind_of error.now) }
+{
+    matches!(error.kind(), ErrorKind::OutOfMemory)
+}
+
+/// What the words behind the program's name ask for; None exactly where they are none of the forms.
+pub fn read_words(alloc: Global, words: &[String]) -> Result<Option<Words<'_>>, NoMemory>
+    ensures { IfOk result (λ read. option_map form_of read ≡ forms.form_in (map string_bytes words.entry.now)) }
+{
+    if !are_fit(words) {
+        return Ok(None);
+    }
+    let command = command(alloc)?;
+    match command.try_get_matches_from(words) {
+        Ok(matches) => Ok(found(&matches)),
+        Err(error) => {
+            if ran_out(&error) {
+                Err(NoMemory)
+            } else {
+                Ok(None)
+            }
+        }
     }
 }

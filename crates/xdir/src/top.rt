@@ -1,5 +1,5 @@
 //! The top call: a run of a script over a world, a file that is made of a number, or what a file shows, from files to a sink.
-ghost use Rattle.std.specs.Prelude.{◌≡◌, ◌↔◌, None, IfSome, true, map, string_bytes};
+ghost use Rattle.std.specs.Prelude.{◌≡◌, ◌⊎◌, None, IfSome, true, map, string_bytes};
 ghost use Rattle.x5_know.specs.WorldView.{world_view};
 ghost use Rattle.x5_load.specs.Views.{file_view};
 ghost use Rattle.x5_model_tree.specs.Described.{IsDescribed};
@@ -56,10 +56,11 @@ pub fn xdir<F: Files, K: Sink>(
     files: &mut F,
     out: &mut K,
 ) -> Status
-    ensures usage { (result ≡ Status.Usage) ↔ (form_in (map string_bytes words.now) ≡ None) }
+    ensures usage { result ≡ Status.Usage → form_in (map string_bytes words.now) ≡ None }
 
     // Other words touch neither the files nor the sink.
-    ensures untouched { result ≡ Status.Usage → (files.new ≡ files.old) × (out.new ≡ out.old) }
+    ensures others { form_in (map string_bytes words.now) ≡ None → (result ≡ Status.Usage) ⊎ (result ≡ Status.NoMemory) }
+    ensures untouched { form_in (map string_bytes words.now) ≡ None → (files.new ≡ files.old) × (out.new ≡ out.old) }
 
     // A form that makes its file reads none.
     ensures made { IfSome (form_in (map string_bytes words.now)) (λ form. is_made form ≡ true → files.new ≡ files.old) }
@@ -68,15 +69,16 @@ pub fn xdir<F: Files, K: Sink>(
     ensures writes { IfSome (form_in (map string_bytes words.now)) (λ form.
         WritesForm form result (F.contents files.old) (K.octets out.old) (K.octets out.new) (K.fault_count out.old) (K.fault_count out.new)) }
 {
-    match read_words(words) {
-        Some(Words::Run(names, false)) => {
+    match read_words(alloc, words) {
+        Ok(Some(Words::Run(names, false))) => {
             run_files(alloc, names.world, names.script, files, out)
         }
-        Some(Words::Check(name)) => check_file(alloc, name, files, out),
-        Some(Words::GenWorld(number)) => print_made_world(alloc, number, out),
-        Some(Words::GenScript(number)) => print_made_script(alloc, number, out),
-        Some(Words::Show(name)) => show_file(alloc, name, files, out),
-        Some(Words::Run(_, true) | Words::Tree(_) | Words::GenRun(_)) | None => { Status::Usage }
+        Ok(Some(Words::Check(name))) => check_file(alloc, name, files, out),
+        Ok(Some(Words::GenWorld(number))) => print_made_world(alloc, number, out),
+        Ok(Some(Words::GenScript(number))) => print_made_script(alloc, number, out),
+        Ok(Some(Words::Show(name))) => show_file(alloc, name, files, out),
+        Ok(Some(Words::Run(_, true) | Words::Tree(_) | Words::GenRun(_)) | None) => Status::Usage,
+        Err(NoMemory) => Status::NoMemory,
     }
 }
 

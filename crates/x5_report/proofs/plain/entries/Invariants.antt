@@ -1,0 +1,8 @@
+use Rattle.std.proofs.Common.{◌≡◌, ◌++◌, drop, string_bytes}
+use Rattle.std.specs.List.{flat_map}
+use Rattle.x5_report.specs.Spelled as spelled
+use Rattle.x5_report.proofs.plain.entries.Given as goal
+
+abbrev pub invariant-loop-one : goal.invariant-loop-one
+invariant-loop-one l = string_bytes l.text ++ flat_map spelled.plain_entry_text (drop l.one-index l.entries)
+    ≡ flat_map spelled.plain_entry_text l.entries
