@@ -19,10 +19,15 @@ is_true_date y m d most e =
     let l1 : 1 ≤ m = within 1 m a.0 in
     let l2 : m ≤ 12 = within m 12 b.0 in
     let l3 : 1 ≤ d = within 1 d c.0 in
-    let l4 : d ≤ days_in_month (pos y) m = within d (days_in_month (pos y) m) c.1 in
-    ((omega (arith, signed_arith), omega (arith, signed_arith)), (omega (arith, signed_arith), omega (arith, signed_arith)), (omega (arith, signed_arith), omega (arith, signed_arith)))
+    let l4 : d ≤ days_in_month (pos y) m = within d (days_in_month (pos y) m) c.1 in (
+      (omega (arith, signed_arith), omega (arith, signed_arith)),
+      (omega (arith, signed_arith), omega (arith, signed_arith)),
+      (omega (arith, signed_arith), omega (arith, signed_arith)),
+    )
 
 pub true_date_is : (y m d : ℕ) → IsDate (pos y) (pos m) (pos d) → is_day y m d ≡ true
 true_date_is y m d h =
-    and_true (nat_le 1 m) _ (tested 1 m (omega (arith, signed_arith, h.1.0))) (and_true (nat_le m 12) _ (tested m 12 (omega (arith, signed_arith, h.1.1)))
-    (and_true (nat_le 1 d) _ (tested 1 d (omega (arith, signed_arith, h.2.0))) (tested d (days_in_month (pos y) m) (omega (arith, signed_arith, h.2.1)))))
+    and_true (nat_le 1 m) _ (tested 1 m (omega (arith, signed_arith, h.1.0)))
+    (and_true (nat_le m 12) _ (tested m 12 (omega (arith, signed_arith, h.1.1)))
+    (and_true (nat_le 1 d) _ (tested 1 d (omega (arith, signed_arith, h.2.0)))
+    (tested d (days_in_month (pos y) m) (omega (arith, signed_arith, h.2.1)))))

@@ -1,4 +1,5 @@
--- A name has a place among the agents' names exactly where one of them is it; and the fault of a name that none of them is.
+-- A name has a place among the agents' names exactly where one of them is it; and the fault of a name that none of
+-- them is.
 use Rattle.std.proofs.Common.{◌≡◌, ℕ, suc, ◌+◌, Bool, true, false, not, cond, ◌||◌, nat_lt, List, [], ◌∷◌, length, refl, ap, ◌∙◌, arith, Some, None, Err}
 use Rattle.std.specs.Cmp.Lexicographic.{nat_list_eq_equiv}
 use Rattle.std.specs.List.{list_any, position, position_or_len}
@@ -47,11 +48,13 @@ turned (n ∷ ns) t =
 
 pub known_place : (names : List Text) (t : Text) → is_some (position (λ n. same_octets n t) names) ≡ has_name names t
 known_place names t =
-    some_if (nat_lt (position_or_len (λ n. same_octets n t) names) (length names)) (position_or_len (λ n. same_octets n t) names)
+    some_if (nat_lt (position_or_len (λ n. same_octets n t) names) (length names))
+    (position_or_len (λ n. same_octets n t) names)
     ∙ found_within (λ n. same_octets n t) names
     ∙ turned names t
 
-pub missed : (fault : LoadFault) (path : Text) → Fails {X = World} fault (Err (model.UnknownAgent path)) → IsMissed fault (Some path)
+pub missed : (fault : LoadFault) (path : Text)
+    → Fails {X = World} fault (Err (model.UnknownAgent path)) → IsMissed fault (Some path)
 missed NotJson path h = absurd h
 missed (BadShape p) path h = absurd (cc)
 missed (BadName p) path h = absurd (cc)

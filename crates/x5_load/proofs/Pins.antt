@@ -9,15 +9,18 @@ use Rattle.x5_ops.specs.KnowledgeViews.{specific_view, cross_view}
 use Rattle.x5_ops.specs.declared.knowledge.Cross.{Cross}
 use Rattle.x5_ops.specs.declared.knowledge.Specific.{Specific}
 
-pub specific_there : (k : Key) (rs : List Specific) → has_key (pin_keys (map specific_view rs)) k ≡ list_any (λ r. same_key k (key_of r.pin)) rs
+pub specific_there : (k : Key) (rs : List Specific)
+    → has_key (pin_keys (map specific_view rs)) k ≡ list_any (λ r. same_key k (key_of r.pin)) rs
 specific_there k [] = refl
 specific_there k (r ∷ rs) = ap (λ b. same_key k (key_of r.pin) || b) (specific_there k rs)
 
-pub cross_there : (k : Key) (rs : List Cross) → has_key (pin_keys (map cross_view rs)) k ≡ list_any (λ r. same_key k (key_of r.pin)) rs
+pub cross_there : (k : Key) (rs : List Cross)
+    → has_key (pin_keys (map cross_view rs)) k ≡ list_any (λ r. same_key k (key_of r.pin)) rs
 cross_there k [] = refl
 cross_there k (r ∷ rs) = ap (λ b. same_key k (key_of r.pin) || b) (cross_there k rs)
 
-pub specific_more : (rs : List Specific) (r : Specific) → map specific_view (rs ++ r ∷ []) ≡ map specific_view rs ++ specific_view r ∷ []
+pub specific_more : (rs : List Specific) (r : Specific)
+    → map specific_view (rs ++ r ∷ []) ≡ map specific_view rs ++ specific_view r ∷ []
 specific_more [] r = refl
 specific_more (s ∷ rs) r = ap (λ l. specific_view s ∷ l) (specific_more rs r)
 

@@ -9,19 +9,24 @@ use Rattle.serde_json.specs.declared.value.Value.{Value}
 use Rattle.x5_model_world.specs.NetworkText.{has_text, same_texts, two_texts, pair_of}
 use Rattle.x5_load.specs.TextPairs.{texts_of}
 
-pub text_there : (t : List ℕ) (ts : List (Bor (List ℕ))) → has_text (map (λ u. u.now) ts) t ≡ list_any (λ u. same_octets t u.now) ts
+pub text_there : (t : List ℕ) (ts : List (Bor (List ℕ)))
+    → has_text (map (λ u. u.now) ts) t ≡ list_any (λ u. same_octets t u.now) ts
 text_there t [] = refl
 text_there t (u ∷ ts) = ap (λ b. same_octets t u.now || b) (text_there t ts)
 
-pub text_more : (ts : List (Bor (List ℕ))) (t : Bor (List ℕ)) → map (λ u. u.now) (ts ++ t ∷ []) ≡ map (λ u. u.now) ts ++ t.now ∷ []
+pub text_more : (ts : List (Bor (List ℕ))) (t : Bor (List ℕ))
+    → map (λ u. u.now) (ts ++ t ∷ []) ≡ map (λ u. u.now) ts ++ t.now ∷ []
 text_more [] t = refl
 text_more (u ∷ ts) t = ap (λ l. u.now ∷ l) (text_more ts t)
 
-pub pair_there : (a b : List ℕ) (ps : List (Bor (List ℕ) × Bor (List ℕ))) → list_any (same_texts (a, b)) (map texts_of ps) ≡ list_any (λ p. same_octets a p.0.now && same_octets b p.1.now) ps
+pub pair_there : (a b : List ℕ) (ps : List (Bor (List ℕ) × Bor (List ℕ)))
+    → list_any (same_texts (a, b)) (map texts_of ps)
+    ≡ list_any (λ p. same_octets a p.0.now && same_octets b p.1.now) ps
 pair_there a b [] = refl
 pair_there a b (p ∷ ps) = ap (λ c. (same_octets a p.0.now && same_octets b p.1.now) || c) (pair_there a b ps)
 
-pub pair_more : (ps : List (Bor (List ℕ) × Bor (List ℕ))) (p : Bor (List ℕ) × Bor (List ℕ)) → map texts_of (ps ++ p ∷ []) ≡ map texts_of ps ++ texts_of p ∷ []
+pub pair_more : (ps : List (Bor (List ℕ) × Bor (List ℕ))) (p : Bor (List ℕ) × Bor (List ℕ))
+    → map texts_of (ps ++ p ∷ []) ≡ map texts_of ps ++ texts_of p ∷ []
 pair_more [] p = refl
 pair_more (q ∷ ps) p = ap (λ l. texts_of q ∷ l) (pair_more ps p)
 
@@ -53,8 +58,10 @@ text_step f ts i d lt =
     ∙ ap (map f) (text_more (take i ts) (get_or ts i d))
     ∙ push_map f (map (λ t. t.now) (take i ts)) (get_or ts i d).now
 
-pub pair_step : (f : (List ℕ × List ℕ) → ℕ × ℕ) (ps : List (Bor (List ℕ) × Bor (List ℕ))) (i : ℕ) (d : Bor (List ℕ) × Bor (List ℕ))
-    → i < length ps → map f (map texts_of (take (i + 1) ps)) ≡ map f (map texts_of (take i ps)) ++ f (texts_of (get_or ps i d)) ∷ []
+pub pair_step : (f : (List ℕ × List ℕ) → ℕ × ℕ) (ps : List (Bor (List ℕ) × Bor (List ℕ))) (i : ℕ)
+    (d : Bor (List ℕ) × Bor (List ℕ))
+    → i < length ps
+    → map f (map texts_of (take (i + 1) ps)) ≡ map f (map texts_of (take i ps)) ++ f (texts_of (get_or ps i d)) ∷ []
 pair_step f ps i d lt =
     ap (λ (l : List (Bor (List ℕ) × Bor (List ℕ))). map f (map texts_of l)) (take_more ps i d lt)
     ∙ ap (map f) (pair_more (take i ps) (get_or ps i d))

@@ -39,7 +39,8 @@ numbers_in most path items = do
 abbrev pub unknown_there : List Text → Text → Data → Option Text
 unknown_there names path d =
     first_of_two (first_at (unknown_text names) path (codes "down") d)
-    (first_of_two (first_at (unknown_text names) path (codes "refuse") d) (first_at (unknown_in_pair names) path (codes "cut") d))
+    (first_of_two (first_at (unknown_text names) path (codes "refuse") d)
+    (first_at (unknown_in_pair names) path (codes "cut") d))
 
 -- ---- the world
 
@@ -56,7 +57,8 @@ agreed names has_network start d members found = do
   list ← list_if_any (codes "") (codes "agreements") d
   few ← if_few (codes "/agreements") most_agreements (items_len list) list
   agreements ← agreements_behind names (codes "/agreements") 0 [] few
-  all ← if_few (codes "/agreements") most_with_copies (with_copies (flat_map (λ a. a.contexts) found.agents) found.counts.entries agreements) agreements
+  all ← if_few (codes "/agreements") most_with_copies
+      (with_copies (flat_map (λ a. a.contexts) found.agents) found.counts.entries agreements) agreements
   connected names has_network start d members found all
 
 -- ---- the file

@@ -11,5 +11,6 @@ returns-then-count-total c =
     let contexts = flat_map (λ (a : Agent). a.contexts) (map described_agent_view c.args.agents.now) in
     let lt : c.loop-agreement.agreement-index < length c.args.agreements.now = omega arith in
     let more : 400_000 < c.loop-agreement.total + c.copies-count.result = omega arith in
-    sym (too_many contexts c.args.agreements.now c.loop-agreement.agreement-index c.agreement-item.result c.loop-agreement.total
+    sym (too_many contexts c.args.agreements.now c.loop-agreement.agreement-index c.agreement-item.result
+    c.loop-agreement.total
     c.copies-count.result _ lt c.agreement-item.is c.copies-count.ensures more c.loop-agreement.invariant.0)

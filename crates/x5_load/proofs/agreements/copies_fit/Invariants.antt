@@ -6,6 +6,7 @@ use Rattle.x5_load.proofs.agreements.copies_fit.Given as goal
 
 abbrev pub invariant-loop-agreement : goal.invariant-loop-agreement
 invariant-loop-agreement l =
-    (model.with_copies (flat_map (λ a. a.contexts) (map described_agent_view l.agents)) l.total (drop l.agreement-index l.agreements)
+    (model.with_copies (flat_map (λ a. a.contexts) (map described_agent_view l.agents))
+    l.total (drop l.agreement-index l.agreements)
     ≡ model.with_copies (flat_map (λ a. a.contexts) (map described_agent_view l.agents)) l.entries l.agreements)
     × (l.total ≤ 400_000)

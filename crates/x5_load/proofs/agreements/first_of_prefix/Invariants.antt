@@ -6,5 +6,6 @@ use Rattle.x5_load.proofs.agreements.first_of_prefix.Given as goal
 
 abbrev pub invariant-loop-agent : goal.invariant-loop-agent
 invariant-loop-agent l =
-    find (λ c. same_key (key_of c.prefix) (key_of l.name)) (flat_map (λ a. a.spec.contexts) (drop l.agent-index l.agents))
+    find (λ c. same_key (key_of c.prefix) (key_of l.name))
+    (flat_map (λ a. a.spec.contexts) (drop l.agent-index l.agents))
     ≡ find (λ c. same_key (key_of c.prefix) (key_of l.name)) (flat_map (λ a. a.spec.contexts) l.agents)

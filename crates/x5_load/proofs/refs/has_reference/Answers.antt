@@ -11,12 +11,14 @@ pub returns-then-is_cross : goal.returns-then-is_cross
 returns-then-is_cross c =
     let name = c.args.name.now in
     c.has_cross.ensures ∙ sym (cross_there (key_of name) c.args.cross.now)
-    ∙ ap (λ (b : Bool). has_key (pin_keys (cond b (map cross_view c.args.cross.now) (map specific_view c.args.specific.now))) (key_of name))
+    ∙ ap (λ (b : Bool). has_key
+    (pin_keys (cond b (map cross_view c.args.cross.now) (map specific_view c.args.specific.now))) (key_of name))
     (sym c.if-is_cross.true)
 
 pub returns-else-is_cross : goal.returns-else-is_cross
 returns-else-is_cross c =
     let name = c.args.name.now in
     c.has_specific.ensures ∙ sym (specific_there (key_of name) c.args.specific.now)
-    ∙ ap (λ (b : Bool). has_key (pin_keys (cond b (map cross_view c.args.cross.now) (map specific_view c.args.specific.now))) (key_of name))
+    ∙ ap (λ (b : Bool). has_key
+    (pin_keys (cond b (map cross_view c.args.cross.now) (map specific_view c.args.specific.now))) (key_of name))
     (sym c.if-is_cross.false)
