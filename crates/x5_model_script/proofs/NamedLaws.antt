@@ -70,7 +70,7 @@ request_named : (names : List Text) (left : Left) → IfOk (request names left) 
 request_named names left =
     given (AreNamed names) (IsAgent names) (agent names left) (λ to. requested to.0 (controls to.1)) (agent_is names left)
     (λ to h. whatever (AreNamed names) (operation (controls to.1).1) (λ body. ended body.1 >>= asks to.0 (controls to.1) body)
-      (λ body. whatever (AreNamed names) (ended body.1) (asks to.0 (controls to.1) body) (λ nothing. just names to.0 h)))
+    (λ body. whatever (AreNamed names) (ended body.1) (asks to.0 (controls to.1) body) (λ nothing. just names to.0 h)))
 
 abbrev delivers : Bool → ℕ → List ℕ → Unit {0} → Result Asked Fault
 delivers dsp to octets nothing = Ok (Delivers dsp to octets)
@@ -82,8 +82,8 @@ deliver_named : (names : List Text) (left : Left) → IfOk (deliver names left) 
 deliver_named names left =
     whatever (AreNamed names) (reading texts.protocol_in BadWord left) (λ dsp. agent names dsp.1 >>= (λ to. octets_behind dsp.0 to.0 to.1))
     (λ dsp. given (AreNamed names) (IsAgent names) (agent names dsp.1) (λ to. octets_behind dsp.0 to.0 to.1) (agent_is names dsp.1)
-      (λ to h. whatever (AreNamed names) (reading texts.octets_in BadHex to.1) (λ octets. ended octets.1 >>= delivers dsp.0 to.0 octets.0)
-        (λ octets. whatever (AreNamed names) (ended octets.1) (delivers dsp.0 to.0 octets.0) (λ nothing. just names to.0 h))))
+    (λ to h. whatever (AreNamed names) (reading texts.octets_in BadHex to.1) (λ octets. ended octets.1 >>= delivers dsp.0 to.0 octets.0)
+    (λ octets. whatever (AreNamed names) (ended octets.1) (delivers dsp.0 to.0 octets.0) (λ nothing. just names to.0 h))))
 
 -- one agent, and two
 
@@ -129,7 +129,7 @@ two_are : (names : List Text) (left : Left) → IfOk (two_agents names left) (Ar
 two_are names left =
     given (AreAgents names) (IsAgent names) (agent names left) (λ a. other_agent a.0 names a.1 >>= (λ b. ended b.1 >>= both_of a.0 b.0)) (agent_is names left)
     (λ a h. given (AreAgents names) (IsAgent names) (other_agent a.0 names a.1) (λ b. ended b.1 >>= both_of a.0 b.0) (other_is names a.0 a.1)
-      (λ b l. whatever (AreAgents names) (ended b.1) (both_of a.0 b.0) (λ nothing. (h, l))))
+    (λ b l. whatever (AreAgents names) (ended b.1) (both_of a.0 b.0) (λ nothing. (h, l))))
 
 abbrev changed_both : (ℕ → ℕ → network.Outage) → ℕ × ℕ → Result Asked Fault
 changed_both change both = Ok (Runs (run.Changes (change both.0 both.1)))
@@ -159,7 +159,7 @@ lose_named names left =
     let P = AreNamed names in
     whatever P (reading texts.loss_kind_in BadWord left) (λ reply. reading texts.loss_in BadWord reply.1 >>= (λ k. ended k.1 >>= loses reply.0 k.0))
     (λ reply. whatever P (reading texts.loss_in BadWord reply.1) (λ k. ended k.1 >>= loses reply.0 k.0)
-      (λ k. whatever P (ended k.1) (loses reply.0 k.0) (λ nothing. nobody names)))
+    (λ k. whatever P (ended k.1) (loses reply.0 k.0) (λ nothing. nobody names)))
 
 abbrev refreshes : ℕ → Bool → Bool → Unit {0} → Result Asked Fault
 refreshes id pushes total nothing = Ok (Runs (run.Updates id pushes total))
@@ -169,7 +169,7 @@ refresh_named names pushes left =
     let P = AreNamed names in
     whatever P (reading texts.agreement_in BadWord left) (λ id. reading texts.strategy_in BadWord id.1 >>= (λ total. ended total.1 >>= refreshes id.0 pushes total.0))
     (λ id. whatever P (reading texts.strategy_in BadWord id.1) (λ total. ended total.1 >>= refreshes id.0 pushes total.0)
-      (λ total. whatever P (ended total.1) (refreshes id.0 pushes total.0) (λ nothing. nobody names)))
+    (λ total. whatever P (ended total.1) (refreshes id.0 pushes total.0) (λ nothing. nobody names)))
 
 command_by_named : (names : List Text) (w : Word) (left : Left) → IfOk (command_by names w left) (AreNamed names)
 command_by_named names w left =

@@ -99,13 +99,13 @@ others names before lost rest r =
 pub line_taken : (names : List Text) (done : List Asked) (before lost : ℕ) (rest : Text) (one : Asked) → 0 < length rest
     → line_behind names before lost (before_first is_line_feed rest) ≡ Ok one
     → left names done before lost rest
-      ≡ left names (done ++ one ∷ []) (before + 1) (lost_with lost one) (after_first is_line_feed rest)
+    ≡ left names (done ++ one ∷ []) (before + 1) (lost_with lost one) (after_first is_line_feed rest)
 line_taken names done before lost [] one some h = absurd (omega arith)
 line_taken names done before lost (b ∷ bs) one some h =
     ap (λ ls. behind done (lines_from names before lost ls)) (lines_next b bs)
     ∙ ap (λ r. behind done (others names before lost (after_first is_line_feed (b ∷ bs)) r)) h
     ∙ behind_one (before + 1) done one
-      (lines_from names (before + 1) (lost_with lost one) (lines_of (after_first is_line_feed (b ∷ bs))))
+    (lines_from names (before + 1) (lost_with lost one) (lines_of (after_first is_line_feed (b ∷ bs))))
 
 pub line_refused : (names : List Text) (done : List Asked) (before lost : ℕ) (rest : Text) (fault : Fault)
     → 0 < length rest → line_behind names before lost (before_first is_line_feed rest) ≡ Err fault

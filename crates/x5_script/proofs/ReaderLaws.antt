@@ -47,7 +47,7 @@ goes_on names done new before lost now from rest line behind octets command firs
     ∙ ap (λ n. left names (map command_view new) (before + 1) n (after_first is_line_feed rest)) counted
     ∙ ap (λ cs. left names (map command_view cs) (before + 1) (lost_with lost (command_view command)) (after_first is_line_feed rest)) pushed
     ∙ ap (λ cs. left names cs (before + 1) (lost_with lost (command_view command)) (after_first is_line_feed rest))
-      (map-append command_view done (command ∷ []))
+    (map-append command_view done (command ∷ []))
     ∙ sym (line_taken names (map command_view done) before lost rest (command_view command) some
-      (ap (line_behind names before lost) (sym first) ∙ h))
+    (ap (line_behind names before lost) (sym first) ∙ h))
     ∙ read

@@ -121,11 +121,7 @@ fn lost_behind(lost: usize, command: &Command) -> usize
     requires { scripts.loses_reply (command_view command.now) ≡ true → lost < 16 }
     ensures { result ≡ scripts.lost_with lost (command_view command.now) }
 {
-    if loses_reply(command) {
-        lost + 1
-    } else {
-        lost
-    }
+    if loses_reply(command) { lost + 1 } else { lost }
 }
 
 /// Reads a script whole: what its lines ask for, one command a line, or the first line that is refused. A line ends at a line feed or

@@ -1,5 +1,5 @@
 -- A described world of the shape of a star is the star of its agents: agent by agent, with their names, and with short pins.
-use Rattle.std.proofs.Common.{◌≡◌, ℕ, zero, suc, ◌+◌, ◌<◌, ◌≤◌, Bool, true, false, cond, not, ◌&&◌, ◌||◌, ◌==◌, nat_le, nat_lt, List, [], ◌∷◌, ◌++◌, length, map, take, drop, get_or, IsTrue, IfOk, Option, Some, None, refl, sym, ap, ap₂, subst, ◌∙◌, append_assoc, inl, Ok, arith}
+use Rattle.std.proofs.Common.{◌≡◌, ℕ, ◌+◌, ◌<◌, ◌≤◌, Bool, true, false, not, ◌&&◌, ◌||◌, ◌==◌, nat_le, List, [], ◌∷◌, ◌++◌, length, map, take, drop, get_or, IsTrue, Option, Some, None, refl, sym, ap, ap₂, subst, ◌∙◌, append_assoc, inl, Ok, arith}
 use Rattle.std.proofs.lemmas.Bool.{leb-true}
 use Rattle.std.proofs.lemmas.List.{length-map, take_more, take-append-drop}
 use Rattle.std.specs.List.{list_all, filter, enumerate_from}
@@ -8,20 +8,20 @@ use Rattle.x5_know.specs.Names.{has_name, with_name}
 use Rattle.x5_know.specs.WorldView.{described_agent_view, world_view}
 use Rattle.x5_know.specs.declared.described.Described.{Described}
 use Rattle.x5_know.specs.declared.described.DescribedAgent.{DescribedAgent}
-use Rattle.x5_load.specs.Views.{Loads, file_view}
+use Rattle.x5_load.specs.Views.{file_view}
 use Rattle.x5_model.specs.Members.{In, here, there}
 use Rattle.x5_model.specs.Values.{Text, key_of, key_of_rdn}
 use Rattle.x5_model.specs.Words.{distinct, has, is_empty, same_octets}
-use Rattle.x5_model.proofs.Lists.{both_true, and_true, not_true, or_left, or_right, all_in, of_all, in_map}
+use Rattle.x5_model.proofs.Lists.{both_true, and_true, not_true, all_in, in_map}
 use Rattle.x5_model.proofs.Decide.{nat_same_decides}
 use Rattle.x5_model_loaded.proofs.Worlds.{file_described}
 use Rattle.x5_model_star.specs.Star.{IsStar, is_simple, idle}
 use Rattle.x5_model_star.proofs.Seats.{empty_of}
-use Rattle.x5_model_tree.specs.Described.{are_listed, is_within_limits, IsDescribed}
+use Rattle.x5_model_tree.specs.Described.{are_listed, IsDescribed}
 use Rattle.x5_model_tree.specs.Masters.{numbered}
-use Rattle.x5_model_tree.specs.World.{Specific as Reference, Agent, Agreement, Network, World}
+use Rattle.x5_model_tree.specs.World.{Specific as Reference, Agent, Network, World}
 use Rattle.x5_model_tree.proofs.Stored.{reference_stored, stored_short}
-use Rattle.x5_model_world.specs.WorldFile.{File, Describes}
+use Rattle.x5_model_world.specs.WorldFile.{Describes}
 use Rattle.x5_ops.specs.KnowledgeViews.{agent_view, specific_view, cross_view}
 use Rattle.x5_ops.specs.declared.knowledge.AgentSpec.{AgentSpec}
 use Rattle.x5_ops.specs.declared.knowledge.Cross.{Cross}
@@ -31,7 +31,7 @@ use Rattle.x5_model_tree.specs.Consistent.{IsConsistent}
 use Rattle.xdir.proofs.Shapes.{stars_have_shape, shapes_are_stars}
 use Rattle.xdir.specs.Run.{names_in}
 use Rattle.xdir.specs.Shape.{are_seats, is_idle, is_shaped, IsShaped}
-use Rattle.xdir.specs.Star.{star_file, IsReady, IsStarOf}
+use Rattle.xdir.specs.Star.{IsReady, IsStarOf}
 use Rattle.xdir.specs.declared.star.Star.{Star}
 
 -- ---- the shape, by its test
@@ -63,7 +63,7 @@ pub shape_shown : (w : World) → IsShaped w → is_shaped w ≡ true
 shape_shown w s =
     and_true (are_seats 0 w.agents) (is_empty w.agreements && is_idle w.network) s.seats
     (and_true (is_empty w.agreements) (is_idle w.network) (no_members w.agreements s.no_agreements)
-      (subst (λ (n : Network). is_idle n ≡ true) (sym s.is_idle) refl))
+    (subst (λ (n : Network). is_idle n ≡ true) (sym s.is_idle) refl))
 
 -- ---- agents, with the order of their references
 
@@ -91,16 +91,16 @@ same_agent : (a : DescribedAgent) → are_listed (described_agent_view a) ≡ tr
 same_agent a listed none =
     let v = described_agent_view a in
     let l = both_true (length (filter not v.crosses) == length v.subordinate)
-            ((length (filter (λ b. b) v.crosses) == length v.cross) && nat_le (length v.crosses) 4096) listed in
+    ((length (filter (λ b. b) v.crosses) == length v.cross) && nat_le (length v.crosses) 4096) listed in
     let m = both_true (length (filter (λ b. b) v.crosses) == length v.cross) (nat_le (length v.crosses) 4096) l.1 in
     let below : length (filter not a.crosses) ≡ length a.spec.specific =
-        (nat_same_decides (length (filter not v.crosses)) (length v.subordinate)).0 l.0 ∙ length-map a.spec.specific specific_view in
+    (nat_same_decides (length (filter not v.crosses)) (length v.subordinate)).0 l.0 ∙ length-map a.spec.specific specific_view in
     let across : length (filter (λ b. b) a.crosses) ≡ 0 =
-        (nat_same_decides (length (filter (λ b. b) v.crosses)) (length v.cross)).0 m.0 ∙ ap (λ (ks : List Reference). length ks) none in
+    (nat_same_decides (length (filter (λ b. b) v.crosses)) (length v.cross)).0 m.0 ∙ ap (λ (ks : List Reference). length ks) none in
     let order : a.crosses ≡ map (λ k. false) a.spec.specific ++ map (λ k. true) a.spec.cross =
-        none_across a.crosses across a.spec.specific below
-        ∙ sym (no_more (map (λ k. false) a.spec.specific))
-        ∙ ap (λ (ks : List Cross). map (λ k. false) a.spec.specific ++ map (λ k. true) ks) (sym (no_crosses a.spec.cross none)) in
+    none_across a.crosses across a.spec.specific below
+    ∙ sym (no_more (map (λ k. false) a.spec.specific))
+    ∙ ap (λ (ks : List Cross). map (λ k. false) a.spec.specific ++ map (λ k. true) ks) (sym (no_crosses a.spec.cross none)) in
     λ i. record {
       name = a.spec.name;
       superior = a.spec.superior;
@@ -172,13 +172,13 @@ name_more (x ∷ xs) i a within is e = by (x ∷ xs) i a within is e
     by xs i a within is e =
         let first : take (i + 1) xs ≡ take i xs ++ a ∷ [] = take_more xs i a within ∙ ap (λ (y : AgentSpec). take i xs ++ y ∷ []) (sym is) in
         let names : map (λ a. a.name) (take (i + 1) xs) ≡ map (λ a. a.name) (take i xs) ++ a.name ∷ [] =
-            ap (map (λ a. a.name)) first ∙ snoc (take i xs) a in
+        ap (map (λ a. a.name)) first ∙ snoc (take i xs) a in
         let rest = map (λ a. a.name) (drop (i + 1) xs) in
         let all : map (λ a. a.name) xs ≡ map (λ a. a.name) (take i xs) ++ a.name ∷ rest =
-            ap (map (λ a. a.name)) (sym (take-append-drop (i + 1) xs))
-            ∙ joined (take (i + 1) xs) (drop (i + 1) xs)
-            ∙ ap (λ (ns : List Text). ns ++ rest) names
-            ∙ append_assoc (map (λ a. a.name) (take i xs)) (a.name ∷ []) rest in
+        ap (map (λ a. a.name)) (sym (take-append-drop (i + 1) xs))
+        ∙ joined (take (i + 1) xs) (drop (i + 1) xs)
+        ∙ ap (λ (ns : List Text). ns ++ rest) names
+        ∙ append_assoc (map (λ a. a.name) (take i xs)) (a.name ∷ []) rest in
         added (map (λ a. a.name) (take i xs)) a.name
         (not_among a.name (map (λ a. a.name) (take i xs)) rest (subst (λ (ns : List Text). distinct same_octets ns ≡ true) all e))
         ∙ sym names
@@ -243,9 +243,8 @@ pub ready : (d : Described) (s : Star) → IsDescribed (world_view d) → IsStar
     → s.agents ≡ map (λ a. a.spec) d.agents → s.names ≡ map (λ a. a.name) s.agents → IsStarOf d (Some s)
 ready d s described star start agents names =
     let same : world_view d ≡ star_world s.agents =
-        same_world d described star ∙ ap (λ (some : List AgentSpec). star_world some) (sym agents) in
-    let so : IsDescribed (star_world s.agents) = subst IsDescribed same described in
-    (
+    same_world d described star ∙ ap (λ (some : List AgentSpec). star_world some) (sym agents) in
+    let so : IsDescribed (star_world s.agents) = subst IsDescribed same described in (
       record {
         described = so;
         star = subst IsStar same star;

@@ -1,5 +1,5 @@
 -- What is written of a world's knowledge, and of a file that describes none.
-use Rattle.std.proofs.Common.{◌≡◌, inl, inr, ℕ, List, Option, Ok, Err, refl}
+use Rattle.std.proofs.Common.{inl, inr, ℕ, List, Option, Ok, Err, refl}
 use Rattle.x5_know.specs.WorldView.{world_view}
 use Rattle.x5_know.specs.declared.described.Described.{Described}
 use Rattle.x5_load.specs.Views.{Loads, file_view}

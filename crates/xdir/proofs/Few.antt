@@ -1,10 +1,10 @@
 -- A script that is taken has 100,000 lines at most, and the agents that it names have names.
-use Rattle.std.proofs.Common.{◌≡◌, ℕ, suc, ◌+◌, ◌<◌, ◌≤◌, Bool, true, false, cond, not, ◌&&◌, nat_lt, List, [], ◌∷◌, length, refl, sym, ap, arith, Result, Ok, Err}
+use Rattle.std.proofs.Common.{◌≡◌, ℕ, suc, ◌+◌, ◌<◌, ◌≤◌, Bool, true, false, cond, nat_lt, List, [], ◌∷◌, length, refl, sym, ap, arith, Result, Ok, Err}
 use Rattle.std.proofs.lemmas.Bool.{ltb-true}
 use Rattle.x5_model.specs.Values.{Text}
 use Rattle.x5_model_script.specs.Lines.{Asked, line_of}
 use Rattle.x5_model_script.specs.Words.{Fault, Long, ◌>>=◌}
-use Rattle.x5_model_script.specs.Script.{most_lines, line_at, within_losses, line_behind, lost_behind, with_others, lines_from, lines_of, script_of}
+use Rattle.x5_model_script.specs.Script.{most_lines, within_losses, line_behind, lost_behind, with_others, lines_from, lines_of, script_of}
 
 abbrev Taken : Type 0
 Taken = Result (List Asked) (ℕ × Fault)

@@ -1,8 +1,6 @@
 -- What is written of a script over a star, and of the files that hold them.
-use Rattle.std.proofs.Common.{◌≡◌, ◌≤◌, ◌++◌, inl, inr, ◌⊎◌, ℕ, List, [], map, length, IsSomeAnd, Option, Some, None, refl, sym, ap, subst, ◌∙◌, Ok, Err, append-nil}
-use Rattle.x5_know.specs.WorldView.{world_view}
-use Rattle.x5_know.specs.declared.described.Described.{Described}
-use Rattle.x5_load.specs.Views.{Loads, file_view}
+use Rattle.std.proofs.Common.{◌≡◌, ◌≤◌, inl, inr, ℕ, List, [], map, length, IsSomeAnd, Option, Some, None, sym, ap, subst, ◌∙◌, Ok, Err, append-nil}
+use Rattle.x5_load.specs.Views.{Loads}
 use Rattle.x5_model_run.specs.Run.{Command}
 use Rattle.x5_model_script.specs.Lines.{Asked}
 use Rattle.x5_model_script.specs.Lines as lines
@@ -22,11 +20,10 @@ use Rattle.x5_words.specs.Forms.{FileNames}
 use Rattle.xdir.specs.declared.top.Status.{Status}
 use Rattle.xdir.specs.declared.top.Status.TheVariants.{Done, Refused, Usage, ReadFault, WriteFault, NoMemory, Inconsistent, TooLong}
 use Rattle.xdir.specs.Faults.{IsWorldLine, IsScriptLine}
-use Rattle.xdir.specs.Outcomes.{Ends, Wrote, Broke, IsReadable, most_octets}
+use Rattle.xdir.specs.Outcomes.{IsReadable, most_octets}
 use Rattle.xdir.specs.Run.{names_in, lost_in, AsksFor, IsOutput, Runs, RunsSoFar, RefusesFile, no_json, faulty, RefusesStar, RefusesWorld, RefusesScript, faulty_line, not_yet, Refuses, Writes, TakesWorld, Reads}
-use Rattle.xdir.specs.Steps.{IsFirstOutput, WritesLine, WritesSuchLine, WritesRun, IsAskedOutput, IsFirstAskedOutput, IsNotYet, WritesAsked, IsScriptOutput, IsFirstScriptOutput, WritesScript, OfScript, WritesScriptFile, RefusesOver, WritesOver, ReadsOver, ReadsFile}
-use Rattle.xdir.specs.Text.{not_yet_text}
-use Rattle.xdir.proofs.Ends.{ends_more, rose_later, wrote_more, broke_more, such_ends, such_more}
+use Rattle.xdir.specs.Steps.{IsFirstOutput, WritesSuchLine, WritesRun, IsAskedOutput, IsFirstAskedOutput, IsNotYet, WritesAsked, IsScriptOutput, IsFirstScriptOutput, WritesScript, OfScript, WritesScriptFile, RefusesOver, WritesOver, ReadsOver, ReadsFile}
+use Rattle.xdir.proofs.Ends.{ends_more, rose_later, wrote_more, broke_more, such_ends}
 
 -- ---- what is asked for, as it is run
 

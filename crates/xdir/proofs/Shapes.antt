@@ -1,11 +1,11 @@
 -- Why the shape and consistent knowledge make a star: what stands above another's prefix is known at its master, which can only be
 -- the first agent, since the others have no references; and a longer prefix lies in no context but its own.
-use Rattle.std.proofs.Common.{◌≡◌, ℕ, ◌+◌, ◌<◌, ◌≤◌, Bool, true, false, cond, not, ◌&&◌, ◌||◌, ◌==◌, nat_lt, inl, inr, List, [], ◌∷◌, length, map, refl, sym, ap, subst, ◌∙◌, arith, Some, None}
+use Rattle.std.proofs.Common.{◌≡◌, ℕ, ◌+◌, ◌<◌, ◌≤◌, Bool, true, false, cond, not, ◌&&◌, ◌||◌, ◌==◌, nat_lt, inl, inr, List, [], ◌∷◌, length, map, refl, sym, ap, subst, ◌∙◌, arith, Some}
 use Rattle.std.proofs.lemmas.List.{length-map}
 use Rattle.std.specs.List.{list_any, list_all, filter, enumerate_from}
 use Rattle.x5_model.specs.Words.{is_empty}
-use Rattle.x5_model.specs.Members.{In, here}
-use Rattle.x5_model.specs.Keys.{Key, IsPrefix, same_key, is_prefix, parent}
+use Rattle.x5_model.specs.Members.{In}
+use Rattle.x5_model.specs.Keys.{IsPrefix, same_key, is_prefix, parent}
 use Rattle.x5_model.specs.Values.{key_of, key_of_rdn}
 use Rattle.x5_model.specs.Entries.{Named}
 use Rattle.x5_model.proofs.KeyLaws.{key_decides}
@@ -18,7 +18,7 @@ use Rattle.x5_model_tree.specs.Described.{IsDescribed}
 use Rattle.x5_model_tree.specs.Good.{Good}
 use Rattle.x5_model_tree.specs.Masters.{Mastered, pin_of, numbered, mastered, pins, agent_at}
 use Rattle.x5_model_tree.specs.Tree.{key_at, is_there}
-use Rattle.x5_model_tree.specs.World.{Specific, Nssr, Context, Agent, World}
+use Rattle.x5_model_tree.specs.World.{Specific, Context, Agent, World}
 use Rattle.x5_model_tree.proofs.Exact.{conditions_hold, there_decides, refers_decides}
 use Rattle.x5_model_tree.proofs.Gives.{of_numbered, owner_of, context_of, consistent_is_good}
 use Rattle.x5_model_star.specs.Star.{is_below_first, is_simple, is_first, first_entries, is_placed, leads_to_other, is_knowing, IsStar}
@@ -72,7 +72,7 @@ module _ (w : World) (h : IsShaped w) (a : ℕ × Agent) (i : In a (numbered w))
   plain : (c : Context) → In c a.1.contexts → c.nssrs ≡ []
   plain c j =
       let t = both_true (list_all (λ (x : Context). is_empty x.nssrs) a.1.contexts) (is_empty a.1.cross)
-              (both_true (length a.1.contexts == 1) (list_all (λ (x : Context). is_empty x.nssrs) a.1.contexts && is_empty a.1.cross) simple).1 in
+      (both_true (length a.1.contexts == 1) (list_all (λ (x : Context). is_empty x.nssrs) a.1.contexts && is_empty a.1.cross) simple).1 in
       empty_of c.nssrs (of_all (λ (x : Context). is_empty x.nssrs) c a.1.contexts t.0 j)
 
   first_prefix : (c : Context) → In c a.1.contexts → a.0 ≡ 0 → length (key_of c.prefix) ≡ 1
@@ -83,7 +83,7 @@ module _ (w : World) (h : IsShaped w) (a : ℕ × Agent) (i : In a (numbered w))
   other_prefix : (c : Context) → In c a.1.contexts → 0 < a.0 → 1 < length (key_of c.prefix)
   other_prefix c j l =
       let more : 1 < length c.prefix = (less_decides 1 (length c.prefix)).0
-              (if_not (a.0 == 0) (length c.prefix == 1) (nat_lt 1 (length c.prefix)) (is_more a.0 l) (of_all (has_prefix a.0) c a.1.contexts seated.0 j)) in
+      (if_not (a.0 == 0) (length c.prefix == 1) (nat_lt 1 (length c.prefix)) (is_more a.0 l) (of_all (has_prefix a.0) c a.1.contexts seated.0 j)) in
       omega (arith, pin_length c, more)
 
   silent : 0 < a.0 → a.1.subordinate ≡ []
@@ -92,8 +92,8 @@ module _ (w : World) (h : IsShaped w) (a : ℕ × Agent) (i : In a (numbered w))
   away : (k : Specific) → In k a.1.subordinate → a.0 ≡ 0 → (is_empty k.access.shadows ≡ true) × (0 < k.access.master)
   away k j z =
       let t = both_true (is_empty k.access.shadows) (not (k.access.master == 0))
-              (of_all leads_away k a.1.subordinate
-              (if_so (a.0 == 0) (list_all leads_away a.1.subordinate) (is_empty a.1.subordinate) (is_zero a.0 z) seated.1) j) in
+      (of_all leads_away k a.1.subordinate
+      (if_so (a.0 == 0) (list_all leads_away a.1.subordinate) (is_empty a.1.subordinate) (is_zero a.0 z) seated.1) j) in
       (t.0, more_than_zero k.access.master (not_true (k.access.master == 0) t.1))
 
 -- ---- consistent knowledge of this shape
@@ -205,8 +205,8 @@ module _ (w : World) (d : IsDescribed w) (k : IsConsistent w) (h : IsShaped w) w
       choose (is_first m) (length (pin_of m) == 1) (is_there (first_entries w) (parent (pin_of m)) && not (list_any (λ x. is_prefix (pin_of m) (key_at x)) (first_entries w)))
       (λ z. (nat_same_decides (length (pin_of m)) 1).1 (low_pin m i ((nat_same_decides m.master 0).0 z)))
       (λ o. let l = more_than_zero m.master o in
-        and_true (is_there (first_entries w) (parent (pin_of m))) (not (list_any (λ x. is_prefix (pin_of m) (key_at x)) (first_entries w)))
-        (there m i l) (not_so _ (not_below m i l)))
+      and_true (is_there (first_entries w) (parent (pin_of m))) (not (list_any (λ x. is_prefix (pin_of m) (key_at x)) (first_entries w)))
+      (there m i l) (not_so _ (not_below m i l)))
 
   abbrev leads_as : Specific → Mastered → Bool
   leads_as r m = not (is_first m) && ((m.master == r.access.master) && same_key (pin_of m) (key_of r.pin))
@@ -218,9 +218,9 @@ module _ (w : World) (d : IsDescribed w) (k : IsConsistent w) (h : IsShaped w) w
       let other : (m.0.master == 0) ≡ false = is_more m.0.master (omega (arith, t.1, m.2.0)) in
       and_true (is_empty r.access.shadows) (list_any (leads_as r) (mastered w)) t.0
       (any_in (leads_as r) m.0 (mastered w) m.1
-        (and_true (not (is_first m.0)) ((m.0.master == r.access.master) && same_key (pin_of m.0) (key_of r.pin)) (not_so (is_first m.0) other)
-        (and_true (m.0.master == r.access.master) (same_key (pin_of m.0) (key_of r.pin))
-          ((nat_same_decides m.0.master r.access.master).1 m.2.0) ((key_decides (pin_of m.0) (key_of r.pin)).1 m.2.1))))
+      (and_true (not (is_first m.0)) ((m.0.master == r.access.master) && same_key (pin_of m.0) (key_of r.pin)) (not_so (is_first m.0) other)
+      (and_true (m.0.master == r.access.master) (same_key (pin_of m.0) (key_of r.pin))
+      ((nat_same_decides m.0.master r.access.master).1 m.2.0) ((key_decides (pin_of m.0) (key_of r.pin)).1 m.2.1))))
 
   knows_each : (a : ℕ × Agent) → In a (numbered w) → a.0 ≡ 0 → (m : Mastered) → In m (mastered w) → (is_first m || refers_to a.1 (pin_of m)) ≡ true
   knows_each a i z m j = elim (true_or_false (is_first m)) [
@@ -240,9 +240,9 @@ module _ (w : World) (d : IsDescribed w) (k : IsConsistent w) (h : IsShaped w) w
       choose (a.0 == 0) (list_all (leads_to_other w) a.1.subordinate && list_all (λ m. is_first m || refers_to a.1 (pin_of m)) (mastered w))
       (is_empty a.1.subordinate)
       (λ e. let z = (nat_same_decides a.0 0).0 e in
-        and_true (list_all (leads_to_other w) a.1.subordinate) (list_all (λ m. is_first m || refers_to a.1 (pin_of m)) (mastered w))
-        (all_in (leads_to_other w) a.1.subordinate (leads_to a i z))
-        (all_in (λ m. is_first m || refers_to a.1 (pin_of m)) (mastered w) (knows_each a i z)))
+      and_true (list_all (leads_to_other w) a.1.subordinate) (list_all (λ m. is_first m || refers_to a.1 (pin_of m)) (mastered w))
+      (all_in (leads_to_other w) a.1.subordinate (leads_to a i z))
+      (all_in (λ m. is_first m || refers_to a.1 (pin_of m)) (mastered w) (knows_each a i z)))
       (λ e. no_members a.1.subordinate (silent w h a i (more_than_zero a.0 e)))
 
   pub is_star : IsStar w
@@ -273,7 +273,7 @@ module _ (w : World) (d : IsDescribed w) (s : IsStar w) (a : ℕ × Agent) (i : 
       choose (a.0 == 0) (length c.prefix == 1) (nat_lt 1 (length c.prefix))
       (λ e. (nat_same_decides (length c.prefix) 1).1 (sym (pin_length c) ∙ first_length w s m (mine c j) ((nat_same_decides a.0 0).0 e)))
       (λ e. (less_decides 1 (length c.prefix)).1
-        (let l : 1 < length (pin_of m) = other_length w d s m (mine c j) (more_than_zero a.0 e) in omega (arith, pin_length c, l)))
+      (let l : 1 < length (pin_of m) = other_length w d s m (mine c j) (more_than_zero a.0 e) in omega (arith, pin_length c, l)))
 
   away_from : a.0 ≡ 0 → (r : Specific) → In r a.1.subordinate → leads_away r ≡ true
   away_from z r j =
@@ -291,7 +291,7 @@ module _ (w : World) (d : IsDescribed w) (s : IsStar w) (a : ℕ × Agent) (i : 
   has_seat =
       and_true (is_below_first a) (is_simple a.1 && is_seated a) (of_all is_below_first a (numbered w) s.below_first i)
       (and_true (is_simple a.1) (is_seated a) (of_all is_simple a.1 w.agents s.simple (of_numbered 0 w.agents a i))
-        (and_true (list_all (has_prefix a.0) a.1.contexts) (refers_so a.0 a.1.subordinate) (all_in (has_prefix a.0) a.1.contexts prefixes) refers_as))
+      (and_true (list_all (has_prefix a.0) a.1.contexts) (refers_so a.0 a.1.subordinate) (all_in (has_prefix a.0) a.1.contexts prefixes) refers_as))
 
 pub stars_have_shape : StarsHaveShape
 stars_have_shape w d s = record {

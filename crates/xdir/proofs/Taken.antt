@@ -1,16 +1,14 @@
 -- Where no line asks for what no run does so far, each is a comment, or a read or a compare, to an agent that has a name.
-use Rattle.std.proofs.Common.{◌≡◌, ℕ, ◌+◌, ◌<◌, ◌≤◌, Bool, true, false, cond, not, ◌&&◌, nat_lt, All, List, [], ◌∷◌, length, map, Option, None, Some, refl, sym, ap, ap₂, subst, ◌∙◌, arith}
+use Rattle.std.proofs.Common.{◌≡◌, ℕ, ◌+◌, ◌<◌, ◌≤◌, Bool, true, false, cond, not, ◌&&◌, nat_lt, All, List, [], ◌∷◌, length, map, None, Some, refl, ap, ap₂, arith}
 use Rattle.std.proofs.lemmas.List.Elements.{All-nil, All-cons, All-head, All-tail}
 use Rattle.std.proofs.lemmas.List.{length-map}
 use Rattle.std.specs.List.{position, position_or_len}
 use Rattle.x5_model_script.proofs.Places.{position_some, position_none}
-use Rattle.std.specs.Option.{option_map}
 use Rattle.x5_model.proofs.Lists.{both_true}
-use Rattle.x5_model_run.specs.Run as run
 use Rattle.x5_model_script.specs.Lines.{Asked}
 use Rattle.x5_model_script.specs.Lines as lines
 use Rattle.x5_model_script.specs.Named.{AreNamed}
-use Rattle.x5_model_star.specs.Reads.{is_read, IsRead}
+use Rattle.x5_model_star.specs.Reads.{is_read}
 use Rattle.x5_model.specs.Requests.{Request}
 use Rattle.x5_ops.specs.RequestViews.{request_view}
 use Rattle.x5_script.specs.Views.{command_view}

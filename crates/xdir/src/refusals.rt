@@ -105,12 +105,7 @@ pub fn refuse_world<K: Sink>(alloc: Global, fault: &LoadFault, out: &mut K) -> S
 }
 
 /// Prints what is wrong in a script's line with this number.
-pub fn refuse_line<K: Sink>(
-    alloc: Global,
-    number: usize,
-    fault: ScriptFault,
-    out: &mut K,
-) -> Status
+pub fn refuse_line<K: Sink>(alloc: Global, number: usize, fault: ScriptFault, out: &mut K) -> Status
     ensures { WritesSuchLine result (IsScriptLine number fault) (K.octets out.old) (K.octets out.new) (K.fault_count out.old) (K.fault_count out.new) }
 {
     match script_line(alloc, number, fault) {

@@ -3,7 +3,6 @@ use Rattle.std.proofs.lemmas.List.{take_all}
 use Rattle.xdir.specs.Star.{run_view, star_file}
 use Rattle.x5_model_run.specs.Run.{Command}
 use Rattle.x5_script.specs.declared.command.Command.{Command as Asked}
-
 use Rattle.xdir.specs.declared.top.Status.TheVariants.{Done}
 use Rattle.xdir.specs.Blocks.{WritesBlock}
 use Rattle.xdir.proofs.SoFar.{IsSoFar, of_nothing, first_output, first_more, around, so_many, so_far_more, writes_stopped, writes_all, prints_block, asked}

@@ -1,10 +1,7 @@
-use Rattle.std.proofs.Common.{◌≡◌, ◌<◌, ◌∙◌, List, ℕ, length, map, refl, sym, ap, subst, arith, All}
-use Rattle.x5_model_script.specs.Named.{AreNamed}
+use Rattle.std.proofs.Common.{◌∙◌, ℕ, map, sym, subst, arith, All}
 use Rattle.x5_script.specs.Views.{command_view}
-use Rattle.xdir.specs.Run.{is_other, IsOutput}
 use Rattle.xdir.specs.Star.{IsTaken, run_view, star_file}
-use Rattle.xdir.specs.Steps.{IsAskedOutput, IsFirstAskedOutput, IsNotYet}
-use Rattle.xdir.specs.Text.{not_yet_text}
+use Rattle.xdir.specs.Steps.{IsAskedOutput, IsFirstAskedOutput}
 use Rattle.xdir.proofs.Agents.{same_lengths}
 use Rattle.xdir.proofs.Ends.{such_ends, such_prints}
 use Rattle.xdir.proofs.Files.{runs_asked}

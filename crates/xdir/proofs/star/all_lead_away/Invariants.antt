@@ -1,8 +1,7 @@
 use Rattle.std.proofs.Common.{◌≡◌, map, drop}
 use Rattle.std.specs.List.{list_all}
-use Rattle.x5_model.specs.Words.{is_empty}
 use Rattle.x5_ops.specs.KnowledgeViews.{specific_view}
-use Rattle.xdir.specs.Shape.{has_prefix, leads_away}
+use Rattle.xdir.specs.Shape.{leads_away}
 use Rattle.xdir.proofs.star.all_lead_away.Given as goal
 
 abbrev pub invariant-loop-reference : goal.invariant-loop-reference

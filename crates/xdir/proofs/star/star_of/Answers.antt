@@ -1,5 +1,4 @@
-use Rattle.std.proofs.Common.{◌≡◌, ◌∙◌, true, List, map, refl, sym, ap, subst}
-use Rattle.x5_model.specs.Words.{distinct, same_octets}
+use Rattle.std.proofs.Common.{◌∙◌, List, map, refl, ap}
 use Rattle.x5_ops.specs.declared.knowledge.AgentSpec.{AgentSpec}
 use Rattle.xdir.proofs.Agents.{specs_apart, ready}
 use Rattle.xdir.proofs.star.star_of.Goals as goal

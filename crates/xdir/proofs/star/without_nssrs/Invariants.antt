@@ -2,7 +2,6 @@ use Rattle.std.proofs.Common.{◌≡◌, map, drop}
 use Rattle.std.specs.List.{list_all}
 use Rattle.x5_model.specs.Words.{is_empty}
 use Rattle.x5_ops.specs.KnowledgeViews.{context_view}
-use Rattle.xdir.specs.Shape.{has_prefix, leads_away}
 use Rattle.xdir.proofs.star.without_nssrs.Given as goal
 
 abbrev pub invariant-loop-context : goal.invariant-loop-context

@@ -1,7 +1,6 @@
-use Rattle.std.proofs.Common.{◌≡◌, ℕ, List, ◌≤◌, length, map, sym, subst, ◌∙◌, Ok, Err, All}
+use Rattle.std.proofs.Common.{◌≡◌, ℕ, List, ◌≤◌, length, map, sym, subst, Ok, Err, All}
 use Rattle.std.proofs.lemmas.List.{length-map}
 use Rattle.std.proofs.lemmas.Result.{IfOk-at_ok}
-use Rattle.x5_model_script.specs.Lines.{Asked}
 use Rattle.x5_model_script.specs.Named.{AreNamed}
 use Rattle.x5_model_script.specs.Script.{script_of}
 use Rattle.x5_model_script.proofs.NamedLaws.{script_named}
@@ -35,7 +34,7 @@ pub returns-in-Ok-clause-writes : goal.returns-in-Ok-clause-writes
 returns-in-Ok-clause-writes g c =
     runs_script (star_file c.args.star.now) c.args.script.now (map command_view c.deref.result.now)
     (subst (λ (names : List (List ℕ)). script_of names 0 c.args.script.now ≡ Ok (map command_view c.deref.result.now)) c.requires.named
-      (subst (λ (cs : List Command). script_of c.args.star.now.names 0 c.args.script.now ≡ Ok (map command_view cs)) (sym c.deref.ensures.value) c.in-Ok.ensures))
+    (subst (λ (cs : List Command). script_of c.args.star.now.names 0 c.args.script.now ≡ Ok (map command_view cs)) (sym c.deref.ensures.value) c.in-Ok.ensures))
     c.run_commands.result (g.K.Sink.octets c.args.out.now) (g.K.Sink.octets c.run_commands.new.out) (g.K.Sink.fault_count c.args.out.now) (g.K.Sink.fault_count c.run_commands.new.out) c.run_commands.ensures.writes
 
 pub returns-in-Err-Line-clause-prints : goal.returns-in-Err-Line-clause-prints
@@ -45,5 +44,5 @@ pub returns-in-Err-Line-clause-writes : goal.returns-in-Err-Line-clause-writes
 returns-in-Err-Line-clause-writes g c =
     refuses_line (star_file c.args.star.now) c.args.script.now c.in-Err-Line.number c.in-Err-Line.fault
     (subst (λ (names : List (List ℕ)). IsLineFault c.in-Err-Line.number c.in-Err-Line.fault (script_of names 0 c.args.script.now)) c.requires.named
-      (told c.args.star.now.names c.args.script.now c.in-Err-Line.field-0-is c.in-Err-Line.ensures))
+    (told c.args.star.now.names c.args.script.now c.in-Err-Line.field-0-is c.in-Err-Line.ensures))
     c.refuse_line.result (g.K.Sink.octets c.args.out.now) (g.K.Sink.octets c.refuse_line.new.out) (g.K.Sink.fault_count c.args.out.now) (g.K.Sink.fault_count c.refuse_line.new.out) c.refuse_line.ensures

@@ -1,4 +1,4 @@
-use Rattle.std.proofs.Common.{ℕ, List, refl, sym, subst}
+use Rattle.std.proofs.Common.{refl, sym, subst}
 use Rattle.x5_load.specs.Views.{file_view}
 use Rattle.x5_model_world.specs.WorldFile.{File}
 use Rattle.xdir.specs.Run.{RefusesStar}
@@ -30,11 +30,11 @@ returns-in-Ok-None-clause-reads g c =
     let f = file_view c.args.world in
     none_reads (g.F.Files.contents c.args.files.now) c.args.script.now f c.put_refusal.result _ _ (g.K.Sink.fault_count c.args.out.now) (g.K.Sink.fault_count c.put_refusal.new.out) _ (g.K.Sink.octets c.args.out.now) (g.K.Sink.octets c.put_refusal.new.out)
     (such_line (RefusesStar f) no_star_text (found_none c.args.world c.in-Ok-None.field-0 c.in-Ok-None.field-0-is c.in-Ok-None.ensures, refl)
-      c.put_refusal.result (g.K.Sink.octets c.args.out.now) (g.K.Sink.octets c.put_refusal.new.out) (g.K.Sink.fault_count c.args.out.now) (g.K.Sink.fault_count c.put_refusal.new.out) c.put_refusal.ensures)
+    c.put_refusal.result (g.K.Sink.octets c.args.out.now) (g.K.Sink.octets c.put_refusal.new.out) (g.K.Sink.fault_count c.args.out.now) (g.K.Sink.fault_count c.put_refusal.new.out) c.put_refusal.ensures)
 
 pub returns-in-Ok-None-clause-writes : goal.returns-in-Ok-None-clause-writes
 returns-in-Ok-None-clause-writes g c =
     let f = file_view c.args.world in
     none_over (g.F.Files.contents c.args.files.now) c.args.script.now f c.put_refusal.result (g.K.Sink.octets c.args.out.now) (g.K.Sink.octets c.put_refusal.new.out) (g.K.Sink.fault_count c.args.out.now) (g.K.Sink.fault_count c.put_refusal.new.out)
     (such_line (RefusesStar f) no_star_text (found_none c.args.world c.in-Ok-None.field-0 c.in-Ok-None.field-0-is c.in-Ok-None.ensures, refl)
-      c.put_refusal.result (g.K.Sink.octets c.args.out.now) (g.K.Sink.octets c.put_refusal.new.out) (g.K.Sink.fault_count c.args.out.now) (g.K.Sink.fault_count c.put_refusal.new.out) c.put_refusal.ensures)
+    c.put_refusal.result (g.K.Sink.octets c.args.out.now) (g.K.Sink.octets c.put_refusal.new.out) (g.K.Sink.fault_count c.args.out.now) (g.K.Sink.fault_count c.put_refusal.new.out) c.put_refusal.ensures)
