@@ -1,21 +1,21 @@
--- An agent at which an update is found has accepted none, since it would have answered at once; and what is passed on of
--- an update stays the user's: by the cases of progress and of requests.
-use Rattle.std.proofs.Common.{◌≡◌, ℕ, ◌==◌, Bool, true, false, not, ◌&&◌, ◌||◌, refl, sym, ap, subst, ◌∙◌, Option, if◌then◌else◌}
+-- An agent at which an update is found has accepted none, since it would have answered at once; and what is passed on
+-- of an update stays the user's: by the cases of progress and of requests.
+use Rattle.std.proofs.Common.{◌≡◌, ℕ, ◌==◌, Bool, true, false, not, ◌&&◌, ◌||◌, refl, sym, ap, ◌∙◌, if◌then◌else◌}
 use Rattle.x5_model.specs.Words.{has}
 use Rattle.x5_model.specs.Values.{Name, key_of}
 use Rattle.x5_model.specs.Requests.{Body, Read, Compare, ListBelow, Search, AddEntry, RemoveEntry, ModifyEntry, ModifyDn, Request}
 use Rattle.x5_model.specs.References.{Progress, Start, Next, Done, Reference, Chained}
 use Rattle.x5_model.proofs.Lists.{both_true}
 use Rattle.x5_model_tree.specs.Ask.{is_update}
-use Rattle.x5_model_run.specs.Journal.{Journal, is_done, is_wide, same_name}
+use Rattle.x5_model_run.specs.Journal.{is_done, is_wide, same_name}
 use Rattle.x5_model_run.specs.Holdings.{Held, Holdings, holds_within}
 use Rattle.x5_model_run.specs.Needs.{target_of, resolves}
 use Rattle.x5_model_run.specs.Placed.{fits, is_query_below}
-use Rattle.x5_model_run.specs.Chain.{Scene, is_user, is_probe, asks_part, part_body, part_request, probe_request, request_for}
+use Rattle.x5_model_run.specs.Chain.{is_user, is_probe, asks_part, part_body, part_request, probe_request}
 use Rattle.x5_model_theory.proofs.Tests.{false_true}
-use Rattle.x5_model_serve.specs.Finding.{Found, Here, Stuck, find, resolved}
-use Rattle.x5_model_serve.specs.Serving.{Hand, Arrives, carried_for, holds_now, is_done_here, found_at}
-use Rattle.x5_model_heard.specs.Kept.{HereIsFresh, IsOfUser, UpdatesAreCarried}
+use Rattle.x5_model_serve.specs.Finding.{Here, Stuck, find}
+use Rattle.x5_model_serve.specs.Serving.{holds_now}
+use Rattle.x5_model_heard.specs.Kept.{HereIsFresh, UpdatesAreCarried}
 
 no_query : (b : Body) → is_update b ≡ true → is_query_below b ≡ true → ⊥
 no_query (Read name selection) u q = false_true u
@@ -55,7 +55,8 @@ not_both false a r e f g = absurd (false_true f)
 
 pub here_is_fresh : HereIsFresh
 here_is_fresh s k j c a e u =
-    not_both (is_update k.message.request.body) (has ◌==◌ j.accepted k.receiver) (resolves (holds_now s j k) k.message) a.fresh u
+    not_both (is_update k.message.request.body) (has ◌==◌ j.accepted k.receiver)
+    (resolves (holds_now s j k) k.message) a.fresh u
     (goes_on (holds_now s j k) k.message c a.fit u e)
 
 -- ---- what is carried

@@ -1,6 +1,6 @@
--- While probes are sent nothing is accepted: what is carried for a probe is a read, and by one induction over all that is
--- done nothing is accepted where no update is carried.
-use Rattle.std.proofs.Common.{◌≡◌, ℕ, ◌+◌, ◌-◌, ◌≤◌, nat_lt, Bool, true, false, not, ◌&&◌, inl, inr, List, [], ◌∷◌, ◌++◌, length, take, refl, sym, ap, subst, ◌∙◌, arith, length-take, Option, Some, None, if◌then◌else◌}
+-- While probes are sent nothing is accepted: what is carried for a probe is a read, and by one induction over all that
+-- is done nothing is accepted where no update is carried.
+use Rattle.std.proofs.Common.{◌≡◌, ℕ, ◌+◌, ◌-◌, ◌≤◌, nat_lt, Bool, true, false, not, ◌&&◌, inl, inr, List, [], ◌∷◌, ◌++◌, length, refl, sym, ap, subst, ◌∙◌, arith, length-take, Option, Some, None, if◌then◌else◌}
 use Rattle.std.specs.List.{flat_map}
 use Rattle.std.specs.Option.{is_some}
 use Rattle.x5_model.specs.Words.{is_empty, first_of, in_option, when}
@@ -23,7 +23,7 @@ use Rattle.x5_model_tree.specs.Ask.{is_update}
 use Rattle.x5_model_run.specs.Holdings.{Held, Holdings, held_at, known_pin}
 use Rattle.x5_model_run.specs.Journal.{Journal, is_wide, same_name}
 use Rattle.x5_model_run.specs.Needs.{others, proceeding, resolves, nssr_at, new_name, is_refused_here, probe_of, probe_needs, due_probes}
-use Rattle.x5_model_run.specs.Chain.{Scene, probe_request, is_probe, part_body, part_request, asks_part, is_user, request_for}
+use Rattle.x5_model_run.specs.Chain.{Scene, probe_request, is_probe, part_body, part_request, asks_part, is_user}
 use Rattle.x5_model_theory.proofs.Tests.{false_true}
 use Rattle.x5_model_theory.proofs.Stages.{key_length}
 use Rattle.x5_model_theory.proofs.Longest.{respelled_key}
@@ -55,7 +55,8 @@ no_fault (Some x) e = cc
 
 abbrev for_nssr : Holdings → Name → Named → Nssr → List Reference
 for_nssr h name e n =
-    when (not (is_empty (others h.me n.agents))) (proceeding (length name) e.name name NonSpecific (others h.me n.agents))
+    when (not (is_empty (others h.me n.agents)))
+    (proceeding (length name) e.name name NonSpecific (others h.me n.agents))
 
 abbrev for_entry : Holdings → Name → Held → Named → List Reference
 for_entry h name c e =
@@ -89,13 +90,15 @@ record Probe (h : Holdings) (m : Chained) (r : Reference) : Type 0 where
 probe_is : (h : Holdings) (m : Chained) (r : Reference) → In r (due_probes h m) → Probe h m r
 probe_is h m r i =
     let a = of_unless (is_some (fault_of m.request.body)) (probe_needs h m) r i in
-    let b = of_option {X = Name} {Y = Reference} (λ name. where_resolved h m name (resolves h m)) (new_name m.request.body) r
+    let b = of_option {X = Name} {Y = Reference} (λ name. where_resolved h m name (resolves h m))
+    (new_name m.request.body) r
     a.1 in
     let c = of_if (resolves h m) (for_known h m b.0 (known_pin m.request h (key_of m.target))) r b.2 in
     let d = of_option {X = Key} {Y = Reference} (for_pin h m b.0) (known_pin m.request h (key_of m.target)) r c.1 in
     let e = of_option {X = Held} {Y = Reference} (λ c. where_passed h b.0 c (passes h m c)) (held_at h.own d.0) r d.2 in
     let f = of_if (passes h m e.0) (probe_of h b.0 e.0) r e.2 in
-    let g = of_option {X = Named} {Y = Reference} (for_entry h b.0 e.0) (entry_at e.0.entries (parent (key_of b.0))) r f.1 in
+    let g = of_option {X = Named} {Y = Reference} (for_entry h b.0 e.0)
+    (entry_at e.0.entries (parent (key_of b.0))) r f.1 in
     let j = of_option {X = Nssr} {Y = Reference} (for_nssr h b.0 g.0) (nssr_at e.0.nssrs (key_of g.0.name)) r g.2 in
     let l = of_when (not (is_empty (others h.me j.0.agents)))
     (proceeding (length b.0) g.0.name b.0 NonSpecific (others h.me j.0.agents)) r j.2 in
@@ -154,7 +157,7 @@ probing (ModifyDn n rdn drops) name t f e k = by (same_name (name_above n ++ rdn
             let is : name_above n ++ rdn ∷ [] ≡ name = cc in
             let up : key_of n ≡ key_of t = (key_decides (key_of n) (key_of t)).0 z in
             absurd (false_true (sym q
-                ∙ (key_decides (key_of (name_above n ++ rdn ∷ [])) (key_of n)).1 (ap key_of is ∙ sym k ∙ sym up)))
+            ∙ (key_decides (key_of (name_above n ++ rdn ∷ [])) (key_of n)).1 (ap key_of is ∙ sym k ∙ sym up)))
 
 -- its target is the new name
 target_key : (h : Holdings) (m : Chained) (r : Reference) (x : Probe h m r) → key_of r.target ≡ key_of x.name
@@ -204,7 +207,8 @@ part_off wide t (ModifyDn name rdn drops) u = cc
 abbrev CarriesNone : Option ℕ → Hand → Reference → Type 0
 CarriesNone from o r = is_update (carried_for from o r).request.body ≡ false
 
-carries : (from : Option ℕ) (o : Hand) → is_update o.message.request.body ≡ false → (r : Reference) → CarriesNone from o r
+carries : (from : Option ℕ) (o : Hand) → is_update o.message.request.body ≡ false → (r : Reference)
+    → CarriesNone from o r
 carries from o h r = by (is_probe o.message.request.body r.target) (asks_part r)
   where
     by : (b c : Bool) → is_update (request_by (is_user from) o.message.request r.target r b c).body ≡ false

@@ -1,21 +1,20 @@
--- Replies name agents of the world, and references to those that are unavailable: by one induction over all that is done.
-use Rattle.std.proofs.Common.{◌≡◌, ℕ, ◌==◌, nat_lt, Bool, true, false, not, ◌&&◌, inl, inr, List, [], ◌∷◌, ◌++◌, refl, sym, ap, subst, ◌∙◌, Option, Some, None, Err, cond}
+-- Replies name agents of the world, and references to those that are unavailable: by one induction over all that is
+-- done.
+use Rattle.std.proofs.Common.{◌≡◌, ℕ, nat_lt, Bool, true, false, not, inl, inr, List, [], ◌∷◌, ◌++◌, refl, ap, subst, ◌∙◌, Option, Some, None, cond}
 use Rattle.std.specs.List.{list_all, filter}
-use Rattle.x5_model.specs.Words.{in_option}
 use Rattle.x5_model.specs.References.{Reference, Chained}
-use Rattle.x5_model.specs.Answers.{Source, Answer, EntryFound, Matched, Listed, Found, Changed, DirError, NoSuchObject, AttributeProblem, UpdateProblem, ServiceProblem, Reply, Answered, Failed, Referred}
+use Rattle.x5_model.specs.Answers.{Source, Answer, EntryFound, Matched, Listed, Found, Changed, DirError, NoSuchObject, AttributeProblem, UpdateProblem, ServiceProblem, Reply, Answered, Failed}
 use Rattle.x5_model.specs.Problems.{unavailable}
 use Rattle.x5_model.proofs.Lists.{both_true, and_true}
 use Rattle.x5_model_tree.specs.Tree.{tree_of}
 use Rattle.x5_model_tree.specs.Ask.{Told, Shows, Compares, Lists, Finds, Changes, Refuses, unexplored_of, ask_marked}
 use Rattle.x5_model_run.specs.Journal.{Journal, is_wide}
-use Rattle.x5_model_run.specs.Holdings.{Held, Holdings, ground_at}
-use Rattle.x5_model_run.specs.Needs.{due_probes}
+use Rattle.x5_model_run.specs.Holdings.{Holdings, ground_at}
 use Rattle.x5_model_run.specs.Chain.{Scene}
 use Rattle.x5_model_theory.proofs.Tests.{false_true}
-use Rattle.x5_model_serve.specs.Answering.{own_source, copy_source, reply_from, local_part, with_unexplored, only_unexplored, limited_answer, merged, to_follow, passed_by, is_service, in_vain, of_these, is_unavailable}
+use Rattle.x5_model_serve.specs.Answering.{own_source, copy_source, reply_from, local_part, with_unexplored, only_unexplored, limited_answer, merged, passed_by, in_vain, of_these, is_unavailable}
 use Rattle.x5_model_serve.specs.Serving.{Hand, Heard, Unheard, Hears, Gathered, Whole, Broken, Act, Does, holds_now, at_limit, gathered_reply, heard_or, parts_refs, stuck_problem, loops, is_long, done_before, refused, unfit, stuck, nowhere, refers, goes, casts, reads, reads_copy, gives_parts, asks_parts, updates, not_done, does, probes_all, misses, taken, breaks, no_probe, clear, unsure, silent, spent, lost, dropped, sends, final, referral, wide_referral, unexplored, none_yet, in_vain_too, heard, unheard, none_asked, unable_too, silent_too, answered, nobody_has, some_silent, no_part, part_unheard, part_unavailable, part_answered, part_breaks}
-use Rattle.x5_model_heard.specs.Told.{are_agents, name_agents, reply_names, error_names, KnowsAgents, HasReference, IsTold, IsToldHeard, IsToldWhole, Tells, RepliesAreTold}
+use Rattle.x5_model_heard.specs.Told.{are_agents, name_agents, reply_names, error_names, KnowsAgents, IsTold, IsToldHeard, IsToldWhole, Tells, RepliesAreTold}
 use Rattle.x5_model_heard.proofs.Errors.{is_tree_error, fault_plain, over_plain, asked_plain, no_service}
 
 all_both : {A : Type 0} (test : A → Bool) (xs ys : List A) → list_all test xs ≡ true → list_all test ys ≡ true
@@ -169,7 +168,8 @@ module _ (n : ℕ) (s : Scene) (most : ℕ) (knows : KnowsAgents n s) where
   tells _ _ _ (is_long e f) = λ here. record { agents = refl; reference = inl refl }
   tells _ _ _ (done_before e f g) = λ here. record { agents = refl; reference = inl refl }
   tells _ _ _ (refused {k} x e f g h) = λ here. plain n x (fault_plain k.message.request.body x h)
-  tells _ _ _ (unfit {k} e f g h i) = λ here. record { agents = all_one (λ a. nat_lt a n) k.receiver here; reference = inl refl }
+  tells _ _ _ (unfit {k} e f g h i) = λ here.
+      record { agents = all_one (λ a. nat_lt a n) k.receiver here; reference = inl refl }
   tells _ _ _ (stuck {k} a e) = λ here. stuck_names n k _ (all_one (λ a. nat_lt a n) k.receiver here)
   tells _ _ _ (nowhere m a e) = λ here. record { agents = refl; reference = inl refl }
   tells _ _ _ (refers {k} {j} r a e f) = λ here. record { agents = knows.onward j k r here e; reference = inl refl }
@@ -209,7 +209,8 @@ module _ (n : ℕ) (s : Scene) (most : ℕ) (knows : KnowsAgents n s) where
       subst (λ (xs : List ℕ). are_agents n xs ≡ true) g (all_first (named n) r [] names) in
       next (all_first (λ x. nat_lt x n) a c (all_right (λ x. nat_lt x n) b (a ∷ c) all)))
   tells _ _ _ no_probe = λ all. refl
-  tells _ _ _ (clear {before = b} a y e d u) = (let next = tells _ _ _ d in λ all. next (all_left (λ x. nat_lt x n) b (a ∷ []) all))
+  tells _ _ _ (clear {before = b} a y e d u) =
+      (let next = tells _ _ _ d in λ all. next (all_left (λ x. nat_lt x n) b (a ∷ []) all))
   tells _ _ _ (unsure {before = b} {noted = m} a y e d u) =
       let next = tells _ _ _ d in
       λ all. all_both (λ x. nat_lt x n) m (a ∷ []) (next (all_left (λ x. nat_lt x n) b (a ∷ []) all))
@@ -221,28 +222,34 @@ module _ (n : ℕ) (s : Scene) (most : ℕ) (knows : KnowsAgents n s) where
   tells _ _ _ (spent a e) = λ there. record { agents = refl; reference = inl refl }
   tells _ _ _ (lost a e f) = λ there. tt
   tells _ _ _ (dropped a y e f d) = λ there. tt
-  tells _ _ _ (sends a y z e f d u) = (let first = tells _ _ _ d in let next = tells _ _ _ u in λ there. next (first there))
+  tells _ _ _ (sends a y z e f d u) =
+      (let first = tells _ _ _ d in let next = tells _ _ _ u in λ there. next (first there))
   tells _ _ _ (final y e) = λ told. told
-  tells _ _ _ (referral r h e d) = (let next = tells _ _ _ d in λ told. heard_names n r h told.agents (next told.agents))
+  tells _ _ _ (referral r h e d) =
+      (let next = tells _ _ _ d in λ told. heard_names n r h told.agents (next told.agents))
   tells _ _ _ (wide_referral r y e d) = (let next = tells _ _ _ d in λ told. next told.agents)
   tells _ _ _ (unexplored {k = k} a w e d) =
       let next = tells _ _ _ d in
-      λ told. whole_names n k w (next (all_filter (named n) (λ r. not r.tried) (unexplored_of a) told.agents) (only_names n a told.agents))
+      λ told. whole_names n k w
+      (next (all_filter (named n) (λ r. not r.tried) (unexplored_of a) told.agents) (only_names n a told.agents))
   tells _ _ _ none_yet = tt
   tells _ _ _ (in_vain_too a d u) = tt
   tells _ _ _ (heard b c a y e d u) =
       let next = tells _ _ _ u in
-      λ all. next (all_first (λ x. nat_lt x n) a c (all_right (λ x. nat_lt x n) b (a ∷ c) (subst (λ (xs : List ℕ). are_agents n xs ≡ true) e all)))
+      λ all. next (all_first (λ x. nat_lt x n) a c
+      (all_right (λ x. nat_lt x n) b (a ∷ c) (subst (λ (xs : List ℕ). are_agents n xs ≡ true) e all)))
   tells _ _ _ (unheard d) = λ all. tt
   tells _ _ _ none_asked = λ all. refl
-  tells _ _ _ (unable_too {before = b} a y e d u) = (let next = tells _ _ _ d in λ all. next (all_left (λ x. nat_lt x n) b (a ∷ []) all))
+  tells _ _ _ (unable_too {before = b} a y e d u) =
+      (let next = tells _ _ _ d in λ all. next (all_left (λ x. nat_lt x n) b (a ∷ []) all))
   tells _ _ _ (silent_too {before = b} {noted = m} a d u) =
       let next = tells _ _ _ d in
       λ all. all_both (λ x. nat_lt x n) m (a ∷ []) (next (all_left (λ x. nat_lt x n) b (a ∷ []) all))
       (all_right (λ x. nat_lt x n) b (a ∷ []) all)
   tells _ _ _ (answered b c m a y e f d u) =
       let next = tells _ _ _ u in
-      λ all. next (all_first (λ x. nat_lt x n) a c (all_right (λ x. nat_lt x n) b (a ∷ c) (subst (λ (xs : List ℕ). are_agents n xs ≡ true) e all)))
+      λ all. next (all_first (λ x. nat_lt x n) a c
+      (all_right (λ x. nat_lt x n) b (a ∷ c) (subst (λ (xs : List ℕ). are_agents n xs ≡ true) e all)))
   tells _ _ _ (nobody_has d) = λ all. record { agents = refl; reference = inl refl }
   tells _ _ _ (some_silent {r = r} m e d) = (let next = tells _ _ _ d in λ all. lost_named n (of_these m r) (next all))
   tells _ _ _ no_part = λ all left. left

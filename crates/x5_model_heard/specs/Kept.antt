@@ -9,7 +9,7 @@ use Rattle.x5_model_run.specs.Holdings.{Held, Holdings}
 use Rattle.x5_model_run.specs.Needs.{due_probes}
 use Rattle.x5_model_run.specs.Chain.{Scene}
 use Rattle.x5_model_serve.specs.Finding.{Here}
-use Rattle.x5_model_serve.specs.Serving.{Hand, Probes, Does, Arrives, carried_for, holds_now, found_at}
+use Rattle.x5_model_serve.specs.Serving.{Hand, Probes, Does, Arrives, carried_for, found_at}
 
 -- 1. While the probes that are due are sent nothing is accepted.
 abbrev pub ProbesAcceptNone : Type 0

@@ -1,11 +1,11 @@
--- What a reply may be relied on to tell (X.518, section 20): it names agents of the world, and where it says that somebody
--- is unavailable it has a reference to them.
+-- What a reply may be relied on to tell (X.518, section 20): it names agents of the world, and where it says that
+-- somebody is unavailable it has a reference to them.
 use Rattle.std.specs.Prelude.{◌≡◌, ℕ, ◌⊎◌, nat_lt, Bool, true, false, List, ⊤}
 use Rattle.std.specs.List.{list_all}
 use Rattle.std.specs.declared.option.Option.{Option}
 use Rattle.std.specs.declared.option.Option.TheVariants.{None, Some}
 use Rattle.x5_model.specs.References.{Reference}
-use Rattle.x5_model.specs.Answers.{Answer, DirError, NoSuchObject, AttributeProblem, UpdateProblem, ServiceProblem, Reply, Answered, Failed, Referred}
+use Rattle.x5_model.specs.Answers.{DirError, NoSuchObject, AttributeProblem, UpdateProblem, ServiceProblem, Reply, Answered, Failed, Referred}
 use Rattle.x5_model.specs.Problems.{unavailable}
 use Rattle.x5_model_tree.specs.Ask.{unexplored_of}
 use Rattle.x5_model_run.specs.Journal.{Journal}
