@@ -62,13 +62,14 @@ fn read(
     alloc: Global,
     tree: &DseTree,
     node: NodeId,
+    found: &Entry,
     source: Source,
     selection: &Selection,
 ) -> Result<Reply, NoMemory>
     requires live { IsTrue (is_live tree.now.nodes node) }
-    ensures { IfOk result (λ reply. (names : List (List ℕ)) (n : Node) → node_with tree.now.nodes node ≡ Some n → reply_view names reply ≡ parts.reply_from (source_view names source ∷ []) (model.read (λ key. is_some source.moment) (selection_view selection.now) n.named)) }
+    ensures { IfOk result (λ reply. (names : List (List ℕ)) (n : Node) → node_with tree.now.nodes node ≡ Some n → n.named.entry ≡ found.now → reply_view names reply ≡ parts.reply_from (source_view names source ∷ []) (model.read (λ key. is_some source.moment) (selection_view selection.now) n.named)) }
 {
-    if let Some(kind) = selection_fault(selection, tree.entry(node)) {
+    if let Some(kind) = selection_fault(selection, found) {
         return lacking(kind);
     }
     let copy = source.moment.is_some();
@@ -102,18 +103,17 @@ fn answer_at(
     alloc: Global,
     tree: &DseTree,
     node: NodeId,
+    found: &Entry,
     source: Source,
     body: &Body,
 ) -> Result<Reply, NoMemory>
     requires live { IsTrue (is_live tree.now.nodes node) }
     requires reads { IsTrue (is_read (body_view body.now)) }
-    ensures { IfOk result (λ reply. (names : List (List ℕ)) (n : Node) → node_with tree.now.nodes node ≡ Some n → reply_view names reply ≡ parts.reply_from (source_view names source ∷ []) (read_told (is_some source.moment) (body_view body.now) n.named)) }
+    ensures { IfOk result (λ reply. (names : List (List ℕ)) (n : Node) → node_with tree.now.nodes node ≡ Some n → n.named.entry ≡ found.now → reply_view names reply ≡ parts.reply_from (source_view names source ∷ []) (read_told (is_some source.moment) (body_view body.now) n.named)) }
 {
     match body {
-        Body::Read { selection, .. } => read(alloc, tree, node, source, selection),
-        Body::Compare { kind, value, .. } => {
-            compare(alloc, tree.entry(node), source, kind, value)
-        }
+        Body::Read { selection, .. } => read(alloc, tree, node, found, source, selection),
+        Body::Compare { kind, value, .. } => compare(alloc, found, source, kind, value),
         _ => unreachable!(),
     }
 }
@@ -135,8 +135,10 @@ pub fn read_own(
     ensures { IfOk result (λ reply. (c : Kept) → slice_get state.now.own own ≡ Some c → reply_view names.now reply ≡ parts.reply_in_own state.now.me (chained_view names.now message.now) (held_view c)) }
 {
     let held = &state.own()[own];
+    let tree = held.tree();
+    let found = tree.entry(node);
     let source = source(names, state.me(), held.prefix(), None)?;
-    answer_at(alloc, held.tree(), node, source, &message.request.body)
+    answer_at(alloc, tree, node, found, source, &message.request.body)
 }
 
 /// What a read or compare is answered at the target, in a copy that may be used. An answer that is an error is to be had from the
@@ -160,6 +162,8 @@ pub fn read_copy(
     let Some(held) = copied.held() else {
         unreachable!()
     };
+    let tree = held.tree();
+    let found = tree.entry(node);
     let source = source(names, state.me(), copied.prefix(), copied.stamp())?;
-    answer_at(alloc, held.tree(), node, source, &message.request.body)
+    answer_at(alloc, tree, node, found, source, &message.request.body)
 }
