@@ -31,7 +31,7 @@ entry-found-requires c =
     (c.index-copies-copy.is ∙ ap (λ (l : List CopyKept). get_or l c.args.copy x) c.copies.ensures.copies) in
     let fresh : x.refreshed ≡ Some brought = copy_refreshed c.args.state.now m c.args.copy c.args.node x c.requires.at held in
     let kept : c.in-Some.held.now ≡ brought.0 = first_of_brought x.refreshed brought c.in-Some.held.now c.in-Some.ensures fresh in
-    let nodes : c.tree.result.now ≡ brought.0.nodes = c.tree.ensures.nodes ∙ ap (λ (k : Kept). k.nodes) kept in
+    let nodes : c.tree-tree.result.now ≡ brought.0.nodes = c.tree-tree.ensures.nodes ∙ ap (λ (k : Kept). k.nodes) kept in
     subst (λ (n : Nodes). is_live n.nodes c.args.node ≡ true) (sym nodes)
     (live brought.0.nodes.nodes (key_of c.args.message.now.target) c.args.node c.requires.at.at)
 
@@ -44,7 +44,7 @@ answer_at-requires-clause-live c =
     (c.index-copies-copy.is ∙ ap (λ (l : List CopyKept). get_or l c.args.copy x) c.copies.ensures.copies) in
     let fresh : x.refreshed ≡ Some brought = copy_refreshed c.args.state.now m c.args.copy c.args.node x c.requires.at held in
     let kept : c.in-Some.held.now ≡ brought.0 = first_of_brought x.refreshed brought c.in-Some.held.now c.in-Some.ensures fresh in
-    let nodes : c.tree.result.now ≡ brought.0.nodes = c.tree.ensures.nodes ∙ ap (λ (k : Kept). k.nodes) kept in
+    let nodes : c.tree-tree.result.now ≡ brought.0.nodes = c.tree-tree.ensures.nodes ∙ ap (λ (k : Kept). k.nodes) kept in
     subst (λ (n : Nodes). is_live n.nodes c.args.node ≡ true) (sym nodes)
     (live brought.0.nodes.nodes (key_of c.args.message.now.target) c.args.node c.requires.at.at)
 
@@ -57,11 +57,11 @@ returns c =
     (c.index-copies-copy.is ∙ ap (λ (l : List CopyKept). get_or l c.args.copy x) c.copies.ensures.copies) in
     let fresh : x.refreshed ≡ Some brought = copy_refreshed c.args.state.now m c.args.copy c.args.node x c.requires.at held in
     let kept : c.in-Some.held.now ≡ brought.0 = first_of_brought x.refreshed brought c.in-Some.held.now c.in-Some.ensures fresh in
-    let nodes : c.tree.result.now ≡ brought.0.nodes = c.tree.ensures.nodes ∙ ap (λ (k : Kept). k.nodes) kept in
+    let nodes : c.tree-tree.result.now ≡ brought.0.nodes = c.tree-tree.ensures.nodes ∙ ap (λ (k : Kept). k.nodes) kept in
     let sv = source_view c.args.names.now c.in_ok-source.source in
     let is : sv ≡ copy_source c.args.state.now.me (copy_view x) =
     c.in_ok-source.ensures ∙ (λ i. record { context = c.prefix.ensures i; agent = c.me.ensures i; moment = c.stamp.ensures i }) in
-    ok_by (λ (reply : Reply). (names : List (List ℕ)) (n : Node) → node_with c.tree.result.now.nodes c.args.node ≡ Some n → n.named.entry ≡ c.entry-found.result.now → reply_view names reply ≡ reply_from (source_view names c.in_ok-source.source ∷ []) (read_told (is_some c.in_ok-source.source.moment) (body_view c.args.message.now.request.body) n.named))
+    ok_by (λ (reply : Reply). (names : List (List ℕ)) (n : Node) → node_with c.tree-tree.result.now.nodes c.args.node ≡ Some n → n.named.entry ≡ c.entry-found.result.now → reply_view names reply ≡ reply_from (source_view names c.in_ok-source.source ∷ []) (read_told (is_some c.in_ok-source.source.moment) (body_view c.args.message.now.request.body) n.named))
     (λ (reply : Reply). (k : CopyKept) → slice_get c.args.state.now.copies c.args.copy ≡ Some k → reply_view c.args.names.now reply ≡ reply_in_copy c.args.state.now.me m (copy_view k))
     (λ reply told k at.
     subst (λ (y : CopyKept). reply_view c.args.names.now reply ≡ reply_in_copy c.args.state.now.me m (copy_view y)) (same_some x k (sym held ∙ at))
@@ -69,6 +69,6 @@ returns c =
     (replied_at brought.0.nodes.nodes (subst (λ (n : Nodes). IsLinked n.nodes) nodes c.entry-found.ensures.linked) m c.args.node sv (reply_view c.args.names.now reply) c.requires.asked c.requires.reads
     (subst (λ (n : Nodes). AreNumbered n.nodes) nodes c.entry-found.ensures.numbered) c.requires.at.at
     (λ n with.
-    let w : node_with c.tree.result.now.nodes c.args.node ≡ Some n = subst (λ (l : Nodes). node_with l.nodes c.args.node ≡ Some n) (sym nodes) with in
+    let w : node_with c.tree-tree.result.now.nodes c.args.node ≡ Some n = subst (λ (l : Nodes). node_with l.nodes c.args.node ≡ Some n) (sym nodes) with in
     told c.args.names.now n w (same_some n.named.entry c.entry-found.result.now (sym (ap (option_map entry_in) w) ∙ c.entry-found.ensures.entry))))))
     c.answer_at.result c.answer_at.ensures
