@@ -1,5 +1,5 @@
 -- The agent that a name stands for: where no name stands twice, it's found at its own place.
-use Rattle.std.proofs.Common.{◌≡◌, ℕ, zero, suc, ◌+◌, ◌<◌, Bool, true, false, not, ◌&&◌, ◌||◌, inl, inr, List, [], ◌∷◌, length, get_or, refl, sym, ap, ◌∙◌, arith, Some, cond}
+use Rattle.std.proofs.Common.{◌≡◌, ℕ, zero, suc, ◌+◌, ◌<◌, Bool, true, false, not, ◌||◌, inl, inr, List, [], ◌∷◌, length, get_or, refl, sym, ap, ◌∙◌, arith, Some, cond}
 use Rattle.std.specs.List.{slice_get, position_or_len}
 use Rattle.std.specs.Cmp.Lexicographic.{bytes_decides}
 use Rattle.std.proofs.lemmas.Option.{slice_get_within, get_or_from_slice_get}
@@ -62,4 +62,3 @@ pub own_place : (names : List (List ℕ)) (me : ℕ) (x : List ℕ) → distinct
     → agent_of names x ≡ me
 own_place names me x d e =
     place_is names me x d (slice_get_within names me x e) (get_or_from_slice_get names me x x e)
-

@@ -1,28 +1,26 @@
 -- What a read or compare tells at a node is what the definition tells of the context's entries: the node is the one that has the
 -- target's key, and entries in the order of their keys are sorted already.
-use Rattle.std.proofs.Common.{◌≡◌, ℕ, Bool, true, false, ◌&&◌, IsTrue, cond, List, [], ◌∷◌, map, refl, sym, ap, subst, ◌∙◌, Option, Some, None, Result, Ok, Err, IfOk}
+use Rattle.std.proofs.Common.{◌≡◌, ℕ, Bool, true, false, ◌&&◌, cond, List, [], ◌∷◌, refl, sym, ap, subst, ◌∙◌, Option, Some, None, Result, Ok, Err, IfOk}
 use Rattle.std.specs.List.{slice_get}
 use Rattle.std.specs.Option.{option_map, is_some}
 use Rattle.x5_model.specs.Words.{ascending}
 use Rattle.x5_model.specs.Keys.{Key, same_key}
 use Rattle.x5_model.specs.Values.{Name, key_of}
 use Rattle.x5_model.specs.Entries.{Named}
-use Rattle.x5_model.specs.Members.{In}
 use Rattle.x5_model.specs.Requests.{Body, Read, Compare, ListBelow, Search, AddEntry, RemoveEntry, ModifyEntry, ModifyDn, Request}
 use Rattle.x5_model.specs.References.{Chained}
 use Rattle.x5_model.specs.Answers.{DirError, Source, Reply}
 use Rattle.x5_model.specs.Statics.{fault_of}
 use Rattle.x5_model.proofs.Ascending.{sorted_itself}
 use Rattle.x5_model.proofs.KeyLaws.{key_decides}
-use Rattle.x5_model.proofs.Lists.{both_true, of_find, any_in}
-use Rattle.x5_model_tree.specs.Tree.{Tree, key_at, named_below, sorted_entries, tree_of, entry_at}
+use Rattle.x5_model.proofs.Lists.{both_true, of_find}
+use Rattle.x5_model_tree.specs.Tree.{Tree, named_below, sorted_entries, tree_of, entry_at}
 use Rattle.x5_model_tree.specs.Ask.{Told, Refuses, absent, at_object, read, compare, ask_body, ask_marked}
 use Rattle.x5_model_tree.proofs.Order.{named_chain, named_never}
-use Rattle.x5_model_run.specs.Journal.{is_done}
 use Rattle.x5_model_run.specs.Needs.{target_of}
-use Rattle.x5_model_run.specs.Placed.{fits, is_query_below}
+use Rattle.x5_model_run.specs.Placed.{fits}
 use Rattle.x5_dse.specs.declared.node.NodeId.{NodeId}
-use Rattle.x5_dse.specs.Linked.{Node, IsLinked, AreNumbered, entries_of, id_of, named_of, node_key, node_below, node_at, node_with, has_id, is_live}
+use Rattle.x5_dse.specs.Linked.{Node, IsLinked, AreNumbered, entries_of, id_of, named_of, node_key, node_below, node_at, node_with, is_live}
 use Rattle.x5_dse.proofs.Callers.{found_live}
 use Rattle.x5_model_serve.specs.Answering.{reply_from, own_source, copy_source, reply_in_own, reply_in_copy}
 use Rattle.x5_holdings.specs.State.{Kept, CopyKept, State, held_view, copy_view, stamp_of, brought_entries}

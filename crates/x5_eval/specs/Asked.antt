@@ -1,7 +1,6 @@
 -- What is asked of an agent that evaluates a message, and where the resolution of its name ended (X.518, section 19).
 use Rattle.std.specs.Prelude.{◌≡◌, ℕ, Bool, true, false, slice_get}
 use Rattle.std.specs.Option.{option_map}
-use Rattle.std.specs.declared.option.Option.{Option}
 use Rattle.std.specs.declared.option.Option.TheVariants.{None, Some}
 use Rattle.x5_model.specs.Values.{key_of}
 use Rattle.x5_model.specs.Entries.{Named}

@@ -3,16 +3,16 @@ use Rattle.std.proofs.Common.{◌≡◌, ℕ, true, List, [], ◌∷◌, get_or,
 use Rattle.std.specs.List.{slice_get}
 use Rattle.std.specs.Option.{is_some, option_map}
 use Rattle.std.proofs.lemmas.Option.{slice_get_within}
-use Rattle.x5_model.specs.Values.{Name, key_of}
+use Rattle.x5_model.specs.Values.{key_of}
 use Rattle.x5_model_serve.specs.Answering.{reply_from, own_source, reply_in_own}
 use Rattle.x5_ops.specs.AnswerViews.{reply_view, source_view}
 use Rattle.x5_ops.specs.ReferenceViews.{chained_view}
 use Rattle.x5_ops.specs.RequestViews.{body_view}
 use Rattle.x5_ops.specs.declared.answers.Reply.{Reply}
-use Rattle.x5_dse.specs.Linked.{Node, Nodes, IsLinked, AreNumbered, id_of, entry_in, node_at, node_with, is_live}
+use Rattle.x5_dse.specs.Linked.{Node, Nodes, IsLinked, AreNumbered, entry_in, node_with, is_live}
 use Rattle.x5_holdings.specs.State.{Kept, State, held_view}
 use Rattle.x5_holdings.proofs.Holding.{got}
-use Rattle.x5_eval.specs.Asked.{IsTarget, read_told}
+use Rattle.x5_eval.specs.Asked.{read_told}
 use Rattle.x5_eval.proofs.Telling.{ok_by, same_some, live, replied_at, own_target, own_reply}
 use Rattle.x5_eval.proofs.reading.read_own.Goals as goal
 
