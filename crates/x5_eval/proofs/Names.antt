@@ -54,11 +54,13 @@ place_is (y ∷ names) (suc me) x d l e =
         → cond (not b) (1 + position_or_len (λ n. same_octets n x) names) 0 ≡ suc me
     by true q p = absurd (false_true (sym q))
     by false q p =
-        let one : 1 + position_or_len (λ n. same_octets n x) names ≡ suc (position_or_len (λ n. same_octets n x) names) =
+        let one : 1 + position_or_len (λ n. same_octets n x) names ≡ suc (position_or_len (λ n. same_octets n x)
+        names) =
         omega arith in
         one ∙ ap suc p
 
-pub own_place : (names : List (List ℕ)) (me : ℕ) (x : List ℕ) → distinct same_octets names ≡ true → slice_get names me ≡ Some x
+pub own_place : (names : List (List ℕ)) (me : ℕ) (x : List ℕ) → distinct same_octets names ≡ true → slice_get names me
+    ≡ Some x
     → agent_of names x ≡ me
 own_place names me x d e =
     place_is names me x d (slice_get_within names me x e) (get_or_from_slice_get names me x x e)

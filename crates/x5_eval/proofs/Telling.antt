@@ -39,14 +39,16 @@ abbrev picked : Told → (Named → Told) → Option Named → Told
 picked none f None = none
 picked none f (Some e) = f e
 
-told_there : (t : Tree) (name : Name) (f : Named → Told) (e : Named) → entry_at t.entries (key_of name) ≡ Some e → at_object t name f ≡ f e
+told_there : (t : Tree) (name : Name) (f : Named → Told) (e : Named) → entry_at t.entries (key_of name) ≡ Some e →
+    at_object t name f ≡ f e
 told_there t name f e q = ap (λ (o : Option Named). picked (absent t name) f o) q
 
 abbrev first_refused : Told → Option DirError → Told
 first_refused told (Some x) = Refuses x
 first_refused told None = told
 
-not_refused : (copies : Key → Bool) (t : Tree) (r : Request) → fault_of r.body ≡ None → ask_marked copies t r ≡ ask_body copies t r r.body
+not_refused : (copies : Key → Bool) (t : Tree) (r : Request) → fault_of r.body ≡ None → ask_marked copies t r ≡
+    ask_body copies t r r.body
 not_refused copies t r e = ap (λ (o : Option DirError). first_refused (ask_body copies t r r.body) o) e
 
 body_told : (copy : Bool) (t : Tree) (r : Request) (body : Body) (e : Named) → is_read body ≡ true
@@ -67,7 +69,8 @@ target_key m f =
 
 -- ---- nodes and their entries
 
-entry_of_node : (nodes : List Node) (key : Key) → entry_at (entries_of nodes) key ≡ option_map named_of (node_at nodes key)
+entry_of_node : (nodes : List Node) (key : Key) → entry_at (entries_of nodes) key ≡ option_map named_of (node_at nodes
+    key)
 entry_of_node [] key = refl
 entry_of_node (n ∷ ns) key = by (same_key (node_key n) key) (entry_of_node ns key)
   where
@@ -76,7 +79,8 @@ entry_of_node (n ∷ ns) key = by (same_key (node_key n) key) (entry_of_node ns 
     by true e = refl
     by false e = e
 
-entries_ascending : (nodes : List Node) → ascending node_below nodes ≡ true → ascending named_below (entries_of nodes) ≡ true
+entries_ascending : (nodes : List Node) → ascending node_below nodes ≡ true → ascending named_below (entries_of nodes)
+    ≡ true
 entries_ascending [] h = refl
 entries_ascending (n ∷ []) h = refl
 entries_ascending (n ∷ m ∷ ns) h =
@@ -101,7 +105,8 @@ module _ (nodes : List Node) (key : Key) (node : NodeId) (at : option_map id_of 
 
 module _ (nodes : List Node) (linked : IsLinked nodes) where
   pub sorted_already : sorted_entries (entries_of nodes) ≡ entries_of nodes
-  sorted_already = sorted_itself named_below named_chain named_never (entries_of nodes) (entries_ascending nodes linked.in_order)
+  sorted_already = sorted_itself named_below named_chain named_never (entries_of nodes) (entries_ascending nodes
+      linked.in_order)
 
   -- what is told of the context's entries is told at the node
   pub told_at : (copy : Bool) (m : Chained) (n : Node) → IsAsked m → is_read m.request.body ≡ true
@@ -117,39 +122,51 @@ module _ (nodes : List Node) (linked : IsLinked nodes) where
       ∙ body_told copy (tree_of (entries_of nodes) []) m.request m.request.body n.named reads e
 
   -- the reply with its source
-  pub replied_at : (m : Chained) (node : NodeId) (source : Source) (reply : Reply) → IsAsked m → is_read m.request.body ≡ true
+  pub replied_at : (m : Chained) (node : NodeId) (source : Source) (reply : Reply) → IsAsked m → is_read
+      m.request.body ≡ true
       → AreNumbered nodes → option_map id_of (node_at nodes (key_of m.target)) ≡ Some node
-      → ((n : Node) → node_with nodes node ≡ Some n → reply ≡ reply_from (source ∷ []) (read_told (is_some source.moment) m.request.body n.named))
-      → reply ≡ reply_from (source ∷ []) (ask_marked (λ key. is_some source.moment) (tree_of (entries_of nodes) []) m.request)
+      → ((n : Node) → node_with nodes node ≡ Some n → reply ≡ reply_from (source ∷ []) (read_told (is_some
+      source.moment) m.request.body n.named))
+      → reply ≡ reply_from (source ∷ []) (ask_marked (λ key. is_some source.moment) (tree_of (entries_of nodes) [])
+      m.request)
   replied_at m node source reply asked reads numbered at told =
       let n = node_found nodes (key_of m.target) node at numbered in
       told n.0 n.1 ∙ ap (reply_from (source ∷ [])) (sym (told_at (is_some source.moment) m n.0 asked reads n.2))
 
 -- ---- in a context that is mastered, and in a copy
 
-pub own_target : (s : State) (m : Chained) (own : ℕ) (node : NodeId) (c : Kept) → IsTarget s m own node → slice_get s.own own ≡ Some c
+pub own_target : (s : State) (m : Chained) (own : ℕ) (node : NodeId) (c : Kept) → IsTarget s m own node → slice_get
+    s.own own ≡ Some c
     → option_map id_of (node_at c.nodes.nodes (key_of m.target)) ≡ Some node
 own_target s m own node c t e =
     subst (λ (k : Kept). option_map id_of (node_at k.nodes.nodes (key_of m.target)) ≡ Some node)
     (same_some t.kept c (sym t.held ∙ e)) t.at
 
-pub copy_refreshed : (s : State) (m : Chained) (copy : ℕ) (node : NodeId) (c : CopyKept) (t : IsCopyTarget s m copy node)
+pub copy_refreshed : (s : State) (m : Chained) (copy : ℕ) (node : NodeId) (c : CopyKept) (t : IsCopyTarget s m copy
+    node)
     → slice_get s.copies copy ≡ Some c → c.refreshed ≡ Some t.brought
 copy_refreshed s m copy node c t e =
     subst (λ (k : CopyKept). k.refreshed ≡ Some t.brought) (same_some t.kept c (sym t.held ∙ e)) t.refreshed
 
-pub own_reply : (me : ℕ) (m : Chained) (c : Kept) (source : Source) (reply : Reply) → source ≡ own_source me (held_view c)
-    → reply ≡ reply_from (source ∷ []) (ask_marked (λ key. is_some source.moment) (tree_of (entries_of c.nodes.nodes) []) m.request)
+pub own_reply : (me : ℕ) (m : Chained) (c : Kept) (source : Source) (reply : Reply) → source ≡ own_source me
+    (held_view c)
+    → reply ≡ reply_from (source ∷ []) (ask_marked (λ key. is_some source.moment) (tree_of (entries_of c.nodes.nodes)
+    []) m.request)
     → reply ≡ reply_in_own me m (held_view c)
 own_reply me m c source reply e told =
-    told ∙ ap (λ (s : Source). reply_from (s ∷ []) (ask_marked (λ key. is_some s.moment) (tree_of (entries_of c.nodes.nodes) []) m.request)) e
+    told ∙ ap (λ (s : Source). reply_from (s ∷ []) (ask_marked (λ key. is_some s.moment) (tree_of (entries_of
+    c.nodes.nodes) []) m.request)) e
 
 pub copy_reply : (me : ℕ) (m : Chained) (c : CopyKept) (brought : Kept × ℕ) (source : Source) (reply : Reply)
     → c.refreshed ≡ Some brought → source ≡ copy_source me (copy_view c)
-    → reply ≡ reply_from (source ∷ []) (ask_marked (λ key. is_some source.moment) (tree_of (entries_of brought.0.nodes.nodes) []) m.request)
+    → reply ≡ reply_from (source ∷ []) (ask_marked (λ key. is_some source.moment) (tree_of (entries_of
+    brought.0.nodes.nodes) []) m.request)
     → reply ≡ reply_in_copy me m (copy_view c)
 copy_reply me m c brought source reply r e told =
     told
-    ∙ ap (λ (s : Source). reply_from (s ∷ []) (ask_marked (λ key. is_some s.moment) (tree_of (entries_of brought.0.nodes.nodes) []) m.request)) e
-    ∙ ap (λ (o : Option (Kept × ℕ)). reply_from (copy_source me (copy_view c) ∷ []) (ask_marked (λ key. is_some (stamp_of o)) (tree_of (entries_of brought.0.nodes.nodes) []) m.request)) r
-    ∙ ap (λ (o : Option (Kept × ℕ)). reply_from (copy_source me (copy_view c) ∷ []) (ask_marked (λ key. true) (tree_of (brought_entries o) []) m.request)) (sym r)
+    ∙ ap (λ (s : Source). reply_from (s ∷ []) (ask_marked (λ key. is_some s.moment) (tree_of (entries_of
+    brought.0.nodes.nodes) []) m.request)) e
+    ∙ ap (λ (o : Option (Kept × ℕ)). reply_from (copy_source me (copy_view c) ∷ []) (ask_marked (λ key. is_some
+    (stamp_of o)) (tree_of (entries_of brought.0.nodes.nodes) []) m.request)) r
+    ∙ ap (λ (o : Option (Kept × ℕ)). reply_from (copy_source me (copy_view c) ∷ []) (ask_marked (λ key. true) (tree_of
+    (brought_entries o) []) m.request)) (sym r)

@@ -12,5 +12,8 @@ use Rattle.x5_eval.proofs.reading.answer_at.Goals as goal
 
 pub returns-in-Read : goal.returns-in-Read
 returns-in-Read c =
-    subst (λ (b : Body). IfOk c.read.result (λ (reply : Reply). (names : List (List ℕ)) (n : Node) → node_with c.args.tree.now.nodes c.args.node ≡ Some n → n.named.entry ≡ c.args.found.now → reply_view names reply ≡ parts.reply_from (source_view names c.args.source ∷ []) (read_told (is_some c.args.source.moment) (body_view b) n.named)))
+    subst (λ (b : Body). IfOk c.read.result (λ (reply : Reply). (names : List (List ℕ)) (n : Node) → node_with
+    c.args.tree.now.nodes c.args.node ≡ Some n → n.named.entry ≡ c.args.found.now → reply_view names reply ≡
+    parts.reply_from (source_view names c.args.source ∷ []) (read_told (is_some c.args.source.moment) (body_view b)
+    n.named)))
     (sym c.in-Read.is) c.read.ensures
