@@ -251,6 +251,11 @@ module _ (prefix : Name) (slots : Slots) (order : List NodeId) (row : IsRow slot
           let q : v.0 ≡ id = (id_decides v.0 id).0 (subst (λ (k : Node). has_id id k ≡ true) v.2 w.1) in
           p ∙ ap (λ (n : Node). Some n) (v.2 ∙ ap (node_of prefix slots) q)
 
+  pub numbered : (n : Node) → In n all_nodes → node_with all_nodes n.id ≡ Some n
+  numbered n i =
+      let v = of_nodes n i in
+      subst (λ (m : Node). node_with all_nodes m.id ≡ Some m) (sym v.2) (live_node v.0 v.1)
+
   -- ---- they are linked
 
   top_first : (id : NodeId) → In id order → key_below (key_in top) (key_in id) ≡ true

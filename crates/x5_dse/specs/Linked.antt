@@ -87,6 +87,10 @@ pub record IsLinked (nodes : List Node) : Type 0 where
   pub in_order : IsTrue (ascending node_below nodes)
   pub above : IsTrue (list_all (is_placed nodes) nodes)
 
+-- each node is the one of its number
+abbrev pub AreNumbered : List Node → Type 0
+AreNumbered nodes = (n : Node) → In n nodes → node_with nodes n.id ≡ Some n
+
 -- the key of a node's entry
 abbrev pub key_with : List Node → NodeId → Key
 key_with nodes id = in_option root node_key (node_with nodes id)

@@ -5,7 +5,7 @@ ghost use Rattle.std.specs.Option.{option_map};
 ghost use Rattle.x5_model.specs.Keys.{is_prefix};
 ghost use Rattle.x5_model.specs.Words.{first_of, in_option};
 ghost use Rattle.x5_model.specs.Values.{key_of};
-ghost use Rattle.x5_dse.specs.Linked.{IsLinked, IsLowest, entries_of, id_of, entry_in, name_in, length_in, node_at, node_with, is_first, is_live, prefix_of, children_of, subtree_of, walk_from, IsAt, IsWithin};
+ghost use Rattle.x5_dse.specs.Linked.{IsLinked, IsLowest, AreNumbered, entries_of, id_of, entry_in, name_in, length_in, node_at, node_with, is_first, is_live, prefix_of, children_of, subtree_of, walk_from, IsAt, IsWithin};
 ghost use Rattle.x5_dse.specs.Changes.{Inserted, NotInserted, Removed, NotRemoved, Renamed, NotRenamed, Replaced};
 
 use crate::children::Children;
@@ -115,7 +115,9 @@ impl DseTree {
     /// The entry of the node. No memory.
     pub fn entry(&self, node: NodeId) -> &Entry
         requires { IsTrue (is_live self.now.nodes node) }
-        ensures { option_map entry_in (node_with self.now.nodes node) ≡ Some result.now }
+        ensures entry { option_map entry_in (node_with self.now.nodes node) ≡ Some result.now }
+        ensures linked { IsLinked self.now.nodes }
+        ensures numbered { AreNumbered self.now.nodes }
     {
         &held_at(&self.slots, node).entry
     }

@@ -20,7 +20,7 @@ invariant_of-result c =
             c.in_ok-tree.ensures ∙ ap key_of name;
         posted = posted_alone c.add.new.self.postings c.in_ok-tree.tree.nodes
             (record { name = c.in_ok-clone.field-0; entry = c.args.entry }) c.top-top.result c.entry-2.result.now
-            c.in_ok-tree.ensures c.top-top.ensures c.entry-2.ensures
+            c.in_ok-tree.ensures c.top-top.ensures c.entry-2.ensures.entry
             (subst (λ (ps : List Posting). IsPut ps c.top-top.result.0 c.entry-2.result.now c.add.new.self.postings)
             c.new-postings.ensures c.in_ok-add.ensures.ok);
       };

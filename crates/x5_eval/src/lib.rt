@@ -1,0 +1,8 @@
+//! What an agent answers by itself where the resolution of a name ended at it (X.518, section 19: evaluation of operations; X.511):
+//! a read or compare, with its source.
+#![tactic(auto)]
+
+mod naming;
+mod reading;
+
+pub use reading::{read_copy, read_own};
