@@ -1,0 +1,7 @@
+pub mod One
+pub mod Rows
+pub mod Replies
+pub mod Places
+pub mod Scopes
+pub mod Parts
+pub mod Kept

@@ -1,0 +1,157 @@
+//! The naming contexts of a world, in the order of its file, and their pins in the order of keys.
+
+ghost use Rattle.std.specs.Prelude.{◌≡◌, ◌++◌, ℕ, true, List, map, IfOk};
+ghost use Rattle.std.specs.List.{list_any};
+ghost use Rattle.std.specs.Option.{option_copied};
+ghost use Rattle.x5_model.specs.Keys.{key_below, is_prefix};
+ghost use Rattle.x5_model.specs.Members.{Once};
+ghost use Rattle.x5_model.specs.Words.{ascending, sorted};
+ghost use Rattle.x5_know.specs.WorldView.{world_view, described_agent_view};
+ghost use Rattle.x5_ops.specs.AnswerViews.{source_view};
+ghost use Rattle.x5_one.specs.One.{pin_in, contexts_by, contexts_of, context_at};
+ghost use Rattle.x5_one.specs.Places.{IsPlace};
+ghost use Rattle.x5_one.specs.Replies.{source_of};
+ghost use Rattle.x5_one.specs.Rows.{row_below, rows_from, rows_of};
+
+use std::alloc::Global;
+use std::marker::Model;
+use x5_know::{Described, DescribedAgent};
+use x5_memory::NoMemory;
+use x5_names::{Key, Name};
+use x5_ops::{AgentName, Source};
+
+/// A naming context: its prefix, and the name of the agent that masters it.
+#[derive(Debug, Drop)]
+pub(crate) struct Held {
+    prefix: Name,
+    master: AgentName,
+}
+
+impl Model for Held {
+    ghost use Rattle.x5_one.specs.One as one;
+
+    ghost Value = { one.Held };
+
+    ghost view = { λ h. record { prefix = h.prefix; master = h.master } };
+}
+
+impl Held {
+    /// The context and its master as the source of an answer.
+    pub(crate) fn source(&self) -> Result<Source, NoMemory>
+        ensures { IfOk result (λ s. (names : List (List ℕ)) → source_view names s ≡ source_of names self.now) }
+    {
+        Ok(Source {
+            context: self.prefix.clone()?,
+            agent: self.master.clone()?,
+            moment: None,
+        })
+    }
+}
+
+/// A pin, and the place of its context.
+#[derive(Debug, Drop)]
+pub(crate) struct Pin {
+    key: Key,
+    place: usize,
+}
+
+impl Model for Pin {
+    ghost use Rattle.x5_one.specs.Rows as rows;
+
+    ghost Value = { rows.Row };
+
+    ghost view = { λ p. (p.key, p.place) };
+}
+
+/// All these, and the contexts of the agent.
+fn with_contexts(held: Vec<Held>, agent: &DescribedAgent) -> Result<Vec<Held>, NoMemory>
+    ensures { IfOk result (λ v. v.items ≡ held.entry.items ++ contexts_by (described_agent_view agent.now)) }
+{
+    let mut held = held;
+    for context in agent.spec.contexts.as_slice() {
+        held.push(Held {
+            prefix: context.prefix.clone()?,
+            master: agent.spec.name.clone()?,
+        })?;
+    }
+    Ok(held)
+}
+
+/// The contexts of all agents, in the order of the file.
+pub(crate) fn contexts_in(alloc: Global, world: &Described) -> Result<Vec<Held>, NoMemory>
+    ensures { IfOk result (λ v. v.items ≡ contexts_of (world_view world.now)) }
+{
+    let mut held = Vec::new(alloc);
+    for agent in world.agents.as_slice() {
+        held = with_contexts(held, agent)?;
+    }
+    Ok(held)
+}
+
+/// The pins of the contexts, each with its place.
+fn rows_in(alloc: Global, held: &[Held]) -> Result<Vec<Pin>, NoMemory>
+    ensures { IfOk result (λ v. v.items ≡ rows_of held.now) }
+{
+    let mut pins = Vec::new(alloc);
+    for (place, context) in held.iter().enumerate() {
+        let key = context.prefix.key().clone()?;
+        pins.push(Pin { key, place })?;
+    }
+    Ok(pins)
+}
+
+/// The pins of the contexts in the order of keys, each with its place.
+pub(crate) fn pins_of(alloc: Global, held: &[Held]) -> Result<Vec<Pin>, NoMemory>
+    ensures { IfOk result (λ v. v.items ≡ sorted row_below (rows_of held.now)) }
+{
+    let mut pins = rows_in(alloc, held)?;
+    pins.sort_by(|a, b| a.key.cmp(&b.key))?;
+    Ok(pins)
+}
+
+/// Where the pin is among the pins, or where it would go. No memory.
+fn place_of_pin(pins: &[Pin], key: &Key) -> Result<usize, usize>
+    requires { ascending key_below (map (λ p. p.0) pins.now) ≡ true }
+    ensures { IsPlace (map (λ p. p.0) pins.now) key.now result }
+{
+    pins.binary_search_by(|pin| pin.key.cmp(key))
+}
+
+/// The context that the key belongs to: that of the longest pin that is its prefix (X.501: naming contexts).
+pub(crate) fn context_of<'a>(
+    alloc: Global,
+    held: &'a [Held],
+    pins: &[Pin],
+    key: &Key,
+) -> Result<Option<&'a Held>, NoMemory>
+    requires rows { pins.now ≡ sorted row_below (rows_of held.now) }
+    requires once { Once (map pin_in held.now) }
+    ensures { IfOk result (λ found. option_copied found ≡ context_at held.now key.now) }
+{
+    let mut left = key.len() + 1;
+    while left > 0 {
+        left -= 1;
+        let front = key.first(alloc, left)?;
+        if let Ok(at) = place_of_pin(pins, &front) {
+            let pin = &pins[at];
+            return Ok(Some(&held[pin.place]));
+        }
+    }
+    Ok(None)
+}
+
+/// Whether the key is that of a pin, or of what stands above one. No memory.
+pub(crate) fn is_above_pin(held: &[Held], pins: &[Pin], key: &Key) -> bool
+    requires rows { pins.now ≡ sorted row_below (rows_of held.now) }
+    requires once { Once (map pin_in held.now) }
+    ensures { result ≡ list_any (is_prefix key.now) (map pin_in held.now) }
+{
+    let _ = held;
+    match place_of_pin(pins, key) {
+        Ok(_) => true,
+        Err(at) => match pins.get(at) {
+            Some(pin) => key.is_prefix(&pin.key),
+            None => false,
+        },
+    }
+}
