@@ -30,8 +30,11 @@ abbrev pub tree_in : One → Tree
 tree_in o = record { entries = o.entries; pins = map pin_in o.contexts }
 
 -- the contexts of a world, agent by agent
+abbrev pub held_by : Text → List Context → List Held
+held_by master contexts = map (λ c. record { prefix = c.prefix; master = master }) contexts
+
 abbrev pub contexts_by : Agent → List Held
-contexts_by a = map (λ c. record { prefix = c.prefix; master = a.name }) a.contexts
+contexts_by a = held_by a.name a.contexts
 
 abbrev pub contexts_of : World → List Held
 contexts_of w = flat_map contexts_by w.agents

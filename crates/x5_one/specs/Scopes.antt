@@ -1,16 +1,14 @@
 -- What lists and searches of entries tell (X.511, section 10), and how many members a size limit leaves.
-use Rattle.std.specs.Prelude.{ℕ, Bool, false, Bor, nat_lt, if◌then◌else◌, List, [], map}
-use Rattle.std.specs.List.{filter}
+use Rattle.std.specs.Prelude.{ℕ, false, nat_lt, if◌then◌else◌, List, [], map}
+use Rattle.std.specs.Borrow.{Bor}
 use Rattle.std.specs.declared.option.Option.{Option}
 use Rattle.std.specs.declared.option.Option.TheVariants.{None, Some}
-use Rattle.x5_model.specs.Keys.{is_child}
 use Rattle.x5_model.specs.Values.{Name, key_of}
 use Rattle.x5_model.specs.Entries.{Named}
 use Rattle.x5_model.specs.Filters.{Filter}
 use Rattle.x5_model.specs.Requests.{Subset, Selection}
-use Rattle.x5_model.specs.Answers.{NoSuchObject}
-use Rattle.x5_model_tree.specs.Tree.{Tree, key_at, is_there_or_root, matched}
-use Rattle.x5_model_tree.specs.Ask.{Told, Refuses, absent, just_below, searched, limited_list, limited_found}
+use Rattle.x5_model_tree.specs.Tree.{Tree, is_there_or_root}
+use Rattle.x5_model_tree.specs.Ask.{Told, absent, just_below, searched, limited_list, limited_found}
 
 -- the entries that are referred to
 abbrev pub found_in : List (Bor Named) → List Named

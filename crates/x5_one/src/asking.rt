@@ -4,6 +4,7 @@ ghost use Rattle.std.specs.Prelude.{◌≡◌, ◌&&◌, ◌≤◌, ℕ, true, f
 ghost use Rattle.std.specs.List.{filter};
 ghost use Rattle.x5_model.specs.Answers as answers;
 ghost use Rattle.x5_model.specs.Assertions.{assertion_of};
+ghost use Rattle.x5_model.specs.Keys as keys;
 ghost use Rattle.x5_model.specs.Truth.{selects_entry};
 ghost use Rattle.x5_model.specs.Values.{key_of};
 ghost use Rattle.x5_model.specs.Words.{ascending};
@@ -91,7 +92,7 @@ fn is_in_subset(subset: Subset, base: &Key, key: &Key) -> bool
 {
     match subset {
         Subset::Base => base == key,
-        Subset::One => key.len() == base.len() + 1 && base.is_prefix(key),
+        Subset::One => key.len() > 0 && key.len() - 1 == base.len() && base.is_prefix(key),
         Subset::Tree => base.is_prefix(key),
     }
 }
@@ -103,17 +104,16 @@ fn is_found(subset: Subset, base: &Key, filter: &Filter, named: &Named) -> bool
     is_in_subset(subset, base, named.name.key()) && holds(filter, &named.entry).is_true()
 }
 
-/// The entries just below the key.
+/// The entries just below the key, of those at it and below it.
 fn just_below<'a>(
     alloc: Global,
-    entries: &'a [Named],
+    scope: &'a [Named],
     key: &Key,
 ) -> Result<Vec<&'a Named>, NoMemory>
-    requires { ascending tree.named_below entries.now ≡ true }
-    ensures { IfOk result (λ found. found_in found.items ≡ filter (λ e. model.in_subset model.OneLevel key.now (tree.key_at e)) entries.now) }
+    ensures { IfOk result (λ found. found_in found.items ≡ filter (λ e. keys.is_child key.now (tree.key_at e)) scope.now) }
 {
     let mut found = Vec::new(alloc);
-    for named in subtree(entries, key) {
+    for named in scope {
         if is_in_subset(Subset::One, key, named.name.key()) {
             found.push(named)?;
         }
@@ -121,20 +121,19 @@ fn just_below<'a>(
     Ok(found)
 }
 
-/// The entries in the subset for which the filter is true.
+/// The entries in the subset for which the filter is true, of those at the base and below it.
 fn searched<'a>(
     alloc: Global,
-    entries: &'a [Named],
+    scope: &'a [Named],
     base: &Key,
     subset: Subset,
-    filter: &Filter,
+    wanted: &Filter,
 ) -> Result<Vec<&'a Named>, NoMemory>
-    requires { ascending tree.named_below entries.now ≡ true }
-    ensures { IfOk result (λ found. found_in found.items ≡ filter (λ e. model.in_subset (subset_view subset) base.now (tree.key_at e) && selects_entry (filter_view filter.now) e.entry) entries.now) }
+    ensures { IfOk result (λ found. found_in found.items ≡ filter (λ e. model.in_subset (subset_view subset) base.now (tree.key_at e) && selects_entry (filter_view wanted.now) e.entry) scope.now) }
 {
     let mut found = Vec::new(alloc);
-    for named in subtree(entries, base) {
-        if is_found(subset, base, filter, named) {
+    for named in scope {
+        if is_found(subset, base, wanted, named) {
             found.push(named)?;
         }
     }
@@ -209,7 +208,8 @@ pub(crate) fn list(
     if !is_there(entries, object) {
         return Ok(Reply::Failed(absent(alloc, entries, object.key())?));
     }
-    let found = just_below(alloc, entries, object.key())?;
+    let scope = subtree(entries, object.key());
+    let found = just_below(alloc, scope, object.key())?;
     let left = left_by(size, found.len());
     Ok(Reply::Done(Answer::Listed {
         subs: subs_of(alloc, &found[..left])?,
@@ -237,7 +237,8 @@ pub(crate) fn search(
     if !is_there(entries, base) {
         return Ok(Reply::Failed(absent(alloc, entries, base.key())?));
     }
-    let found = searched(alloc, entries, base.key(), subset, filter)?;
+    let scope = subtree(entries, base.key());
+    let found = searched(alloc, scope, base.key(), subset, filter)?;
     let left = left_by(size, found.len());
     Ok(Reply::Done(Answer::Found {
         entries: infos_of(alloc, selection, &found[..left])?,

@@ -1,21 +1,22 @@
 //! The naming contexts of a world, in the order of its file, and their pins in the order of keys.
 
 ghost use Rattle.std.specs.Prelude.{◌≡◌, ◌++◌, ℕ, true, List, map, IfOk};
-ghost use Rattle.std.specs.List.{list_any};
+ghost use Rattle.std.specs.List.{list_any, flat_map};
 ghost use Rattle.std.specs.Option.{option_copied};
 ghost use Rattle.x5_model.specs.Keys.{key_below, is_prefix};
 ghost use Rattle.x5_model.specs.Members.{Once};
 ghost use Rattle.x5_model.specs.Words.{ascending, sorted};
 ghost use Rattle.x5_know.specs.WorldView.{world_view, described_agent_view};
 ghost use Rattle.x5_ops.specs.AnswerViews.{source_view};
-ghost use Rattle.x5_one.specs.One.{pin_in, contexts_by, contexts_of, context_at};
+ghost use Rattle.x5_ops.specs.KnowledgeViews.{context_view};
+ghost use Rattle.x5_one.specs.One.{pin_in, held_by, contexts_by, contexts_of, context_at};
 ghost use Rattle.x5_one.specs.Places.{IsPlace};
 ghost use Rattle.x5_one.specs.Replies.{source_of};
-ghost use Rattle.x5_one.specs.Rows.{row_below, rows_from, rows_of};
+ghost use Rattle.x5_one.specs.Rows.{row_below, rows_of};
 
 use std::alloc::Global;
 use std::marker::Model;
-use x5_know::{Described, DescribedAgent};
+use x5_know::{ContextSpec, Described, DescribedAgent};
 use x5_memory::NoMemory;
 use x5_names::{Key, Name};
 use x5_ops::{AgentName, Source};
@@ -63,16 +64,31 @@ impl Model for Pin {
     ghost view = { λ p. (p.key, p.place) };
 }
 
-/// All these, and the contexts of the agent.
-fn with_contexts(held: Vec<Held>, agent: &DescribedAgent) -> Result<Vec<Held>, NoMemory>
-    ensures { IfOk result (λ v. v.items ≡ held.entry.items ++ contexts_by (described_agent_view agent.now)) }
+/// All these, and the contexts of the agent of this name.
+fn with_contexts(
+    held: Vec<Held>,
+    master: &AgentName,
+    contexts: &[ContextSpec],
+) -> Result<Vec<Held>, NoMemory>
+    ensures { IfOk result (λ v. v.items ≡ held.items ++ held_by master.now (map context_view contexts.now)) }
 {
     let mut held = held;
-    for context in agent.spec.contexts.as_slice() {
+    for context in contexts {
         held.push(Held {
             prefix: context.prefix.clone()?,
-            master: agent.spec.name.clone()?,
+            master: master.clone()?,
         })?;
+    }
+    Ok(held)
+}
+
+/// The contexts of the agents, in the order of the file.
+fn gathered(alloc: Global, agents: &[DescribedAgent]) -> Result<Vec<Held>, NoMemory>
+    ensures { IfOk result (λ v. v.items ≡ flat_map contexts_by (map described_agent_view agents.now)) }
+{
+    let mut held = Vec::new(alloc);
+    for agent in agents {
+        held = with_contexts(held, &agent.spec.name, agent.spec.contexts.as_slice())?;
     }
     Ok(held)
 }
@@ -81,11 +97,7 @@ fn with_contexts(held: Vec<Held>, agent: &DescribedAgent) -> Result<Vec<Held>, N
 pub(crate) fn contexts_in(alloc: Global, world: &Described) -> Result<Vec<Held>, NoMemory>
     ensures { IfOk result (λ v. v.items ≡ contexts_of (world_view world.now)) }
 {
-    let mut held = Vec::new(alloc);
-    for agent in world.agents.as_slice() {
-        held = with_contexts(held, agent)?;
-    }
-    Ok(held)
+    gathered(alloc, world.agents.as_slice())
 }
 
 /// The pins of the contexts, each with its place.

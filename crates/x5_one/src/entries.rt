@@ -8,13 +8,13 @@ ghost use Rattle.x5_model_tree.specs.Tree.{sorted_entries};
 ghost use Rattle.x5_one.specs.One.{entries_by, entries_of};
 
 use std::alloc::Global;
-use x5_know::{ContextSpec, Described};
+use x5_know::{ContextSpec, Described, DescribedAgent};
 use x5_memory::NoMemory;
 use x5_ops::Named;
 
 /// All these, and copies of the others.
 fn with_copies(entries: Vec<Named>, others: &[Named]) -> Result<Vec<Named>, NoMemory>
-    ensures { IfOk result (λ v. v.items ≡ entries.entry.items ++ others.now) }
+    ensures { IfOk result (λ v. v.items ≡ entries.items ++ others.now) }
 {
     let mut entries = entries;
     for named in others {
@@ -25,7 +25,7 @@ fn with_copies(entries: Vec<Named>, others: &[Named]) -> Result<Vec<Named>, NoMe
 
 /// All these, and the entries of the contexts.
 fn with_entries(entries: Vec<Named>, contexts: &[ContextSpec]) -> Result<Vec<Named>, NoMemory>
-    ensures { IfOk result (λ v. v.items ≡ entries.entry.items ++ entries_by (map context_view contexts.now)) }
+    ensures { IfOk result (λ v. v.items ≡ entries.items ++ entries_by (map context_view contexts.now)) }
 {
     let mut entries = entries;
     for context in contexts {
@@ -34,12 +34,12 @@ fn with_entries(entries: Vec<Named>, contexts: &[ContextSpec]) -> Result<Vec<Nam
     Ok(entries)
 }
 
-/// The entries of all agents, in the order of the file.
-fn gathered(alloc: Global, world: &Described) -> Result<Vec<Named>, NoMemory>
-    ensures { IfOk result (λ v. v.items ≡ entries_of (map described_agent_view world.now.agents)) }
+/// The entries of the agents, in the order of the file.
+fn gathered(alloc: Global, agents: &[DescribedAgent]) -> Result<Vec<Named>, NoMemory>
+    ensures { IfOk result (λ v. v.items ≡ entries_of (map described_agent_view agents.now)) }
 {
     let mut entries = Vec::new(alloc);
-    for agent in world.agents.as_slice() {
+    for agent in agents {
         entries = with_entries(entries, agent.spec.contexts.as_slice())?;
     }
     Ok(entries)
@@ -49,7 +49,7 @@ fn gathered(alloc: Global, world: &Described) -> Result<Vec<Named>, NoMemory>
 pub(crate) fn entries_in(alloc: Global, world: &Described) -> Result<Vec<Named>, NoMemory>
     ensures { IfOk result (λ v. v.items ≡ sorted_entries (all_entries (world_view world.now))) }
 {
-    let mut entries = gathered(alloc, world)?;
+    let mut entries = gathered(alloc, world.agents.as_slice())?;
     entries.sort_by(|a, b| a.name.cmp_key(&b.name))?;
     Ok(entries)
 }

@@ -1,0 +1,5 @@
+pub mod KeyOrder
+pub mod Searching
+pub mod Sorting
+pub mod Runs
+pub mod Lowest
