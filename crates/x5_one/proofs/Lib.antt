@@ -3,3 +3,5 @@ pub mod Searching
 pub mod Sorting
 pub mod Runs
 pub mod Lowest
+pub mod Pins
+pub mod Worlds
