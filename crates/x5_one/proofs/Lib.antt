@@ -5,3 +5,4 @@ pub mod Runs
 pub mod Lowest
 pub mod Pins
 pub mod Worlds
+pub mod Telling

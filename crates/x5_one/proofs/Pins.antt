@@ -2,7 +2,6 @@
 -- key is above one.
 use Rattle.std.proofs.Common.{◌≡◌, ℕ, zero, suc, ◌+◌, ◌-◌, ◌<◌, ◌≤◌, Bool, true, false, ◌&&◌, ◌==◌, ◌⊎◌, inl, inr, List, [], ◌∷◌, length, map, take, drop, get_or, refl, sym, ap, subst, ◌∙◌, arith, Option, Some, None, Ok, Err}
 use Rattle.std.proofs.lemmas.List.{length-map, length-take-le, get_or-map, drop_more, drop_all}
-use Rattle.std.specs.Prelude.{slice_get}
 use Rattle.std.specs.List.{find, list_any, enumerate_from}
 use Rattle.x5_model.specs.Words.{ascending, sorted, in_option}
 use Rattle.x5_model.specs.Members.{In, here, there, Once}
@@ -20,19 +19,6 @@ use Rattle.x5_one.specs.Rows.{Row, row_below, row_of, rows_from, rows_of}
 use Rattle.x5_one.proofs.KeyOrder.{prefix_not_below, between}
 use Rattle.x5_one.proofs.Searching.{in_get, at_drop, not_falling, not_back}
 use Rattle.x5_one.proofs.Runs.{parts_of}
-
--- ---- members by their places
-
-module _ {A : Type 0} where
-  pub got : (xs : List A) (i : ℕ) (x : A) → Some x ≡ slice_get xs i → (i < length xs) × ((d : A) → get_or xs i d ≡ x)
-  got [] i x e = cc
-  got (y ∷ ys) zero x e = (omega arith, λ d. let f : x ≡ y = cc in sym f)
-  got (y ∷ ys) (suc i) x e = (let w = got ys i x e in (omega (arith, w.0), w.1))
-
-  pub got_none : (xs : List A) (i : ℕ) → None ≡ slice_get xs i → length xs ≤ i
-  got_none [] i e = omega arith
-  got_none (y ∷ ys) zero e = cc
-  got_none (y ∷ ys) (suc i) e = (let l = got_none ys i e in omega arith)
 
 abbrev pub pin_at : Row → Key
 pin_at r = r.0
@@ -140,11 +126,11 @@ module _ (held : List Held) (pins : List Row) (rows : pins ≡ sorted row_below 
         | inr b ↦ b
       ]
 
-  pub above_next : (key : Key) (i : ℕ) (r : Row) → IsPlace (map pin_at pins) key (Err i) → Some r ≡ slice_get pins i → is_prefix key r.0 ≡ list_any (is_prefix key) (map pin_in held)
+  pub above_next : (key : Key) (i : ℕ) (r : Row) → IsPlace (map pin_at pins) key (Err i) → (i < length pins) × ((d : Row) → r ≡ get_or pins i d) → is_prefix key r.0 ≡ list_any (is_prefix key) (map pin_in held)
   above_next key i r w e = by (is_prefix key r.0) refl
     where
       at : (i < length pins) × ((d : Row) → get_or pins i d ≡ r)
-      at = got pins i r e
+      at = (e.0, λ d. sym (e.1 d))
 
       long : i < length (map pin_at pins)
       long = omega (arith, at.0, length-map pins pin_at)
@@ -172,35 +158,32 @@ module _ (held : List Held) (pins : List Row) (rows : pins ≡ sorted row_below 
             cc)
       ]
 
-  pub above_none : (key : Key) (i : ℕ) → IsPlace (map pin_at pins) key (Err i) → None ≡ slice_get pins i → false ≡ list_any (is_prefix key) (map pin_in held)
+  pub above_none : (key : Key) (i : ℕ) → IsPlace (map pin_at pins) key (Err i) → length pins ≤ i → false ≡ list_any (is_prefix key) (map pin_in held)
   above_none key i w e =
       elim (true_or_false (list_any (is_prefix key) (map pin_in held))) [
         | inr f ↦ sym f
         | inl t ↦ absurd (
             let q = of_any (is_prefix key) (map pin_in held) t in
-            let short : length (map pin_at pins) ≤ i = omega (arith, got_none pins i e, length-map pins pin_at) in
+            let short : length (map pin_at pins) ≤ i = omega (arith, e, length-map pins pin_at) in
             elim (subst (λ (ks : List Key). In q.0 ks) (drop_all i (map pin_at pins) short) (stands_behind key q.0 i w q.1 ((prefix_decides key q.0).0 q.2))) [ ])
       ]
 
   -- ---- the longest pin on the way
 
-  abbrev pub NoneFrom : Key → ℕ → Type 0
-  NoneFrom key left = (q : Key) → In q (map pin_in held) → IsPrefix q key → length q < left
+  abbrev pub NoneOver : Key → ℕ → Type 0
+  NoneOver key left = (q : Key) → In q (map pin_in held) → IsPrefix q key → length q ≤ left
 
-  pub none_from_end : (key : Key) → NoneFrom key (length key + 1)
-  none_from_end key q i p = omega (arith, prefix_length q key p)
-
-  pub none_from_less : (key : Key) (left i : ℕ) → 0 < left → NoneFrom key left → IsPlace (map pin_at pins) (take (left - 1) key) (Err i) → NoneFrom key (left - 1)
-  none_from_less key left i l f w q m p = by (length q == (left - 1)) refl
+  pub none_over_less : (key : Key) (left i : ℕ) → NoneOver key left → IsPlace (map pin_at pins) (take left key) (Err i) → NoneOver key (left - 1)
+  none_over_less key left i f w q m p = by (length q == left) refl
     where
-      less : length q < left
+      less : length q ≤ left
       less = f q m p
 
-      by : (b : Bool) → (length q == (left - 1)) ≡ b → length q < left - 1
+      by : (b : Bool) → (length q == left) ≡ b → length q ≤ left - 1
       by true e = absurd (
-          let n : length q ≡ left - 1 = grind arith in
-          no_pin (take (left - 1) key) i w (subst (λ (k : Key). In k (map pin_in held)) (sym p ∙ ap (λ (k : ℕ). take k key) n) m))
-      by false e = (let n : (length q ≡ left - 1) → ⊥ = (λ (s : length q ≡ left - 1). let t : (length q == (left - 1)) ≡ true = grind arith in cc) in omega (arith, less, n))
+          let n : length q ≡ left = grind arith in
+          no_pin (take left key) i w (subst (λ (k : Key). In k (map pin_in held)) (sym p ∙ ap (λ (k : ℕ). take k key) n) m))
+      by false e = (let n : (length q ≡ left) → ⊥ = (λ (s : length q ≡ left). let t : (length q == left) ≡ true = grind arith in cc) in omega (arith, less, n))
 
   find_held : (h : Held) (p : Key) → In h held → pin_in h ≡ p → context_with held p ≡ Some h
   find_held h p i same = by (context_with held p) refl
@@ -214,24 +197,30 @@ module _ (held : List Held) (pins : List Row) (rows : pins ≡ sorted row_below 
           let w = of_find (λ (x : Held). same_key (pin_in x) p) g held e in
           ap (λ (x : Held). Some x) (once_map pin_in held g h once w.0 i ((key_decides (pin_in g) p).0 w.1 ∙ sym same))
 
-  pub context_found : (key : Key) (left at : ℕ) (r : Row) (h : Held) → 0 < left → left ≤ length key + 1 → NoneFrom key left → IsPlace (map pin_at pins) (take (left - 1) key) (Ok at)
+  -- the row at a place is that of a context
+  pub row_place : (at : ℕ) (r : Row) → at < length pins → r ≡ get_or pins at r → r.1 < length held
+  row_place at r l is =
+      let row = row_held 0 held r (row_there r (subst (λ (x : Row). In x pins) (sym is) (in_get pins at r l))) in
+      omega (arith, row.4)
+
+  pub context_found : (key : Key) (left at : ℕ) (r : Row) (h : Held) → left ≤ length key → NoneOver key left → IsPlace (map pin_at pins) (take left key) (Ok at)
       → r ≡ get_or pins at r → h ≡ get_or held r.1 h → Some h ≡ context_at held key
-  context_found key left at r h l m f w is there_h =
+  context_found key left at r h l f w is there_h =
       let within : at < length pins = omega (arith, w.0, length-map pins pin_at) in
       let row_in : In r pins = subst (λ (x : Row). In x pins) (sym is) (in_get pins at r within) in
       let row = row_held 0 held r (row_there r row_in) in
       let same : h ≡ row.0 = there_h ∙ ap (λ (k : ℕ). get_or held k h) (let z : r.1 ≡ r.1 - 0 = omega arith in z) ∙ row.5 h in
-      let pin : r.0 ≡ take (left - 1) key = ap pin_at is ∙ sym (get_or-map pin_at pins at r (take (left - 1) key) within) ∙ head_is at (map pin_at pins) (take (left - 1) key) w in
-      let on : IsPrefix (take (left - 1) key) key = ap (λ (k : ℕ). take k key) (length-take-le (left - 1) key (omega arith)) in
-      let long : longest (map pin_in held) key ≡ Some (take (left - 1) key) = longest_is (map pin_in held) key (take (left - 1) key) (
+      let pin : r.0 ≡ take left key = ap pin_at is ∙ sym (get_or-map pin_at pins at r (take left key) within) ∙ head_is at (map pin_at pins) (take left key) w in
+      let on : IsPrefix (take left key) key = ap (λ (k : ℕ). take k key) (length-take-le left key l) in
+      let long : longest (map pin_in held) key ≡ Some (take left key) = longest_is (map pin_in held) key (take left key) (
         subst (λ (k : Key). In k (map pin_in held)) pin (held_of_pin r.0 (in_map pin_at r pins row_in)),
-        (on, λ q i p. let a : length q < left = f q i p in omega (arith, length-take-le (left - 1) key (omega arith), a)),
+        (on, λ q i p. let a : length q ≤ left = f q i p in omega (arith, length-take-le left key l, a)),
       ) in
-      sym (ap (λ (o : Option Key). in_context held o) long ∙ find_held row.0 (take (left - 1) key) row.1 (sym row.2 ∙ pin) ∙ ap (λ (x : Held). Some x) (sym same))
+      sym (ap (λ (o : Option Key). in_context held o) long ∙ find_held row.0 (take left key) row.1 (sym row.2 ∙ pin) ∙ ap (λ (x : Held). Some x) (sym same))
 
-  pub context_none : (key : Key) → NoneFrom key 0 → None ≡ context_at held key
-  context_none key f = by (longest (map pin_in held) key) refl
+  pub context_none : (key : Key) → NoneOver key 0 → ((q : Key) → In q (map pin_in held) → 0 < length q) → None ≡ context_at held key
+  context_none key f full = by (longest (map pin_in held) key) refl
     where
       by : (o : Option Key) → longest (map pin_in held) key ≡ o → None ≡ in_context held o
       by None e = refl
-      by (Some p) e = absurd (let w = longest_some (map pin_in held) key p e in let l : length p < 0 = f p w.0 w.1 in omega arith)
+      by (Some p) e = absurd (let w = longest_some (map pin_in held) key p e in let l : length p ≤ 0 = f p w.0 w.1 in let m : 0 < length p = full p w.0 in omega arith)

@@ -1,10 +1,10 @@
 //! The naming contexts of a world, in the order of its file, and their pins in the order of keys.
 
-ghost use Rattle.std.specs.Prelude.{◌≡◌, ◌++◌, ℕ, true, List, map, IfOk};
+ghost use Rattle.std.specs.Prelude.{◌≡◌, ◌++◌, ◌<◌, ℕ, true, List, length, map, IfOk};
 ghost use Rattle.std.specs.List.{list_any, flat_map};
 ghost use Rattle.std.specs.Option.{option_copied};
-ghost use Rattle.x5_model.specs.Keys.{key_below, is_prefix};
-ghost use Rattle.x5_model.specs.Members.{Once};
+ghost use Rattle.x5_model.specs.Keys.{Key, key_below, is_prefix};
+ghost use Rattle.x5_model.specs.Members.{In, Once};
 ghost use Rattle.x5_model.specs.Words.{ascending, sorted};
 ghost use Rattle.x5_know.specs.WorldView.{world_view, described_agent_view};
 ghost use Rattle.x5_ops.specs.AnswerViews.{source_view};
@@ -138,16 +138,20 @@ pub(crate) fn context_of<'a>(
 ) -> Result<Option<&'a Held>, NoMemory>
     requires rows { pins.now ≡ sorted row_below (rows_of held.now) }
     requires once { Once (map pin_in held.now) }
+    requires filled { (q : Key) → In q (map pin_in held.now) → 0 < length q }
     ensures { IfOk result (λ found. option_copied found ≡ context_at held.now key.now) }
 {
-    let mut left = key.len() + 1;
+    let mut left = key.len();
     while left > 0 {
-        left -= 1;
         let front = key.first(alloc, left)?;
         if let Ok(at) = place_of_pin(pins, &front) {
             let pin = &pins[at];
-            return Ok(Some(&held[pin.place]));
+            let Some(found) = held.get(pin.place) else {
+                unreachable!()
+            };
+            return Ok(Some(found));
         }
+        left -= 1;
     }
     Ok(None)
 }

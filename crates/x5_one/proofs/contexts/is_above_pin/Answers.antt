@@ -14,7 +14,7 @@ returns-in-Ok c = above_itself c.args.held.now c.args.pins.now c.requires.rows c
 pub returns-in-Some : goal.returns-in-Some
 returns-in-Some c =
     c.is_prefix.ensures ∙ ap (λ (r : Row). is_prefix c.args.key.now r.0) c.pin.view_is
-    ∙ above_next c.args.held.now c.args.pins.now c.requires.rows c.requires.once c.args.key.now c.in-Err.at c.in-Some.pin.now c.in-Err.ensures c.in-Some.ensures.lookup
+    ∙ above_next c.args.held.now c.args.pins.now c.requires.rows c.requires.once c.args.key.now c.in-Err.at c.in-Some.pin.now c.in-Err.ensures c.in-Some.ensures.lookup.3
 
 pub returns-in-None : goal.returns-in-None
-returns-in-None c = above_none c.args.held.now c.args.pins.now c.requires.rows c.requires.once c.args.key.now c.in-Err.at c.in-Err.ensures c.in-None.ensures.lookup
+returns-in-None c = above_none c.args.held.now c.args.pins.now c.requires.rows c.requires.once c.args.key.now c.in-Err.at c.in-Err.ensures c.in-None.ensures.lookup.3
