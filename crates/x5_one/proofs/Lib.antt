@@ -6,3 +6,5 @@ pub mod Lowest
 pub mod Pins
 pub mod Worlds
 pub mod Telling
+pub mod Sound
+pub mod Changing
