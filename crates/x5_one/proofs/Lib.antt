@@ -8,3 +8,4 @@ pub mod Worlds
 pub mod Telling
 pub mod Sound
 pub mod Changing
+pub mod Making

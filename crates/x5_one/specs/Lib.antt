@@ -4,4 +4,5 @@ pub mod Replies
 pub mod Places
 pub mod Scopes
 pub mod Parts
+pub mod Making
 pub mod Kept

@@ -8,5 +8,6 @@ mod contexts;
 mod entries;
 mod places;
 mod tree;
+mod updating;
 
 pub use tree::OneTree;
