@@ -141,7 +141,10 @@ pub(crate) fn modify(
     };
     let rdn = last_of(alloc, object)?;
     let named = &entries[at];
-    let entry = change(alloc, &rdn, &named.entry, changes)?;
+    let entry = match change(alloc, &rdn, &named.entry, changes) {
+        Ok(entry) => entry,
+        Err(fault) => return Err(fault),
+    };
     entries[at] = with_entry(named, entry)?;
     Ok(())
 }

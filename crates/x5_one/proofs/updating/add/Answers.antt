@@ -1,5 +1,5 @@
 -- Refused as the one tree refuses it, or the new entry is put at its place.
-use Rattle.std.proofs.Common.{◌≡◌, ◌++◌, ◌∷◌, Ok, Err, List, map, take, drop, get_or, refl, sym, ap, subst, ◌∙◌}
+use Rattle.std.proofs.Common.{◌≡◌, ◌++◌, [], ◌∷◌, Ok, Err, List, map, take, drop, get_or, refl, sym, ap, subst, ◌∙◌}
 use Rattle.x5_model.specs.Entries.{Named}
 use Rattle.x5_model.specs.Keys.{Key, parent}
 use Rattle.x5_model.specs.Values.{Name, Rdn, key_of, last_rdn}
@@ -38,4 +38,14 @@ returns-in-Ok-place_of c pins there =
     )
 
 pub returns : goal.returns
-returns c pins there = ?
+returns c pins there =
+    let key : c.key.result.now ≡ parent (key_of c.args.object.now) = c.key.ensures ∙ ap (λ (n : Name). key_of n) c.in_ok-above.ensures ∙ above_key c.args.object.now in
+    let entry : c.in_ok-entry.entry ≡ added_entry (last_rdn c.args.object.now) (map attribute_view c.args.attributes.now) =
+    added_is c.in_ok-rdn.rdn (map attribute_view c.args.attributes.now) c.in_ok-entry.entry c.requires.apart c.in_ok-entry.ensures ∙ ap (λ (r : Rdn). added_entry r (map attribute_view c.args.attributes.now)) c.in_ok-rdn.ensures in
+    let name : c.in_ok-name.name ≡ c.index-named.result.now.name ++ last_rdn c.args.object.now ∷ [] = c.in_ok-name.ensures ∙ (λ i. (c.named.view_is i).name ++ c.in_ok-rdn.ensures i ∷ []) in
+    add_made c.args.entries.now.items pins c.requires.order c.args.object.now (map attribute_view c.args.attributes.now) c.in-Ok.parent c.in-Err-place_of.place c.index-named.result.now (record { name = c.in_ok-name.name; entry = c.in_ok-entry.entry })
+    c.requires.named there
+    (place_as c.deref.result.now c.args.entries.now.items c.key.result.now (parent (key_of c.args.object.now)) (Ok c.in-Ok.parent) c.deref.ensures.value key c.in-Ok.ensures)
+    (place_as c.deref-2.result.now c.args.entries.now.items c.key-2.result.now (key_of c.args.object.now) (Err c.in-Err-place_of.place) c.deref-2.ensures.value c.key-2.ensures c.in-Err-place_of.ensures)
+    c.index-named.ensures (λ i. record { name = name i; entry = entry i })
+    ∙ ap (λ (es : List Named). Ok es) (sym c.in_ok-put.ensures.ok)
