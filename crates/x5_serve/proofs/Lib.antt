@@ -1,0 +1,4 @@
+pub mod Values
+pub mod Walks
+pub mod Arriving
+pub mod Cycle
