@@ -1,6 +1,7 @@
 -- What an agent does with a message at once, as steps of the relation.
-use Rattle.std.proofs.Common.{◌≡◌, ℕ, ◌<◌, ◌≤◌, ◌==◌, nat_le, Bool, true, false, not, ◌||◌, inl, inr, List, [], ◌∷◌, ◌++◌, length, map, refl, sym, ap, subst, ◌∙◌, arith, Option, Some, None, length-map}
+use Rattle.std.proofs.Common.{◌≡◌, ℕ, ◌<◌, ◌≤◌, ◌==◌, nat_le, Bool, true, false, not, ◌||◌, inl, inr, List, [], ◌∷◌, ◌++◌, length, map, refl, sym, ap, subst, ◌∙◌, arith, Option, Some, None}
 use Rattle.std.proofs.lemmas.Bool.Decides.{leb_tells}
+use Rattle.std.proofs.lemmas.List.{length-map}
 use Rattle.x5_model.specs.Words.{has}
 use Rattle.x5_model.specs.Answers.{DirError, ServiceProblem, Reply, Failed}
 use Rattle.x5_model.specs.References.{TraceItem}
@@ -15,7 +16,9 @@ use Rattle.x5_model_serve.specs.Serving.{Hand, hand, Serves, Does, Arrives, is_l
 use Rattle.x5_ops.specs.ReferenceViews.{chained_view, item_view}
 use Rattle.x5_ops.specs.declared.references.Chained.{Chained}
 use Rattle.x5_ops.specs.declared.references.TraceItem as code
+use Rattle.x5_ops.specs.declared.answers.Reply as code_reply
 use Rattle.x5_serve.specs.Networks.{IsToldHere}
+use Rattle.x5_serve.specs.Steps.{IsEarly}
 
 -- a message that has come round
 pub looped_is : (names : List (List ℕ)) (me : ℕ) (message : Chained) (item : code.TraceItem) (b : Bool)
@@ -35,13 +38,13 @@ loops_with {s} {most} k j item e same =
 pub too_long : (names : List (List ℕ)) (me : ℕ) (message : Chained) → 128 ≤ length message.trace
     → is_too_long (hand me (chained_view names message)) ≡ true
 too_long names me message h =
-    let l : length (map (item_view names) message.trace) ≡ length message.trace = length-map (item_view names) message.trace in
+    let l : length (map (item_view names) message.trace) ≡ length message.trace = length-map message.trace (item_view names) in
     elim (leb_tells 128 (length (map (item_view names) message.trace))) [ inl x ↦ x.0 | inr y ↦ absurd (omega (arith, y.1)) ]
 
 pub not_long : (names : List (List ℕ)) (me : ℕ) (message : Chained) → length message.trace < 128
     → is_too_long (hand me (chained_view names message)) ≡ false
 not_long names me message h =
-    let l : length (map (item_view names) message.trace) ≡ length message.trace = length-map (item_view names) message.trace in
+    let l : length (map (item_view names) message.trace) ≡ length message.trace = length-map message.trace (item_view names) in
     elim (leb_tells 128 (length (map (item_view names) message.trace))) [ inl x ↦ absurd (omega (arith, x.1)) | inr y ↦ y.0 ]
 
 -- an agent that may not chain
@@ -62,3 +65,14 @@ told_does {s} {most} k j y a (inl w) =
     subst (λ (z : Reply). Does s most (Serves k z) j j) (sym w.4) (reads w.0 a w.1 w.2 w.3)
 told_does {s} {most} k j y a (inr w) =
     subst (λ (z : Reply). Does s most (Serves k z) j j) (sym w.3) (reads_copy w.0 a w.1 w.2)
+
+-- a message that isn't answered at once is looked at
+pub looked_at : (s : Scene) (most : ℕ) (names : List (List ℕ)) (j : Journal) (k : Hand) (o : Option code_reply.Reply) → IsEarly s most names j k o
+    → o ≡ None → Arrives s k j
+looked_at s most names j k o e q = subst (IsEarly s most names j k) q e
+
+-- the trace with one more item
+pub trace_more : (names : List (List ℕ)) (xs : List code.TraceItem) (x : code.TraceItem) (y : TraceItem) → item_view names x ≡ y
+    → map (item_view names) (xs ++ x ∷ []) ≡ map (item_view names) xs ++ y ∷ []
+trace_more names [] x y e = ap (λ (z : TraceItem). z ∷ []) e
+trace_more names (z ∷ xs) x y e = ap (λ (zs : List TraceItem). item_view names z ∷ zs) (trace_more names xs x y e)

@@ -13,9 +13,10 @@ use Rattle.x5_model.specs.Values.{Name}
 use Rattle.x5_model_run.specs.Chain.{probe_request, is_probe, part_request, asks_part, request_for}
 use Rattle.x5_model_run.specs.Journal.{is_wide}
 use Rattle.x5_model_theory.proofs.Tests.{false_true}
-use Rattle.x5_model_serve.specs.Answering.{merged, with_unexplored}
+use Rattle.x5_model_serve.specs.Answering.{before_sub, before_info, joined, merged, with_unexplored}
 use Rattle.x5_ops.specs.AgentNames.{agent_of}
 use Rattle.x5_ops.specs.AnswerViews.{answer_view}
+use Rattle.x5_ops.specs.ReferenceViews.{reference_view}
 use Rattle.x5_ops.specs.declared.answers.Answer.{Answer}
 use Rattle.x5_ops.specs.declared.answers.Answer.TheVariants.{Entry, Match, Listed, Found, Changed}
 use Rattle.x5_ops.specs.declared.references.Reference.{Reference}
@@ -68,7 +69,10 @@ place_is (y ∷ names) (suc me) x d l e =
     by : (b : Bool) → b ≡ false → position_or_len (λ n. same_octets n x) names ≡ me
         → cond (not b) (1 + position_or_len (λ n. same_octets n x) names) 0 ≡ suc me
     by true q p = absurd (false_true (sym q))
-    by false q p = ap suc p
+    by false q p =
+        let one : 1 + position_or_len (λ n. same_octets n x) names ≡ suc (position_or_len (λ n. same_octets n x) names) =
+        omega arith in
+        one ∙ ap suc p
 
 pub own_place : (names : List (List ℕ)) (me : ℕ) (x : List ℕ) → distinct same_octets names ≡ true → slice_get names me ≡ Some x
     → agent_of names x ≡ me
@@ -241,10 +245,10 @@ whole_kind b names (p ∷ parts) h e =
 into_last : (b : Bool) (rs : List references.Reference) (x y : model.Answer) → model_kind b x ≡ true → model_kind b y ≡ true
     → merged x (with_unexplored rs y) ≡ with_unexplored rs (merged x y)
 into_last b rs (model.Listed subs sources o) (model.Listed more others q) e f =
-    ap (λ (us : List references.Reference). model.Listed _ (sources ++ others) (record { limited = o.limited || q.limited; unexplored = us }))
+    ap (λ (us : List references.Reference). model.Listed (joined before_sub subs more) (sources ++ others) (record { limited = o.limited || q.limited; unexplored = us }))
     (sym (append_assoc o.unexplored q.unexplored rs))
 into_last b rs (model.Found infos sources o) (model.Found more others q) e f =
-    ap (λ (us : List references.Reference). model.Found _ (sources ++ others) (record { limited = o.limited || q.limited; unexplored = us }))
+    ap (λ (us : List references.Reference). model.Found (joined before_info infos more) (sources ++ others) (record { limited = o.limited || q.limited; unexplored = us }))
     (sym (append_assoc o.unexplored q.unexplored rs))
 into_last true rs (model.Listed subs sources o) (model.Found more others q) e f = absurd (false_true f)
 into_last false rs (model.Listed subs sources o) (model.Found more others q) e f = absurd (false_true e)
@@ -357,3 +361,30 @@ of_kind (q ∷ parts) p a e h g =
     by b all false f =
         λ names. other_kind b (whole_view names (q ∷ parts)) (answer_view names a)
         (whole_kind b names (q ∷ parts) (omega arith) all) (view_other b names a f)
+
+-- ---- references that somebody tried, or nobody
+
+pub untried_view : (names : List (List ℕ)) (rs : List Reference)
+    → map (reference_view names) (filter (λ r. not r.tried) rs) ≡ filter (λ r. not r.tried) (map (reference_view names) rs)
+untried_view names [] = refl
+untried_view names (r ∷ rs) = by r.tried (untried_view names rs)
+  where
+    by : (b : Bool)
+        → map (reference_view names) (filter (λ x. not x.tried) rs) ≡ filter (λ x. not x.tried) (map (reference_view names) rs)
+        → map (reference_view names) (cond (not b) (r ∷ filter (λ x. not x.tried) rs) (filter (λ x. not x.tried) rs))
+        ≡ cond (not b) (reference_view names r ∷ filter (λ x. not x.tried) (map (reference_view names) rs))
+        (filter (λ x. not x.tried) (map (reference_view names) rs))
+    by true e = e
+    by false e = ap (λ (zs : List references.Reference). reference_view names r ∷ zs) e
+
+pub tried_view : (names : List (List ℕ)) (rs : List Reference)
+    → map (reference_view names) (filter (λ r. r.tried) rs) ≡ filter (λ r. r.tried) (map (reference_view names) rs)
+tried_view names [] = refl
+tried_view names (r ∷ rs) = by r.tried (tried_view names rs)
+  where
+    by : (b : Bool) → map (reference_view names) (filter (λ x. x.tried) rs) ≡ filter (λ x. x.tried) (map (reference_view names) rs)
+        → map (reference_view names) (cond b (r ∷ filter (λ x. x.tried) rs) (filter (λ x. x.tried) rs))
+        ≡ cond b (reference_view names r ∷ filter (λ x. x.tried) (map (reference_view names) rs))
+        (filter (λ x. x.tried) (map (reference_view names) rs))
+    by true e = ap (λ (zs : List references.Reference). reference_view names r ∷ zs) e
+    by false e = e

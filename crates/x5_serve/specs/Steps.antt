@@ -40,6 +40,11 @@ abbrev pub heard_view : List (List ℕ) → Heard → act.Heard
 heard_view names heard.Unheard = act.Unheard
 heard_view names (heard.Hears y) = act.Hears (reply_view names y)
 
+-- whether a reply is heard
+abbrev pub IsHeardBy : act.Heard → Bool → Type 0
+IsHeardBy h true = (y : model.Reply) × (h ≡ act.Hears y)
+IsHeardBy h false = h ≡ act.Unheard
+
 abbrev pub gathered_view : List (List ℕ) → Gathered → act.Gathered
 gathered_view names (gathered.Whole a) = act.Whole (answer_view names a)
 gathered_view names (gathered.Broken x) = act.Broken (model.Failed (error_view names x))

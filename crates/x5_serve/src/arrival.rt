@@ -63,6 +63,15 @@ fn early<N: Network>(
     Ok(None)
 }
 
+/// Whether the agent may not chain: the request says so, or the agent refuses (X.511, section 7.5). No memory.
+#[tactic(auto, using(crate::proofs::Arriving::idle_is))]
+fn may_not_chain<N: Network>(net: &N, me: AgentId, message: &Chained) -> bool
+    requires { me < length (N.names net.now) }
+    ensures { result ≡ is_idle (N.scene net.now) (hand me (chained_view (N.names net.now) message.now)) }
+{
+    message.request.controls.nochain || !net.willing(me)
+}
+
 /// What an agent does first with a message that it received: it looks at it, resolves its name and answers what it can.
 pub fn first_step<N: Network>(
     alloc: Global,
@@ -76,7 +85,7 @@ pub fn first_step<N: Network>(
     if let Some(reply) = early(alloc, net, me, message)? {
         return Ok(Step::Replies(reply));
     }
-    let idle = message.request.controls.nochain || !net.willing(me);
+    let idle = may_not_chain(net, me, message);
     match net.find(alloc, me, message)? {
         Found::Told(reply) => Ok(Step::Replies(reply)),
         Found::Part(answer, references) => parted(message, idle, answer, references),

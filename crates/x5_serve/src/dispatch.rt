@@ -19,7 +19,7 @@ use crate::parts::{
 };
 use crate::passing::passed_on;
 use crate::replies::{
-    Heard, Told, is_unable, limit_exceeded, nobody_has, told_by, unavailable, unavailable_of,
+    Heard, Told, is_heard, is_unable, limit_exceeded, nobody_has, told_by, unavailable, unavailable_of,
 };
 use std::alloc::Global;
 use x5_memory::NoMemory;
@@ -167,7 +167,7 @@ fn go<N: Network>(
     }
 }
 
-/// Asks the agents of a reference in their order, until one is heard (X.518, section 20).
+/// Asks by a reference (X.518, section 20).
 #[cycle(dispatch)]
 fn take<N: Network>(
     alloc: Global,
@@ -187,11 +187,31 @@ fn take<N: Network>(
     ensures told { IfOk result (λ heard. IsToldHeard (length (N.names net.old)) (heard_view (N.names net.old) heard)) }
 {
     let onward = passed_on(alloc, net.names(), owner, message, reference)?;
-    let agents = reference.agents.as_slice();
+    take_in_turn(alloc, net, from, reference.agents.as_slice(), &onward)
+}
+
+/// Asks agents in their order, until one is heard (X.518, section 20).
+#[cycle(dispatch)]
+fn take_in_turn<N: Network>(
+    alloc: Global,
+    net: &mut N,
+    from: AgentId,
+    agents: &[AccessPoint],
+    onward: &Chained,
+) -> Result<Heard, NoMemory>
+    requires from { from < length (N.names net.old) }
+    requires of_user { IsOfUser (N.scene net.old) (chained_view (N.names net.old) onward.now) }
+    requires agents { are_agents (length (N.names net.old)) (map (access_view (N.names net.old)) agents.now) ≡ true }
+    ensures stays { Stays N.scene N.most N.names net.old net.new }
+    ensures left { left_of (N.most net.new) (N.journal net.new) ≤ left_of (N.most net.old) (N.journal net.old) }
+    ensures does { IfOk result (λ heard. (o : Hand) (r : model.Reference) → map (access_view (N.names net.old)) agents.now ≡ r.agents → chained_view (N.names net.old) onward.now ≡ carried_for (Some from) o r → DoesAt N.scene N.most N.journal net.old net.new (Takes (Some from) o r (heard_view (N.names net.old) heard))) }
+    ensures told { IfOk result (λ heard. IsToldHeard (length (N.names net.old)) (heard_view (N.names net.old) heard)) }
+{
     for access in agents {
         let to = agent_at(net, access);
-        if let Heard::Hears(reply) = ask(alloc, net, from, to, &onward)? {
-            return Ok(Heard::Hears(reply));
+        let heard = ask(alloc, net, from, to, onward)?;
+        if is_heard(&heard) {
+            return Ok(heard);
         }
     }
     Ok(Heard::Unheard)

@@ -12,7 +12,7 @@ ghost use Rattle.x5_ops.specs.AgentNames.{agent_of};
 ghost use Rattle.x5_ops.specs.ReferenceViews.{chained_view, reference_view, access_view, item_view};
 ghost use Rattle.x5_ops.specs.AnswerViews.{reply_view};
 ghost use Rattle.x5_trace.specs.Items.{IsNamed};
-ghost use Rattle.x5_serve.specs.Steps.{IsTelling};
+ghost use Rattle.x5_serve.specs.Steps.{IsTelling, heard_view, IsHeardBy};
 ghost use Rattle.x5_ops.specs.declared.answers.Reply.TheVariants.{Failed};
 
 use std::alloc::Global;
@@ -256,5 +256,15 @@ pub fn told_by(reply: Reply) -> Told
                 Told::Ends(error)
             }
         }
+    }
+}
+
+/// Whether a reply is heard. No memory.
+pub fn is_heard(heard: &Heard) -> bool
+    ensures { (names : List (List ℕ)) → IsHeardBy (heard_view names heard.now) result }
+{
+    match heard {
+        Heard::Hears(_) => true,
+        Heard::Unheard => false,
     }
 }

@@ -39,9 +39,9 @@ decreases-update g l = 4 * left_of (g.N.Network.most l.net.now) (g.N.Network.jou
 abbrev pub invariant-take-loop-access : goal.invariant-take-loop-access
 invariant-take-loop-access g l = record {
   goes : walks.Goes g.N.Network.scene g.N.Network.most g.N.Network.names g.N.Network.journal l.fn.net l.net;
-  carries : walks.Carries (g.N.Network.names l.fn.net) l.owner l.message l.reference l.onward l.agents;
+  carries : walks.Carries (g.N.Network.names l.fn.net) l.fn.owner l.message l.reference l.onward l.agents;
   tried : Does (g.N.Network.scene l.fn.net) (g.N.Network.most l.fn.net)
-      (Tries (Some l.from) (hand l.owner (chained_view (g.N.Network.names l.fn.net) l.message)) (reference_view (g.N.Network.names l.fn.net) l.reference)
+      (Tries (Some l.from) (hand l.fn.owner (chained_view (g.N.Network.names l.fn.net) l.message)) (reference_view (g.N.Network.names l.fn.net) l.reference)
       (map (access_view (g.N.Network.names l.fn.net)) (take l.access-index l.agents)))
       (g.N.Network.journal l.fn.net) (g.N.Network.journal l.net);
 }
@@ -49,9 +49,9 @@ invariant-take-loop-access g l = record {
 abbrev pub invariant-cast-loop-access : goal.invariant-cast-loop-access
 invariant-cast-loop-access g l = record {
   goes : walks.Goes g.N.Network.scene g.N.Network.most g.N.Network.names g.N.Network.journal l.fn.net l.net;
-  carries : walks.Carries (g.N.Network.names l.fn.net) l.owner l.message l.reference l.onward l.agents;
+  carries : walks.Carries (g.N.Network.names l.fn.net) l.fn.owner l.message l.reference l.onward l.agents;
   asked : Does (g.N.Network.scene l.fn.net) (g.N.Network.most l.fn.net)
-      (Spreads (Some l.from) (hand l.owner (chained_view (g.N.Network.names l.fn.net) l.message)) (reference_view (g.N.Network.names l.fn.net) l.reference)
+      (Spreads (Some l.from) (hand l.fn.owner (chained_view (g.N.Network.names l.fn.net) l.message)) (reference_view (g.N.Network.names l.fn.net) l.reference)
       (map (access_view (g.N.Network.names l.fn.net)) (take l.access-index l.agents))
       (map (access_view (g.N.Network.names l.fn.net)) l.noted))
       (g.N.Network.journal l.fn.net) (g.N.Network.journal l.net);
@@ -60,9 +60,9 @@ invariant-cast-loop-access g l = record {
 abbrev pub invariant-probe-loop-access : goal.invariant-probe-loop-access
 invariant-probe-loop-access g l = record {
   goes : walks.Goes g.N.Network.scene g.N.Network.most g.N.Network.names g.N.Network.journal l.fn.net l.net;
-  carries : walks.Carries (g.N.Network.names l.fn.net) l.me l.message l.reference l.onward l.agents;
+  carries : walks.Carries (g.N.Network.names l.fn.net) l.fn.me l.message l.reference l.onward l.agents;
   probed : Does (g.N.Network.scene l.fn.net) (g.N.Network.most l.fn.net)
-      (Probes (hand l.me (chained_view (g.N.Network.names l.fn.net) l.message)) (reference_view (g.N.Network.names l.fn.net) l.reference)
+      (Probes (hand l.fn.me (chained_view (g.N.Network.names l.fn.net) l.message)) (reference_view (g.N.Network.names l.fn.net) l.reference)
       (map (access_view (g.N.Network.names l.fn.net)) (take l.access-index l.agents))
       (map (access_view (g.N.Network.names l.fn.net)) l.noted))
       (g.N.Network.journal l.fn.net) (g.N.Network.journal l.net);
@@ -75,7 +75,7 @@ invariant-gather-loop-reference g l = record {
   filled : 0 < length l.parts.items;
   alike : are_alike l.parts.items ≡ true;
   gathered : Does (g.N.Network.scene l.fn.net) (g.N.Network.most l.fn.net)
-      (Gathers (Some l.from) (hand l.owner (chained_view (g.N.Network.names l.fn.net) l.message))
+      (Gathers (Some l.from) (hand l.fn.owner (chained_view (g.N.Network.names l.fn.net) l.message))
       (map (reference_view (g.N.Network.names l.fn.net)) (take l.reference-index l.asked))
       (answer_view (g.N.Network.names l.fn.net) l.fn.first)
       (Whole (whole_view (g.N.Network.names l.fn.net) l.parts.items)))
