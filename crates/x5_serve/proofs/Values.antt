@@ -327,40 +327,36 @@ view_other false names (Listed subs sources outcome) e = e
 view_other false names (Found entries sources outcome) e = e
 view_other false names Changed e = e
 
-one_kind : (b : Bool) (p a : Answer) → is_kind b p ≡ true
-    → ((is_list p && is_list a) || (is_find p && is_find a)) ≡ is_kind b a
-one_kind true (Listed subs sources outcome) a e = go (is_list a)
-  where
-    go : (x : Bool) → (x || false) ≡ x
-    go true = refl
-    go false = refl
-one_kind true (Entry entry source) a e = absurd (false_true e)
-one_kind true (Match matched copy source) a e = absurd (false_true e)
-one_kind true (Found entries sources outcome) a e = absurd (false_true e)
-one_kind true Changed a e = absurd (false_true e)
-one_kind false (Found entries sources outcome) a e = refl
-one_kind false (Entry entry source) a e = absurd (false_true e)
-one_kind false (Match matched copy source) a e = absurd (false_true e)
-one_kind false (Listed subs sources outcome) a e = absurd (false_true e)
-one_kind false Changed a e = absurd (false_true e)
+kind_of_first : (b : Bool) (p : Answer) → is_kind b p ≡ true → is_list p ≡ b
+kind_of_first true p e = e
+kind_of_first false (Listed subs sources outcome) e = absurd (false_true e)
+kind_of_first false (Entry entry source) e = refl
+kind_of_first false (Match matched copy source) e = refl
+kind_of_first false (Found entries sources outcome) e = refl
+kind_of_first false Changed e = refl
 
-pub of_kind : (parts : List Answer) (p a : Answer) → are_alike parts ≡ true → 0 < length parts → p ≡ get_or parts 0 p
-    → IsOfKind parts a ((is_list p && is_list a) || (is_find p && is_find a))
-of_kind [] p a e h g = absurd (omega arith)
-of_kind (q ∷ parts) p a e h g =
+by_kind : (b : Bool) (parts : List Answer) (a : Answer) → 0 < length parts → list_all (is_kind b) parts ≡ true
+    → (x : Bool) → is_kind b a ≡ x → IsOfKind parts a x
+by_kind b parts a h all true f =
+    alike_of b (parts ++ a ∷ []) (all_both (is_kind b) parts (a ∷ []) all (one (is_kind b a) f))
+  where
+    one : (x : Bool) → x ≡ true → (x && true) ≡ true
+    one true z = refl
+    one false z = absurd (false_true z)
+by_kind b parts a h all false f =
+    λ names. other_kind b (whole_view names parts) (answer_view names a) (whole_kind b names parts h all)
+    (view_other b names a f)
+
+-- the parts' kind is the first one's
+pub of_kind : (parts : List Answer) (p a : Answer) (b : Bool) → are_alike parts ≡ true → 0 < length parts
+    → p ≡ get_or parts 0 p → is_list p ≡ b → IsOfKind parts a (is_kind b a)
+of_kind [] p a b e h g l = absurd (omega arith)
+of_kind (q ∷ parts) p a b e h g l =
     let k = all_or (q ∷ parts) e in
     let first : is_kind k.0 p ≡ true = ap (is_kind k.0) g ∙ (both_true (is_kind k.0 q) (list_all (is_kind k.0) parts) k.1).0 in
-    subst (λ (b : Bool). IsOfKind (q ∷ parts) a b) (sym (one_kind k.0 p a first)) (by k.0 k.1 (is_kind k.0 a) refl)
-  where
-    by : (b : Bool) → list_all (is_kind b) (q ∷ parts) ≡ true → (x : Bool) → is_kind b a ≡ x → IsOfKind (q ∷ parts) a x
-    by b all true f = alike_of b ((q ∷ parts) ++ a ∷ []) (all_both (is_kind b) (q ∷ parts) (a ∷ []) all (one (is_kind b a) f))
-      where
-        one : (x : Bool) → x ≡ true → (x && true) ≡ true
-        one true z = refl
-        one false z = absurd (false_true z)
-    by b all false f =
-        λ names. other_kind b (whole_view names (q ∷ parts)) (answer_view names a)
-        (whole_kind b names (q ∷ parts) (omega arith) all) (view_other b names a f)
+    let same : k.0 ≡ b = sym (kind_of_first k.0 p first) ∙ l in
+    subst (λ (x : Bool). IsOfKind (q ∷ parts) a (is_kind x a)) same
+    (by_kind k.0 (q ∷ parts) a h k.1 (is_kind k.0 a) refl)
 
 -- ---- references that somebody tried, or nobody
 

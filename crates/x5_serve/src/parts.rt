@@ -162,14 +162,16 @@ fn is_found(answer: &Answer) -> bool
 }
 
 /// Whether the answer is of the parts' kind. No memory.
-#[tactic(auto, using(crate::proofs::Values::of_kind))]
 fn is_of_kind(parts: &[Answer], answer: &Answer) -> bool
     requires filled { 0 < length parts.now }
     requires alike { are_alike parts.now ≡ true }
     ensures { IsOfKind parts.now answer.now result }
 {
     let first = &parts[0];
-    (is_listed(first) && is_listed(answer)) || (is_found(first) && is_found(answer))
+    if is_listed(first) {
+        return is_listed(answer);
+    }
+    is_found(answer)
 }
 
 /// Adds a part; one of another kind adds nothing.
@@ -260,9 +262,8 @@ pub fn left_to_follow(alloc: Global, answer: &Answer) -> Result<ReferenceList, N
     ensures kind { IfOk result (λ left. 0 < length left → are_alike (answer.now ∷ []) ≡ true) }
 {
     match answer {
-        Answer::Listed { outcome, .. } | Answer::Found { outcome, .. } => {
-            untried(alloc, outcome.unexplored.as_slice())
-        }
+        Answer::Listed { outcome, .. } => untried(alloc, outcome.unexplored.as_slice()),
+        Answer::Found { outcome, .. } => untried(alloc, outcome.unexplored.as_slice()),
         Answer::Entry { .. } | Answer::Match { .. } | Answer::Changed => Ok(Listed::new(alloc)),
     }
 }

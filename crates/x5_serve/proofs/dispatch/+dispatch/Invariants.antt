@@ -1,6 +1,7 @@
 -- Each loop builds the relation's own loop: so far as it has come. All that is called has fewer messages left, or is further in.
 use Rattle.std.proofs.Common.{◌≡◌, ℕ, ◌+◌, ◌*◌, ◌<◌, ◌≤◌, true, List, [], ◌∷◌, length, map, take, Some}
-use Rattle.x5_model_serve.specs.Serving.{hand, Tries, Spreads, Gathers, Probes, Whole, Does}
+use Rattle.x5_model.specs.References.{Reference}
+use Rattle.x5_model_serve.specs.Serving.{Hand, hand, carried_for, Tries, Spreads, Gathers, Probes, Whole, Does}
 use Rattle.x5_ops.specs.ReferenceViews.{chained_view, reference_view, access_view}
 use Rattle.x5_ops.specs.AnswerViews.{answer_view}
 use Rattle.x5_merge.specs.Merging.{are_alike}
@@ -10,39 +11,42 @@ use Rattle.x5_serve.proofs.Walks as walks
 use Rattle.x5_serve.proofs.dispatch.+dispatch.Given as goal
 
 abbrev pub decreases-ask : goal.decreases-ask
-decreases-ask g l = 4 * left_of (g.N.Network.most l.net.now) (g.N.Network.journal l.net.now)
+decreases-ask g l = 5 * left_of (g.N.Network.most l.net.now) (g.N.Network.journal l.net.now)
 
 abbrev pub decreases-cast : goal.decreases-cast
-decreases-cast g l = 4 * left_of (g.N.Network.most l.net.now) (g.N.Network.journal l.net.now) + 1
+decreases-cast g l = 5 * left_of (g.N.Network.most l.net.now) (g.N.Network.journal l.net.now) + 1
 
 abbrev pub decreases-follow : goal.decreases-follow
-decreases-follow g l = 4 * left_of (g.N.Network.most l.net.now) (g.N.Network.journal l.net.now) + 3
+decreases-follow g l = 5 * left_of (g.N.Network.most l.net.now) (g.N.Network.journal l.net.now) + 4
 
 abbrev pub decreases-gather : goal.decreases-gather
-decreases-gather g l = 4 * left_of (g.N.Network.most l.net.now) (g.N.Network.journal l.net.now) + 2
+decreases-gather g l = 5 * left_of (g.N.Network.most l.net.now) (g.N.Network.journal l.net.now) + 3
 
 abbrev pub decreases-go : goal.decreases-go
-decreases-go g l = 4 * left_of (g.N.Network.most l.net.now) (g.N.Network.journal l.net.now) + 2
+decreases-go g l = 5 * left_of (g.N.Network.most l.net.now) (g.N.Network.journal l.net.now) + 3
 
 abbrev pub decreases-probe : goal.decreases-probe
-decreases-probe g l = 4 * left_of (g.N.Network.most l.net.now) (g.N.Network.journal l.net.now) + 1
+decreases-probe g l = 5 * left_of (g.N.Network.most l.net.now) (g.N.Network.journal l.net.now) + 1
 
 abbrev pub decreases-serve : goal.decreases-serve
-decreases-serve g l = 4 * left_of (g.N.Network.most l.net.now) (g.N.Network.journal l.net.now) + 3
+decreases-serve g l = 5 * left_of (g.N.Network.most l.net.now) (g.N.Network.journal l.net.now) + 4
 
 abbrev pub decreases-take : goal.decreases-take
-decreases-take g l = 4 * left_of (g.N.Network.most l.net.now) (g.N.Network.journal l.net.now) + 1
+decreases-take g l = 5 * left_of (g.N.Network.most l.net.now) (g.N.Network.journal l.net.now) + 2
 
 abbrev pub decreases-update : goal.decreases-update
-decreases-update g l = 4 * left_of (g.N.Network.most l.net.now) (g.N.Network.journal l.net.now) + 2
+decreases-update g l = 5 * left_of (g.N.Network.most l.net.now) (g.N.Network.journal l.net.now) + 2
 
-abbrev pub invariant-take-loop-access : goal.invariant-take-loop-access
-invariant-take-loop-access g l = record {
+abbrev pub decreases-take_in_turn : goal.decreases-take_in_turn
+decreases-take_in_turn g l = 5 * left_of (g.N.Network.most l.net.now) (g.N.Network.journal l.net.now) + 1
+
+abbrev pub invariant-take_in_turn-loop-access : goal.invariant-take_in_turn-loop-access
+invariant-take_in_turn-loop-access g l = record {
   goes : walks.Goes g.N.Network.scene g.N.Network.most g.N.Network.names g.N.Network.journal l.fn.net l.net;
-  carries : walks.Carries (g.N.Network.names l.fn.net) l.fn.owner l.message l.reference l.onward l.agents;
-  tried : Does (g.N.Network.scene l.fn.net) (g.N.Network.most l.fn.net)
-      (Tries (Some l.from) (hand l.fn.owner (chained_view (g.N.Network.names l.fn.net) l.message)) (reference_view (g.N.Network.names l.fn.net) l.reference)
-      (map (access_view (g.N.Network.names l.fn.net)) (take l.access-index l.agents)))
+  tried : (o : Hand) (r : Reference) → map (access_view (g.N.Network.names l.fn.net)) l.agents ≡ r.agents
+      → chained_view (g.N.Network.names l.fn.net) l.onward ≡ carried_for (Some l.from) o r
+      → Does (g.N.Network.scene l.fn.net) (g.N.Network.most l.fn.net)
+      (Tries (Some l.from) o r (map (access_view (g.N.Network.names l.fn.net)) (take l.access-index l.agents)))
       (g.N.Network.journal l.fn.net) (g.N.Network.journal l.net);
 }
 
