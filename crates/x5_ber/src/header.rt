@@ -289,8 +289,7 @@ pub(crate) fn read_head(
 /// # Errors
 /// The header's first fault.
 pub fn read_header(bytes: &[u8], at: usize) -> Result<Head, BerFault>
-    ensures {
-        MatchResult result
+    ensures { MatchResult result
         (λ head. head_at outermost bytes.now at ≡ Ok (head_view head))
         (λ fault. head_at outermost bytes.now at ≡ Err (fault_view fault)) }
 {

@@ -20,9 +20,9 @@ const WORLD: &str = r#"{"format":2,"start":"19930101000000Z","agents":[
 /// How many agents and contexts there are, and of the network's lists how many members.
 fn counts_of(alloc: Global, world: &Described) -> Result<String, Fail> {
     let agents = world.agents.len();
-    let mut contexts = 0;
+    let mut contexts = 0usize;
     for agent in world.agents.as_slice() {
-        contexts += agent.spec.contexts.len();
+        contexts = contexts.saturating_add(agent.spec.contexts.len());
     }
     let lists = (
         world.network.down.len(),
@@ -67,11 +67,27 @@ fn worlds_are_loaded_or_have_a_fault(rt: HostRuntime) -> Result<(), Fail> {
         ("1993010100", "1993022900", "shape /start"),
         ("\"id\":7", "\"id\":0", "shape /agreements/0/id"),
         ("\"refuse\"", "\"re/fu~se\"", "shape /network/re~1fu~0se"),
-        ("[\"Beta\"],\"refuse\"", "[\"Beta\",\"Beta\"],\"refuse\"", "shape /network/down/1"),
-        ("[\"Alpha\",\"Beta\"]]", "[\"Alpha\",\"Beta\"],[\"Beta\",\"Alpha\"]]", "shape /network/cut/1"),
+        (
+            "[\"Beta\"],\"refuse\"",
+            "[\"Beta\",\"Beta\"],\"refuse\"",
+            "shape /network/down/1",
+        ),
+        (
+            "[\"Alpha\",\"Beta\"]]",
+            "[\"Alpha\",\"Beta\"],[\"Beta\",\"Alpha\"]]",
+            "shape /network/cut/1",
+        ),
         ("[1,1000000]", "[1,1]", "shape /network/loseMessages/1"),
-        ("[2]", "[1,2,3,4,5,6,7,8,9,10,11,12,13,14,15,16,17]", "16 /network/loseReplies"),
-        ("\"down\":[\"Beta\"]", "\"down\":[\"Gamma\"]", "unknown /network/down/0"),
+        (
+            "[2]",
+            "[1,2,3,4,5,6,7,8,9,10,11,12,13,14,15,16,17]",
+            "16 /network/loseReplies",
+        ),
+        (
+            "\"down\":[\"Beta\"]",
+            "\"down\":[\"Gamma\"]",
+            "unknown /network/down/0",
+        ),
     ] {
         assert_eq!(rt; told(alloc, from, to)?.as_str(), want);
     }
@@ -87,17 +103,61 @@ fn agents_are_loaded_or_have_a_fault(rt: HostRuntime) -> Result<(), Fail> {
             "{\"prefix\":\"/C=NL/O=Other\",\"entries\":[{\"name\":\"/C=NL/O=Other\",\"attrs\":[\"objectClass=2.5.6.4\"]}]},{\"prefix\":\"/C=NL/O=Other\"",
             "2 3 1 1 2",
         ),
-        ("\"Alpha\",\"contexts\"", "\"1\",\"contexts\"", "name /agents/0/name"),
-        ("\"Alpha\",\"contexts\"", "\"Beta\",\"contexts\"", "again /agents/1/name"),
-        ("\"superior\":\"Alpha\"", "\"superior\":\"Gamma\"", "unknown /agents/1/superior"),
-        ("\"agents\":[\"Beta\"]", "\"agents\":[]", "shape /agents/0/contexts/0/nssr/0/agents"),
-        ("/C=nl/O=Acme", "/C=DE", "shape /agents/0/contexts/0/nssr/0/at"),
-        ("/c=nl/O=Acme", "/c=nl/O=A/O=B", "shape /agents/0/contexts/0/entries/1/name"),
-        ("/c=nl/O=Acme", "/c=nl/O", "name /agents/0/contexts/0/entries/1/name"),
-        ("description=tools", "tools", "shape /agents/0/contexts/0/entries/1/attrs/1"),
-        ("description=tools", "description=tools\",\"description=Tools", "shape /agents/0/contexts/0/entries/1"),
-        ("\"cross\"", "\"subordinate\"", "shape /agents/0/refs/1/name"),
-        ("\"shadows\":[\"Beta\"]", "\"shadows\":[1]", "shape /agents/0/refs/0/shadows/0"),
+        (
+            "\"Alpha\",\"contexts\"",
+            "\"1\",\"contexts\"",
+            "name /agents/0/name",
+        ),
+        (
+            "\"Alpha\",\"contexts\"",
+            "\"Beta\",\"contexts\"",
+            "again /agents/1/name",
+        ),
+        (
+            "\"superior\":\"Alpha\"",
+            "\"superior\":\"Gamma\"",
+            "unknown /agents/1/superior",
+        ),
+        (
+            "\"agents\":[\"Beta\"]",
+            "\"agents\":[]",
+            "shape /agents/0/contexts/0/nssr/0/agents",
+        ),
+        (
+            "/C=nl/O=Acme",
+            "/C=DE",
+            "shape /agents/0/contexts/0/nssr/0/at",
+        ),
+        (
+            "/c=nl/O=Acme",
+            "/c=nl/O=A/O=B",
+            "shape /agents/0/contexts/0/entries/1/name",
+        ),
+        (
+            "/c=nl/O=Acme",
+            "/c=nl/O",
+            "name /agents/0/contexts/0/entries/1/name",
+        ),
+        (
+            "description=tools",
+            "tools",
+            "shape /agents/0/contexts/0/entries/1/attrs/1",
+        ),
+        (
+            "description=tools",
+            "description=tools\",\"description=Tools",
+            "shape /agents/0/contexts/0/entries/1",
+        ),
+        (
+            "\"cross\"",
+            "\"subordinate\"",
+            "shape /agents/0/refs/1/name",
+        ),
+        (
+            "\"shadows\":[\"Beta\"]",
+            "\"shadows\":[1]",
+            "shape /agents/0/refs/0/shadows/0",
+        ),
     ] {
         assert_eq!(rt; told(alloc, from, to)?.as_str(), want);
     }

@@ -74,8 +74,12 @@ returns c =
     in
     let sv = source_view c.args.names.now c.in_ok-source.source in
     let is : sv ≡ copy_source c.args.state.now.me (copy_view x) =
-    c.in_ok-source.ensures ∙ (λ i. record { context = c.prefix.ensures.prefix i; agent = c.me.ensures i; moment =
-    c.stamp.ensures i }) in
+    c.in_ok-source.ensures ∙ (λ i. record {
+      context = c.prefix.ensures.prefix i;
+      agent = c.me.ensures i;
+      moment =
+          c.stamp.ensures i;
+    }) in
     ok_by (λ (reply : Reply). (names : List (List ℕ)) (n : Node) → node_with c.tree-tree.result.now.nodes c.args.node
     ≡ Some n → n.named.entry ≡ c.entry-found.result.now → reply_view names reply ≡ reply_from (source_view names
     c.in_ok-source.source ∷ []) (read_told (is_some c.in_ok-source.source.moment) (body_view

@@ -51,7 +51,10 @@ returns c =
     c.requires.at.kept x c.requires.at.held
     (c.index-own-own.is ∙ ap (λ (l : List Kept). get_or l c.args.own x) c.own.ensures) in
     let is : sv ≡ own_source c.args.state.now.me (held_view x) =
-    c.in_ok-source.ensures ∙ (λ i. record { context = c.prefix.ensures.prefix i; agent = c.me.ensures i; moment = None
+    c.in_ok-source.ensures ∙ (λ i. record {
+      context = c.prefix.ensures.prefix i;
+      agent = c.me.ensures i;
+      moment = None;
     }) in
     ok_by (λ (reply : Reply). (names : List (List ℕ)) (n : Node) → node_with c.tree-tree.result.now.nodes c.args.node
     ≡ Some n → n.named.entry ≡ c.entry-found.result.now → reply_view names reply ≡ reply_from (source_view names

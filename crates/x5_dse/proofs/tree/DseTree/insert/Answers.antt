@@ -66,8 +66,7 @@ returns-clause-prefix c =
     let ok : is_ok c.insert.result ≡ true = c.is_err.ensures.negation ∙ ap not c.if-is_err.false in
     let order : c.insert.new.self.items ≡ take c.in_ok-parent.place c.self.inside.order.items ++ c.in-Some.node ∷ drop c.in_ok-parent.place c.self.inside.order.items =
     c.insert.ensures.items ∙ ap (λ (b : Bool). if b then take c.in_ok-parent.place c.self.inside.order.items ++ c.in-Some.node ∷ drop c.in_ok-parent.place c.self.inside.order.items else c.self.inside.order.items) ok in
-
     let kept = kept_now c.self.inside.prefix c.self.inside.slots.items c.self.inside.order.items c.self.inside.free.items c.self.invariant.0 c.args.name c.args.entry c.in_ok-parent.parent c.in_ok-parent.place site
-        (c.len.result - c.len-2.result) deep c.in-Some.node c.pop.new.self.items c.in-Some.ensures.items c.insert.new.self.items order in
+    (c.len.result - c.len-2.result) deep c.in-Some.node c.pop.new.self.items c.in-Some.ensures.items c.insert.new.self.items order in
     prefix_key c.self.inside.prefix (set c.self.inside.slots.items c.in-Some.node.0 (Some (record { parent = c.in_ok-parent.parent; depth = c.len.result - c.len-2.result; rdn = last_rdn c.args.name; entry = c.args.entry }))) c.insert.new.self.items kept.row
     ∙ (sym (prefix_key c.self.inside.prefix c.self.inside.slots.items c.self.inside.order.items c.self.invariant.0.row) ∙ ap (λ (n : Nodes). prefix_of n.nodes) c.self.view_is)
