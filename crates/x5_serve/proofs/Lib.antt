@@ -1,0 +1,7 @@
+pub mod Values
+pub mod Walks
+pub mod Arriving
+pub mod Cycle
+pub mod Sent
+pub mod Asked
+pub mod Served
