@@ -7,3 +7,5 @@ pub mod Pins
 pub mod Worlds
 pub mod Telling
 pub mod Sound
+pub mod Changing
+pub mod Making
