@@ -110,10 +110,10 @@ put_in xs new i h w =
 
 -- ---- one entry less, and one changed
 
-other_key : (x z : Named) (xs : List Named) → ascending named_below (x ∷ xs) ≡ true → In z xs → (key_at x ≡ key_at z) → ⊥
+pub other_key : (x z : Named) (xs : List Named) → ascending named_below (x ∷ xs) ≡ true → In z xs → (key_at x ≡ key_at z) → ⊥
 other_key x z xs h i e = named_never x (subst (λ (k : Key). key_below (key_at x) k ≡ true) (sym e) (first_below named_below named_chain x z xs h i))
 
-not_same : (a b : Key) → (a ≡ b → ⊥) → same_key a b ≡ false
+pub not_same : (a b : Key) → (a ≡ b → ⊥) → same_key a b ≡ false
 not_same a b f = elim (true_or_false (same_key a b)) [ inl t ↦ absurd (f ((key_decides a b).0 t)) | inr p ↦ p ]
 
 keep_all : (xs : List Named) (key : Key) → ((z : Named) → In z xs → key_at z ≡ key → ⊥) → filter (λ e. not (same_key (key_at e) key)) xs ≡ xs
@@ -153,7 +153,7 @@ next_is i = omega arith
 same_length : (a b : Key) → IsPrefix a b → length a ≡ length b → a ≡ b
 same_length a b p e = sym (sym (take_all (length a) b (omega arith)) ∙ p)
 
-longer_than : (a b : Key) → IsPrefix a b → key_below a b ≡ true → length a < length b
+pub longer_than : (a b : Key) → IsPrefix a b → key_below a b ≡ true → length a < length b
 longer_than a b p less = by (length a == length b) refl
   where
     short : length a ≤ length b

@@ -9,3 +9,7 @@ pub mod Telling
 pub mod Sound
 pub mod Changing
 pub mod Making
+pub mod Moving
+pub mod Outcomes
+pub mod Scopes
+pub mod Turning

@@ -6,4 +6,4 @@ pub mod Scopes
 pub mod Parts
 pub mod Kept
 pub mod Making
-pub mod Renaming
+pub mod Moving

@@ -108,7 +108,8 @@ fn next_place(scope: &[Named], at: usize, depth: usize) -> usize
     ensures within { result ≤ length scope.now }
     ensures deeper { (e : entries.Named) → In e (take (result - (at + 1)) (drop (at + 1) scope.now)) → depth < length (tree.key_at e) }
 {
-    let key = scope[at].name.key();
+    let named = &scope[at];
+    let key = named.name.key();
     if key.len() < depth {
         return at + 1;
     }

@@ -1,7 +1,7 @@
 //! modifyDN on entries in the order of their keys (X.511, section 11.4): the entry and all below it, which stand next to each
 //! other, get new names and go where the new name stands. The names are made first; the rest takes no memory.
 
-ghost use Rattle.std.specs.Prelude.{◌≡◌, ◌<◌, ◌≤◌, ◌+◌, ◌-◌, ◌++◌, true, Bool, ℕ, List, length, map, take, drop, slice_get, vec_len, IfOk};
+ghost use Rattle.std.specs.Prelude.{◌≡◌, ◌<◌, ◌≤◌, ◌+◌, ◌++◌, true, List, length, map, take, drop, get_or, vec_len, IfOk};
 ghost use Rattle.std.specs.List.{list_any};
 ghost use Rattle.x5_model.specs.Changes as changes;
 ghost use Rattle.x5_model.specs.Entries as entry_model;
@@ -15,7 +15,7 @@ ghost use Rattle.x5_ops.specs.ChangeView.{IsModified};
 ghost use Rattle.x5_one.specs.Making.{ground, ground_tree, IsMade};
 ghost use Rattle.x5_one.specs.Parts.{IsSound};
 ghost use Rattle.x5_one.specs.Places.{IsPlace};
-ghost use Rattle.x5_one.specs.Renaming.{IsNewPlace, IsTurned, respelled_entry, moved_run};
+ghost use Rattle.x5_one.specs.Moving.{IsNewPlace, IsTurned, respelled_entry, moved_run};
 
 use crate::places::{last_of, place_of, run_end};
 use crate::updating::{no_object, refused, with_entry};
@@ -74,6 +74,13 @@ fn moved(
     Ok(moved)
 }
 
+/// A copy of the attributes.
+fn copied(entry: &Entry) -> Result<Entry, NoMemory>
+    ensures { IfOk result (λ e. e ≡ entry.now) }
+{
+    Ok(entry.clone()?)
+}
+
 /// What a modifyDN makes of the entry's attributes (X.511, section 11.4), or the refusal of the single-valued type that it doubles.
 fn renamed(
     alloc: Global,
@@ -84,7 +91,7 @@ fn renamed(
 ) -> Result<Entry, ChangeFault>
     ensures { IsModified result (changes.single_valued (changes.renamed old.now rdn.now drop_old entry.now)) }
 {
-    let entry = entry.clone()?;
+    let entry = copied(entry)?;
     let entry = if drop_old {
         without_rdn(alloc, entry, old, rdn)?
     } else {
