@@ -27,6 +27,7 @@ use Rattle.x5_ops.specs.declared.changes.ChangeFault.TheVariants as faults
 use Rattle.x5_one.specs.Making.{ground, PinsThere, IsMade, IsStopped}
 use Rattle.x5_one.specs.Places.{IsPlace}
 use Rattle.x5_one.proofs.Runs.{key_there, found_entry, missing_entry, no_entry, there_by_entry}
+use Rattle.x5_one.proofs.Moving.{nobody}
 use Rattle.x5_one.proofs.Changing.{put_in, take_out, put_over, next_is}
 
 -- ---- stopped
@@ -53,9 +54,6 @@ or_nothing false = refl
 
 pub above_is : (entries : List Named) (pins : List Key) (key : Key) (b : Bool) → list_any (is_prefix key) pins ≡ b → above_pin (ground entries pins) key ≡ b
 above_is entries pins key b e = or_nothing (list_any (is_prefix key) pins) ∙ e
-
-abbrev pub nobody : Named
-nobody = record { name = []; entry = record { attributes = [] } }
 
 module _ (entries : List Named) (pins : List Key) (h : ascending named_below entries ≡ true) where
   -- ---- names that are taken, and that are free

@@ -138,6 +138,9 @@ new_length name rdn full =
     let d : length (parent (key_of name)) + 1 ≡ length (key_of name) = parent_length (key_of name) (omega arith) in
     omega arith
 
+abbrev pub nobody : Named
+nobody = record { name = []; entry = record { attributes = [] } }
+
 -- ---- the run that moves
 
 module _ (es : List Named) (h : ascending named_below es ≡ true) (name : Name) (rdn : Rdn) (new : Entry) (at end : ℕ)
@@ -311,6 +314,83 @@ module _ (es : List Named) (h : ascending named_below es ≡ true) (name : Name)
           (λ a b i j. front_below front (run ++ back) (ap (ascending named_below) (sym split) ∙ h) a b i
           (in_right b run back j))
 
+  pub run_filled : 0 < length run
+  run_filled = (let w = run_first nobody in let l : length run ≡ length (get_or es at nobody ∷ w.0) = ap length w.1 in
+      omega arith)
+
+  module _ (to : ℕ) (free : IsPlace (keys_of es) next (Err to)) where
+    before_it : (x : Named) → In x (take to es) → key_below (key_at x) next ≡ true
+    before_it x i = free.1 (key_at x) (key_in_take to es x i)
+
+    behind_it : (y : Named) → In y (drop to es) → key_below (key_at y) next ≡ false
+    behind_it y i = not_back next (key_at y) (free.2 (key_at y) (key_in_drop to es y i))
+
+    to_within : to ≤ length es
+    to_within = omega (arith, free.0, length-map es key_at)
+
+    -- no place within the run
+    not_within : at < to → end ≤ to
+    not_within l = by (nat_order to end)
+      where
+        nat_order : (a b : ℕ) → (a < b) ⊎ (b ≤ a)
+        nat_order zero zero = inr (omega arith)
+        nat_order zero (suc b) = inl (omega arith)
+        nat_order (suc a) zero = inr (omega arith)
+        nat_order (suc a) (suc b) = elim (nat_order a b) [ inl m ↦ inl (omega arith) | inr m ↦ inr (omega arith) ]
+
+        by : (to < end) ⊎ (end ≤ to) → end ≤ to
+        by (inr m) = m
+        by (inl m) = absurd (no_entry es next to free own own_in (sym same))
+          where
+            own : Named
+            own = get_or es at nobody
+
+            own_in : In own es
+            own_in = in_get es at nobody (key_there es key at nobody place).0
+
+            own_before : In own (take to es)
+            own_before = in_take_on (suc at) to es own (omega arith) (first_in at es (key_there es key at nobody place).0)
+              where
+                first_in : (n : ℕ) (xs : List Named) → n < length xs → In (get_or xs n nobody) (take (suc n) xs)
+                first_in n [] k = absurd (omega arith)
+                first_in zero (x ∷ xs) k = here
+                first_in (suc n) (x ∷ xs) k = there (first_in n xs (omega arith))
+
+            tail : List Named
+            tail = drop to (take end es)
+
+            tail_length : 0 < length tail
+            tail_length =
+                let a : length tail ≡ length (take end es) - to = length-drop to (take end es) in
+                let b : length (take end es) ≡ end = length-take-le end es within in
+                omega arith
+
+            other : Named
+            other = get_or tail 0 nobody
+
+            other_in : In other tail
+            other_in = in_get tail 0 nobody tail_length
+
+            other_behind : In other (drop to es)
+            other_behind = in_between to end es other (omega arith) other_in
+
+            other_run : In other run
+            other_run = subst (λ (ys : List Named). In other ys) (between_parts at end es order)
+                (in_drop_on at to (take end es) other (omega arith) other_in)
+
+            own_less : key_below key next ≡ true
+            own_less = ap (λ (k : Key). key_below k next) (sym (own_key nobody)) ∙ before_it own own_before
+
+            on : IsPrefix key next
+            on = between key next (key_at other) (not_back key next own_less) (behind_it other other_behind)
+                (run_on other other_run)
+
+            same : next ≡ key_at own
+            same = sym (same_by_length key next next on (prefix_itself next) lengths) ∙ sym (own_key nobody)
+              where
+                lengths : length key ≡ length next
+                lengths = sym (new_length name rdn full)
+
   -- ---- where it goes
 
   module _ (rs us : List Named) (moved : rs ≡ map moves run) (made : us ≡ sorted_entries (map moves es))
@@ -334,24 +414,15 @@ module _ (es : List Named) (h : ascending named_below es ≡ true) (name : Name)
 
     module _ (to : ℕ) (free : IsPlace (keys_of es) next (Err to))
         (none : (y : Named) → In y es → IsPrefix next (key_at y) → ⊥) where
-      before_it : (x : Named) → In x (take to es) → key_below (key_at x) next ≡ true
-      before_it x i = free.1 (key_at x) (key_in_take to es x i)
-
-      behind_it : (y : Named) → In y (drop to es) → key_below (key_at y) next ≡ false
-      behind_it y i = not_back next (key_at y) (free.2 (key_at y) (key_in_drop to es y i))
-
-      to_within : to ≤ length es
-      to_within = omega (arith, free.0, length-map es key_at)
-
       -- it goes back
       goes_back : (ts : List Named) → to ≤ at → IsTurned to at end (front ++ (rs ++ back)) ts → ts ≡ us
       goes_back ts l turned =
-          turned (take to es) (drop to front) rs back parts (length-take-le to es to_within) lengths run_length
+          turned (take to es) (drop to front) rs back parts (length-take-le to es (to_within to free)) lengths run_length
           ∙ ap (λ (zs : List Named). take to es ++ (zs ++ (drop to front ++ back))) moved
           ∙ settles (take to es) (drop to front ++ back) us
           (sym (append_assoc (take to es) (drop to front) back) ∙ ap (λ (zs : List Named). zs ++ back) of_front)
-          before_it
-          (λ y i. behind_it y (later y i))
+          (before_it to free)
+          (λ y i. behind_it to free y (later y i))
           (λ y i p. none y (in_drop to es y (later y i)) p)
           made up
         where
@@ -375,72 +446,6 @@ module _ (es : List Named) (h : ascending named_below es ≡ true) (name : Name)
                 | inr b ↦ in_drop_on to end es y (omega arith) b
               ]
 
-      -- no place within the run
-      not_within : at < to → end ≤ to
-      not_within l = by (nat_order to end)
-        where
-          nat_order : (a b : ℕ) → (a < b) ⊎ (b ≤ a)
-          nat_order zero zero = inr (omega arith)
-          nat_order zero (suc b) = inl (omega arith)
-          nat_order (suc a) zero = inr (omega arith)
-          nat_order (suc a) (suc b) = elim (nat_order a b) [ inl m ↦ inl (omega arith) | inr m ↦ inr (omega arith) ]
-
-          nobody : Named
-          nobody = record { name = []; entry = record { attributes = [] } }
-
-          by : (to < end) ⊎ (end ≤ to) → end ≤ to
-          by (inr m) = m
-          by (inl m) = absurd (no_entry es next to free own own_in (sym same))
-            where
-              own : Named
-              own = get_or es at nobody
-
-              own_in : In own es
-              own_in = in_get es at nobody (key_there es key at nobody place).0
-
-              own_before : In own (take to es)
-              own_before = in_take_on (suc at) to es own (omega arith) (first_in at es (key_there es key at nobody place).0)
-                where
-                  first_in : (n : ℕ) (xs : List Named) → n < length xs → In (get_or xs n nobody) (take (suc n) xs)
-                  first_in n [] k = absurd (omega arith)
-                  first_in zero (x ∷ xs) k = here
-                  first_in (suc n) (x ∷ xs) k = there (first_in n xs (omega arith))
-
-              tail : List Named
-              tail = drop to (take end es)
-
-              tail_length : 0 < length tail
-              tail_length =
-                  let a : length tail ≡ length (take end es) - to = length-drop to (take end es) in
-                  let b : length (take end es) ≡ end = length-take-le end es within in
-                  omega arith
-
-              other : Named
-              other = get_or tail 0 nobody
-
-              other_in : In other tail
-              other_in = in_get tail 0 nobody tail_length
-
-              other_behind : In other (drop to es)
-              other_behind = in_between to end es other (omega arith) other_in
-
-              other_run : In other run
-              other_run = subst (λ (ys : List Named). In other ys) (between_parts at end es order)
-                  (in_drop_on at to (take end es) other (omega arith) other_in)
-
-              own_less : key_below key next ≡ true
-              own_less = ap (λ (k : Key). key_below k next) (sym (own_key nobody)) ∙ before_it own own_before
-
-              on : IsPrefix key next
-              on = between key next (key_at other) (not_back key next own_less) (behind_it other other_behind)
-                  (run_on other other_run)
-
-              same : next ≡ key_at own
-              same = sym (same_by_length key next next on (prefix_itself next) lengths) ∙ sym (own_key nobody)
-                where
-                  lengths : length key ≡ length next
-                  lengths = sym (new_length name rdn full)
-
       -- it goes on
       goes_on : (ts : List Named) → at < to → IsTurned at end to (front ++ (rs ++ back)) ts → ts ≡ us
       goes_on ts l turned =
@@ -449,13 +454,13 @@ module _ (es : List Named) (h : ascending named_below es ≡ true) (name : Name)
           ∙ sym (append_assoc front middle (map moves run ++ drop to es))
           ∙ settles (front ++ middle) (drop to es) us
           (append_assoc front middle (drop to es) ∙ ap (λ (zs : List Named). front ++ zs) of_back)
-          (λ x i. before_it x (earlier x i))
-          behind_it
+          (λ x i. before_it to free x (earlier x i))
+          (behind_it to free)
           (λ y i p. none y (in_drop to es y i) p)
           made up
         where
           far : end ≤ to
-          far = not_within l
+          far = not_within to free l
 
           middle : List Named
           middle = drop end (take to es)
@@ -473,7 +478,7 @@ module _ (es : List Named) (h : ascending named_below es ≡ true) (name : Name)
           lengths : end + length middle ≡ to
           lengths =
               let a : length middle ≡ length (take to es) - end = length-drop end (take to es) in
-              let b : length (take to es) ≡ to = length-take-le to es to_within in
+              let b : length (take to es) ≡ to = length-take-le to es (to_within to free) in
               omega (arith, far)
 
           earlier : (x : Named) → In x (front ++ middle) → In x (take to es)

@@ -28,8 +28,8 @@ use Rattle.x5_one.specs.Moving.{IsNewPlace, IsTurned, moved_run}
 use Rattle.x5_one.proofs.Searching.{in_get}
 use Rattle.x5_one.proofs.Runs.{key_there, found_entry, missing_entry, no_entry}
 use Rattle.x5_one.proofs.Changing.{not_same}
-use Rattle.x5_one.proofs.Making.{above_is, taken_at, free_at, nobody}
-use Rattle.x5_one.proofs.Moving.{run_moved, stays, goes_back, goes_on}
+use Rattle.x5_one.proofs.Making.{above_is, taken_at, free_at}
+use Rattle.x5_one.proofs.Moving.{nobody, run_moved, stays, goes_back, goes_on}
 
 module _ (entries : List Named) (pins : List Key) (s : IsSound (ground_tree entries pins)) where
   abbrev t : Tree

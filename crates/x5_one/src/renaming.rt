@@ -11,11 +11,12 @@ ghost use Rattle.x5_model.specs.Values.{key_of};
 ghost use Rattle.x5_model.specs.Words.{ascending};
 ghost use Rattle.x5_model_tree.specs.Apply as model;
 ghost use Rattle.x5_model_tree.specs.Tree as tree;
+ghost use Rattle.x5_model_updates.specs.Afterwards.{new_key};
 ghost use Rattle.x5_ops.specs.ChangeView.{IsModified};
 ghost use Rattle.x5_one.specs.Making.{ground, ground_tree, IsMade};
 ghost use Rattle.x5_one.specs.Parts.{IsSound};
 ghost use Rattle.x5_one.specs.Places.{IsPlace};
-ghost use Rattle.x5_one.specs.Moving.{IsNewPlace, IsTurned, respelled_entry, moved_run};
+ghost use Rattle.x5_one.specs.Moving.{IsFitting, IsNewPlace, IsPlanned, IsSettled, IsTurned, respelled_entry, moved_run};
 
 use crate::places::{last_of, place_of, run_end};
 use crate::updating::{no_object, refused, with_entry};
@@ -26,6 +27,15 @@ use x5_ops::{
     ChangeFault, DirError, Entry, Named, doubled, problems, with_rdn, without_rdn,
 };
 use x5_syntax::TypeRef;
+
+/// The run of entries that moves, with its new names: it stands from `at` to before `end`, and its new names would go to `place`.
+#[derive(Drop)]
+struct Move {
+    at: usize,
+    end: usize,
+    place: usize,
+    run: Vec<Named>,
+}
 
 /// The name with its RDN at this place replaced.
 fn respelled(alloc: Global, above: usize, rdn: &Rdn, name: &Name) -> Result<Name, NoMemory>
@@ -107,6 +117,13 @@ fn renamed(
     }
 }
 
+/// The name with another last RDN.
+fn new_name(alloc: Global, object: &Name, rdn: &Rdn) -> Result<Name, NoMemory>
+    ensures { IfOk result (λ name. key_of name ≡ new_key object.now rdn.now) }
+{
+    object.parent(alloc)?.below(alloc, rdn)
+}
+
 /// Where an entry of the new name would stand; none where another entry has it. No memory.
 fn new_place(entries: &[Named], object: &Name, at: usize, name: &Name) -> Option<usize>
     requires { ascending tree.named_below entries.now ≡ true }
@@ -140,17 +157,38 @@ fn turn(entries: &mut [Named], from: usize, middle: usize, to: usize)
     entries[from..to].rotate_left(middle - from);
 }
 
-/// Gives an entry another RDN (X.511, section 11.4), and so another name to all below it.
-pub(crate) fn rename(
+/// Puts the run in place of the entries there, and then where the place is, which is before or behind them. No memory.
+fn settle(entries: &mut [Named], moving: Move)
+    requires { IsFitting moving (length entries.old) }
+    ensures { IsSettled moving entries.old entries.new }
+{
+    let Move {
+        at,
+        end,
+        place,
+        run,
+    } = moving;
+    exchange(entries, at, end, run);
+    if place <= at {
+        turn(entries, place, at, end);
+    } else {
+        turn(entries, at, end, place);
+    }
+}
+
+/// What a modifyDN moves and where to, or its refusal.
+fn planned(
     alloc: Global,
-    entries: &mut Vec<Named>,
+    entries: &[Named],
     object: &Name,
     rdn: &Rdn,
     drop_old: bool,
     above: bool,
-) -> Result<(), ChangeFault>
-    requires { ascending tree.named_below entries.old.items ≡ true }
-    ensures { (pins : List keys.Key) → IsSound (ground_tree entries.old.items pins) → list_any (keys.is_prefix (key_of object.now)) pins ≡ above → IsMade result (model.rename (ground entries.old.items pins) object.now rdn.now drop_old) entries.old.items entries.new.items }
+) -> Result<Move, ChangeFault>
+    requires order { ascending tree.named_below entries.now ≡ true }
+    requires named { 0 < length object.now }
+    ensures fits { IfOk result (λ moving. IsFitting moving (length entries.now)) }
+    ensures made { (pins : List keys.Key) → IsSound (ground_tree entries.now pins) → list_any (keys.is_prefix (key_of object.now)) pins ≡ above → IsPlanned result (model.rename (ground entries.now pins) object.now rdn.now drop_old) entries.now }
 {
     let at = match place_of(entries, object.key()) {
         Ok(at) => at,
@@ -160,18 +198,43 @@ pub(crate) fn rename(
         return Err(refused(problems::AFFECTS_MULTIPLE_DSAS));
     }
     let old = last_of(alloc, object)?;
-    let entry = renamed(alloc, &entries[at].entry, &old, rdn, drop_old)?;
-    let name = object.parent(alloc)?.below(alloc, rdn)?;
+    let named = &entries[at];
+    let entry = match renamed(alloc, &named.entry, &old, rdn, drop_old) {
+        Ok(entry) => entry,
+        Err(fault) => return Err(fault),
+    };
+    let name = new_name(alloc, object, rdn)?;
     let Some(place) = new_place(entries, object, at, &name) else {
         return Err(refused(problems::ENTRY_ALREADY_EXISTS));
     };
     let end = run_end(entries, at, object.key());
     let run = moved(alloc, &entries[at..end], object.len() - 1, rdn, entry)?;
-    exchange(entries, at, end, run);
-    if place <= at {
-        turn(entries, place, at, end);
-    } else {
-        turn(entries, at, end, place);
+    Ok(Move {
+        at,
+        end,
+        place,
+        run,
+    })
+}
+
+/// Gives an entry another RDN (X.511, section 11.4), and so another name to all below it.
+pub(crate) fn rename(
+    alloc: Global,
+    entries: &mut Vec<Named>,
+    object: &Name,
+    rdn: &Rdn,
+    drop_old: bool,
+    above: bool,
+) -> Result<(), ChangeFault>
+    requires order { ascending tree.named_below entries.old.items ≡ true }
+    requires named { 0 < length object.now }
+    ensures { (pins : List keys.Key) → IsSound (ground_tree entries.old.items pins) → list_any (keys.is_prefix (key_of object.now)) pins ≡ above → IsMade result (model.rename (ground entries.old.items pins) object.now rdn.now drop_old) entries.old.items entries.new.items }
+{
+    match planned(alloc, entries, object, rdn, drop_old, above) {
+        Ok(moving) => {
+            settle(entries, moving);
+            Ok(())
+        }
+        Err(fault) => Err(fault),
     }
-    Ok(())
 }

@@ -15,6 +15,6 @@ returns-then-is_same c = inl ((key_decides (key_of c.args.name.now) (key_of c.ar
 pub returns-in-Ok : goal.returns-in-Ok
 returns-in-Ok c = (
   other_name (key_of c.args.name.now) (key_of c.args.object.now) (sym c.is_same.ensures ∙ c.if-is_same.false),
-  c.in-Ok.field-0,
-  subst (λ (k : Key). IsPlace (keys_of c.args.entries.now) k (Ok c.in-Ok.field-0)) c.key.ensures c.in-Ok.ensures,
+  (c.in-Ok.field-0, subst (λ (k : Key). IsPlace (keys_of c.args.entries.now) k (Ok c.in-Ok.field-0)) c.key.ensures
+      c.in-Ok.ensures),
 )

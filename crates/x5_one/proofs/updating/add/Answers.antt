@@ -11,7 +11,8 @@ use Rattle.x5_model_tree.proofs.Grown.{above_key}
 use Rattle.x5_model_updates.specs.Afterwards.{new_entry}
 use Rattle.x5_ops.specs.RequestViews.{attribute_view}
 use Rattle.x5_one.specs.Making.{ground}
-use Rattle.x5_one.proofs.Making.{nobody, absent_as, stopped_as, place_as, add_missing, add_there, add_made, added_is}
+use Rattle.x5_one.proofs.Making.{absent_as, stopped_as, place_as, add_missing, add_there, add_made, added_is}
+use Rattle.x5_one.proofs.Moving.{nobody}
 use Rattle.x5_one.proofs.updating.add.Goals as goal
 
 pub returns-in-Err : goal.returns-in-Err

@@ -7,7 +7,7 @@ use Rattle.x5_model.specs.Changes.{modified}
 use Rattle.x5_model_tree.specs.Apply.{modify}
 use Rattle.x5_ops.specs.RequestViews.{change_view}
 use Rattle.x5_one.specs.Making.{ground}
-use Rattle.x5_one.proofs.Making.{nobody, absent_as, refused_as, place_as, modify_missing, modify_refused, modify_made}
+use Rattle.x5_one.proofs.Making.{absent_as, refused_as, place_as, modify_missing, modify_refused, modify_made}
 use Rattle.x5_one.proofs.updating.modify.Goals as goal
 
 pub returns-in-Err : goal.returns-in-Err

@@ -8,7 +8,8 @@ use Rattle.x5_model.specs.Problems.{affects_multiple_dsas, not_allowed_on_non_le
 use Rattle.x5_model_tree.specs.Apply.{remove}
 use Rattle.x5_model_tree.specs.Tree.{has_below}
 use Rattle.x5_one.specs.Making.{ground}
-use Rattle.x5_one.proofs.Making.{nobody, absent_as, stopped_as, place_as, remove_missing, remove_above, remove_filled, remove_made}
+use Rattle.x5_one.proofs.Making.{absent_as, stopped_as, place_as, remove_missing, remove_above, remove_filled, remove_made}
+use Rattle.x5_one.proofs.Moving.{nobody}
 use Rattle.x5_one.proofs.updating.remove.Goals as goal
 
 pub returns-in-Err : goal.returns-in-Err
