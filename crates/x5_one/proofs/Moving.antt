@@ -17,7 +17,7 @@ use Rattle.x5_model.specs.Values.{Rdn, Name, key_of, key_of_rdn, name_above}
 use Rattle.x5_model.specs.Entries.{Entry, Named}
 use Rattle.x5_model.proofs.KeyLaws.{key_cmp_total, key_decides}
 use Rattle.x5_model.proofs.Lists.{true_or_false, in_first, in_left, in_right, in_either, in_map, of_map, in_filter, of_filter}
-use Rattle.x5_model.proofs.Prefixes.{take_take, prefix_decides, prefix_itself, same_by_length, parent_length}
+use Rattle.x5_model.proofs.Prefixes.{take_take, prefix_decides, prefix_itself, same_by_length, prefix_length, parent_length}
 use Rattle.x5_model.proofs.Ascending.{first_below, rest_ascending, cons_ascending, in_sorted, of_sorted}
 use Rattle.x5_model_tree.specs.Tree.{key_at, keys_of, named_below, sorted_entries}
 use Rattle.x5_model_tree.proofs.Order.{named_chain, named_never, one_list_of_entries}
@@ -26,7 +26,7 @@ use Rattle.x5_model_updates.proofs.Alike.{new_key_is}
 use Rattle.x5_model_updates.proofs.Outcomes.{moved_entry}
 use Rattle.x5_model_updates.proofs.Renaming.{moved_itself, moved_below, moved_apart, moved_key, moved_goes}
 use Rattle.x5_one.specs.Places.{IsPlace, IsStart}
-use Rattle.x5_one.specs.Moving.{IsTurned, respelled_entry, moved_run}
+use Rattle.x5_one.specs.Moving.{IsNewPlace, IsTurned, respelled_entry, moved_run}
 use Rattle.x5_one.proofs.KeyOrder.{prefix_not_below, between, past, behind_alike}
 use Rattle.x5_one.proofs.Searching.{in_get, not_back}
 use Rattle.x5_one.proofs.Runs.{key_there, start_there, parts_of, key_in_take, key_in_drop, no_entry}
@@ -127,6 +127,14 @@ mapped_ascending f (x ∷ xs) s h =
     (s x w.0 here (there w.1) (first_below named_below named_chain x w.0 xs h w.1)))
     (mapped_ascending f xs (λ a b i j. s a b (there i) (there j)) (rest_ascending named_below named_chain x xs h))
 
+pub le_or_less : (a b : ℕ) → (a ≤ b) ⊎ (b < a)
+le_or_less zero b = inl (omega arith)
+le_or_less (suc a) zero = inr (omega arith)
+le_or_less (suc a) (suc b) = elim (le_or_less a b) [ inl m ↦ inl (omega arith) | inr m ↦ inr (omega arith) ]
+
+pub above_length : (name : Name) → length (name_above name) ≡ length name - 1
+above_length name = length-take-le (length name - 1) name (omega arith)
+
 -- a new key is as long as the old one
 pub new_length : (name : Name) (rdn : Rdn) → 0 < length name → length (new_key name rdn) ≡ length (key_of name)
 new_length name rdn full =
@@ -187,7 +195,7 @@ module _ (es : List Named) (h : ascending named_below es ≡ true) (name : Name)
   front_off e i p = let f = prefix_not_below key (key_at e) p in let g = front_less e i in
       absurd (let t : true ≡ false = sym g ∙ f in cc)
 
-  run_on : (e : Named) → In e run → IsPrefix key (key_at e)
+  pub run_on : (e : Named) → In e run → IsPrefix key (key_at e)
   run_on e i = (prefix_decides key (key_at e)).0 (of_filter (λ x. is_prefix key (key_at x)) e es
       (subst (λ (ys : List Named). In e ys) is i)).1
 
@@ -314,6 +322,28 @@ module _ (es : List Named) (h : ascending named_below es ≡ true) (name : Name)
           (λ a b i j. front_below front (run ++ back) (ap (ascending named_below) (sym split) ∙ h) a b i
           (in_right b run back j))
 
+  pub run_head : (first : Named) × (first ≡ get_or run 0 first)
+  run_head = (let w = run_first nobody in (get_or es at nobody,
+      sym (ap (λ (ys : List Named). get_or ys 0 (get_or es at nobody)) w.1)))
+
+  pub run_count : (first : Named) → at + length (moved_run (length (name_above name)) rdn new first run) ≡ end
+  run_count first =
+      let a : length (moved_run (length (name_above name)) rdn new first run) ≡ length run =
+      length-set (map (respelled_entry (length (name_above name)) rdn) run) 0
+      (record { name = (respelled_entry (length (name_above name)) rdn first).name; entry = new })
+      ∙ length-map run (respelled_entry (length (name_above name)) rdn) in
+      let b : length run ≡ end - at = length-take-le (end - at) (drop at es) (omega (arith, length-drop at es)) in
+      omega arith
+
+  -- each is longer than what stands above the entry
+  pub run_long : (e : Named) → In e run → length (name_above name) < length e.name
+  run_long e i =
+      let a : length key ≤ length (key_at e) = prefix_length key (key_at e) (run_on e i) in
+      let b : length key ≡ length name = length-map name key_of_rdn in
+      let c : length (key_at e) ≡ length e.name = length-map e.name key_of_rdn in
+      let d : length (name_above name) ≡ length name - 1 = above_length name in
+      omega arith
+
   pub run_filled : 0 < length run
   run_filled = (let w = run_first nobody in let l : length run ≡ length (get_or es at nobody ∷ w.0) = ap length w.1 in
       omega arith)
@@ -330,17 +360,11 @@ module _ (es : List Named) (h : ascending named_below es ≡ true) (name : Name)
 
     -- no place within the run
     not_within : at < to → end ≤ to
-    not_within l = by (nat_order to end)
+    not_within l = by (le_or_less end to)
       where
-        nat_order : (a b : ℕ) → (a < b) ⊎ (b ≤ a)
-        nat_order zero zero = inr (omega arith)
-        nat_order zero (suc b) = inl (omega arith)
-        nat_order (suc a) zero = inr (omega arith)
-        nat_order (suc a) (suc b) = elim (nat_order a b) [ inl m ↦ inl (omega arith) | inr m ↦ inr (omega arith) ]
-
-        by : (to < end) ⊎ (end ≤ to) → end ≤ to
-        by (inr m) = m
-        by (inl m) = absurd (no_entry es next to free own own_in (sym same))
+        by : (end ≤ to) ⊎ (to < end) → end ≤ to
+        by (inl m) = m
+        by (inr m) = absurd (no_entry es next to free own own_in (sym same))
           where
             own : Named
             own = get_or es at nobody
@@ -391,6 +415,14 @@ module _ (es : List Named) (h : ascending named_below es ≡ true) (name : Name)
                 lengths : length key ≡ length next
                 lengths = sym (new_length name rdn full)
 
+  pub place_fits : (to : ℕ) → IsNewPlace es key next at (Some to)
+      → (to ≤ at) ⊎ ((end ≤ to) × (to ≤ length es))
+  place_fits to (inl u) = inl (let q = u.1 in omega arith)
+  place_fits to (inr free) = elim (le_or_less to at) [
+    | inl l ↦ inl l
+    | inr l ↦ inr (not_within to free l, to_within to free)
+  ]
+
   -- ---- where it goes
 
   module _ (rs us : List Named) (moved : rs ≡ map moves run) (made : us ≡ sorted_entries (map moves es))
@@ -402,7 +434,7 @@ module _ (es : List Named) (h : ascending named_below es ≡ true) (name : Name)
         omega arith
 
     -- under its own key
-    stays : (ts : List Named) → next ≡ key → IsTurned at at end (front ++ (rs ++ back)) ts → ts ≡ us
+    pub stays : (ts : List Named) → next ≡ key → IsTurned at at end (front ++ (rs ++ back)) ts → ts ≡ us
     stays ts same turned =
         turned front [] rs back refl (length-take-le at es (omega arith)) (omega arith) run_length
         ∙ ap (λ (zs : List Named). front ++ (zs ++ back)) moved
@@ -415,7 +447,7 @@ module _ (es : List Named) (h : ascending named_below es ≡ true) (name : Name)
     module _ (to : ℕ) (free : IsPlace (keys_of es) next (Err to))
         (none : (y : Named) → In y es → IsPrefix next (key_at y) → ⊥) where
       -- it goes back
-      goes_back : (ts : List Named) → to ≤ at → IsTurned to at end (front ++ (rs ++ back)) ts → ts ≡ us
+      pub goes_back : (ts : List Named) → to ≤ at → IsTurned to at end (front ++ (rs ++ back)) ts → ts ≡ us
       goes_back ts l turned =
           turned (take to es) (drop to front) rs back parts (length-take-le to es (to_within to free)) lengths run_length
           ∙ ap (λ (zs : List Named). take to es ++ (zs ++ (drop to front ++ back))) moved
@@ -447,7 +479,7 @@ module _ (es : List Named) (h : ascending named_below es ≡ true) (name : Name)
               ]
 
       -- it goes on
-      goes_on : (ts : List Named) → at < to → IsTurned at end to (front ++ (rs ++ back)) ts → ts ≡ us
+      pub goes_on : (ts : List Named) → at < to → IsTurned at end to (front ++ (rs ++ back)) ts → ts ≡ us
       goes_on ts l turned =
           turned front rs middle (drop to es) parts (length-take-le at es (omega arith)) run_length lengths
           ∙ ap (λ (zs : List Named). front ++ (middle ++ (zs ++ drop to es))) moved

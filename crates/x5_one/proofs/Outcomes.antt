@@ -24,7 +24,8 @@ use Rattle.x5_model_updates.proofs.Trees.{above_entry, area_of_pin, area_of_entr
 use Rattle.x5_one.specs.Making.{ground, ground_tree, PinsThere}
 use Rattle.x5_one.specs.Parts.{IsSound}
 use Rattle.x5_one.specs.Places.{IsPlace}
-use Rattle.x5_one.specs.Moving.{IsNewPlace, IsTurned, moved_run}
+use Rattle.x5_one.specs.Moving.{IsNewPlace, IsPlanned, IsSettled, IsTurned, moved_run}
+use Rattle.x5_one.specs.declared.renaming.Move.{Move}
 use Rattle.x5_one.proofs.Searching.{in_get}
 use Rattle.x5_one.proofs.Runs.{key_there, found_entry, missing_entry, no_entry}
 use Rattle.x5_one.proofs.Changing.{not_same}
@@ -96,7 +97,7 @@ module _ (entries : List Named) (pins : List Key) (h : ascending named_below ent
     rename_taken new m v =
         rename_some g name rdn drops e false (Ok new) true found (above_is entries pins (key_of name) false a) m
         ((λ j. not (not_same (new_key name rdn) (key_of name) v.0 j)
-        && taken_at entries pins h (new_key name rdn) v.1 nobody v.2 j))
+        && taken_at entries pins h (new_key name rdn) v.1.0 nobody v.1.1 j))
 
     -- ---- what is made
 
@@ -172,3 +173,15 @@ module _ (entries : List Named) (pins : List Key) (h : ascending named_below ent
             by (inl u) = (let q = u.1 in absurd (omega arith))
             by (inr f) = goes_on entries h name rdn new i end w order within run full rs made runs refl up place f
                 (unseen f) after l (subst (λ (zs : List Named). IsTurned i end place zs after) put turned)
+
+-- what is planned is made once it's settled
+pub planned_made : (m : Move) (xs ys es after : List Named) (pins : List Key) (name : Name) (rdn : Rdn) (drops a : Bool)
+    → xs ≡ es → ys ≡ es
+    → ((ps : List Key) → IsSound (ground_tree xs ps) → list_any (is_prefix (key_of name)) ps ≡ a
+    → IsPlanned (Ok m) (rename (ground xs ps) name rdn drops) xs)
+    → IsSettled m ys after → IsSound (ground_tree es pins) → list_any (is_prefix (key_of name)) pins ≡ a
+    → rename (ground es pins) name rdn drops ≡ Ok after
+planned_made m xs ys es after pins name rdn drops a ex ey f settled s above =
+    subst (λ (zs : List Named). rename (ground zs pins) name rdn drops ≡ Ok after) ex
+    (f pins (subst (λ (zs : List Named). IsSound (ground_tree zs pins)) (sym ex) s) above after
+    (subst (λ (zs : List Named). IsSettled m zs after) (ey ∙ sym ex) settled))
