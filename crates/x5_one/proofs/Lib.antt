@@ -13,3 +13,5 @@ pub mod Moving
 pub mod Outcomes
 pub mod Scopes
 pub mod Turning
+pub mod Passed
+pub mod Applying

@@ -9,7 +9,10 @@ use Rattle.x5_model.specs.Entries.{Named}
 use Rattle.x5_model_tree.specs.Tree.{Tree}
 use Rattle.x5_model_tree.specs.Apply.{Ground, Outcome}
 use Rattle.x5_model_tree.specs.Conditions.{Has}
-use Rattle.x5_ops.specs.AnswerViews.{error_view}
+use Rattle.x5_model.specs.Answers.{Answered, Changed, Failed}
+use Rattle.x5_memory.specs.declared.NoMemory.{NoMemory}
+use Rattle.x5_ops.specs.AnswerViews.{error_view, reply_view}
+use Rattle.x5_ops.specs.declared.answers.Reply.{Reply}
 use Rattle.x5_ops.specs.declared.changes.ChangeFault.{ChangeFault}
 use Rattle.x5_ops.specs.declared.changes.ChangeFault.TheVariants as faults
 
@@ -36,3 +39,13 @@ IsMade (Err f) outcome before after = IsStopped f outcome × (after ≡ before)
 -- pins in order tell what is above a pin as these do
 abbrev pub AreAbove : List Key → List Key → Type 0
 AreAbove ordered pins = (key : Key) → list_any (is_prefix key) ordered ≡ list_any (is_prefix key) pins
+
+-- the reply, by what was made
+abbrev pub IsReplied : Result (Unit {0}) ChangeFault → Result Reply NoMemory → Type 0
+IsReplied (Ok u) (Ok reply) = (names : List (List ℕ)) → reply_view names reply ≡ Answered Changed
+IsReplied (Ok u) (Err e) = ⊥
+IsReplied (Err (faults.Refused x)) (Ok reply) =
+    (names : List (List ℕ)) → reply_view names reply ≡ Failed (error_view names x)
+IsReplied (Err (faults.Refused x)) (Err e) = ⊥
+IsReplied (Err faults.NoMemory) (Ok reply) = ⊥
+IsReplied (Err faults.NoMemory) (Err e) = Unit {0}

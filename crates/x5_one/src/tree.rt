@@ -17,12 +17,12 @@ ghost use Rattle.x5_one.specs.Replies.{reply_of, source_at};
 use crate::answering::answer;
 use crate::contexts::{Held, Pin, contexts_in, pins_of};
 use crate::entries::entries_in;
-use crate::updating::update;
+use crate::updating::{replied, update};
 use std::alloc::Global;
 use std::marker::Model;
 use x5_know::Described;
 use x5_memory::NoMemory;
-use x5_ops::{Answer, ChangeFault, Named, Reply, Request, fault_of};
+use x5_ops::{Named, Reply, Request, fault_of};
 
 /// The whole tree of a world, which answers by itself (X.501, section 7: the directory information tree). Contracts see its
 /// entries in the order of their keys, and its naming contexts with their masters in the order of the world's file.
@@ -87,10 +87,7 @@ impl OneTree {
         if let Some(error) = fault_of(alloc, request)? {
             return Ok(Reply::Failed(error));
         }
-        match update(alloc, &mut self.entries, &self.pins, &request.body) {
-            Ok(()) => Ok(Reply::Done(Answer::Changed)),
-            Err(ChangeFault::Refused(error)) => Ok(Reply::Failed(error)),
-            Err(ChangeFault::NoMemory) => Err(NoMemory),
-        }
+        let made = update(alloc, &mut self.entries, &self.pins, &request.body);
+        replied(made)
     }
 }

@@ -12,7 +12,7 @@ ghost use Rattle.x5_model_tree.specs.Apply as model;
 ghost use Rattle.x5_model_tree.specs.Ask.{is_update};
 ghost use Rattle.x5_model_tree.specs.Tree as tree;
 ghost use Rattle.x5_ops.specs.RequestViews.{attribute_view, body_view, change_view};
-ghost use Rattle.x5_one.specs.Making.{ground, ground_tree, AreAbove, PinsThere, IsMade, IsStopped};
+ghost use Rattle.x5_one.specs.Making.{ground, ground_tree, AreAbove, PinsThere, IsMade, IsReplied, IsStopped};
 ghost use Rattle.x5_one.specs.Parts.{IsSound};
 ghost use Rattle.x5_one.specs.Places.{IsPlace};
 
@@ -23,7 +23,7 @@ use std::alloc::Global;
 use x5_memory::NoMemory;
 use x5_names::{Key, Name};
 use x5_ops::{
-    AttributeList, Body, ChangeFault, ChangeList, DirError, Entry, Named, added_entry, change, problems,
+    Answer, AttributeList, Body, ChangeFault, ChangeList, DirError, Entry, Named, Reply, added_entry, change, problems,
 };
 
 /// noSuchObject, where no entry has the key.
@@ -182,5 +182,16 @@ pub(crate) fn update(
             rename(alloc, entries, object, rdn, *drop_old, above)
         }
         _ => unreachable!(),
+    }
+}
+
+/// The reply to an update, by what was made of it. No memory.
+pub(crate) fn replied(made: Result<(), ChangeFault>) -> Result<Reply, NoMemory>
+    ensures { IsReplied made result }
+{
+    match made {
+        Ok(()) => Ok(Reply::Done(Answer::Changed)),
+        Err(ChangeFault::Refused(error)) => Ok(Reply::Failed(error)),
+        Err(ChangeFault::NoMemory) => Err(NoMemory),
     }
 }
