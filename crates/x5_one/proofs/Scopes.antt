@@ -10,13 +10,13 @@ use Rattle.x5_model.specs.Entries.{Named}
 use Rattle.x5_model.proofs.KeyLaws.{key_decides}
 use Rattle.x5_model.proofs.Lists.{true_or_false, in_left, in_filter, of_filter}
 use Rattle.x5_model.proofs.Prefixes.{prefix_decides, prefix_itself, child_decides, parent_length}
-use Rattle.x5_model.proofs.Ascending.{first_below}
+use Rattle.x5_model.proofs.Ascending.{first_below, rest_ascending, filter_ascending}
 use Rattle.x5_model_tree.specs.Tree.{key_at, keys_of, named_below, entry_at}
 use Rattle.x5_model_tree.proofs.Order.{named_chain}
 use Rattle.x5_one.specs.Places.{IsPlace, IsStart}
 use Rattle.x5_one.proofs.Searching.{in_get}
 use Rattle.x5_one.proofs.Runs.{parts_of, filter_joined, none_pass, start_there}
-use Rattle.x5_one.proofs.Changing.{longer_than, drop_in_order}
+use Rattle.x5_one.proofs.Changing.{longer_than, drop_in_order, not_same, other_key}
 use Rattle.x5_one.proofs.Moving.{drop_on}
 
 -- an entry's own place
@@ -92,6 +92,9 @@ not_child base key l = elim (true_or_false (is_child base key)) [
       omega (arith, a, b))
 ]
 
+abbrev child_of : Key → Named → Bool
+child_of base e = is_child base (key_at e)
+
 -- what is passed over has none just below
 pub step_over : (xs : List Named) (base : Key) (i next : ℕ) (own : Named) → i < length xs → own ≡ get_or xs i own
     → i < next → ((e : Named) → In e (take (next - (i + 1)) (drop (i + 1) xs)) → length base + 1 < length (key_at e))
@@ -99,26 +102,69 @@ pub step_over : (xs : List Named) (base : Key) (i next : ℕ) (own : Named) → 
     → filter (λ e. is_child base (key_at e)) (drop i xs)
     ≡ cond b (own ∷ []) [] ++ filter (λ e. is_child base (key_at e)) (drop next xs)
 step_over xs base i next own l is goes deep b child =
-    ap (filter test) (drop_more xs i own l ∙ ap (λ (e : Named). e ∷ drop (i + 1) xs) (sym is))
-    ∙ ap (λ (c : Bool). cond c (own ∷ filter test (drop (i + 1) xs)) (filter test (drop (i + 1) xs))) child
+    ap (filter (child_of base)) (drop_more xs i own l ∙ ap (λ (e : Named). e ∷ drop (i + 1) xs) (sym is))
+    ∙ ap (λ (c : Bool). cond c (own ∷ filter (child_of base) (drop (i + 1) xs)) (filter (child_of base) (drop (i + 1) xs))) child
     ∙ ap (λ (ys : List Named). cond b (own ∷ ys) ys) rest
     ∙ alike b
   where
-    abbrev test : Named → Bool
-    test e = is_child base (key_at e)
-
     far : (i + 1) + (next - (i + 1)) ≡ next
     far = omega arith
 
-    rest : filter test (drop (i + 1) xs) ≡ filter test (drop next xs)
+    rest : filter (child_of base) (drop (i + 1) xs) ≡ filter (child_of base) (drop next xs)
     rest =
-        ap (filter test) (sym (parts_of (next - (i + 1)) (drop (i + 1) xs)))
-        ∙ filter_joined test (take (next - (i + 1)) (drop (i + 1) xs)) (drop (next - (i + 1)) (drop (i + 1) xs))
-        ∙ ap (λ (ys : List Named). ys ++ filter test (drop (next - (i + 1)) (drop (i + 1) xs)))
-        (none_pass test (take (next - (i + 1)) (drop (i + 1) xs)) (λ e j. not_child base (key_at e) (deep e j)))
-        ∙ ap (filter test) (drop_on (next - (i + 1)) (i + 1) xs ∙ ap (λ (k : ℕ). drop k xs) far)
+        ap (filter (child_of base)) (sym (parts_of (next - (i + 1)) (drop (i + 1) xs)))
+        ∙ filter_joined (child_of base) (take (next - (i + 1)) (drop (i + 1) xs)) (drop (next - (i + 1)) (drop (i + 1) xs))
+        ∙ ap (λ (ys : List Named). ys ++ filter (child_of base) (drop (next - (i + 1)) (drop (i + 1) xs)))
+        (none_pass (child_of base) (take (next - (i + 1)) (drop (i + 1) xs)) (λ e j. not_child base (key_at e) (deep e j)))
+        ∙ ap (filter (child_of base)) (drop_on (next - (i + 1)) (i + 1) xs ∙ ap (λ (k : ℕ). drop k xs) far)
 
-    alike : (c : Bool) → cond c (own ∷ filter test (drop next xs)) (filter test (drop next xs))
-        ≡ cond c (own ∷ []) [] ++ filter test (drop next xs)
+    alike : (c : Bool) → cond c (own ∷ filter (child_of base) (drop next xs)) (filter (child_of base) (drop next xs))
+        ≡ cond c (own ∷ []) [] ++ filter (child_of base) (drop next xs)
     alike true = refl
     alike false = refl
+
+-- ---- the entry itself
+
+module _ (key : Key) where
+  abbrev own : Named → Bool
+  own e = same_key key (key_at e)
+
+  same_back : (x : Named) (b : Bool) → same_key (key_at x) key ≡ b → own x ≡ b
+  same_back x true e = (key_decides key (key_at x)).1 (sym ((key_decides (key_at x) key).0 e))
+  same_back x false e = not_same key (key_at x) (λ q. let t : same_key (key_at x) key ≡ true =
+      (key_decides (key_at x) key).1 (sym q) in absurd (let u : true ≡ false = sym t ∙ e in cc))
+
+  pub itself_there : (xs : List Named) (e : Named) → ascending named_below xs ≡ true → Some e ≡ entry_at xs key
+      → e ∷ [] ≡ filter (λ x. same_key key (key_at x)) xs
+  itself_there [] e h q = cc
+  itself_there (x ∷ xs) e h q = by (same_key (key_at x) key) refl q
+      (λ r. itself_there xs e (rest_ascending named_below named_chain x xs h) r)
+    where
+      by : (b : Bool) → same_key (key_at x) key ≡ b → Some e ≡ cond b (Some x) (entry_at xs key)
+          → (Some e ≡ entry_at xs key → e ∷ [] ≡ filter own xs) → e ∷ [] ≡ filter own (x ∷ xs)
+      by true t r go =
+          let same : e ≡ x = inside r in
+          let none : filter own xs ≡ [] = none_pass own xs (λ y i. not_same key (key_at y) (λ s.
+          other_key x y xs h i ((key_decides (key_at x) key).0 t ∙ s))) in
+          ap (λ (y : Named). y ∷ []) same ∙ ap (λ (ys : List Named). x ∷ ys) (sym none)
+          ∙ sym (ap (λ (c : Bool). cond c (x ∷ filter own xs) (filter own xs)) (same_back x true t))
+        where
+          inside : Some e ≡ Some x → e ≡ x
+          inside s = cc
+      by false f r go = go r
+          ∙ sym (ap (λ (c : Bool). cond c (x ∷ filter own xs) (filter own xs)) (same_back x false f))
+
+  pub itself_missing : (xs : List Named) → None ≡ entry_at xs key → [] ≡ filter (λ x. same_key key (key_at x)) xs
+  itself_missing [] q = refl
+  itself_missing (x ∷ xs) q = by (same_key (key_at x) key) refl q (λ r. itself_missing xs r)
+    where
+      by : (b : Bool) → same_key (key_at x) key ≡ b → None ≡ cond b (Some x) (entry_at xs key)
+          → (None ≡ entry_at xs key → [] ≡ filter own xs) → [] ≡ filter own (x ∷ xs)
+      by true t r go = cc
+      by false f r go = go r
+          ∙ sym (ap (λ (c : Bool). cond c (x ∷ filter own xs) (filter own xs)) (same_back x false f))
+
+-- what is in the run below a name is in order, and is all that stands just below it
+pub scope_in_order : (xs : List Named) (key : Key) → ascending named_below xs ≡ true
+    → ascending named_below (filter (λ e. is_prefix key (key_at e)) xs) ≡ true
+scope_in_order xs key h = filter_ascending named_below named_chain (λ e. is_prefix key (key_at e)) xs h

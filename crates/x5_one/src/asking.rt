@@ -1,6 +1,6 @@
 //! What is answered from entries in the order of their keys (X.511, sections 9 and 10).
 
-ghost use Rattle.std.specs.Prelude.{◌≡◌, ◌+◌, ◌-◌, ◌<◌, ◌≤◌, ℕ, true, false, List, length, map, take, drop, IfOk};
+ghost use Rattle.std.specs.Prelude.{◌≡◌, ◌+◌, ◌-◌, ◌<◌, ◌≤◌, ◌++◌, ◌∷◌, ℕ, true, false, if◌then◌else◌, List, [], length, map, take, drop, IfOk, OnOk};
 ghost use Rattle.std.specs.List.{filter};
 ghost use Rattle.x5_model.specs.Answers as answers;
 ghost use Rattle.x5_model.specs.Assertions.{assertion_of};
@@ -99,21 +99,35 @@ fn is_in_subset(subset: Subset, base: &Key, key: &Key) -> bool
     }
 }
 
-/// Where to look next for what stands so deep, behind the entry at the place: what stands below a deeper entry stands deeper
-/// still. No memory.
-fn next_place(scope: &[Named], at: usize, depth: usize) -> usize
+/// Where to look next, behind the entry at the place, for what stands just below a name of so many RDNs: what stands below a
+/// longer name stands deeper. No memory.
+fn next_place(scope: &[Named], at: usize, above: usize) -> usize
     requires order { ascending tree.named_below scope.now ≡ true }
     requires there { at < length scope.now }
     ensures behind { at < result }
     ensures within { result ≤ length scope.now }
-    ensures deeper { (e : entries.Named) → In e (take (result - (at + 1)) (drop (at + 1) scope.now)) → depth < length (tree.key_at e) }
+    ensures deeper { (e : entries.Named) → In e (take (result - (at + 1)) (drop (at + 1) scope.now)) → above + 1 < length (tree.key_at e) }
 {
     let named = &scope[at];
     let key = named.name.key();
-    if key.len() < depth {
+    if key.len() <= above {
         return at + 1;
     }
     run_end(scope, at, key)
+}
+
+/// Puts the entry behind those found, if it's wanted.
+fn push_if<'a>(
+    found: &mut Vec<&'a Named>,
+    named: &'a Named,
+    is_wanted: bool,
+) -> Result<(), NoMemory>
+    ensures { OnOk result (found_in found.new.items ≡ found_in found.old.items ++ (if is_wanted then named.now ∷ [] else [])) }
+{
+    if is_wanted {
+        found.push(named)?;
+    }
+    Ok(())
 }
 
 /// The entries just below the key, of those at it and below it: what stands below each of them is passed over.
@@ -125,10 +139,9 @@ fn just_below<'a>(alloc: Global, scope: &'a [Named], key: &Key) -> Result<Vec<&'
     let mut place = 0;
     while place < scope.len() {
         let named = &scope[place];
-        if is_in_subset(Subset::One, key, named.name.key()) {
-            found.push(named)?;
-        }
-        place = next_place(scope, place, key.len() + 1);
+        let is_child = is_in_subset(Subset::One, key, named.name.key());
+        push_if(&mut found, named, is_child)?;
+        place = next_place(scope, place, key.len());
     }
     Ok(found)
 }
@@ -139,9 +152,10 @@ fn itself<'a>(alloc: Global, entries: &'a [Named], key: &Key) -> Result<Vec<&'a 
     ensures { IfOk result (λ found. found_in found.items ≡ filter (λ e. keys.same_key key.now (tree.key_at e)) entries.now) }
 {
     let mut found = Vec::new(alloc);
-    if let Some(named) = entry_of(entries, key) {
-        found.push(named)?;
-    }
+    let Some(named) = entry_of(entries, key) else {
+        return Ok(found);
+    };
+    found.push(named)?;
     Ok(found)
 }
 
