@@ -323,8 +323,10 @@ module _ (es : List Named) (h : ascending named_below es ≡ true) (name : Name)
           (in_right b run back j))
 
   pub run_head : (first : Named) × (first ≡ get_or run 0 first)
-  run_head = (let w = run_first nobody in (get_or es at nobody,
-      sym (ap (λ (ys : List Named). get_or ys 0 (get_or es at nobody)) w.1)))
+  run_head = (let w = run_first nobody in (
+    get_or es at nobody,
+    sym (ap (λ (ys : List Named). get_or ys 0 (get_or es at nobody)) w.1),
+  ))
 
   pub run_count : (first : Named) → at + length (moved_run (length (name_above name)) rdn new first run) ≡ end
   run_count first =

@@ -23,9 +23,11 @@ use Rattle.x5_one.proofs.Moving.{drop_on}
 pub own_place : (xs : List Named) (i : ℕ) (d : Named) → i < length xs
     → IsPlace (keys_of xs) (key_at (get_or xs i d)) (Ok i)
 own_place xs i d l =
-    let m : i < length (keys_of xs) = omega (arith, length-map xs key_at) in
-    (m, drop_more (keys_of xs) i (key_at d) m
-    ∙ ap (λ (k : Key). k ∷ drop (i + 1) (keys_of xs)) (get_or-map key_at xs i d (key_at d) l))
+    let m : i < length (keys_of xs) = omega (arith, length-map xs key_at) in (
+      m,
+      drop_more (keys_of xs) i (key_at d) m
+          ∙ ap (λ (k : Key). k ∷ drop (i + 1) (keys_of xs)) (get_or-map key_at xs i d (key_at d) l),
+    )
 
 pub own_start : (xs : List Named) (i : ℕ) (d : Named) → ascending named_below xs ≡ true → i < length xs
     → IsStart (keys_of xs) (key_at (get_or xs i d)) i

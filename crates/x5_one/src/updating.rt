@@ -23,7 +23,8 @@ use std::alloc::Global;
 use x5_memory::NoMemory;
 use x5_names::{Key, Name};
 use x5_ops::{
-    Answer, AttributeList, Body, ChangeFault, ChangeList, DirError, Entry, Named, Reply, added_entry, change, problems,
+    Answer, AttributeList, Body, ChangeFault, ChangeList, DirError, Entry, Named, Reply,
+    added_entry, change, problems,
 };
 
 /// noSuchObject, where no entry has the key.

@@ -50,8 +50,8 @@ invariant_of-self c = (
       (sym (ap (option_map (error_view [])) c.in_default.is) ∙ c.in_ok-error.ensures []) c.requires
       c.update-made.result c.update-made.new.entries.items
       (c.update-made.ensures (map pin_in c.self.inside.contexts.items) c.self.invariant.0
-    (above_held c.self.inside.contexts.items c.deref.result.now (c.deref.ensures.value ∙ c.self.invariant.1)
-    (pins_once (tree_in (view c.self.inside)) c.self.invariant.0)))
+      (above_held c.self.inside.contexts.items c.deref.result.now (c.deref.ensures.value ∙ c.self.invariant.1)
+      (pins_once (tree_in (view c.self.inside)) c.self.invariant.0)))
       c.self.invariant.0,
   c.self.invariant.1,
 )
