@@ -6,11 +6,11 @@ use Rattle.x5_memory.specs.declared.NoMemory.{NoMemory}
 use Rattle.x5_model.specs.Entries.{Named}
 use Rattle.x5_model.specs.Requests.{Body, Read, Compare, ListBelow, Search, AddEntry, RemoveEntry, ModifyEntry, ModifyDn}
 use Rattle.x5_model.specs.Requests.{Request}
-use Rattle.x5_model.specs.Answers.{DirError, Source, Reply as Told, Answered, Changed, Failed}
+use Rattle.x5_model.specs.Answers.{DirError, Source, Reply as Told}
 use Rattle.x5_model.specs.Statics.{fault_of}
 use Rattle.x5_model_run.specs.History.{tree_with}
 use Rattle.x5_model_theory.specs.Changing.{with_entries}
-use Rattle.x5_model_tree.specs.Apply.{Outcome, Applied, apply, ground_of, update}
+use Rattle.x5_model_tree.specs.Apply.{Applied, apply, ground_of, update}
 use Rattle.x5_model_tree.specs.Ask.{is_update, updated, ask, ask_body}
 use Rattle.x5_model_tree.specs.Tree.{Tree}
 use Rattle.x5_model_updates.specs.Keeping.{keys_in}

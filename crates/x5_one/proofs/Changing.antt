@@ -1,11 +1,11 @@
 -- One entry more, one less, one changed: lists of entries in order, by the place of a key.
-use Rattle.std.proofs.Common.{◌≡◌, ◌≢◌, ℕ, zero, suc, ◌+◌, ◌<◌, ◌≤◌, Bool, true, false, not, ◌==◌, cond, ◌⊎◌, inl, inr, List, [], ◌∷◌, ◌++◌, length, map, take, drop, set, get_or, refl, sym, ap, subst, ◌∙◌, arith, Ok, Err}
+use Rattle.std.proofs.Common.{◌≡◌, ℕ, zero, suc, ◌+◌, ◌<◌, ◌≤◌, Bool, true, false, not, ◌==◌, cond, ◌⊎◌, inl, inr, List, [], ◌∷◌, ◌++◌, length, take, drop, set, get_or, refl, sym, ap, subst, ◌∙◌, arith, Ok, Err}
 use Rattle.std.proofs.lemmas.List.{length-map, get_or-map, take_all}
 use Rattle.std.specs.List.{filter}
 use Rattle.x5_model.specs.Words.{ascending}
 use Rattle.x5_model.specs.Members.{In, here, there}
 use Rattle.x5_model.specs.Keys.{Key, IsPrefix, same_key, is_prefix, is_below, key_below}
-use Rattle.x5_model.specs.Entries.{Entry, Named}
+use Rattle.x5_model.specs.Entries.{Named}
 use Rattle.x5_model.proofs.KeyLaws.{key_decides, never_below}
 use Rattle.x5_model.proofs.Lists.{true_or_false, in_first, in_left, in_right, in_either, in_map, any_in, of_any}
 use Rattle.x5_model.proofs.Prefixes.{prefix_decides, below_decides, prefix_length}

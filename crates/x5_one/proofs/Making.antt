@@ -1,9 +1,8 @@
 -- What updates of entries make is what the one tree's updates are.
-use Rattle.std.proofs.Common.{◌≡◌, ℕ, zero, suc, ◌+◌, ◌<◌, Bool, true, false, not, ◌||◌, inl, inr, List, [], ◌∷◌, ◌++◌, length, map, take, drop, set, get_or, refl, sym, ap, subst, ◌∙◌, Option, Some, None, Result, Ok, Err}
+use Rattle.std.proofs.Common.{◌≡◌, ℕ, ◌+◌, ◌<◌, Bool, true, false, ◌||◌, inl, inr, List, [], ◌∷◌, ◌++◌, length, take, drop, set, get_or, refl, sym, ap, subst, ◌∙◌, Option, Some, None, Result, Ok, Err}
 use Rattle.std.specs.List.{list_any}
 use Rattle.std.specs.Option.{is_some}
 use Rattle.x5_model.specs.Words.{has, ascending, first_of}
-use Rattle.x5_model.specs.Members.{In}
 use Rattle.x5_model.specs.Keys.{Key, same_key, is_prefix, parent}
 use Rattle.x5_model.specs.Values.{Rdn, Name, key_of, last_rdn}
 use Rattle.x5_model.specs.Entries.{Entry, Named}
@@ -14,20 +13,19 @@ use Rattle.x5_model.specs.Answers.{DirError, NoSuchObject, UpdateProblem}
 use Rattle.x5_model.specs.Problems.{entry_already_exists, affects_multiple_dsas, not_allowed_on_non_leaf}
 use Rattle.x5_model.specs.Statics.{attribute_repeats}
 use Rattle.x5_model.proofs.KeyLaws.{key_decides}
-use Rattle.x5_model.proofs.Lists.{true_or_false, of_any, of_has}
-use Rattle.x5_model_tree.specs.Tree.{key_at, keys_of, named_below, entry_at, is_there, has_below, matched, sorted_entries}
-use Rattle.x5_model_tree.specs.Apply.{Ground, Outcome, above_pin, is_taken, replace_at, add, remove, modify}
+use Rattle.x5_model.proofs.Lists.{true_or_false, of_has}
+use Rattle.x5_model_tree.specs.Tree.{key_at, keys_of, named_below, entry_at, has_below, matched, sorted_entries}
+use Rattle.x5_model_tree.specs.Apply.{Outcome, above_pin, is_taken, replace_at, add, remove, modify}
 use Rattle.x5_model_updates.specs.Afterwards.{new_entry}
 use Rattle.x5_model_updates.proofs.Outcomes.{add_none, add_taken, add_free, remove_none, remove_some, modify_none, modify_some}
 use Rattle.x5_model_updates.proofs.Renaming.{new_entry_key}
 use Rattle.x5_ops.specs.AnswerViews.{error_view}
-use Rattle.x5_ops.specs.ChangeView.{IsModified, IsRefused, added}
+use Rattle.x5_ops.specs.ChangeView.{IsRefused, added}
 use Rattle.x5_ops.specs.declared.changes.ChangeFault.{ChangeFault}
 use Rattle.x5_ops.specs.declared.changes.ChangeFault.TheVariants as faults
-use Rattle.x5_one.specs.Making.{ground, PinsThere, IsMade, IsStopped}
+use Rattle.x5_one.specs.Making.{ground, PinsThere, IsStopped}
 use Rattle.x5_one.specs.Places.{IsPlace}
 use Rattle.x5_one.proofs.Runs.{key_there, found_entry, missing_entry, no_entry, there_by_entry}
-use Rattle.x5_one.proofs.Moving.{nobody}
 use Rattle.x5_one.proofs.Changing.{put_in, take_out, put_over, next_is}
 
 -- ---- stopped

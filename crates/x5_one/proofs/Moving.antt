@@ -1,8 +1,8 @@
 -- A modifyDN in lists of entries in order: the run at and below the entry is taken out, gets its new names, and stands where
 -- its new key does; and this is what the one tree's modifyDN makes.
-use Rattle.std.proofs.Common.{◌≡◌, ℕ, zero, suc, ◌+◌, ◌-◌, ◌<◌, ◌≤◌, Bool, true, false, not, ◌&&◌, ◌⊎◌, inl, inr}
-use Rattle.std.proofs.Common.{List, [], ◌∷◌, ◌++◌, length, map, take, drop, set, get_or, refl, sym, ap, subst, ◌∙◌}
-use Rattle.std.proofs.Common.{arith, Option, Some, None, Ok, Err}
+use Rattle.std.proofs.Common.{◌≡◌, ℕ, zero, suc, ◌+◌, ◌-◌, ◌<◌, ◌≤◌, true, false, ◌⊎◌, inl, inr}
+use Rattle.std.proofs.Common.{List, [], ◌∷◌, ◌++◌, length, map, take, drop, get_or, refl, sym, ap, subst, ◌∙◌}
+use Rattle.std.proofs.Common.{arith, Some, Ok, Err}
 use Rattle.std.proofs.lemmas.List.{append_assoc, map-append, length-map, length-set, length-append, length-take-le}
 use Rattle.std.proofs.lemmas.List.{length-drop, drop_more, drop-take}
 use Rattle.std.proofs.Math.Seq.{drop-nil}
@@ -12,11 +12,11 @@ use Rattle.std.specs.List.{filter}
 use Rattle.std.specs.Ordering.{is_lt}
 use Rattle.x5_model.specs.Words.{ascending}
 use Rattle.x5_model.specs.Members.{In, here, there}
-use Rattle.x5_model.specs.Keys.{Key, IsPrefix, parent, same_key, is_prefix, key_cmp, key_below}
+use Rattle.x5_model.specs.Keys.{Key, IsPrefix, parent, same_key, is_prefix, key_below}
 use Rattle.x5_model.specs.Values.{Rdn, Name, key_of, key_of_rdn, name_above}
 use Rattle.x5_model.specs.Entries.{Entry, Named}
 use Rattle.x5_model.proofs.KeyLaws.{key_cmp_total, key_decides}
-use Rattle.x5_model.proofs.Lists.{true_or_false, in_first, in_left, in_right, in_either, in_map, of_map, in_filter, of_filter}
+use Rattle.x5_model.proofs.Lists.{true_or_false, in_left, in_right, in_either, of_map, in_filter, of_filter}
 use Rattle.x5_model.proofs.Prefixes.{take_take, prefix_decides, prefix_itself, same_by_length, prefix_length, parent_length}
 use Rattle.x5_model.proofs.Ascending.{first_below, rest_ascending, cons_ascending, in_sorted, of_sorted}
 use Rattle.x5_model_tree.specs.Tree.{key_at, keys_of, named_below, sorted_entries}

@@ -1,6 +1,6 @@
 -- What a modifyDN makes of entries is what the one tree's modifyDN is, and so it is with every update; the tree stays sound.
-use Rattle.std.proofs.Common.{◌≡◌, ℕ, ◌+◌, ◌-◌, ◌<◌, ◌≤◌, Bool, true, false, not, ◌&&◌, ◌⊎◌, inl, inr, List, [], ◌++◌}
-use Rattle.std.proofs.Common.{length, map, take, drop, get_or, refl, sym, ap, subst, ◌∙◌, arith, Option, Some, None, Ok, Err}
+use Rattle.std.proofs.Common.{◌≡◌, ℕ, ◌-◌, ◌<◌, ◌≤◌, Bool, true, false, not, ◌&&◌, inl, inr, List, ◌++◌}
+use Rattle.std.proofs.Common.{length, map, take, drop, get_or, refl, sym, ap, subst, ◌∙◌, arith, Some, None, Ok, Err}
 use Rattle.std.specs.List.{list_any, filter}
 use Rattle.x5_model.specs.Words.{ascending}
 use Rattle.x5_model.specs.Members.{In}
@@ -18,7 +18,7 @@ use Rattle.x5_model_theory.specs.Knowledge.{IsEntry}
 use Rattle.x5_model_updates.specs.Afterwards.{new_key}
 use Rattle.x5_model_updates.proofs.After.{gives_by}
 use Rattle.x5_model_updates.proofs.Alike.{new_key_filled}
-use Rattle.x5_model_updates.proofs.Outcomes.{rename_none, rename_some, clashes, moved_entry, single_is}
+use Rattle.x5_model_updates.proofs.Outcomes.{rename_none, rename_some, clashes, moved_entry}
 use Rattle.x5_model_updates.proofs.Renaming.{filled_name}
 use Rattle.x5_model_updates.proofs.Trees.{above_entry, area_of_pin, area_of_entry, entry_in_area, of_part, tree_filled}
 use Rattle.x5_one.specs.Making.{ground, ground_tree, PinsThere}

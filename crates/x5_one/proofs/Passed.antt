@@ -1,6 +1,6 @@
 -- What the static refusals leave of an update: a name that isn't the root's, and attributes that repeat nothing.
-use Rattle.std.proofs.Common.{◌≡◌, ℕ, ◌<◌, Bool, true, false, nat_lt, List, [], ◌∷◌, length, refl, sym, ap, ◌∙◌, arith}
-use Rattle.std.proofs.Common.{Option, None, ◌++◌}
+use Rattle.std.proofs.Common.{◌≡◌, ◌<◌, Bool, false, nat_lt, List, [], ◌∷◌, length, refl, ap, arith}
+use Rattle.std.proofs.Common.{None, ◌++◌}
 use Rattle.std.specs.List.{flat_map}
 use Rattle.x5_model.specs.Words.{first_of, is_empty}
 use Rattle.x5_model.specs.Values.{Rdn, Name}

@@ -1,7 +1,7 @@
 -- The entries just below a name: from each of them the search goes on behind what stands below it.
 use Rattle.std.proofs.Common.{◌≡◌, ℕ, zero, suc, ◌+◌, ◌-◌, ◌<◌, ◌≤◌, Bool, true, false, inl, inr, cond, List, [], ◌∷◌}
-use Rattle.std.proofs.Common.{◌++◌, length, map, take, drop, get_or, refl, sym, ap, subst, ◌∙◌, arith, Option, Some, None, Ok}
-use Rattle.std.proofs.lemmas.List.{get_or-map, length-map, drop_more, take_all}
+use Rattle.std.proofs.Common.{◌++◌, length, take, drop, get_or, refl, sym, ap, subst, ◌∙◌, arith, Some, None, Ok}
+use Rattle.std.proofs.lemmas.List.{get_or-map, length-map, drop_more}
 use Rattle.std.specs.List.{filter}
 use Rattle.x5_model.specs.Words.{ascending}
 use Rattle.x5_model.specs.Members.{In, here}

@@ -1,21 +1,18 @@
 -- What lists and searches tell: those found in the run below the base, and of these as many as the size limit leaves.
 use Rattle.std.proofs.Common.{◌≡◌, ℕ, ◌<◌, ◌≤◌, Bool, true, false, ◌&&◌, cond, nat_lt, inl, inr, List, [], ◌∷◌, length}
-use Rattle.std.proofs.Common.{map, take, refl, sym, ap, subst, ◌∙◌, arith, Option, None, Some}
+use Rattle.std.proofs.Common.{map, take, refl, sym, ap, ◌∙◌, arith, Option, None, Some}
 use Rattle.std.proofs.lemmas.List.{take_all, take-map}
 use Rattle.std.specs.List.{filter}
 use Rattle.x5_model.specs.Keys.{Key, is_prefix, is_child}
 use Rattle.x5_model.specs.Values.{Name, key_of}
 use Rattle.x5_model.specs.Entries.{Named}
 use Rattle.x5_model.specs.Filters.{Filter}
-use Rattle.x5_model.specs.Requests.{Subset, Base, OneLevel, WholeSubtree, Selection}
-use Rattle.x5_model.specs.Truth.{selects_entry}
+use Rattle.x5_model.specs.Requests.{Subset, Selection}
 use Rattle.x5_model.specs.Answers.{EntryInfo, Sub, Source, Answered, Listed, Found}
-use Rattle.x5_model.proofs.KeyLaws.{key_decides}
 use Rattle.x5_model.proofs.Lists.{both_true, true_or_false}
 use Rattle.x5_model.proofs.Decide.{less_decides}
-use Rattle.x5_model.proofs.Prefixes.{prefix_decides, prefix_itself}
 use Rattle.x5_model_tree.specs.Tree.{key_at, is_there_or_root}
-use Rattle.x5_model_tree.specs.Ask.{in_subset, limited, is_cut, just_below, searched, sub_of, info_of, absent}
+use Rattle.x5_model_tree.specs.Ask.{limited, is_cut, just_below, searched, sub_of, info_of, absent}
 use Rattle.x5_model_tree.specs.Ask.{limited_list, limited_found}
 use Rattle.x5_one.specs.Replies.{reply_of}
 use Rattle.x5_one.specs.Scopes.{left_of, tree_with, list_told, search_told}

@@ -1,7 +1,6 @@
 -- The run below the base has all that stands just below it, or anywhere below it.
-use Rattle.std.proofs.Common.{◌≡◌, List, true, sym, ap, subst, ◌∙◌}
+use Rattle.std.proofs.Common.{◌≡◌, sym, ap, ◌∙◌}
 use Rattle.std.specs.List.{filter}
-use Rattle.x5_model.specs.Entries.{Named}
 use Rattle.x5_model.specs.Keys.{is_child}
 use Rattle.x5_model.specs.Words.{ascending}
 use Rattle.x5_model_tree.specs.Tree.{key_at, named_below}

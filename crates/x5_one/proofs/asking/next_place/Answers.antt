@@ -1,7 +1,6 @@
 -- The run of a longer name has what stands below it, which is longer still.
 use Rattle.std.proofs.Common.{◌≡◌, ◌+◌, ◌≤◌, length, drop, refl, sym, ap, subst, ◌∙◌, arith}
 use Rattle.std.specs.List.{filter}
-use Rattle.x5_model.specs.Entries.{Named}
 use Rattle.x5_model.specs.Keys.{Key, is_prefix}
 use Rattle.x5_model_tree.specs.Tree.{key_at, keys_of}
 use Rattle.x5_one.specs.Places.{IsStart}

@@ -1,5 +1,5 @@
 -- The old key has its old place; another that is there is taken.
-use Rattle.std.proofs.Common.{inl, refl, sym, ◌∙◌, ap, subst, Ok}
+use Rattle.std.proofs.Common.{inl, refl, sym, ◌∙◌, subst, Ok}
 use Rattle.x5_model.specs.Keys.{Key}
 use Rattle.x5_model.specs.Values.{key_of}
 use Rattle.x5_model.proofs.KeyLaws.{key_decides}

@@ -8,13 +8,12 @@ use Rattle.x5_model.specs.Changes.{renamed, single_valued}
 use Rattle.x5_model.specs.Entries.{Named}
 use Rattle.x5_model.specs.Keys.{Key, is_prefix}
 use Rattle.x5_model.specs.Problems.{entry_already_exists, affects_multiple_dsas}
-use Rattle.x5_model.specs.Values.{key_of, last_rdn, name_above}
+use Rattle.x5_model.specs.Values.{key_of, name_above}
 use Rattle.x5_model_tree.specs.Apply.{rename}
 use Rattle.x5_model_tree.specs.Tree.{key_at, keys_of}
-use Rattle.x5_model_updates.specs.Afterwards.{new_key}
 use Rattle.x5_one.specs.Making.{ground}
 use Rattle.x5_one.specs.Moving.{IsNewPlace, moved_run}
-use Rattle.x5_one.specs.Places.{IsPlace, IsStart}
+use Rattle.x5_one.specs.Places.{IsStart}
 use Rattle.x5_one.proofs.Runs.{start_there}
 use Rattle.x5_one.proofs.Making.{absent_as, stopped_as, refused_as, place_as}
 use Rattle.x5_one.proofs.Moving.{above_length, le_or_less, place_fits, run_count, run_filled, run_head, run_long}

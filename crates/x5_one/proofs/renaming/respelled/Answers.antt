@@ -1,6 +1,6 @@
 -- The RDN is written over.
 use Rattle.std.proofs.Common.{◌≡◌, set, ◌∙◌}
-use Rattle.x5_model.specs.Values.{Rdn, Name}
+use Rattle.x5_model.specs.Values.{Name}
 use Rattle.x5_model_tree.specs.Apply.{respelled}
 use Rattle.x5_one.proofs.Sound.{ok_by}
 use Rattle.x5_one.proofs.Turning.{respelled_is}

@@ -1,5 +1,5 @@
 -- Each is longer than the place of the RDN.
-use Rattle.std.proofs.Common.{◌≡◌, ◌<◌, length, sym, ap, subst, ◌∙◌}
+use Rattle.std.proofs.Common.{◌<◌, length, sym, ap, subst}
 use Rattle.x5_model.specs.Members.{In}
 use Rattle.x5_model.specs.Entries.{Named}
 use Rattle.x5_model.specs.Values.{Name}

@@ -1,14 +1,13 @@
 -- Refused as the one tree refuses it, or the new entry is put at its place.
-use Rattle.std.proofs.Common.{◌≡◌, ◌++◌, [], ◌∷◌, Ok, Err, List, map, take, drop, get_or, refl, sym, ap, subst, ◌∙◌}
+use Rattle.std.proofs.Common.{◌≡◌, ◌++◌, [], ◌∷◌, Ok, Err, List, map, refl, sym, ap, ◌∙◌}
 use Rattle.x5_model.specs.Entries.{Named}
-use Rattle.x5_model.specs.Keys.{Key, parent}
+use Rattle.x5_model.specs.Keys.{parent}
 use Rattle.x5_model.specs.Values.{Name, Rdn, key_of, last_rdn}
 use Rattle.x5_model.specs.Attributes.{added_entry}
 use Rattle.x5_model.specs.Answers.{UpdateProblem}
 use Rattle.x5_model.specs.Problems.{entry_already_exists}
 use Rattle.x5_model_tree.specs.Apply.{add}
 use Rattle.x5_model_tree.proofs.Grown.{above_key}
-use Rattle.x5_model_updates.specs.Afterwards.{new_entry}
 use Rattle.x5_ops.specs.RequestViews.{attribute_view}
 use Rattle.x5_one.specs.Making.{ground}
 use Rattle.x5_one.proofs.Making.{absent_as, stopped_as, place_as, add_missing, add_there, add_made, added_is}

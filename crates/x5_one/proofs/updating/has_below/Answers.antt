@@ -1,6 +1,6 @@
 -- What stands next to the entry tells, since those below it stand next to it.
-use Rattle.std.proofs.Common.{sym, ap, ◌∙◌}
-use Rattle.x5_model.specs.Keys.{Key, is_prefix}
+use Rattle.std.proofs.Common.{ap, ◌∙◌}
+use Rattle.x5_model.specs.Keys.{is_prefix}
 use Rattle.x5_model.specs.Entries.{Named}
 use Rattle.x5_model_tree.specs.Tree.{key_at}
 use Rattle.x5_one.proofs.Changing.{below_next, below_none}

@@ -1,8 +1,6 @@
 -- Refused as the one tree refuses it, or the entry is put in its own place.
-use Rattle.std.proofs.Common.{◌≡◌, Ok, Err, List, map, set, get_or, refl, sym, ap, ◌∙◌}
-use Rattle.x5_model.specs.Entries.{Named}
-use Rattle.x5_model.specs.Keys.{Key}
-use Rattle.x5_model.specs.Values.{Rdn, key_of}
+use Rattle.std.proofs.Common.{Ok, Err, map, refl, sym, ◌∙◌}
+use Rattle.x5_model.specs.Values.{key_of}
 use Rattle.x5_model.specs.Changes.{modified}
 use Rattle.x5_model_tree.specs.Apply.{modify}
 use Rattle.x5_ops.specs.RequestViews.{change_view}

@@ -1,7 +1,6 @@
 -- Refused as the one tree refuses it, or the entry is taken out at its place.
-use Rattle.std.proofs.Common.{◌≡◌, ◌+◌, true, false, Ok, Err, List, take, drop, refl, sym, ap, ◌∙◌}
+use Rattle.std.proofs.Common.{◌≡◌, true, false, Ok, Err, List, refl, sym, ap, ◌∙◌}
 use Rattle.x5_model.specs.Entries.{Named}
-use Rattle.x5_model.specs.Keys.{Key}
 use Rattle.x5_model.specs.Values.{key_of}
 use Rattle.x5_model.specs.Answers.{UpdateProblem}
 use Rattle.x5_model.specs.Problems.{affects_multiple_dsas, not_allowed_on_non_leaf}
