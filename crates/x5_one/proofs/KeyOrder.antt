@@ -1,12 +1,13 @@
 -- The order of keys and their beginnings: what stands at a key or below it stands together,
 -- right behind what is below the key.
-use Rattle.std.proofs.Common.{◌≡◌, true, false, [], ◌∷◌, length, take, refl, sym, ap, ◌∙◌}
+use Rattle.std.proofs.Common.{◌≡◌, true, false, [], ◌∷◌, ◌++◌, length, take, refl, sym, ap, ◌∙◌, inl, inr}
 use Rattle.std.specs.Cmp.{tied_itself, Equal-is}
 use Rattle.std.specs.Ordering.{is_lt, ordering_then, ordering_reverse}
 use Rattle.std.specs.declared.cmp.Ordering.{Ordering}
 use Rattle.std.specs.declared.cmp.Ordering.TheVariants.{Less, Equal, Greater}
 use Rattle.x5_model.specs.Keys.{Key, KeyRdn, IsPrefix, rdn_cmp, key_cmp, key_below}
 use Rattle.x5_model.proofs.KeyLaws.{rdn_cmp_total, rdn_decides, rdn_ties}
+use Rattle.x5_model.proofs.Lists.{true_or_false}
 
 equal_rdns : (x y : KeyRdn) → rdn_cmp x y ≡ Equal → x ≡ y
 equal_rdns x y e = (rdn_decides x y).0 (rdn_ties x y ∙ (Equal-is (rdn_cmp x y)).1 e)
@@ -59,3 +60,13 @@ between (r ∷ a) (s ∷ x) (t ∷ z) p q h = by (rdn_cmp s r) refl (λ p_rest q
         (key_cmp z x))) back) ∙ q in
         let behind : take (length a) x ≡ a = rest p_rest q_rest in
         λ i. is i ∷ behind i
+
+-- what doesn't begin with a key and isn't below it stands behind all that begins with it
+pub past : (a x y : Key) → IsPrefix a x → key_below y a ≡ false → (IsPrefix a y → ⊥) → key_below x y ≡ true
+past a x y h p f = elim (true_or_false (key_below x y)) [ inl t ↦ t | inr n ↦ absurd (f (between a y x p n h)) ]
+
+-- keys with one beginning stand as what follows it does
+pub behind_alike : (n x y : Key) → key_cmp (n ++ x) (n ++ y) ≡ key_cmp x y
+behind_alike [] x y = refl
+behind_alike (r ∷ n) x y =
+    ap (λ (o : Ordering). ordering_then o (key_cmp (n ++ x) (n ++ y))) (tied_itself rdn_cmp_total r) ∙ behind_alike n x y

@@ -7,3 +7,11 @@ pub mod Pins
 pub mod Worlds
 pub mod Telling
 pub mod Sound
+pub mod Changing
+pub mod Making
+pub mod Moving
+pub mod Outcomes
+pub mod Scopes
+pub mod Turning
+pub mod Passed
+pub mod Applying

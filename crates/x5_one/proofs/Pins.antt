@@ -1,13 +1,17 @@
--- Pins in order, each with the place of its context: where a key is among them, and the longest on the way to a key.
-use Rattle.std.proofs.Common.{◌≡◌, ℕ, suc, ◌+◌, ◌-◌, ◌<◌, ◌≤◌, Bool, true, false, ◌&&◌, ◌==◌, inl, inr, List, [], ◌∷◌}
-use Rattle.std.proofs.Common.{length, map, take, drop, get_or, refl, sym, ap, subst, ◌∙◌, arith, Option, Some, None}
-use Rattle.std.proofs.Common.{Ok, Err}
-use Rattle.std.proofs.lemmas.List.{length-map, length-take-le, get_or-map, drop_more}
+-- Pins in order, each with the place of its context: where a key is among them, the longest on the way to a key, and
+-- whether a key is above one.
+use Rattle.std.proofs.Common.{◌≡◌, ℕ, zero, suc, ◌+◌, ◌-◌, ◌<◌, ◌≤◌, Bool, true, false, ◌&&◌, ◌==◌, inl, inr}
+use Rattle.std.proofs.Common.{List, [], ◌∷◌, length, map, take, drop, get_or, refl, sym, ap, subst, ◌∙◌, arith}
+use Rattle.std.proofs.Common.{Option, Some, None, Ok, Err}
+use Rattle.std.proofs.lemmas.List.{length-map, length-take-le, get_or-map, drop_more, drop_all}
+use Rattle.std.specs.List.{list_any}
 use Rattle.x5_model.specs.Words.{ascending, sorted, in_option}
 use Rattle.x5_model.specs.Members.{In, here, there, Once}
-use Rattle.x5_model.specs.Keys.{Key, IsPrefix, same_key, key_below}
+use Rattle.x5_model.specs.Keys.{Key, IsPrefix, same_key, is_prefix, key_below}
 use Rattle.x5_model.proofs.KeyLaws.{key_decides, below_chain, never_below}
-use Rattle.x5_model.proofs.Lists.{in_first, in_map, of_map, in_either, true_or_false, of_find, not_found, once_map}
+use Rattle.x5_model.proofs.Lists.{in_first, in_map, of_map, in_either, true_or_false, any_in, of_any, of_find}
+use Rattle.x5_model.proofs.Lists.{not_found, once_map}
+use Rattle.x5_model.proofs.Prefixes.{prefix_decides, prefix_itself}
 use Rattle.x5_model.proofs.Ascending.{AllApart, of_sorted, in_sorted, sorted_ascending, keys_apart}
 use Rattle.x5_model_tree.specs.Tree.{longest}
 use Rattle.x5_model_tree.proofs.Longest.{longest_is}
@@ -15,7 +19,8 @@ use Rattle.x5_model_theory.proofs.Longest.{longest_some}
 use Rattle.x5_one.specs.One.{Held, pin_in, context_with, context_at}
 use Rattle.x5_one.specs.Places.{IsPlace}
 use Rattle.x5_one.specs.Rows.{Row, row_below, row_of, rows_from, rows_of}
-use Rattle.x5_one.proofs.Searching.{in_get}
+use Rattle.x5_one.proofs.KeyOrder.{prefix_not_below, between}
+use Rattle.x5_one.proofs.Searching.{in_get, at_drop, not_falling, not_back}
 use Rattle.x5_one.proofs.Runs.{parts_of}
 
 abbrev pub pin_at : Row → Key
@@ -183,3 +188,97 @@ module _ (held : List Held) (pins : List Row) (rows : pins
       by None e = refl
       by (Some p) e = absurd (let w = longest_some (map pin_in held) key p e in
           let l : length p ≤ 0 = f p w.0 w.1 in let m : 0 < length p = full p w.0 in omega arith)
+
+-- ---- above a pin
+
+place_in : (ks : List Key) (key : Key) (i : ℕ) → IsPlace ks key (Ok i) → In key ks
+place_in ks key i w = from_drop i ks (subst (λ (xs : List Key). In key xs) (sym w.1) here)
+  where
+    from_drop : (n : ℕ) (xs : List Key) → In key (drop n xs) → In key xs
+    from_drop zero xs m = m
+    from_drop (suc n) [] m = elim m [ ]
+    from_drop (suc n) (x ∷ xs) m = there (from_drop n xs m)
+
+module _ (pins : List Row) (order : ascending key_below (map pin_at pins) ≡ true) (key : Key) (i : ℕ) where
+  pub above_itself : IsPlace (map pin_at pins) key (Ok i) → true ≡ list_any (is_prefix key) (map pin_at pins)
+  above_itself w =
+      sym (any_in (is_prefix key) key (map pin_at pins) (place_in (map pin_at pins) key i w)
+      ((prefix_decides key key).1 (prefix_itself key)))
+
+  -- a pin below the key stands from its place on
+  stands_behind : (q : Key) → IsPlace (map pin_at pins) key (Err i) → In q (map pin_at pins) → IsPrefix key q
+      → In q (drop i (map pin_at pins))
+  stands_behind q w m p =
+      elim (in_either q (take i (map pin_at pins)) (drop i (map pin_at pins)) (subst (λ (ks : List Key). In q ks)
+      (sym (parts_of i (map pin_at pins))) m)) [
+        | inl a ↦ absurd (let f = prefix_not_below key q p in let g : key_below q key ≡ true = w.1 q a in cc)
+        | inr b ↦ b
+      ]
+
+  pub above_next : (r : Row) → IsPlace (map pin_at pins) key (Err i)
+      → (i < length pins) × ((d : Row) → r ≡ get_or pins i d)
+      → is_prefix key r.0 ≡ list_any (is_prefix key) (map pin_at pins)
+  above_next r w e = by (is_prefix key r.0) refl
+    where
+      at : (i < length pins) × ((d : Row) → get_or pins i d ≡ r)
+      at = (e.0, λ d. sym (e.1 d))
+
+      long : i < length (map pin_at pins)
+      long = omega (arith, at.0, length-map pins pin_at)
+
+      is : get_or (map pin_at pins) i r.0 ≡ r.0
+      is = get_or-map pin_at pins i r r.0 at.0 ∙ ap pin_at (at.1 r)
+
+      there_is : In r.0 (map pin_at pins)
+      there_is = in_map pin_at r pins (subst (λ (x : Row). In x pins) (at.1 r) (in_get pins i r at.0))
+
+      first : In r.0 (drop i (map pin_at pins))
+      first = subst (λ (ks : List Key). In r.0 ks) (sym (drop_more (map pin_at pins) i r.0 long
+          ∙ ap (λ (k : Key). k ∷ drop (i + 1) (map pin_at pins)) is)) here
+
+      by : (b : Bool) → is_prefix key r.0 ≡ b → b ≡ list_any (is_prefix key) (map pin_at pins)
+      by true p = sym (any_in (is_prefix key) r.0 (map pin_at pins) there_is p)
+      by false p = elim (true_or_false (list_any (is_prefix key) (map pin_at pins))) [
+        | inr f ↦ sym f
+        | inl t ↦ absurd (
+            let q = of_any (is_prefix key) (map pin_at pins) t in
+            let on : IsPrefix key q.0 = (prefix_decides key q.0).0 q.2 in
+            let behind = at_drop i (map pin_at pins) q.0 (stands_behind q.0 w q.1 on) in
+            let not_less : key_below q.0 r.0 ≡ false = (λ j. key_below (sym (behind.3 r.0) j) (sym is j))
+            ∙ not_falling (map pin_at pins) r.0 i behind.0 order behind.1 behind.2 in
+            let up : key_below r.0 key ≡ false = not_back key r.0 (w.2 r.0 first) in
+            let here_too : is_prefix key r.0 ≡ true = (prefix_decides key r.0).1
+            (between key r.0 q.0 up not_less on) in
+            cc)
+      ]
+
+  pub above_none : IsPlace (map pin_at pins) key (Err i) → length pins ≤ i
+      → false ≡ list_any (is_prefix key) (map pin_at pins)
+  above_none w e =
+      elim (true_or_false (list_any (is_prefix key) (map pin_at pins))) [
+        | inr f ↦ sym f
+        | inl t ↦ absurd (
+            let q = of_any (is_prefix key) (map pin_at pins) t in
+            let short : length (map pin_at pins) ≤ i = omega (arith, e, length-map pins pin_at) in
+            elim (subst (λ (ks : List Key). In q.0 ks) (drop_all i (map pin_at pins) short)
+            (stands_behind q.0 w q.1 ((prefix_decides key q.0).0 q.2))) [ ])
+      ]
+
+-- above a pin is above a context's prefix
+pub above_held : (held : List Held) (pins : List Row) → pins ≡ sorted row_below (rows_of held)
+    → Once (map pin_in held) → (key : Key)
+    → list_any (is_prefix key) (map pin_at pins) ≡ list_any (is_prefix key) (map pin_in held)
+above_held held pins rows once key = by (list_any (is_prefix key) (map pin_at pins)) refl
+  where
+    by : (b : Bool) → list_any (is_prefix key) (map pin_at pins) ≡ b
+        → b ≡ list_any (is_prefix key) (map pin_in held)
+    by true e = (let q = of_any (is_prefix key) (map pin_at pins) e in
+        sym (any_in (is_prefix key) q.0 (map pin_in held) (held_of_pin held pins rows once q.0 q.1) q.2))
+    by false e = elim (true_or_false (list_any (is_prefix key) (map pin_in held))) [
+      | inr f ↦ sym f
+      | inl t ↦ absurd (
+          let q = of_any (is_prefix key) (map pin_in held) t in
+          let u : list_any (is_prefix key) (map pin_at pins) ≡ true =
+          any_in (is_prefix key) q.0 (map pin_at pins) (pin_of_held held pins rows once q.0 q.1) q.2 in
+          cc)
+    ]

@@ -1,21 +1,18 @@
 -- What lists and searches tell: those found in the run below the base, and of these as many as the size limit leaves.
-use Rattle.std.proofs.Common.{◌≡◌, ℕ, ◌<◌, ◌≤◌, Bool, true, false, ◌&&◌, cond, nat_lt, inl, inr, List, [], length}
-use Rattle.std.proofs.Common.{map, take, refl, sym, ap, subst, ◌∙◌, arith, Option, None, Some}
+use Rattle.std.proofs.Common.{◌≡◌, ℕ, ◌<◌, ◌≤◌, Bool, true, false, ◌&&◌, cond, nat_lt, inl, inr, List, [], ◌∷◌, length}
+use Rattle.std.proofs.Common.{map, take, refl, sym, ap, ◌∙◌, arith, Option, None, Some}
 use Rattle.std.proofs.lemmas.List.{take_all, take-map}
 use Rattle.std.specs.List.{filter}
 use Rattle.x5_model.specs.Keys.{Key, is_prefix, is_child}
 use Rattle.x5_model.specs.Values.{Name, key_of}
 use Rattle.x5_model.specs.Entries.{Named}
 use Rattle.x5_model.specs.Filters.{Filter}
-use Rattle.x5_model.specs.Requests.{Subset, Base, OneLevel, WholeSubtree, Selection}
-use Rattle.x5_model.specs.Truth.{selects_entry}
+use Rattle.x5_model.specs.Requests.{Subset, Selection}
 use Rattle.x5_model.specs.Answers.{EntryInfo, Sub, Source, Answered, Listed, Found}
-use Rattle.x5_model.proofs.KeyLaws.{key_decides}
 use Rattle.x5_model.proofs.Lists.{both_true, true_or_false}
 use Rattle.x5_model.proofs.Decide.{less_decides}
-use Rattle.x5_model.proofs.Prefixes.{prefix_decides, prefix_itself}
 use Rattle.x5_model_tree.specs.Tree.{key_at, is_there_or_root}
-use Rattle.x5_model_tree.specs.Ask.{in_subset, limited, is_cut, just_below, searched, sub_of, info_of, absent}
+use Rattle.x5_model_tree.specs.Ask.{limited, is_cut, just_below, searched, sub_of, info_of, absent}
 use Rattle.x5_model_tree.specs.Ask.{limited_list, limited_found}
 use Rattle.x5_one.specs.Replies.{reply_of}
 use Rattle.x5_one.specs.Scopes.{left_of, tree_with, list_told, search_told}
@@ -63,26 +60,22 @@ limit_cuts (Some most) xs = cut_either (nat_lt (length xs) most) (length xs) mos
 child_under : (base key : Key) → is_child base key ≡ true → is_prefix base key ≡ true
 child_under base key t = (both_true _ (is_prefix base key) t).1
 
-pub subset_under : (s : Subset) (base key : Key) → in_subset s base key ≡ true → is_prefix base key ≡ true
-subset_under Base base key t =
-    let e : base ≡ key = (key_decides base key).0 t in subst (λ (k : Key). is_prefix base k
-    ≡ true) e ((prefix_decides base base).1 (prefix_itself base))
-subset_under OneLevel base key t = child_under base key t
-subset_under WholeSubtree base key t = t
-
 pub below_in_run : (entries : List Named) (key : Key)
     → filter (λ e. is_child key (key_at e)) (filter (λ e. is_prefix key (key_at e)) entries)
     ≡ filter (λ e. is_child key (key_at e)) entries
 below_in_run entries key = filter_within (λ e. is_prefix key (key_at e)) (λ e. is_child key (key_at e))
     (λ e t. child_under key (key_at e) t) entries
 
-pub found_in_run : (entries : List Named) (base : Key) (s : Subset) (f : Filter)
-    → filter (λ e. in_subset s base (key_at e) && selects_entry f e.entry) (filter (λ e. is_prefix base
-    (key_at e)) entries) ≡ filter (λ e. in_subset s base (key_at e) && selects_entry f e.entry) entries
-found_in_run entries base s f =
-    filter_within (λ e. is_prefix base (key_at e)) (λ e. in_subset s base (key_at e) && selects_entry f e.entry)
-    (λ e t. subset_under s base (key_at e) (both_true (in_subset s base (key_at e))
-    (selects_entry f e.entry) t).0) entries
+-- the members that pass two tests, one after the other
+pub both_filters : (f g : Named → Bool) (xs : List Named) → filter g (filter f xs) ≡ filter (λ x. f x && g x) xs
+both_filters f g [] = refl
+both_filters f g (x ∷ xs) = by (f x) refl (both_filters f g xs)
+  where
+    by : (b : Bool) → f x ≡ b → filter g (filter f xs) ≡ filter (λ y. f y && g y) xs
+        → filter g (cond b (x ∷ filter f xs) (filter f xs)) ≡ cond (b && g x) (x ∷ filter (λ y. f y && g y) xs)
+        (filter (λ y. f y && g y) xs)
+    by true q e = ap (λ (ys : List Named). cond (g x) (x ∷ ys) ys) e
+    by false q e = e
 
 -- ---- replies
 

@@ -5,3 +5,5 @@ pub mod Places
 pub mod Scopes
 pub mod Parts
 pub mod Kept
+pub mod Making
+pub mod Moving

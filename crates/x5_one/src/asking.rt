@@ -1,10 +1,12 @@
 //! What is answered from entries in the order of their keys (X.511, sections 9 and 10).
 
-ghost use Rattle.std.specs.Prelude.{◌≡◌, ◌&&◌, ◌≤◌, ℕ, true, false, List, map, IfOk};
+ghost use Rattle.std.specs.Prelude.{◌≡◌, ◌+◌, ◌-◌, ◌<◌, ◌≤◌, ◌++◌, ◌∷◌, ℕ, true, false, if◌then◌else◌, List, [], length, map, take, drop, IfOk, OnOk};
 ghost use Rattle.std.specs.List.{filter};
 ghost use Rattle.x5_model.specs.Answers as answers;
 ghost use Rattle.x5_model.specs.Assertions.{assertion_of};
+ghost use Rattle.x5_model.specs.Entries as entries;
 ghost use Rattle.x5_model.specs.Keys as keys;
+ghost use Rattle.x5_model.specs.Members.{In};
 ghost use Rattle.x5_model.specs.Truth.{selects_entry};
 ghost use Rattle.x5_model.specs.Values.{key_of};
 ghost use Rattle.x5_model.specs.Words.{ascending};
@@ -18,7 +20,7 @@ ghost use Rattle.x5_ops.specs.AnswerViews.{reply_view, source_view, info_view, s
 ghost use Rattle.x5_one.specs.Replies.{reply_of};
 ghost use Rattle.x5_one.specs.Scopes.{found_in, left_of, list_told, search_told};
 
-use crate::places::{absent, entry_of, last_of, subtree};
+use crate::places::{absent, entry_of, last_of, run_end, subtree};
 use std::alloc::Global;
 use x5_match::{Filter, holds};
 use x5_memory::NoMemory;
@@ -97,40 +99,106 @@ fn is_in_subset(subset: Subset, base: &Key, key: &Key) -> bool
     }
 }
 
-/// Whether a search finds the entry. No memory.
-fn is_found(subset: Subset, base: &Key, filter: &Filter, named: &Named) -> bool
-    ensures { result ≡ (model.in_subset (subset_view subset) base.now (tree.key_at named.now) && selects_entry (filter_view filter.now) named.now.entry) }
+/// Where to look next, behind the entry at the place, for what stands just below a name of so many RDNs: what stands below a
+/// longer name stands deeper. No memory.
+fn next_place(scope: &[Named], at: usize, above: usize) -> usize
+    requires order { ascending tree.named_below scope.now ≡ true }
+    requires there { at < length scope.now }
+    ensures behind { at < result }
+    ensures within { result ≤ length scope.now }
+    ensures deeper { (e : entries.Named) → In e (take (result - (at + 1)) (drop (at + 1) scope.now)) → above + 1 < length (tree.key_at e) }
 {
-    is_in_subset(subset, base, named.name.key()) && holds(filter, &named.entry).is_true()
+    let named = &scope[at];
+    let key = named.name.key();
+    if key.len() <= above {
+        return at + 1;
+    }
+    run_end(scope, at, key)
 }
 
-/// The entries just below the key, of those at it and below it.
+/// Puts the entry behind those found, if it's wanted.
+fn push_if<'a>(
+    found: &mut Vec<&'a Named>,
+    named: &'a Named,
+    is_wanted: bool,
+) -> Result<(), NoMemory>
+    ensures { OnOk result (found_in found.new.items ≡ found_in found.old.items ++ (if is_wanted then named.now ∷ [] else [])) }
+{
+    if is_wanted {
+        found.push(named)?;
+    }
+    Ok(())
+}
+
+/// The entries just below the key, of those at it and below it: what stands below each of them is passed over.
 fn just_below<'a>(alloc: Global, scope: &'a [Named], key: &Key) -> Result<Vec<&'a Named>, NoMemory>
+    requires { ascending tree.named_below scope.now ≡ true }
     ensures { IfOk result (λ found. found_in found.items ≡ filter (λ e. keys.is_child key.now (tree.key_at e)) scope.now) }
 {
     let mut found = Vec::new(alloc);
-    for named in scope {
-        if is_in_subset(Subset::One, key, named.name.key()) {
-            found.push(named)?;
-        }
+    let mut place = 0;
+    while place < scope.len() {
+        let named = &scope[place];
+        let is_child = is_in_subset(Subset::One, key, named.name.key());
+        push_if(&mut found, named, is_child)?;
+        place = next_place(scope, place, key.len());
     }
     Ok(found)
 }
 
-/// The entries in the subset for which the filter is true, of those at the base and below it.
-fn searched<'a>(
-    alloc: Global,
-    scope: &'a [Named],
-    base: &Key,
-    subset: Subset,
-    wanted: &Filter,
-) -> Result<Vec<&'a Named>, NoMemory>
-    ensures { IfOk result (λ found. found_in found.items ≡ filter (λ e. model.in_subset (subset_view subset) base.now (tree.key_at e) && selects_entry (filter_view wanted.now) e.entry) scope.now) }
+/// The entry of the key alone, if it's there.
+fn itself<'a>(alloc: Global, entries: &'a [Named], key: &Key) -> Result<Vec<&'a Named>, NoMemory>
+    requires { ascending tree.named_below entries.now ≡ true }
+    ensures { IfOk result (λ found. found_in found.items ≡ filter (λ e. keys.same_key key.now (tree.key_at e)) entries.now) }
+{
+    let mut found = Vec::new(alloc);
+    let Some(named) = entry_of(entries, key) else {
+        return Ok(found);
+    };
+    found.push(named)?;
+    Ok(found)
+}
+
+/// All these.
+fn all_of<'a>(alloc: Global, scope: &'a [Named]) -> Result<Vec<&'a Named>, NoMemory>
+    ensures { IfOk result (λ found. found_in found.items ≡ scope.now) }
 {
     let mut found = Vec::new(alloc);
     for named in scope {
-        if is_found(subset, base, wanted, named) {
-            found.push(named)?;
+        found.push(named)?;
+    }
+    Ok(found)
+}
+
+/// The entries in the subset; no others are looked at.
+fn in_scope<'a>(
+    alloc: Global,
+    entries: &'a [Named],
+    base: &Key,
+    subset: Subset,
+) -> Result<Vec<&'a Named>, NoMemory>
+    requires { ascending tree.named_below entries.now ≡ true }
+    ensures { IfOk result (λ found. found_in found.items ≡ filter (λ e. model.in_subset (subset_view subset) base.now (tree.key_at e)) entries.now) }
+{
+    match subset {
+        Subset::Base => itself(alloc, entries, base),
+        Subset::One => just_below(alloc, subtree(entries, base), base),
+        Subset::Tree => all_of(alloc, subtree(entries, base)),
+    }
+}
+
+/// Those for which the filter is true.
+fn selected<'a>(
+    alloc: Global,
+    scope: &[&'a Named],
+    wanted: &Filter,
+) -> Result<Vec<&'a Named>, NoMemory>
+    ensures { IfOk result (λ found. found_in found.items ≡ filter (λ e. selects_entry (filter_view wanted.now) e.entry) (found_in scope.now)) }
+{
+    let mut found = Vec::new(alloc);
+    for named in scope {
+        if holds(wanted, &named.entry).is_true() {
+            found.push(*named)?;
         }
     }
     Ok(found)
@@ -200,8 +268,7 @@ pub(crate) fn list(
     if !is_there(entries, object) {
         return Ok(Reply::Failed(absent(alloc, entries, object.key())?));
     }
-    let scope = subtree(entries, object.key());
-    let found = just_below(alloc, scope, object.key())?;
+    let found = in_scope(alloc, entries, object.key(), Subset::One)?;
     let left = left_by(size, found.len());
     Ok(Reply::Done(Answer::Listed {
         subs: subs_of(alloc, &found[..left])?,
@@ -229,8 +296,8 @@ pub(crate) fn search(
     if !is_there(entries, base) {
         return Ok(Reply::Failed(absent(alloc, entries, base.key())?));
     }
-    let scope = subtree(entries, base.key());
-    let found = searched(alloc, scope, base.key(), subset, filter)?;
+    let scope = in_scope(alloc, entries, base.key(), subset)?;
+    let found = selected(alloc, &scope, filter)?;
     let left = left_by(size, found.len());
     Ok(Reply::Done(Answer::Found {
         entries: infos_of(alloc, selection, &found[..left])?,

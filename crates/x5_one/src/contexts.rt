@@ -1,9 +1,9 @@
 //! The naming contexts of a world, in the order of its file, and their pins in the order of keys.
 
 ghost use Rattle.std.specs.Prelude.{◌≡◌, ◌++◌, ◌<◌, ℕ, true, List, length, map, IfOk};
-ghost use Rattle.std.specs.List.{flat_map};
+ghost use Rattle.std.specs.List.{list_any, flat_map};
 ghost use Rattle.std.specs.Option.{option_copied};
-ghost use Rattle.x5_model.specs.Keys.{Key, key_below};
+ghost use Rattle.x5_model.specs.Keys.{Key, key_below, is_prefix};
 ghost use Rattle.x5_model.specs.Members.{In, Once};
 ghost use Rattle.x5_model.specs.Words.{ascending, sorted};
 ghost use Rattle.x5_know.specs.WorldView.{world_view, described_agent_view};
@@ -154,4 +154,18 @@ pub(crate) fn context_of<'a>(
         left -= 1;
     }
     Ok(None)
+}
+
+/// Whether the key is that of a pin, or of what stands above one. No memory.
+pub(crate) fn is_above_pin(pins: &[Pin], key: &Key) -> bool
+    requires { ascending key_below (map (λ p. p.0) pins.now) ≡ true }
+    ensures { result ≡ list_any (is_prefix key.now) (map (λ p. p.0) pins.now) }
+{
+    match place_of_pin(pins, key) {
+        Ok(_) => true,
+        Err(at) => match pins.get(at) {
+            Some(pin) => key.is_prefix(&pin.key),
+            None => false,
+        },
+    }
 }

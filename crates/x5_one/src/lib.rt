@@ -7,6 +7,8 @@ mod asking;
 mod contexts;
 mod entries;
 mod places;
+mod renaming;
 mod tree;
+mod updating;
 
 pub use tree::OneTree;

@@ -1,6 +1,6 @@
 //! Entries in the order of their keys: where a key is among them, and the run of those below it.
 
-ghost use Rattle.std.specs.Prelude.{◌≡◌, ℕ, true, List, IfOk, IsTrue};
+ghost use Rattle.std.specs.Prelude.{◌≡◌, ◌≤◌, ◌-◌, ℕ, true, List, length, take, drop, IfOk};
 ghost use Rattle.std.specs.List.{filter};
 ghost use Rattle.std.specs.Option.{option_copied};
 ghost use Rattle.x5_model.specs.Answers.{NoSuchObject};
@@ -87,14 +87,26 @@ pub(crate) fn start_of(entries: &[Named], key: &Key) -> usize
     }
 }
 
+/// Where the run of what is at the key or below it ends, from where it begins. No memory.
+pub(crate) fn run_end(entries: &[Named], start: usize, key: &Key) -> usize
+    requires order { ascending tree.named_below entries.now ≡ true }
+    requires begins { IsStart (tree.keys_of entries.now) key.now start }
+    ensures behind { start ≤ result }
+    ensures within { result ≤ length entries.now }
+    ensures run { take (result - start) (drop start entries.now) ≡ filter (λ e. keys.is_prefix key.now (tree.key_at e)) entries.now }
+{
+    let rest = &entries[start..];
+    start + rest.partition_point(|named| key.is_prefix(named.name.key()))
+}
+
 /// The entries at the key and below it, which stand next to each other. No memory.
 pub(crate) fn subtree<'a>(entries: &'a [Named], key: &Key) -> &'a [Named]
     requires { ascending tree.named_below entries.now ≡ true }
     ensures { result.now ≡ filter (λ e. keys.is_prefix key.now (tree.key_at e)) entries.now }
 {
-    let rest = &entries[start_of(entries, key)..];
-    let count = rest.partition_point(|named| key.is_prefix(named.name.key()));
-    &rest[..count]
+    let start = start_of(entries, key);
+    let end = run_end(entries, start, key);
+    &entries[start..end]
 }
 
 /// The last RDN of the name; of the root it's empty.

@@ -1,11 +1,13 @@
 //! The one tree: all entries in the order of their keys, with the naming contexts and their masters.
 
-ghost use Rattle.std.specs.Prelude.{◌≡◌, ℕ, false, List, IfOk};
+ghost use Rattle.std.specs.Prelude.{◌≡◌, ℕ, true, false, List, IfOk, OnOk, OnErr};
+ghost use Rattle.x5_model.specs.Answers as answers;
 ghost use Rattle.x5_model.specs.Values.{key_of};
 ghost use Rattle.x5_model_tree.specs.Ask as model;
 ghost use Rattle.x5_model_tree.specs.Consistent.{IsConsistent};
 ghost use Rattle.x5_model_tree.specs.Described.{IsDescribed};
 ghost use Rattle.x5_model_tree.specs.Masters.{whole};
+ghost use Rattle.x5_model_run.specs.History.{tree_with};
 ghost use Rattle.x5_know.specs.WorldView.{world_view};
 ghost use Rattle.x5_ops.specs.AnswerViews.{reply_view};
 ghost use Rattle.x5_ops.specs.RequestViews.{body_view, request_view, name_of};
@@ -15,6 +17,7 @@ ghost use Rattle.x5_one.specs.Replies.{reply_of, source_at};
 use crate::answering::answer;
 use crate::contexts::{Held, Pin, contexts_in, pins_of};
 use crate::entries::entries_in;
+use crate::updating::{replied, update};
 use std::alloc::Global;
 use std::marker::Model;
 use x5_know::Described;
@@ -70,5 +73,21 @@ impl OneTree {
             return Ok(Reply::Failed(error));
         }
         answer(alloc, &self.entries, &self.contexts, &self.pins, request)
+    }
+
+    /// Makes an update (X.511, section 11): static refusals come first. Where it's refused the tree stays as it was, and so it
+    /// does where memory runs out.
+    pub fn apply(&mut self, alloc: Global, request: &Request) -> Result<Reply, NoMemory>
+        requires { model.is_update (body_view request.now.body) ≡ true }
+        ensures reply { IfOk result (λ reply. (names : List (List ℕ)) (source : answers.Source) → reply_view names reply ≡ reply_of source (model.ask (tree_in self.old) (request_view request.now))) }
+        ensures tree { OnOk result (tree_in self.new ≡ tree_with (tree_in self.old) (request_view request.now)) }
+        ensures contexts { self.new.contexts ≡ self.old.contexts }
+        ensures err { OnErr result (self.new ≡ self.old) }
+    {
+        if let Some(error) = fault_of(alloc, request)? {
+            return Ok(Reply::Failed(error));
+        }
+        let made = update(alloc, &mut self.entries, &self.pins, &request.body);
+        replied(made)
     }
 }

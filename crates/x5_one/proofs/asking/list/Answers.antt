@@ -4,7 +4,7 @@ use Rattle.std.proofs.lemmas.List.{length-map, take-map}
 use Rattle.std.specs.Borrow.{Bor}
 use Rattle.std.specs.List.{filter}
 use Rattle.x5_model.specs.Entries.{Named}
-use Rattle.x5_model.specs.Keys.{Key, is_child, is_prefix}
+use Rattle.x5_model.specs.Keys.{Key, is_child}
 use Rattle.x5_model.specs.Values.{key_of}
 use Rattle.x5_model.specs.Answers.{Answered, Listed}
 use Rattle.x5_model_tree.specs.Tree.{key_at}
@@ -12,7 +12,7 @@ use Rattle.x5_model_tree.specs.Ask.{sub_of}
 use Rattle.x5_ops.specs.AnswerViews.{sub_view, source_view}
 use Rattle.x5_ops.specs.ReferenceViews.{reference_view}
 use Rattle.x5_one.specs.Scopes.{found_in, left_of}
-use Rattle.x5_one.proofs.Telling.{list_replied, below_in_run}
+use Rattle.x5_one.proofs.Telling.{list_replied}
 use Rattle.x5_one.proofs.asking.list.Goals as goal
 
 pub returns : goal.returns
@@ -30,10 +30,7 @@ returns c names source =
     let is : found_in c.in_ok-found.found.items
     ≡ filter (λ e. is_child (key_of c.args.object.now) (key_at e)) c.args.entries.now =
     c.in_ok-found.ensures
-    ∙ (λ i. filter (λ e. is_child (c.key-3.ensures i) (key_at e)) (c.subtree-scope.ensures i))
-    ∙ ap (λ (k : Key). filter (λ e. is_child (key_of c.args.object.now) (key_at e)) (filter (λ e. is_prefix k
-    (key_at e)) c.args.entries.now)) c.key-2.ensures
-    ∙ below_in_run c.args.entries.now (key_of c.args.object.now) in
+    ∙ ap (λ (k : Key). filter (λ e. is_child k (key_at e)) c.args.entries.now) c.key-2.ensures in
     let kept : found_in (take c.left_by-left.result c.deref.result.now)
     ≡ take (left_of c.args.size (length (found_in c.in_ok-found.found.items)))
     (found_in c.in_ok-found.found.items) =

@@ -4,7 +4,7 @@ use Rattle.std.proofs.lemmas.List.{length-map, take-map}
 use Rattle.std.specs.Borrow.{Bor}
 use Rattle.std.specs.List.{filter}
 use Rattle.x5_model.specs.Entries.{Named}
-use Rattle.x5_model.specs.Keys.{Key, is_prefix}
+use Rattle.x5_model.specs.Keys.{Key}
 use Rattle.x5_model.specs.Truth.{selects_entry}
 use Rattle.x5_model.specs.Values.{key_of}
 use Rattle.x5_model.specs.Answers.{Answered, Found}
@@ -15,7 +15,7 @@ use Rattle.x5_ops.specs.AnswerViews.{info_view, source_view}
 use Rattle.x5_ops.specs.ReferenceViews.{reference_view}
 use Rattle.x5_ops.specs.RequestViews.{subset_view, selection_view}
 use Rattle.x5_one.specs.Scopes.{found_in, left_of}
-use Rattle.x5_one.proofs.Telling.{search_replied, found_in_run}
+use Rattle.x5_one.proofs.Telling.{search_replied, both_filters}
 use Rattle.x5_one.proofs.asking.search.Goals as goal
 
 pub returns : goal.returns
@@ -33,17 +33,17 @@ returns c names source =
     ≡ filter (λ e. in_subset (subset_view c.args.subset) (key_of c.args.base.now) (key_at e) && selects_entry
     (filter_view c.args.filter.now) e.entry) c.args.entries.now =
     c.in_ok-found.ensures
-    ∙ (λ i. filter (λ e. in_subset (subset_view c.args.subset) (c.key-3.ensures i) (key_at e) && selects_entry
-    (filter_view c.args.filter.now) e.entry) (c.subtree-scope.ensures i))
-    ∙ ap (λ (k : Key). filter (λ e. in_subset (subset_view c.args.subset) (key_of c.args.base.now)
-    (key_at e) && selects_entry (filter_view c.args.filter.now) e.entry) (filter (λ e. is_prefix k
-    (key_at e)) c.args.entries.now)) c.key-2.ensures
-    ∙ found_in_run c.args.entries.now (key_of c.args.base.now) (subset_view c.args.subset)
-    (filter_view c.args.filter.now) in
-    let kept : found_in (take c.left_by-left.result c.deref.result.now)
+    ∙ ap (λ (rs : List (Bor Named)). filter (λ e. selects_entry (filter_view c.args.filter.now) e.entry) (found_in rs))
+    c.deref.ensures.value
+    ∙ ap (filter (λ e. selects_entry (filter_view c.args.filter.now) e.entry)) (c.in_ok-scope.ensures
+    ∙ ap (λ (k : Key). filter (λ e. in_subset (subset_view c.args.subset) k (key_at e)) c.args.entries.now)
+    c.key-2.ensures)
+    ∙ both_filters (λ e. in_subset (subset_view c.args.subset) (key_of c.args.base.now) (key_at e))
+    (λ e. selects_entry (filter_view c.args.filter.now) e.entry) c.args.entries.now in
+    let kept : found_in (take c.left_by-left.result c.deref-2.result.now)
     ≡ take (left_of c.args.size (length (found_in c.in_ok-found.found.items)))
     (found_in c.in_ok-found.found.items) =
-    ap (λ (rs : List (Bor Named)). found_in (take c.left_by-left.result rs)) c.deref.ensures.value
+    ap (λ (rs : List (Bor Named)). found_in (take c.left_by-left.result rs)) c.deref-2.ensures.value
     ∙ sym (take-map (λ (r : Bor Named). r.now) c.left_by-left.result c.in_ok-found.found.items)
     ∙ ap (λ (n : ℕ). take n (found_in c.in_ok-found.found.items)) left in
     (λ i. Answered (Found (map info_view c.in_ok-infos_of.field-0) (map (source_view names) (c.new.ensures i))
