@@ -21,7 +21,7 @@ use Rattle.x5_typed.specs.declared.fault.ReadFault.{ReadFault}
 use Rattle.x5_typed.specs.declared.fault.ReadFault.TheVariants as faults
 use Rattle.x5_typed.specs.Ahead.{Ahead}
 use Rattle.x5_typed.specs.Breaches.{Gives}
-use Rattle.x5_typed.specs.FormView.{table}
+use Rattle.x5_types.specs.FormView.{table}
 use Rattle.x5_typed.specs.Places.{EndsAt, behind, is_over_at}
 use Rattle.x5_typed.proofs.Heads.{lies_tests, stands_front, stands_behind, leaf_is, branch_is, LeafIs, BranchIs}
 

@@ -1,0 +1,4 @@
+mod Controls
+mod InOrder
+mod Pairs
+mod TwoParts

@@ -1,0 +1,6 @@
+mod Arcs
+mod BitLaws
+mod Cells
+mod Magnitudes
+pub mod Nodes
+pub mod TwoParts
