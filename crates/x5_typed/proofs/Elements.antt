@@ -18,10 +18,10 @@ use Rattle.x5_model_typed.specs.Judged.{judged_all, judged_member, State}
 use Rattle.x5_typed.specs.declared.fault.Breach.{Breach}
 use Rattle.x5_typed.specs.declared.fault.ReadFault.{ReadFault}
 use Rattle.x5_typed.specs.declared.fault.ReadFault.TheVariants as faults
-use Rattle.x5_typed.specs.declared.node.Node.{Node}
+use Rattle.x5_types.specs.declared.node.Node.{Node}
 use Rattle.x5_typed.specs.Breaches.{Gives, breach_view}
-use Rattle.x5_typed.specs.FormView.{table}
-use Rattle.x5_typed.specs.NodeView.{node_view, option_view}
+use Rattle.x5_types.specs.FormView.{table}
+use Rattle.x5_types.specs.NodeView.{node_view, option_view}
 use Rattle.x5_typed.specs.Ahead.{Ahead}
 use Rattle.x5_typed.specs.Places.{EndsAt, behind, is_over_at}
 use Rattle.x5_typed.proofs.Heads.{BranchIs, leaf_is}

@@ -1,15 +1,6 @@
-mod Arcs
-mod BitLaws
-mod Cells
-mod Controls
 mod Elements
 mod Heads
-mod InOrder
 mod Lists
-mod Magnitudes
 mod Reading
 mod SlotLaws
-mod TwoParts
 mod Whole
-mod Nodes
-mod Pairs

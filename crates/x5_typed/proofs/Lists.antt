@@ -7,8 +7,8 @@ use Rattle.std.specs.declared.option.Option.TheVariants.{None}
 use Rattle.x5_model_typed.specs.Nodes as nodes
 use Rattle.x5_model_typed.specs.Forms as forms
 use Rattle.x5_model_typed.specs.Judged as judged
-use Rattle.x5_typed.specs.declared.form.Component.{Component}
-use Rattle.x5_typed.specs.FormView.{components_view}
+use Rattle.x5_types.specs.declared.form.Component.{Component}
+use Rattle.x5_types.specs.FormView.{components_view}
 use Rattle.x5_typed.specs.StateView.{no_node}
 
 pub mapped_more : {X Y : Type 0} (f : X → Y) (xs : List X) (i : ℕ) (d : X) → i < length xs

@@ -21,11 +21,11 @@ use Rattle.x5_typed.specs.declared.fault.Breach.{Breach}
 use Rattle.x5_typed.specs.declared.fault.Breach.TheVariants.{Ber}
 use Rattle.x5_typed.specs.declared.fault.ReadFault.{ReadFault}
 use Rattle.x5_typed.specs.declared.fault.ReadFault.TheVariants as faults
-use Rattle.x5_typed.specs.declared.node.Node.{Node}
+use Rattle.x5_types.specs.declared.node.Node.{Node}
 use Rattle.x5_typed.specs.Breaches.{Gives, breach_view}
 use Rattle.x5_typed.specs.Comes.{ComesTo, faulty, more, whole}
-use Rattle.x5_typed.specs.FormView.{table}
-use Rattle.x5_typed.specs.NodeView.{node_view}
+use Rattle.x5_types.specs.FormView.{table}
+use Rattle.x5_types.specs.NodeView.{node_view}
 use Rattle.x5_model_typed.specs.Typed.{Spells as SpellsValue}
 use Rattle.x5_model_typed.proofs.Soundness.{judged_is}
 use Rattle.x5_typed.proofs.Heads.{stands_at}

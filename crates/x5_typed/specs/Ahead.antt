@@ -3,7 +3,7 @@ use Rattle.std.specs.Prelude.{◌≡◌, ℕ, ◌+◌, List, length}
 use Rattle.x5_ber.specs.Reading.{Stands}
 use Rattle.x5_model_typed.specs.Trees.{Trees, LieAll}
 use Rattle.x5_model_typed.specs.Judged.{State, judged_all}
-use Rattle.x5_typed.specs.FormView.{table}
+use Rattle.x5_types.specs.FormView.{table}
 
 -- Of members that begin at the start, those that stand at the place are left, and judging them from where reading
 -- stands now is judging all from where it began.

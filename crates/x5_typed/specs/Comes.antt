@@ -8,7 +8,7 @@ use Rattle.x5_model_typed.specs.Trees.{Tree, Lies}
 use Rattle.x5_model_typed.specs.Nodes.{Node}
 use Rattle.x5_model_typed.specs.Named.{Named}
 use Rattle.x5_model_typed.specs.Judged.{Breach, Ber, judged}
-use Rattle.x5_typed.specs.FormView.{table}
+use Rattle.x5_types.specs.FormView.{table}
 
 pub data ComesTo (form : Named) (octets : List ℕ) : Result Node Breach → Type 0 where
   -- the first fault of the element (X.690)

@@ -1,9 +1,5 @@
-pub mod NodeView
 pub mod Breaches
-pub mod FormView
 pub mod StateView
 pub mod Places
 pub mod Comes
 pub mod Ahead
-pub mod Cells
-pub mod Arcs

@@ -7,11 +7,11 @@ use Rattle.std.specs.declared.result.Result.TheVariants.{Ok}
 use Rattle.x5_model_typed.specs.Nodes as nodes
 use Rattle.x5_model_typed.specs.Forms as forms
 use Rattle.x5_model_typed.specs.Judged as judged
-use Rattle.x5_typed.specs.FormView.{named_view, content_view, components_view, choices_view}
-use Rattle.x5_typed.specs.NodeView.{node_view, option_view}
-use Rattle.x5_typed.specs.declared.form.Component.{Component}
-use Rattle.x5_typed.specs.declared.form.Content.{Content}
-use Rattle.x5_typed.specs.declared.form.Content.TheVariants as content
+use Rattle.x5_types.specs.FormView.{named_view, content_view, components_view, choices_view}
+use Rattle.x5_types.specs.NodeView.{node_view, option_view}
+use Rattle.x5_types.specs.declared.form.Component.{Component}
+use Rattle.x5_types.specs.declared.form.Content.{Content}
+use Rattle.x5_types.specs.declared.form.Content.TheVariants as content
 use Rattle.x5_typed.specs.declared.slots.Left.{Left}
 use Rattle.x5_typed.specs.declared.slots.Left.TheVariants as left
 use Rattle.x5_typed.specs.declared.slots.Step.{Step}

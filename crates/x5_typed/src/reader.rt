@@ -10,21 +10,18 @@ ghost use Rattle.x5_model_typed.specs.Nodes as nodes;
 ghost use Rattle.x5_model_typed.specs.Trees as trees;
 ghost use Rattle.x5_model_typed.specs.Typed.{Spells};
 ghost use Rattle.x5_typed.specs.Breaches.{Gives};
-ghost use Rattle.x5_typed.specs.FormView.{alternative_view, choices_view, content_view, named_view, table};
-ghost use Rattle.x5_typed.specs.NodeView.{node_view, option_view};
+ghost use Rattle.x5_types.specs.FormView.{alternative_view, choices_view, content_view, named_view, table};
+ghost use Rattle.x5_types.specs.NodeView.{node_view, option_view};
 ghost use Rattle.x5_typed.specs.Comes.{ComesTo};
 ghost use Rattle.x5_typed.specs.Places.{EndsAt, Within, behind, is_over_at};
 ghost use Rattle.x5_typed.specs.StateView.{state_view, IsState};
 
 use crate::fault::{Breach, ReadFault, wrong_content, wrong_tag};
-use crate::form::{Alternative, Choices, Content, Named};
-use crate::leaf::leaf_node;
-use crate::node::Node;
-use crate::rule::settle;
 use crate::state::State;
-use crate::table::layout;
 use std::alloc::Global;
 use x5_ber::{BerFault, Head, read_header, read_tlv};
+use x5_rules::settle;
+use x5_types::{Alternative, Choices, Content, Named, Node, layout, leaf_node};
 
 /// The value as it is kept, by the rule of its type.
 fn settled<'a>(

@@ -4,14 +4,12 @@ ghost use Rattle.std.specs.List.{list_all};
 ghost use Rattle.x5_model_typed.specs.Forms as forms;
 ghost use Rattle.x5_model_typed.specs.Judged as judged;
 ghost use Rattle.x5_typed.specs.Breaches.{breach_view};
-ghost use Rattle.x5_typed.specs.FormView.{choices_view, component_view, components_view, content_view, named_view, presence_view, table};
-ghost use Rattle.x5_typed.specs.NodeView.{node_view, option_view};
+ghost use Rattle.x5_types.specs.FormView.{choices_view, component_view, components_view, content_view, named_view, presence_view, table};
+ghost use Rattle.x5_types.specs.NodeView.{node_view, option_view};
 ghost use Rattle.x5_typed.specs.StateView.{awaited_view, left_view, IsPlace, IsSlot, SlotIs};
 
 use crate::fault::{Breach, wrong_content, wrong_tag};
-use crate::form::{Alternative, Choices, Component, Content, Named, Presence, Rule};
-use crate::node::Node;
-use crate::table::layout;
+use x5_types::{Choices, Component, Content, Named, Node, Presence};
 
 /// The components that may still come.
 #[derive(Clone, Copy)]
@@ -105,37 +103,6 @@ pub(crate) fn components_in(content: Content) -> Left
     match content {
         Content::Sequence(components) | Content::Set(components) => Left::Listed(components),
         _ => Left::Listed(&[]),
-    }
-}
-
-/// An explicit context tag around a type.
-fn tagged(tag: u32, form: Named) -> Choices
-    ensures { choices_view result ≡ forms.context tag (forms.Explicit (named_view form)) ∷ [] }
-{
-    Choices::One(Alternative {
-        class: 2,
-        tag,
-        marked: false,
-        content: Content::Explicit(form),
-        rule: Rule::Any,
-    })
-}
-
-impl Component {
-    /// The types that its elements are of.
-    fn choices(self) -> Choices
-        ensures { choices_view result ≡ forms.alternatives table (component_view self) }
-    {
-        match self.tag {
-            None => layout(self.form),
-            Some(tag) => tagged(tag, self.form),
-        }
-    }
-
-    pub(crate) fn may_be_missing(self) -> bool
-        ensures { result ≡ judged.may_be_missing (component_view self) }
-    {
-        matches!(self.presence, Presence::Default(_))
     }
 }
 

@@ -3,21 +3,20 @@ ghost use Rattle.std.specs.Prelude.{◌≡◌, ◌≤◌, ◌<◌, ◌+◌, ◌+
 ghost use Rattle.std.specs.List.{list_all};
 ghost use Rattle.x5_model_typed.specs.Judged as judged;
 ghost use Rattle.x5_typed.specs.Breaches.{breach_view, Gives};
-ghost use Rattle.x5_typed.specs.FormView.{content_view, named_view, table};
-ghost use Rattle.x5_typed.specs.NodeView.{node_view, option_view};
+ghost use Rattle.x5_types.specs.FormView.{content_view, named_view, table};
+ghost use Rattle.x5_types.specs.NodeView.{node_view, option_view};
 ghost use Rattle.x5_typed.specs.StateView.{state_view, awaited_view, step_view, left_view, awaits_bits, IsState, Fits, IsSequence, no_node};
 
-use crate::bits::read_bits;
 use crate::fault::{Breach, ReadFault, wrong_content, wrong_tag};
-use crate::form::{Choices, Component, Content, Named};
-use crate::leaf::read_leaf;
-use crate::node::{Bytes, Node};
 use crate::slots::{
     Awaited, Left, Step, components_in, is_taken, left_behind, sequence_awaits, set_awaits,
 };
-use crate::table::{BIT_SEGMENT, SEGMENT, layout};
 use std::alloc::Global;
 use x5_memory::NoMemory;
+use x5_types::{
+    BIT_SEGMENT, Bytes, Choices, Component, Content, Named, Node, SEGMENT, layout, read_bits,
+    read_leaf,
+};
 
 /// Where reading stands: the element's place and content, the components that may still come, what the members so far
 /// say (of a SET in a slot for each component), and the last member's place.

@@ -2,7 +2,7 @@
 use Rattle.std.proofs.Common.{◌≡◌, ◌+◌, ℕ, ap, sym, ◌∙◌, length, arith, subst}
 use Rattle.std.specs.declared.option.Option.{Option}
 use Rattle.x5_ber.specs.Views.{head_view}
-use Rattle.x5_typed.specs.FormView.{alternative_view, choices_view}
+use Rattle.x5_types.specs.FormView.{alternative_view, choices_view}
 use Rattle.x5_typed.specs.Places.{EndsAt, behind}
 use Rattle.x5_typed.specs.StateView.{state_view, awaited_view}
 use Rattle.x5_typed.proofs.Heads.{branch_is, some_head}

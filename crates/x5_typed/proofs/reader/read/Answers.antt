@@ -4,7 +4,7 @@ use Rattle.x5_ber.specs.Views.{fault_view}
 use Rattle.std.specs.declared.result.Result.TheVariants.{Err}
 use Rattle.x5_model_typed.specs.Judged as judged
 use Rattle.x5_typed.specs.Comes.{faulty, whole}
-use Rattle.x5_typed.specs.FormView.{named_view, table}
+use Rattle.x5_types.specs.FormView.{named_view, table}
 use Rattle.x5_typed.proofs.Whole.{faulty_comes, more_comes, comes_more, whole_comes, tree_of, spelled_by}
 use Rattle.x5_typed.proofs.reader.read.Goals as goal
 

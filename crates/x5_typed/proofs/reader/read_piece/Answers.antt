@@ -1,7 +1,7 @@
 -- A primitive element's content is the octets that its header says, so it's read as the tree that lies there.
 use Rattle.std.proofs.Common.{sym, ◌∙◌}
 use Rattle.x5_ber.specs.Views.{head_view}
-use Rattle.x5_typed.specs.FormView.{choices_view}
+use Rattle.x5_types.specs.FormView.{choices_view}
 use Rattle.x5_typed.proofs.Heads.{leaf_is}
 use Rattle.x5_typed.proofs.Elements.{err_is, piece_wrong, piece_read}
 use Rattle.x5_typed.proofs.Reading.{no_fault}

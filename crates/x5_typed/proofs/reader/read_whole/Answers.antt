@@ -1,6 +1,6 @@
 -- All octets are one element, which is read at the first place.
 use Rattle.std.proofs.Common.{◌+◌, length}
-use Rattle.x5_typed.specs.FormView.{choices_view, named_view, table}
+use Rattle.x5_types.specs.FormView.{choices_view, named_view, table}
 use Rattle.x5_typed.proofs.Heads.{some_head}
 use Rattle.x5_typed.proofs.Whole.{all_stand}
 use Rattle.x5_typed.proofs.Elements.{err_is, whole_wrong, whole_read}

@@ -4,10 +4,10 @@ use Rattle.std.specs.declared.option.Option.{Option}
 use Rattle.std.specs.declared.option.Option.TheVariants.{None, Some}
 use Rattle.std.specs.Option.{is_some}
 use Rattle.x5_model_typed.specs.Nodes as nodes
-use Rattle.x5_typed.specs.declared.node.Node.{Node}
+use Rattle.x5_types.specs.declared.node.Node.{Node}
 use Rattle.x5_typed.proofs.Lists.{mapped_more}
 use Rattle.x5_typed.proofs.slots.is_taken.Goals as goal
-use Rattle.x5_typed.specs.NodeView.{node_view, option_view}
+use Rattle.x5_types.specs.NodeView.{node_view, option_view}
 use Rattle.x5_typed.specs.StateView.{SlotIs}
 
 slot : (o : Option Node) (i : ℕ) (slots : List (Option nodes.Node))

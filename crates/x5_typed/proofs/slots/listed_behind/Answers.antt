@@ -2,7 +2,7 @@
 use Rattle.std.proofs.Common.{◌-◌, ◌+◌, drop, length, ap, sym, ◌∙◌, arith}
 use Rattle.std.proofs.lemmas.List.{drop-map, take_all, length-drop}
 use Rattle.x5_typed.proofs.slots.listed_behind.Goals as goal
-use Rattle.x5_typed.specs.FormView.{component_view, components_view}
+use Rattle.x5_types.specs.FormView.{component_view, components_view}
 
 pub returns : goal.returns
 returns c =

@@ -2,7 +2,7 @@
 use Rattle.std.proofs.Common.{◌≡◌, drop}
 use Rattle.x5_model_typed.specs.Judged as judged
 use Rattle.x5_typed.proofs.slots.sequence_awaits.Given as goal
-use Rattle.x5_typed.specs.FormView.{table}
+use Rattle.x5_types.specs.FormView.{table}
 use Rattle.x5_typed.specs.StateView.{left_view}
 
 abbrev pub invariant-loop-i : goal.invariant-loop-i

@@ -2,8 +2,8 @@
 use Rattle.std.proofs.Common.{◌≡◌, drop, map}
 use Rattle.x5_model_typed.specs.Judged as judged
 use Rattle.x5_typed.proofs.slots.set_awaits.Given as goal
-use Rattle.x5_typed.specs.FormView.{table}
-use Rattle.x5_typed.specs.NodeView.{option_view}
+use Rattle.x5_types.specs.FormView.{table}
+use Rattle.x5_types.specs.NodeView.{option_view}
 use Rattle.x5_typed.specs.StateView.{left_view}
 
 abbrev pub invariant-loop-i : goal.invariant-loop-i

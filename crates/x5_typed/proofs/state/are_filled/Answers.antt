@@ -1,8 +1,8 @@
 -- One component more is filled, or isn't.
 use Rattle.std.proofs.Common.{◌≡◌, ◌+◌, ◌&&◌, ◌||◌, true, false, drop, map, ap, sym, ◌∙◌}
 use Rattle.x5_model_typed.specs.Judged as judged
-use Rattle.x5_typed.specs.FormView.{component_view}
-use Rattle.x5_typed.specs.NodeView.{option_view}
+use Rattle.x5_types.specs.FormView.{component_view}
+use Rattle.x5_types.specs.NodeView.{option_view}
 use Rattle.x5_typed.specs.StateView.{left_view}
 use Rattle.x5_typed.proofs.SlotLaws.{one_filled}
 use Rattle.x5_typed.proofs.state.are_filled.Goals as goal

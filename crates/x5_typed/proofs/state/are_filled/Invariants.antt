@@ -1,7 +1,7 @@
 -- All are filled where those that are left are.
 use Rattle.std.proofs.Common.{◌≡◌, drop, map}
 use Rattle.x5_model_typed.specs.Judged as judged
-use Rattle.x5_typed.specs.NodeView.{option_view}
+use Rattle.x5_types.specs.NodeView.{option_view}
 use Rattle.x5_typed.specs.StateView.{left_view}
 use Rattle.x5_typed.proofs.state.are_filled.Given as goal
 

@@ -2,12 +2,12 @@
 use Rattle.std.proofs.Common.{◌+◌, [], drop, slice_index_or, refl}
 use Rattle.std.proofs.lemmas.List.{drop_more}
 use Rattle.std.specs.declared.option.Option.TheVariants.{None}
-use Rattle.x5_typed.specs.declared.form.Component.{Component}
-use Rattle.x5_typed.specs.declared.form.Named.TheVariants.{DapRequest}
-use Rattle.x5_typed.specs.declared.form.Presence.TheVariants.{Required}
+use Rattle.x5_types.specs.declared.form.Component.{Component}
+use Rattle.x5_types.specs.declared.form.Named.TheVariants.{DapRequest}
+use Rattle.x5_types.specs.declared.form.Presence.TheVariants.{Required}
 use Rattle.x5_typed.proofs.Lists.{put_next}
 use Rattle.x5_typed.proofs.state.empty.Goals as goal
-use Rattle.x5_typed.specs.NodeView.{option_view}
+use Rattle.x5_types.specs.NodeView.{option_view}
 use Rattle.x5_typed.specs.StateView.{no_node}
 
 abbrev any : Component

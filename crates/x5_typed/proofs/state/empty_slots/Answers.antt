@@ -2,10 +2,10 @@
 use Rattle.std.proofs.Common.{◌≡◌, List, map, subst, Vec, Global, IfOk}
 use Rattle.std.specs.declared.option.Option.{Option}
 use Rattle.x5_model_typed.specs.Nodes as nodes
-use Rattle.x5_typed.specs.declared.node.Node.{Node}
+use Rattle.x5_types.specs.declared.node.Node.{Node}
 use Rattle.x5_typed.proofs.Lists.{no_nodes}
 use Rattle.x5_typed.proofs.state.empty_slots.Goals as goal
-use Rattle.x5_typed.specs.NodeView.{option_view}
+use Rattle.x5_types.specs.NodeView.{option_view}
 
 pub returns-in-Set : goal.returns-in-Set
 returns-in-Set c =

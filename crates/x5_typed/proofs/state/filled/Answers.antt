@@ -5,7 +5,7 @@ use Rattle.x5_model_typed.specs.Nodes as nodes
 use Rattle.x5_model_typed.specs.Named.{DapRequest}
 use Rattle.x5_model_typed.specs.Forms as forms
 use Rattle.x5_model_typed.specs.Judged as judged
-use Rattle.x5_typed.specs.NodeView.{node_view, option_view}
+use Rattle.x5_types.specs.NodeView.{node_view, option_view}
 use Rattle.x5_typed.specs.StateView.{left_view}
 use Rattle.x5_typed.proofs.SlotLaws.{one_given}
 use Rattle.x5_typed.proofs.state.filled.Goals as goal

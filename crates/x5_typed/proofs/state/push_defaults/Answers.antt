@@ -3,8 +3,8 @@ use Rattle.std.proofs.Common.{◌+◌, drop}
 use Rattle.x5_model_typed.specs.Judged as judged
 use Rattle.x5_typed.proofs.Lists.{put_next}
 use Rattle.x5_typed.proofs.state.push_defaults.Goals as goal
-use Rattle.x5_typed.specs.FormView.{component_view}
-use Rattle.x5_typed.specs.NodeView.{node_view}
+use Rattle.x5_types.specs.FormView.{component_view}
+use Rattle.x5_types.specs.NodeView.{node_view}
 use Rattle.x5_typed.specs.StateView.{left_view}
 
 pub loop-i-preserved : goal.loop-i-preserved

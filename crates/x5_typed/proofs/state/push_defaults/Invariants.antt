@@ -2,7 +2,7 @@
 use Rattle.std.proofs.Common.{◌≡◌, map, take, ◌++◌}
 use Rattle.x5_model_typed.specs.Judged as judged
 use Rattle.x5_typed.proofs.state.push_defaults.Given as goal
-use Rattle.x5_typed.specs.NodeView.{node_view}
+use Rattle.x5_types.specs.NodeView.{node_view}
 use Rattle.x5_typed.specs.StateView.{left_view}
 
 abbrev pub invariant-loop-i : goal.invariant-loop-i

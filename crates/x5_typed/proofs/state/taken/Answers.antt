@@ -3,8 +3,8 @@ use Rattle.std.proofs.Common.{◌+◌, ◌∷◌, List, drop, map, ap, sym, ◌�
 use Rattle.std.specs.declared.option.Option.{Option}
 use Rattle.std.proofs.lemmas.List.{map-set, drop-set-lt}
 use Rattle.x5_model_typed.specs.Nodes as nodes
-use Rattle.x5_typed.specs.declared.node.Node.{Node}
-use Rattle.x5_typed.specs.NodeView.{option_view}
+use Rattle.x5_types.specs.declared.node.Node.{Node}
+use Rattle.x5_types.specs.NodeView.{option_view}
 use Rattle.x5_typed.proofs.Lists.{mapped_more}
 use Rattle.x5_typed.proofs.state.taken.Goals as goal
 

@@ -6,9 +6,9 @@ use Rattle.std.specs.declared.option.Option.TheVariants.{Some}
 use Rattle.x5_model_typed.specs.Nodes as nodes
 use Rattle.x5_model_typed.specs.Forms as forms
 use Rattle.x5_model_typed.specs.Judged as judged
-use Rattle.x5_typed.proofs.Nodes.{many_of_items}
+use Rattle.x5_types.proofs.Nodes.{many_of_items}
 use Rattle.x5_typed.proofs.state.with_defaults.Goals as goal
-use Rattle.x5_typed.specs.NodeView.{node_view}
+use Rattle.x5_types.specs.NodeView.{node_view}
 use Rattle.x5_typed.specs.StateView.{left_view}
 
 pub returns : goal.returns

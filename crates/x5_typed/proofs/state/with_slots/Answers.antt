@@ -2,13 +2,13 @@
 use Rattle.std.proofs.Common.{◌≡◌, ◌++◌, true, List, [], map, drop, ap, sym, ◌∙◌, arith, append-nil}
 use Rattle.std.specs.declared.option.Option.{Option}
 use Rattle.std.specs.declared.option.Option.TheVariants.{Some}
-use Rattle.x5_typed.specs.declared.node.Node.{Node}
+use Rattle.x5_types.specs.declared.node.Node.{Node}
 use Rattle.x5_model_typed.specs.Nodes as nodes
 use Rattle.x5_model_typed.specs.Forms as forms
 use Rattle.x5_model_typed.specs.Judged as judged
-use Rattle.x5_typed.specs.NodeView.{node_view, option_view}
+use Rattle.x5_types.specs.NodeView.{node_view, option_view}
 use Rattle.x5_typed.specs.StateView.{left_view}
-use Rattle.x5_typed.proofs.Nodes.{many_of_items}
+use Rattle.x5_types.proofs.Nodes.{many_of_items}
 use Rattle.std.proofs.lemmas.List.{drop_all}
 use Rattle.x5_typed.proofs.state.with_slots.Goals as goal
 

@@ -1,7 +1,7 @@
 -- The values so far, and those of the components that are left, are all.
 use Rattle.std.proofs.Common.{◌≡◌, ◌++◌, drop, map, length}
 use Rattle.x5_model_typed.specs.Judged as judged
-use Rattle.x5_typed.specs.NodeView.{node_view, option_view}
+use Rattle.x5_types.specs.NodeView.{node_view, option_view}
 use Rattle.x5_typed.specs.StateView.{left_view}
 use Rattle.x5_typed.proofs.state.with_slots.Given as goal
 

@@ -1,0 +1,4 @@
+pub mod NodeView
+pub mod FormView
+pub mod Cells
+pub mod Arcs

@@ -1,0 +1,25 @@
+//! The types of messages as data (X.511, X.518): which elements are values of a type, in one table; and what primitive
+//! contents say (X.690, section 8).
+#![tactic(auto)]
+
+mod bits;
+mod component;
+mod form;
+mod given;
+mod leaf;
+mod node;
+mod number;
+mod oid;
+mod table;
+mod text;
+
+pub use crate::bits::read_bits;
+pub use crate::form::{
+    Alternative, BitLeaf, Choices, Codes, Component, Content, Given, Leaf, Letters, Named, Numbers,
+    Operation, Presence, Rule,
+};
+pub use crate::leaf::{leaf_node, read_leaf};
+pub use crate::node::{Bytes, Characters, Node};
+pub use crate::table::{BIT_SEGMENT, SEGMENT, layout};
+pub use crate::text::{is_numeric, is_printable};
+pub use x5_memory::NoMemory;
