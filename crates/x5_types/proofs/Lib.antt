@@ -4,3 +4,4 @@ mod Cells
 mod Magnitudes
 pub mod Nodes
 pub mod TwoParts
+mod Ascii

@@ -51,6 +51,7 @@ operation_view o.ModifyDn = named.ModifyDn
 abbrev pub named_view : Named → named.Named
 named_view n.DapRequest = named.DapRequest
 named_view n.DapAnswer = named.DapAnswer
+named_view n.DspRequest = named.DspRequest
 named_view n.DspAnswer = named.DspAnswer
 named_view n.DapResult = named.DapResult
 named_view n.DspResult = named.DspResult
@@ -80,7 +81,9 @@ named_view n.Item = named.Item
 named_view n.Substrings = named.Substrings
 named_view n.Parts = named.Parts
 named_view n.PlacedPart = named.PlacedPart
+named_view n.Chaining = named.Chaining
 named_view n.Progress = named.Progress
+named_view n.Trace = named.Trace
 named_view n.TraceItem = named.TraceItem
 named_view n.Agents = named.Agents
 named_view n.Agent = named.Agent
@@ -98,6 +101,7 @@ named_view n.NameError = named.NameError
 named_view n.ServiceError = named.ServiceError
 named_view n.UpdateError = named.UpdateError
 named_view (n.Argument op) = named.Argument (operation_view op)
+named_view (n.Chained op) = named.Chained (operation_view op)
 named_view (n.Outcome op) = named.Outcome (operation_view op)
 named_view (n.NumberBelow low high) = named.NumberBelow low high
 named_view (n.Enumeration low high) = named.Enumeration low high
@@ -143,6 +147,7 @@ given_view given.NoQualifier = layouts.no_qualifier
 
 abbrev pub codes_view : Codes → ℤ → Option named.Named
 codes_view codes.Arguments = layouts.named_by (layouts.operation_codes named.Argument)
+codes_view codes.ChainedArguments = layouts.named_by (layouts.operation_codes named.Chained)
 codes_view codes.Outcomes = layouts.named_by (layouts.operation_codes named.Outcome)
 codes_view codes.DapErrors = layouts.named_by layouts.dap_errors
 codes_view codes.DspErrors = layouts.named_by layouts.dsp_errors
@@ -178,6 +183,7 @@ rule_view rule.Controls = rules.controls_rule
 rule_view rule.Text = rules.text_rule
 rule_view rule.Parts = rules.parts_rule
 rule_view rule.Progress = rules.progress_rule
+rule_view rule.Trace = rules.trace_rule
 
 abbrev pub alternative_view : Alternative → forms.Alternative
 alternative_view a = record {

@@ -22,8 +22,11 @@ pub enum Operation {
 pub enum Named {
     DapRequest,
     DapAnswer,
+    DspRequest,
     DspAnswer,
     Argument(Operation),
+    /// The argument of a chained operation (X.518, section 12).
+    Chained(Operation),
     DapResult,
     DspResult,
     Outcome(Operation),
@@ -60,7 +63,9 @@ pub enum Named {
     Substrings,
     Parts,
     PlacedPart,
+    Chaining,
     Progress,
+    Trace,
     TraceItem,
     Agents,
     Agent,
@@ -141,6 +146,7 @@ pub enum Given {
 #[derive(Clone, Copy)]
 pub enum Codes {
     Arguments,
+    ChainedArguments,
     Outcomes,
     DapErrors,
     DspErrors,
@@ -193,6 +199,7 @@ pub enum Rule {
     Text,
     Parts,
     Progress,
+    Trace,
 }
 
 /// A tag that a type's elements may have, with the content and the rule of the whole. Where the tag says which of

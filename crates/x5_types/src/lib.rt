@@ -19,7 +19,7 @@ pub use crate::form::{
     Operation, Presence, Rule,
 };
 pub use crate::leaf::{leaf_node, read_leaf};
-pub use crate::node::{Bytes, Node};
+pub use crate::node::{Bytes, Characters, Node};
 pub use crate::table::{BIT_SEGMENT, SEGMENT, layout};
 pub use crate::text::{is_numeric, is_printable};
 pub use x5_memory::NoMemory;

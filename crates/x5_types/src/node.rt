@@ -1,7 +1,7 @@
 //! Values of types, as trees of what their elements say.
 ghost use Rattle.std.specs.Prelude.{◌≡◌, ◌∷◌, [], map, MatchOption};
 ghost use Rattle.x5_model_typed.specs.Nodes as nodes;
-ghost use Rattle.x5_types.specs.NodeView.{bytes_view, node_view, IsNotTwo};
+ghost use Rattle.x5_types.specs.NodeView.{bytes_view, characters_view, node_view, IsNotTwo};
 
 /// Octets of the input, or octets that were put together.
 #[derive(Drop)]
@@ -22,6 +22,25 @@ impl<'a> Bytes<'a> {
     }
 }
 
+/// Text of the input, or text that was put together.
+#[derive(Drop)]
+pub enum Characters<'a> {
+    Lent(&'a str),
+    Kept(String),
+}
+
+impl<'a> Characters<'a> {
+    /// The text. No memory.
+    pub fn as_str(&self) -> &str
+        ensures { result.now ≡ characters_view self.now }
+    {
+        match self {
+            Characters::Lent(text) => text,
+            Characters::Kept(text) => text,
+        }
+    }
+}
+
 /// What an element says.
 #[derive(Drop)]
 pub enum Node<'a> {
@@ -33,8 +52,7 @@ pub enum Node<'a> {
     Oid(Vec<u32>),
     Bits(Vec<bool>),
     Octets(Bytes<'a>),
-    /// Octets of UTF-8.
-    Text(Bytes<'a>),
+    Text(Characters<'a>),
     /// One of several, by its context tag.
     Chosen(u32, Box<Node<'a>>),
     /// Components in the order of the type, or members in their own.

@@ -46,6 +46,19 @@ macro_rules! component {
     };
 }
 
+macro_rules! chained {
+    ($operation:expr) => {
+        &[universal!(
+            16,
+            Content::Sequence(&[
+                component!(None, Named::Chaining, Presence::Required),
+                component!(None, Named::Argument($operation), Presence::Required)
+            ]),
+            Rule::Any
+        )]
+    };
+}
+
 const DAP_REQUEST: &[Alternative] = &[choice!(
     1,
     Content::Sequence(&[
@@ -82,6 +95,22 @@ const DAP_ANSWER: &[Alternative] = &[
         ])
     ),
 ];
+
+const DSP_REQUEST: &[Alternative] = &[choice!(
+    1,
+    Content::Sequence(&[
+        component!(
+            None,
+            Named::NumberBelow(0, 4_294_967_295),
+            Presence::Required
+        ),
+        component!(
+            None,
+            Named::AnyNumber,
+            Presence::Code(Codes::ChainedArguments)
+        )
+    ])
+)];
 
 const DSP_ANSWER: &[Alternative] = &[
     choice!(
@@ -270,6 +299,24 @@ const PLACED_PART: &[Alternative] = &[
     choice!(1, Content::Explicit(Named::Part)),
     choice!(2, Content::Explicit(Named::Part)),
 ];
+
+const CHAINING: &[Alternative] = &[universal!(
+    17,
+    Content::Set(&[
+        component!(Some(0), Named::Name, Presence::Required),
+        component!(Some(1), Named::Progress, Presence::Required),
+        component!(Some(2), Named::Trace, Presence::Required),
+        component!(Some(3), Named::RefType, Presence::Required),
+        component!(Some(4), Named::Rdns, Presence::Default(Given::Nothing))
+    ]),
+    Rule::Any
+)];
+
+const TRACE: &[Alternative] = &[universal!(
+    16,
+    Content::Members(Named::TraceItem),
+    Rule::Trace
+)];
 
 const PROGRESS: &[Alternative] = &[universal!(
     16,
@@ -552,6 +599,22 @@ const MODIFY_DN_ARGUMENT: &[Alternative] = &[universal!(
     Rule::Any
 )];
 
+const CHAINED_READ: &[Alternative] = chained!(Operation::Read);
+
+const CHAINED_COMPARE: &[Alternative] = chained!(Operation::Compare);
+
+const CHAINED_LIST_BELOW: &[Alternative] = chained!(Operation::ListBelow);
+
+const CHAINED_SEARCH: &[Alternative] = chained!(Operation::Search);
+
+const CHAINED_ADD_ENTRY: &[Alternative] = chained!(Operation::AddEntry);
+
+const CHAINED_REMOVE_ENTRY: &[Alternative] = chained!(Operation::RemoveEntry);
+
+const CHAINED_MODIFY_ENTRY: &[Alternative] = chained!(Operation::ModifyEntry);
+
+const CHAINED_MODIFY_DN: &[Alternative] = chained!(Operation::ModifyDn);
+
 const READ_OUTCOME: &[Alternative] = &[universal!(
     17,
     Content::Set(&[
@@ -632,6 +695,21 @@ fn argument(operation: Operation) -> &'static [Alternative]
     }
 }
 
+fn chained(operation: Operation) -> &'static [Alternative]
+    ensures { types_view result.now ≡ table (named.Chained (operation_view operation)) }
+{
+    match operation {
+        Operation::Read => CHAINED_READ,
+        Operation::Compare => CHAINED_COMPARE,
+        Operation::ListBelow => CHAINED_LIST_BELOW,
+        Operation::Search => CHAINED_SEARCH,
+        Operation::AddEntry => CHAINED_ADD_ENTRY,
+        Operation::RemoveEntry => CHAINED_REMOVE_ENTRY,
+        Operation::ModifyEntry => CHAINED_MODIFY_ENTRY,
+        Operation::ModifyDn => CHAINED_MODIFY_DN,
+    }
+}
+
 fn outcome(operation: Operation) -> &'static [Alternative]
     ensures { types_view result.now ≡ layouts.is (layouts.outcome (operation_view operation)) }
 {
@@ -665,9 +743,11 @@ pub fn layout(form: Named) -> Choices
             Rule::Any
         )),
         Named::Argument(operation) => Choices::Listed(argument(operation)),
+        Named::Chained(operation) => Choices::Listed(chained(operation)),
         Named::Outcome(operation) => Choices::Listed(outcome(operation)),
         Named::DapRequest => Choices::Listed(DAP_REQUEST),
         Named::DapAnswer => Choices::Listed(DAP_ANSWER),
+        Named::DspRequest => Choices::Listed(DSP_REQUEST),
         Named::DspAnswer => Choices::Listed(DSP_ANSWER),
         Named::DapResult | Named::DspResult => Choices::Listed(DAP_RESULT),
         Named::AnyNumber => Choices::Listed(ANY_NUMBER),
@@ -696,7 +776,9 @@ pub fn layout(form: Named) -> Choices
         Named::Substrings => Choices::Listed(SUBSTRINGS),
         Named::Parts => Choices::Listed(PARTS),
         Named::PlacedPart => Choices::Listed(PLACED_PART),
+        Named::Chaining => Choices::Listed(CHAINING),
         Named::Progress => Choices::Listed(PROGRESS),
+        Named::Trace => Choices::Listed(TRACE),
         Named::TraceItem => Choices::Listed(TRACE_ITEM),
         Named::Agents => Choices::Listed(AGENTS),
         Named::Agent => Choices::Listed(AGENT),
@@ -728,6 +810,10 @@ impl Codes {
                 Some(operation) => Some(Named::Argument(operation)),
                 None => None,
             },
+            Codes::ChainedArguments => match operation(number) {
+                Some(operation) => Some(Named::Chained(operation)),
+                None => None,
+            },
             Codes::Outcomes => match operation(number) {
                 Some(operation) => Some(Named::Outcome(operation)),
                 None => None,
@@ -756,6 +842,9 @@ fn operation(number: i64) -> Option<Operation>
     ensures argument { MatchOption result
         (layouts.named_by (layouts.operation_codes named.Argument) number ≡ None)
         (λ op. layouts.named_by (layouts.operation_codes named.Argument) number ≡ Some (named.Argument (operation_view op))) }
+    ensures chained { MatchOption result
+        (layouts.named_by (layouts.operation_codes named.Chained) number ≡ None)
+        (λ op. layouts.named_by (layouts.operation_codes named.Chained) number ≡ Some (named.Chained (operation_view op))) }
     ensures outcome { MatchOption result
         (layouts.named_by (layouts.operation_codes named.Outcome) number ≡ None)
         (λ op. layouts.named_by (layouts.operation_codes named.Outcome) number ≡ Some (named.Outcome (operation_view op))) }

@@ -1,6 +1,7 @@
 //! Strings of characters (X.690, 8.23; X.680, section 41).
 ghost use Rattle.std.specs.Prelude.{◌≡◌, ◌++◌, ◌<◌, IfOk, OnOk, MatchOption, None, Some, codes, drop, true, length, ◌≤◌, ◌+◌, string_bytes, encode_utf8};
 ghost use Rattle.std.specs.List.{list_all};
+ghost use Rattle.std.specs.Str.{IsUtf8};
 ghost use Rattle.std.specs.Option.{option_map};
 ghost use Rattle.x5_model.specs.Normal as normal;
 ghost use Rattle.x5_model.specs.Words.{same_octets};
@@ -8,10 +9,10 @@ ghost use Rattle.x5_model_typed.specs.Leaves as leaves;
 ghost use Rattle.x5_model_typed.specs.Nodes as nodes;
 ghost use Rattle.x5_types.specs.Cells.{Cell, Cut, encoded};
 ghost use Rattle.x5_types.specs.FormView.{letters_view};
-ghost use Rattle.x5_types.specs.NodeView.{bytes_view, option_view};
+ghost use Rattle.x5_types.specs.NodeView.{bytes_view, characters_view, option_view};
 
 use crate::form::Letters;
-use crate::node::{Bytes, Node};
+use crate::node::{Bytes, Characters, Node};
 use std::alloc::Global;
 use x5_memory::NoMemory;
 use x5_syntax::MOST_OCTETS;
@@ -99,15 +100,33 @@ fn is_text(letters: Letters, text: &[u8]) -> bool
     }
 }
 
+/// The octets as text, if they are octets of UTF-8.
+fn as_text<'a>(octets: Bytes<'a>) -> Option<Characters<'a>>
+    ensures { MatchOption result
+        (IsUtf8 (bytes_view octets.entry) → ⊥)
+        (λ t. characters_view t ≡ bytes_view octets.entry) }
+{
+    match octets {
+        Bytes::Lent(octets) => match std::str::from_utf8(octets) {
+            Ok(text) => Some(Characters::Lent(text)),
+            Err(_) => None,
+        },
+        Bytes::Kept(octets) => match String::from_utf8(octets) {
+            Ok(text) => Some(Characters::Kept(text)),
+            Err(_) => None,
+        },
+    }
+}
+
 /// The text, where its characters may stand there.
+#[tactic(auto, using(crate::proofs::Ascii::are_utf8))]
 pub(crate) fn text<'a>(letters: Letters, octets: Bytes<'a>) -> Option<Node<'a>>
     ensures { option_view result ≡ (leaves.text_where (letters_view letters)).reads (bytes_view octets.entry) }
 {
-    if is_text(letters, octets.as_slice()) {
-        Some(Node::Text(octets))
-    } else {
-        None
+    if !is_text(letters, octets.as_slice()) {
+        return None;
     }
+    Some(Node::Text(as_text(octets)?))
 }
 
 /// The number of four octets, the highest first.
@@ -164,15 +183,15 @@ pub(crate) fn universal<'a>(alloc: Global, octets: &[u8]) -> Result<Option<Node<
     let Some(text) = characters(alloc, octets)? else {
         return Ok(None);
     };
-    Ok(kept(text.into_bytes()))
+    Ok(kept(text))
 }
 
 /// The text, where it isn't too long.
-fn kept<'a>(text: Vec<u8>) -> Option<Node<'a>>
-    ensures { option_view result ≡ leaves.where_so (leaves.is_length text.items) (nodes.Text text.items) }
+fn kept<'a>(text: String) -> Option<Node<'a>>
+    ensures { option_view result ≡ leaves.where_so (leaves.is_length (string_bytes text)) (nodes.Text (string_bytes text)) }
 {
-    if is_length(&text) {
-        Some(Node::Text(Bytes::Kept(text)))
+    if is_length(text.as_bytes()) {
+        Some(Node::Text(Characters::Kept(text)))
     } else {
         None
     }

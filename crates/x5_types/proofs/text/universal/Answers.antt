@@ -19,7 +19,4 @@ pub returns : goal.returns
 returns c =
     let some : Some (string_bytes c.in-Some.text) ≡ encoded (leaves.cells c.args.octets.now) =
     sym (ap (λ (o : Option (String Global)). option_map string_bytes o) c.in-Some.is) ∙ c.in_ok-text.ensures in
-    let items : c.into_bytes.result.items ≡ string_bytes c.in-Some.text =
-    ap (λ v. v.items) c.into_bytes.ensures.value in
-    c.kept.ensures ∙ ap (λ (t : List ℕ). leaves.where_so (leaves.is_length t) (nodes.Text t)) items
-    ∙ sym (universal_of c.args.octets.now (Some (string_bytes c.in-Some.text)) some)
+    c.kept.ensures ∙ sym (universal_of c.args.octets.now (Some (string_bytes c.in-Some.text)) some)
