@@ -1,6 +1,8 @@
 -- What is written for a value is what the alternative that is found for it writes.
-use Rattle.std.proofs.Common.{◌≡◌, ℕ, ◌+◌, ◌-◌, Bool, true, false, List, [], ◌∷◌, ◌++◌, length, refl, ap, sym, subst, ◌∙◌, append_assoc, arith, length-append}
+use Rattle.std.proofs.Common.{◌≡◌, ℕ, ◌+◌, ◌-◌, Bool, true, false, ◌&&◌, List, [], ◌∷◌, ◌++◌, length, refl, ap, sym, subst, ◌∙◌, append_assoc, arith, length-append}
 use Rattle.std.specs.List.{find}
+use Rattle.std.specs.Option.{is_some}
+use Rattle.std.specs.Prelude.{if◌then◌else◌}
 use Rattle.std.specs.declared.option.Option.{Option}
 use Rattle.std.specs.declared.option.Option.TheVariants.{None, Some}
 use Rattle.x5_model.specs.Words.{in_option}
@@ -12,11 +14,7 @@ use Rattle.x5_model_typed.specs.Named.{Named}
 use Rattle.x5_model_typed.specs.Forms.{Component, Content, Primitive, Joined, JoinedBits, Explicit, Sequence, Set, Members, Never, Alternative}
 use Rattle.x5_model_typed.specs.Written.{can_hold, is_marked, is_many, leaf_octets, leaf_or, constructed_of, by_content, no_element, primitive_of, written, written_components, written_members}
 use Rattle.x5_types.specs.FormView.{table}
-use Rattle.x5_writer.specs.Contents.{components_of, content_of, element_of, members_of, octets_of, one_of}
-
-abbrev pub is_chosen : Node → Bool
-is_chosen (Chosen tag n) = true
-is_chosen n = false
+use Rattle.x5_writer.specs.Contents.{components_of, content_of, element_of, is_chosen, members_of, octets_in, octets_of, one_of}
 
 in_both : (f g : Alternative → Option Element) → ((a : Alternative) → f a ≡ g a) → (o : Option Alternative) → in_option None f o ≡ in_option None g o
 in_both f g h None = refl
@@ -75,3 +73,17 @@ headed i content old mid new n is len e =
     ∙ ap (λ (k : ℕ). identifier_octets i ++ (shortest_length k ++ mid)) count
     ∙ ap (λ (l : List ℕ). identifier_octets i ++ (shortest_length (length content) ++ l)) is
     ∙ around (identifier_octets i) (shortest_length (length content)) content old
+
+-- ---- whether there are octets
+
+some_octets : (b : Bool) (o : Option (List ℕ)) → is_some (if b then None else o) ≡ true → (if b then None else o) ≡ Some (octets_in o)
+some_octets true o h = absurd (cc h)
+some_octets false None h = absurd (cc h)
+some_octets false (Some os) h = refl
+
+pub octets_are : (chosen : Bool) (c : Content) (n : Node) → is_some (octets_of chosen c n) ≡ true → octets_of chosen c n ≡ Some (octets_in (leaf_octets c n))
+octets_are chosen c n h = some_octets (chosen && is_many n) (leaf_octets c n) h
+
+pub no_octets : (o : Option (List ℕ)) → is_some o ≡ false → o ≡ None
+no_octets None h = refl
+no_octets (Some os) h = absurd (cc h)

@@ -1,5 +1,5 @@
 -- Parts of a value are smaller than it.
-use Rattle.std.proofs.Common.{◌≡◌, ℕ, zero, suc, ◌+◌, ◌<◌, ◌≤◌, true, List, [], ◌∷◌, length, get_or, map, refl, ap, sym, ◌∙◌, arith}
+use Rattle.std.proofs.Common.{◌≡◌, ℕ, zero, suc, ◌+◌, ◌<◌, ◌≤◌, true, List, [], ◌∷◌, length, get_or, map, refl, ap, sym, subst, ◌∙◌, arith}
 use Rattle.x5_model_typed.specs.Nodes as nodes
 use Rattle.x5_model_typed.specs.Nodes.{Many, row, parts}
 use Rattle.x5_model_typed.specs.Written.{is_many}
@@ -29,3 +29,8 @@ member_weighs (x ∷ xs) zero d h = omega arith
 member_weighs (x ∷ xs) (suc i) d h =
     let less : weight (node_view (get_or xs i d)) < weights (row (map node_view xs)) = member_weighs xs i d (omega (arith, h)) in
     omega (arith, less)
+
+pub part_weighs : (xs : List Node) (i : ℕ) (x : Node) → x ≡ get_or xs i x → i < length xs
+    → weight (node_view x) < weights (row (map node_view xs))
+part_weighs xs i x is h =
+    subst (λ (y : Node). weight (node_view y) < weights (row (map node_view xs))) (sym is) (member_weighs xs i x h)

@@ -1,11 +1,18 @@
 -- Elements before the octets that were there, put together.
-use Rattle.std.proofs.Common.{◌≡◌, ℕ, List, [], ◌++◌, ap, sym, subst, ◌∙◌, append_assoc, append-nil, refl}
+use Rattle.std.proofs.Common.{◌≡◌, ℕ, ◌<◌, List, [], ◌++◌, length, get_or, map, ap, sym, subst, ◌∙◌, append_assoc, append-nil, refl}
 use Rattle.std.specs.declared.option.Option.{Option}
 use Rattle.std.specs.declared.option.Option.TheVariants.{None, Some}
 use Rattle.std.specs.declared.result.Result.{Result}
 use Rattle.std.specs.declared.result.Result.TheVariants.{Ok, Err}
 use Rattle.x5_model_octets.specs.Elements.{Element, Elements, More, Nil, canonical, canonical_all}
-use Rattle.x5_model_typed.specs.Written.{one_before, single}
+use Rattle.std.specs.Result.{IsErrAnd}
+use Rattle.x5_model_typed.specs.Forms.{Alternative}
+use Rattle.x5_model_typed.specs.Nodes.{row}
+use Rattle.x5_model_typed.specs.Written.{one_before, single, written, written_members}
+use Rattle.x5_types.specs.declared.node.Node.{Node}
+use Rattle.x5_types.specs.FormView.{table}
+use Rattle.x5_types.specs.NodeView.{node_view}
+use Rattle.x5_writer.proofs.Members.{none_there}
 use Rattle.x5_writer.specs.Puts.{Puts}
 use Rattle.x5_writer.specs.declared.fault.WriteFault.{WriteFault}
 use Rattle.x5_writer.specs.declared.fault.WriteFault.TheVariants.{Misfit, NoMemory}
@@ -13,12 +20,6 @@ use Rattle.x5_writer.specs.declared.fault.WriteFault.TheVariants.{Misfit, NoMemo
 pub same_put : {X Y : Type 0} (f : X → List ℕ) (o p : Option X) (old new : List ℕ) (r : Result Y WriteFault)
     → p ≡ o → Puts f o old new r → Puts f p old new r
 same_put f o p old new r is put = subst (λ q. Puts f q old new r) (sym is) put
-
--- a fault by which a first step ends
-pub fault_of : {X Y Z : Type 0} (f : X → List ℕ) (o : Option X) (old new new' : List ℕ) (fault : WriteFault)
-    → Puts {Y = Y} f o old new (Err fault) → Puts {Y = Z} f o old new' (Err fault)
-fault_of f o old new new' Misfit h = h
-fault_of f o old new new' NoMemory h = tt
 
 -- the only member
 pub single_put : {Y : Type 0} (o : Option Element) (p : Option Elements) (old new : List ℕ) (r : Result Y WriteFault)
@@ -48,13 +49,28 @@ none_behind None = refl
 none_behind (Some e) = refl
 
 -- others that have none
-pub no_others : {Y Z : Type 0} (o : Option Element) (others p : Option Elements) (old mid new : List ℕ) (fault : WriteFault)
-    → p ≡ one_before o others → Puts {Y = Y} canonical_all others old mid (Err fault)
-    → Puts {Y = Z} canonical_all p old new (Err fault)
+pub no_others : (o : Option Element) (others p : Option Elements) (old mid new : List ℕ) (fault : WriteFault)
+    → p ≡ one_before o others → Puts {Y = Unit {0}} canonical_all others old mid (Err fault)
+    → Puts {Y = Unit {0}} canonical_all p old new (Err fault)
 no_others o others p old mid new Misfit is put =
     is ∙ ap (λ (q : Option Elements). one_before o q) put ∙ none_behind o
 no_others o others p old mid new NoMemory is put = tt
 
-pub by_error : {X Y : Type 0} (f : X → List ℕ) (o : Option X) (old new : List ℕ) (fault : WriteFault) (r : Result Y WriteFault)
-    → r ≡ Err fault → Puts {Y = Y} f o old new (Err fault) → Puts f o old new r
-by_error f o old new fault r is put = subst (λ q. Puts f o old new q) (sym is) put
+-- a fault that is passed on
+pub err_is : {W : Type 0} (r : Result (Unit {0}) W) (w : W) → IsErrAnd r (λ x. x ≡ w) → r ≡ Err w
+err_is (Ok x) w h = elim h [ ]
+err_is {W = W} (Err x) w h = ap (λ (y : W). Err y) h
+
+pub by_error : {X : Type 0} (f : X → List ℕ) (o : Option X) (old new : List ℕ) (fault : WriteFault)
+    (r : Result (Unit {0}) WriteFault)
+    → IsErrAnd r (λ x. x ≡ fault) → Puts {Y = Unit {0}} f o old new (Err fault) → Puts f o old new r
+by_error f o old new fault r is put = subst (λ q. Puts f o old new q) (sym (err_is r fault is)) put
+
+-- a member that has none
+pub no_member : (types : List Alternative) (items : List Node) (i : ℕ) (x : Node) (old mid new : List ℕ) (fault : WriteFault)
+    → i < length items → x ≡ get_or items i x
+    → Puts {Y = Unit {0}} canonical (written table types (node_view x)) mid new (Err fault)
+    → Puts {Y = Unit {0}} canonical_all (written_members table types (row (map node_view items))) old new (Err fault)
+no_member types items i x old mid new Misfit lt is put =
+    none_there types items i x lt (ap (λ (y : Node). written table types (node_view y)) (sym is) ∙ put)
+no_member types items i x old mid new NoMemory lt is put = tt

@@ -16,6 +16,10 @@ option_bits true nochain = false ∷ nochain ∷ false ∷ true ∷ []
 option_bits false true = false ∷ true ∷ []
 option_bits false false = []
 
+abbrev pub is_chosen : Node → Bool
+is_chosen (Chosen tag n) = true
+is_chosen n = false
+
 abbrev pub flag_of : Node → Option Bool
 flag_of (Flag b) = Some b
 flag_of n = None

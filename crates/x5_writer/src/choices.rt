@@ -1,9 +1,11 @@
 //! Which alternative of a type is written for a value.
-ghost use Rattle.std.specs.Prelude.{◌≡◌, MatchOption, None, Some};
+ghost use Rattle.std.specs.Prelude.{◌≡◌, MatchOption, None, Some, false};
 ghost use Rattle.std.specs.List.{find};
+ghost use Rattle.x5_model_typed.specs.Nodes as nodes;
 ghost use Rattle.x5_model_typed.specs.Written as written;
 ghost use Rattle.x5_types.specs.FormView.{alternative_view, choices_view, content_view, types_view};
 ghost use Rattle.x5_types.specs.NodeView.{node_view};
+ghost use Rattle.x5_writer.specs.Contents.{is_chosen};
 
 use crate::leaf::holds;
 use x5_types::{Alternative, Choices, Content, Node};
@@ -76,6 +78,18 @@ fn can_hold(a: Alternative, node: &Node<'_>) -> bool
     ensures { result ≡ written.can_hold (node_view node.now) (alternative_view a) }
 {
     holds(a.content, node) || (is_many(node) && is_made_of_members(a.content))
+}
+
+/// The tag that was chosen and what has it, if the value is one of several.
+pub(crate) fn chosen<'n, 'a>(node: &'n Node<'a>) -> Option<(u32, &'n Node<'a>)>
+    ensures { MatchOption result
+        (is_chosen (node_view node.now) ≡ false)
+        (λ p. node_view node.now ≡ nodes.Chosen p.0 (node_view p.1.now)) }
+{
+    match node {
+        Node::Chosen(tag, inner) => Some((*tag, inner)),
+        _ => None,
+    }
 }
 
 /// Whether the value has parts.

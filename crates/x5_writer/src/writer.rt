@@ -11,7 +11,7 @@ ghost use Rattle.x5_writer.specs.LeftView.{left_view};
 ghost use Rattle.x5_writer.specs.Puts.{Puts, Writes};
 
 use crate::backwards::Backwards;
-use crate::choices::{holding, is_many, marked};
+use crate::choices::{chosen, holding, is_many, marked};
 use crate::components::Left;
 use crate::fault::WriteFault;
 use crate::leaf::{holds, put_content};
@@ -43,14 +43,14 @@ fn write_node(
 ) -> Result<(), WriteFault>
     ensures { Puts canonical (written.written table (table (named_view form)) (node_view node.now)) out.old out.new result }
 {
-    match node {
-        Node::Chosen(tag, inner) => {
-            let Some(a) = marked(layout(form), *tag) else {
+    match chosen(node) {
+        Some((tag, inner)) => {
+            let Some(a) = marked(layout(form), tag) else {
                 return Err(WriteFault::Misfit);
             };
             write_element(alloc, out, a, inner, true)
         }
-        _ => {
+        None => {
             let Some(a) = holding(layout(form), node) else {
                 return Err(WriteFault::Misfit);
             };
@@ -79,7 +79,8 @@ fn put_primitive(
 {
     let behind = out.len();
     put_content(alloc, out, a.content, node)?;
-    out.put_header(a.class, false, a.tag, out.len() - behind)
+    out.put_header(a.class, false, a.tag, out.len() - behind)?;
+    Ok(())
 }
 
 /// The element of a value by one alternative, whose tag was chosen or not.
@@ -134,10 +135,11 @@ fn write_parts(
 ) -> Result<(), WriteFault>
     ensures { Puts canonical_all (components_of (node_view node.now) (components_view components.now)) out.old out.new result }
 {
-    if !is_many(node) {
-        return Err(WriteFault::Misfit);
+    if is_many(node) {
+        write_components(alloc, out, Left::Listed(components), node.parts())
+    } else {
+        Err(WriteFault::Misfit)
     }
-    write_components(alloc, out, Left::Listed(components), node.parts())
 }
 
 /// The elements of values of one type.
