@@ -1,11 +1,9 @@
 -- A text is characters.
-use Rattle.std.proofs.Common.{◌≡◌, ℕ, ◌<◌, ◌≤◌, Bool, true, false, ◌&&◌, ◌||◌, nat_lt, nat_le, List, [], ◌∷◌, refl, ap, ap₂, sym, ◌∙◌, arith, rules}
+use Rattle.std.proofs.Common.{◌≡◌, ℕ, true, List, [], ◌∷◌, refl, ap, sym, ◌∙◌, arith}
 use Rattle.std.specs.Prelude.{chars, encode_utf8_all}
-use Rattle.std.proofs.lemmas.Bool.{lt-ltb, ltb-true}
 use Rattle.std.proofs.lemmas.Bool.Decides.{nat_tests}
 use Rattle.std.proofs.lemmas.Str.{chars_from_encodes, scalars-chars}
 use Rattle.std.specs.List.{list_all}
-use Rattle.std.specs.Option.{is_some}
 use Rattle.std.specs.Str.{IsUtf8}
 use lib.Utf8.{scalar, scalars}
 use Rattle.x5_model.specs.Words.{same_octets}

@@ -1,5 +1,5 @@
 -- What is written for a value is what the alternative that is found for it writes.
-use Rattle.std.proofs.Common.{◌≡◌, ℕ, ◌+◌, ◌-◌, Bool, true, false, ◌&&◌, List, [], ◌∷◌, ◌++◌, length, refl, ap, sym, subst, ◌∙◌, append_assoc, arith, length-append}
+use Rattle.std.proofs.Common.{◌≡◌, ℕ, ◌-◌, Bool, true, false, ◌&&◌, List, ◌++◌, length, refl, ap, sym, ◌∙◌, append_assoc, arith, length-append}
 use Rattle.std.specs.List.{find}
 use Rattle.std.specs.Option.{is_some}
 use Rattle.std.specs.Prelude.{if◌then◌else◌}
@@ -8,13 +8,11 @@ use Rattle.std.specs.declared.option.Option.TheVariants.{None, Some}
 use Rattle.x5_model.specs.Words.{in_option}
 use Rattle.x5_model_octets.specs.Headers.{Identifier}
 use Rattle.x5_model_octets.specs.Elements.{Element, Elements, identifier_octets, shortest_length, enclosed}
-use Rattle.x5_model_typed.specs.Nodes as nodes
-use Rattle.x5_model_typed.specs.Nodes.{Node, Nodes, Vacant, Flag, Number, Oid, Bits, Octets, Text, Chosen, Many}
-use Rattle.x5_model_typed.specs.Named.{Named}
-use Rattle.x5_model_typed.specs.Forms.{Component, Content, Primitive, Joined, JoinedBits, Explicit, Sequence, Set, Members, Never, Alternative}
-use Rattle.x5_model_typed.specs.Written.{can_hold, is_marked, is_many, leaf_octets, leaf_or, constructed_of, by_content, no_element, primitive_of, written, written_components, written_members}
+use Rattle.x5_model_typed.specs.Nodes.{Node, Vacant, Flag, Number, Oid, Bits, Octets, Text, Chosen, Many}
+use Rattle.x5_model_typed.specs.Forms.{Content, Primitive, Joined, JoinedBits, Explicit, Sequence, Set, Members, Never, Alternative}
+use Rattle.x5_model_typed.specs.Written.{can_hold, is_marked, is_many, leaf_octets, leaf_or, constructed_of, by_content, primitive_of, written}
 use Rattle.x5_types.specs.FormView.{table}
-use Rattle.x5_writer.specs.Contents.{components_of, content_of, element_of, is_chosen, members_of, octets_in, octets_of, one_of}
+use Rattle.x5_writer.specs.Contents.{content_of, element_of, is_chosen, octets_in, octets_of}
 
 in_both : (f g : Alternative → Option Element) → ((a : Alternative) → f a ≡ g a) → (o : Option Alternative) → in_option None f o ≡ in_option None g o
 in_both f g h None = refl

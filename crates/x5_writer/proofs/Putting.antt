@@ -1,5 +1,5 @@
 -- Elements before the octets that were there, put together.
-use Rattle.std.proofs.Common.{◌≡◌, ℕ, ◌<◌, List, [], ◌++◌, length, get_or, map, ap, sym, subst, ◌∙◌, append_assoc, append-nil, refl}
+use Rattle.std.proofs.Common.{◌≡◌, ℕ, ◌<◌, List, ◌++◌, length, get_or, map, ap, sym, subst, ◌∙◌, append_assoc, append-nil, refl}
 use Rattle.std.specs.declared.option.Option.{Option}
 use Rattle.std.specs.declared.option.Option.TheVariants.{None, Some}
 use Rattle.std.specs.declared.result.Result.{Result}
@@ -34,13 +34,12 @@ pub one_put : {Y : Type 0} (o : Option Element) (es : Elements) (p : Option Elem
     (r : Result Y WriteFault)
     → p ≡ one_before o (Some es) → mid ≡ canonical_all es ++ old → Puts canonical o mid new r
     → Puts canonical_all p old new r
-one_put o es p old mid new (Ok y) is others put =
-    (
-      More put.0 es,
-      is ∙ ap (λ (q : Option Element). one_before q (Some es)) put.1,
-      put.2 ∙ ap (λ (l : List ℕ). canonical put.0 ++ l) others
+one_put o es p old mid new (Ok y) is others put = (
+  More put.0 es,
+  is ∙ ap (λ (q : Option Element). one_before q (Some es)) put.1,
+  put.2 ∙ ap (λ (l : List ℕ). canonical put.0 ++ l) others
       ∙ sym (append_assoc (canonical put.0) (canonical_all es) old),
-    )
+)
 one_put o es p old mid new (Err Misfit) is others put = is ∙ ap (λ (q : Option Element). one_before q (Some es)) put
 one_put o es p old mid new (Err NoMemory) is others put = tt
 

@@ -1,6 +1,6 @@
 -- Nodes of members are the same where the members are, one by one.
-use Rattle.std.proofs.Common.{◌≡◌, ℕ, suc, ◌+◌, Bool, true, false, ◌&&◌, List, [], ◌∷◌, length, map, refl, ap, sym, ◌∙◌}
-use Rattle.std.proofs.Common.{Vec, Global, arith}
+use Rattle.std.proofs.Common.{◌≡◌, suc, Bool, true, false, ◌&&◌, List, [], ◌∷◌, length, map, refl, ap, sym, ◌∙◌}
+use Rattle.std.proofs.Common.{Vec, Global}
 use Rattle.std.specs.Cmp.Lexicographic.{pointwise}
 use Rattle.x5_model_typed.specs.Nodes as nodes
 use Rattle.x5_types.specs.declared.node.Node.{Node, Many}

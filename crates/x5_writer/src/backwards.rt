@@ -1,6 +1,5 @@
 //! Octets that are written from the last to the first, and the headers of elements (X.690, 8.1 and 10.1).
 ghost use Rattle.std.specs.Prelude.{◌≡◌, ◌<◌, ◌≤◌, [], ◌∷◌, ◌++◌, length, reverse, OnOk};
-
 ghost use Rattle.x5_model_octets.specs.Elements.{group_from, groups, identifier, identifier_octets, shortest_length, without_zeros};
 
 use std::alloc::Global;

@@ -88,12 +88,7 @@ pub(crate) fn put_content(
     }
 }
 
-fn put_leaf(
-    alloc: Global,
-    out: &mut Backwards,
-    leaf: Leaf,
-    node: &Node<'_>,
-) -> Result<(), NoMemory>
+fn put_leaf(alloc: Global, out: &mut Backwards, leaf: Leaf, node: &Node<'_>) -> Result<(), NoMemory>
     requires { IsTrue (is_some ((leaf_view leaf).writes (node_view node.now))) }
     ensures { OnOk result (out.new ≡ octets_in ((leaf_view leaf).writes (node_view node.now)) ++ out.old) }
 {

@@ -36,11 +36,7 @@ fn put_cells(out: &mut Backwards, characters: &[char]) -> Result<(), NoMemory>
 }
 
 /// The bits dontUseCopy and chainingProhibited, without those behind the last one that is set.
-pub(crate) fn put_options(
-    out: &mut Backwards,
-    nocopy: bool,
-    nochain: bool,
-) -> Result<(), NoMemory>
+pub(crate) fn put_options(out: &mut Backwards, nocopy: bool, nochain: bool) -> Result<(), NoMemory>
     ensures { OnOk result (out.new ≡ bit_content (option_bits nocopy nochain) ++ out.old) }
 {
     match (nocopy, nochain) {

@@ -1,5 +1,5 @@
 -- A text is characters, so its length alone decides.
-use Rattle.std.proofs.Common.{◌≡◌, ap, sym, ◌∙◌, rules}
+use Rattle.std.proofs.Common.{rules}
 use Rattle.x5_writer.proofs.Characters.{text_is_characters}
 use Rattle.x5_writer.proofs.leaf.leaf_holds.Goals as goal
 

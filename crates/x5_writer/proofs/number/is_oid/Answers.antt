@@ -1,5 +1,5 @@
 -- The reads of the two first arcs decide.
-use Rattle.std.proofs.Common.{rules, arith}
+use Rattle.std.proofs.Common.{arith}
 use Rattle.std.proofs.lemmas.Bool.Decides.{nat_tests}
 use Rattle.x5_writer.proofs.Numbers.{is_oid_reads}
 use Rattle.x5_writer.proofs.number.is_oid.Goals as goal

@@ -1,5 +1,5 @@
 -- Nodes of members, by the members: as many of them, and each the same.
-use Rattle.std.proofs.Common.{◌≡◌, ℕ, List, length, map, ap, ap₂, sym, ◌∙◌}
+use Rattle.std.proofs.Common.{List, length, map, ap, ap₂, sym, ◌∙◌}
 use Rattle.std.specs.Cmp.Lexicographic.{pointwise}
 use Rattle.x5_model_typed.specs.Nodes as nodes
 use Rattle.x5_types.specs.declared.node.Node.{Node}

@@ -1,5 +1,5 @@
 -- There are as many members on either side, and all are the same where those that are left are.
-use Rattle.std.proofs.Common.{◌≡◌, drop, length, map}
+use Rattle.std.proofs.Common.{◌≡◌, drop, map}
 use Rattle.std.specs.Cmp.Lexicographic.{pointwise}
 use Rattle.x5_model_typed.specs.Nodes as nodes
 use Rattle.x5_types.specs.NodeView.{node_view}

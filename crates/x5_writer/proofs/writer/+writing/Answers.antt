@@ -1,5 +1,5 @@
 -- Each step puts the elements that are written for the value before the octets that were there.
-use Rattle.std.proofs.Common.{◌≡◌, ℕ, ◌+◌, ◌-◌, ◌<◌, ◌≤◌, Bool, true, false, List, [], ◌∷◌, ◌++◌, length, get_or, drop, map, refl, ap, ap₂, sym, subst, ◌∙◌, arith, append_assoc, append-nil}
+use Rattle.std.proofs.Common.{◌≡◌, ℕ, ◌+◌, ◌-◌, ◌<◌, Bool, true, false, List, [], ◌++◌, length, drop, map, refl, ap, ap₂, sym, subst, ◌∙◌, arith, append_assoc, append-nil}
 use Rattle.std.proofs.lemmas.List.{drop_all}
 use Rattle.std.specs.List.{find}
 use Rattle.std.specs.declared.option.Option.{Option}
@@ -13,9 +13,8 @@ use Rattle.x5_model_typed.specs.Written as written
 use Rattle.x5_types.specs.declared.node.Node.{Node}
 use Rattle.x5_types.specs.FormView.{alternative_view, component_view, components_view, content_view, named_view, table}
 use Rattle.x5_types.specs.NodeView.{node_view}
-use Rattle.x5_writer.specs.Contents.{components_of, content_of, element_of, members_of, octets_in, octets_of, one_of, weight, weights}
+use Rattle.x5_writer.specs.Contents.{components_of, content_of, element_of, members_of, octets_in, octets_of, one_of, weight}
 use Rattle.x5_writer.specs.LeftView.{left_view}
-use Rattle.x5_writer.specs.Puts.{Puts}
 use Rattle.x5_writer.proofs.Classes.{class_of_found}
 use Rattle.x5_writer.proofs.Elements.{chosen_is, headed, no_octets, octets_are, plain_is}
 use Rattle.x5_writer.proofs.Measures.{many_of_parts, part_weighs, parts_weigh}
@@ -28,26 +27,24 @@ use Rattle.x5_writer.proofs.writer.+writing.Goals as goal
 pub write_component-returns-in_ok-put_header : goal.write_component-returns-in_ok-put_header
 write_component-returns-in_ok-put_header t c =
     let w = c.in_ok-write_node.ensures in
-    let one = written.written table (table (named_view c.args.component.form)) (node_view c.args.value.now) in
-    (
+    let one = written.written table (table (named_view c.args.component.form)) (node_view c.args.value.now) in (
       elements.Constructed 2 c.in-Some.tag (elements.More w.0 elements.Nil),
       ap (λ (o : Option ℕ). written.tagged_with o one) c.in-Some.is ∙ ap (λ (e : Option Element). written.tagged_with (Some c.in-Some.tag) e) w.1,
       headed (identifier true 2 c.in-Some.tag) (canonical w.0 ++ []) c.args.out.now c.write_node.new.out c.put_header.new.self
-      (c.len.result - c.len-behind.result)
-      (w.2 ∙ ap (λ (l : List ℕ). l ++ c.args.out.now) (sym (append-nil (canonical w.0))))
-      (ap₂ (λ (a b : ℕ). a - b) c.len.ensures c.len-behind.ensures)
-      c.in_ok-put_header.ensures,
+          (c.len.result - c.len-behind.result)
+          (w.2 ∙ ap (λ (l : List ℕ). l ++ c.args.out.now) (sym (append-nil (canonical w.0))))
+          (ap₂ (λ (a b : ℕ). a - b) c.len.ensures c.len-behind.ensures)
+          c.in_ok-put_header.ensures,
     )
 
 -- ---- components
 
 pub write_components-returns-in_default : goal.write_components-returns-in_default
-write_components-returns-in_default t c =
-    (
-      elements.Nil,
-      ap (λ (cs : List forms.Component). written.written_components table cs (nodes.row (map node_view c.args.values.now))) c.in_default.ensures,
-      refl,
-    )
+write_components-returns-in_default t c = (
+  elements.Nil,
+  ap (λ (cs : List forms.Component). written.written_components table cs (nodes.row (map node_view c.args.values.now))) c.in_default.ensures,
+  refl,
+)
 
 pub write_components-returns-in_err-write_components :
     goal.write_components-returns-in_err-write_components
@@ -80,7 +77,7 @@ write_members-loop-i-init t c = record {
   put = (
     elements.Nil,
     ap (λ (l : List Node). written.written_members table (table (named_view c.args.form)) (nodes.row (map node_view l)))
-    (drop_all (length c.args.members.now) c.args.members.now (omega arith)),
+        (drop_all (length c.args.members.now) c.args.members.now (omega arith)),
     refl,
   );
 }
@@ -103,8 +100,8 @@ write_members-loop-i-preserved t c =
       put = (
         elements.More e.0 w.0,
         one_more types c.args.members.now (c.loop-i.i - 1) c.index-members-i.result e.0 w.0 there
-        (ap (λ (x : Node). written.written table types (node_view x)) (sym c.index-members-i.is) ∙ e.1)
-        (ap (λ (k : ℕ). written.written_members table types (nodes.row (map node_view (drop k c.args.members.now)))) (sym after) ∙ w.1),
+            (ap (λ (x : Node). written.written table types (node_view x)) (sym c.index-members-i.is) ∙ e.1)
+            (ap (λ (k : ℕ). written.written_members table types (nodes.row (map node_view (drop k c.args.members.now)))) (sym after) ∙ w.1),
         e.2 ∙ ap (λ (l : List ℕ). canonical e.0 ++ l) w.2 ∙ sym (append_assoc (canonical e.0) (canonical_all w.0) c.args.out.now),
       );
     }
@@ -173,11 +170,10 @@ write_parts-returns-then-is_many t c =
 pub write_element-returns-then-has_octets : goal.write_element-returns-then-has_octets
 write_element-returns-then-has_octets t c =
     let a = alternative_view c.args.a in
-    let n = node_view c.args.node.now in
-    (
+    let n = node_view c.args.node.now in (
       written.primitive_of a (octets_in (written.leaf_octets (content_view c.args.a.content) n)),
       ap (λ (o : Option (List ℕ)). in_option (written.constructed_of a (content_of c.args.chosen a.content n)) (λ octets. Some (written.primitive_of a octets)) o)
-      (octets_are c.args.chosen (content_view c.args.a.content) n (sym c.has_octets.ensures ∙ c.if-has_octets.true)),
+          (octets_are c.args.chosen (content_view c.args.a.content) n (sym c.has_octets.ensures ∙ c.if-has_octets.true)),
       c.in_ok-put_primitive.ensures,
     )
 
@@ -185,16 +181,15 @@ pub write_element-returns : goal.write_element-returns
 write_element-returns t c =
     let a = alternative_view c.args.a in
     let n = node_view c.args.node.now in
-    let w = c.in_ok-write_content.ensures in
-    (
+    let w = c.in_ok-write_content.ensures in (
       elements.Constructed c.args.a.class c.args.a.tag w.0,
       ap (λ (o : Option (List ℕ)). in_option (written.constructed_of a (content_of c.args.chosen a.content n)) (λ octets. Some (written.primitive_of a octets)) o)
-      (no_octets (octets_of c.args.chosen a.content n) (sym c.has_octets.ensures ∙ c.if-has_octets.false))
-      ∙ ap (λ (es : Option Elements). written.constructed_of a es) w.1,
+          (no_octets (octets_of c.args.chosen a.content n) (sym c.has_octets.ensures ∙ c.if-has_octets.false))
+          ∙ ap (λ (es : Option Elements). written.constructed_of a es) w.1,
       headed (identifier true c.args.a.class c.args.a.tag) (canonical_all w.0) c.args.out.now c.write_content.new.out c.put_header.new.self
-      (c.len.result - c.len-behind.result) w.2
-      (ap₂ (λ (x y : ℕ). x - y) c.len.ensures c.len-behind.ensures)
-      c.in_ok-put_header.ensures,
+          (c.len.result - c.len-behind.result) w.2
+          (ap₂ (λ (x y : ℕ). x - y) c.len.ensures c.len-behind.ensures)
+          c.in_ok-put_header.ensures,
     )
 
 -- ---- by the alternative that is found

@@ -1,6 +1,6 @@
 -- Writing ends since each part of a value is smaller. The elements of the members from a place on stand before what was
 -- there.
-use Rattle.std.proofs.Common.{◌≡◌, ◌++◌, ◌≤◌, ◌+◌, ◌*◌, ℕ, length, drop, map}
+use Rattle.std.proofs.Common.{◌≡◌, ◌++◌, ◌≤◌, ◌+◌, ◌*◌, length, drop, map}
 use Rattle.std.specs.declared.option.Option.TheVariants.{Some}
 use Rattle.x5_model_octets.specs.Elements.{Elements, canonical_all}
 use Rattle.x5_model_typed.specs.Nodes as nodes

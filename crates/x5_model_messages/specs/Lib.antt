@@ -1,0 +1,4 @@
+pub mod Terms
+pub mod FilterTerms
+pub mod Requests
+pub mod Laws
