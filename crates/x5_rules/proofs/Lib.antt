@@ -1,4 +1,8 @@
 mod Controls
 mod InOrder
+mod Keys
 mod Pairs
+mod Sameness
 mod TwoParts
+mod Traces
+mod Targets

@@ -2,8 +2,12 @@
 //! (X.501, X.511, X.518).
 #![tactic(auto)]
 
+mod name;
 mod pair;
 mod rule;
+mod same;
+mod trace;
 
+pub use crate::name::name_of;
 pub use crate::rule::settle;
 pub use x5_memory::NoMemory;

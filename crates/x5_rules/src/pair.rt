@@ -17,7 +17,7 @@ use x5_syntax::{Kind, MOST_PAIRS, TypeId};
 use x5_types::{Node, is_numeric, is_printable};
 
 /// The type of the table that the node says.
-fn known_type(node: &Node<'_>) -> Option<TypeId>
+pub(crate) fn known_type(node: &Node<'_>) -> Option<TypeId>
     ensures { result ≡ rules.known_type (node_view node.now) }
 {
     match node {
@@ -84,7 +84,8 @@ fn names(kind: TypeId, value: &Node<'_>) -> bool
     ensures { result ≡ (types.may_name kind && normal.is_of_kind (types.kind_of kind) (rules.value_in (node_view value.now))) }
 {
     match value {
-        Node::Text(text) => kind.may_name() && is_text_of_kind(kind.kind(), text.as_slice()),
+        Node::Text(text) => kind.may_name()
+            && is_text_of_kind(kind.kind(), text.as_str().as_bytes()),
         _ => false,
     }
 }

@@ -8,6 +8,7 @@ ghost use Rattle.x5_types.specs.FormView.{rule_view};
 ghost use Rattle.x5_types.specs.NodeView.{node_view, option_view};
 
 use crate::pair::{is_pair, rdn};
+use crate::trace::is_trace;
 use std::alloc::Global;
 use x5_memory::NoMemory;
 use x5_syntax::MOST_RDNS;
@@ -34,6 +35,7 @@ pub fn settle<'a>(alloc: Global, rule: Rule, node: Node<'a>) -> Result<Option<No
         Rule::Text => Ok(kept(is_text(&node), node)),
         Rule::Parts => Ok(kept(are_parts(&node), node)),
         Rule::Progress => Ok(kept(is_progress(&node), node)),
+        Rule::Trace => Ok(kept(is_trace(alloc, &node)?, node)),
     }
 }
 

@@ -4,6 +4,7 @@ use Rattle.std.proofs.Common.{ap, sym, ◌∙◌, refl, arith, length-append, su
 use Rattle.std.specs.Option.{option_map}
 use Rattle.std.specs.declared.option.Option.{Option}
 use Rattle.std.specs.declared.option.Option.TheVariants.{None, Some}
+use Rattle.std.specs.Result.{IsErrAnd}
 use Rattle.std.specs.declared.result.Result.{Result}
 use Rattle.std.specs.declared.result.Result.TheVariants.{Ok, Err}
 use Rattle.std.proofs.lemmas.Bool.{le-leb, leb-true}
@@ -35,6 +36,11 @@ gives_ok is (Err b) x g = elim g [ ]
 pub no_memory : {X Y : Type 0} (is : X → Y → Type 0) (e : Result Y Breach) → Gives is e (Err faults.NoMemory)
 no_memory is (Ok y) = tt
 no_memory is (Err b) = tt
+
+pub gives_none : {X Y : Type 0} (is : X → Y → Type 0) (e : Result Y Breach) (r : Result X ReadFault)
+    → IsErrAnd r (λ f. f ≡ faults.NoMemory) → Gives is e r
+gives_none is e (Ok x) h = elim h [ ]
+gives_none is e (Err f) h = subst (λ (g : ReadFault). Gives is e (Err g)) (sym h) (no_memory is e)
 
 pub gives_err : {X Y Z W : Type 0} (is : X → Y → Type 0) (also : Z → W → Type 0) (f : Y → Result W Breach)
     (e : Result Y Breach) (w : ReadFault) → Gives is e (Err w) → Gives also (and_then f e) (Err w)

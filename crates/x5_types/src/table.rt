@@ -312,11 +312,7 @@ const CHAINING: &[Alternative] = &[universal!(
     Rule::Any
 )];
 
-const TRACE: &[Alternative] = &[universal!(
-    16,
-    Content::Members(Named::TraceItem),
-    Rule::Trace
-)];
+const TRACE: &[Alternative] = &[universal!(16, Content::Members(Named::TraceItem), Rule::Trace)];
 
 const PROGRESS: &[Alternative] = &[universal!(
     16,
