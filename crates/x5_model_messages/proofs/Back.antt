@@ -5,15 +5,15 @@ use Rattle.std.specs.List.{list_all}
 use Rattle.std.specs.declared.option.Option.{Option}
 use Rattle.std.specs.declared.option.Option.TheVariants.{None, Some}
 use Rattle.x5_model.specs.Words.{in_option}
-use Rattle.x5_model.specs.Values.{TypeRef, Known, Unknown, Text, NameValue, Name, written}
-use Rattle.x5_model.specs.Types.{is_known, is_type, in_table}
+use Rattle.x5_model.specs.Values.{Known, Unknown, Text, NameValue, written}
+use Rattle.x5_model.specs.Types.{is_known, in_table}
 use Rattle.x5_model.specs.Normal.{stored}
-use Rattle.x5_model.proofs.Lists.{both_true, not_true}
+use Rattle.x5_model.proofs.Lists.{both_true}
 use Rattle.x5_model_text.specs.TypeText.{known_below, type_or}
-use Rattle.x5_model_typed.specs.Nodes.{Node, row, list}
+use Rattle.x5_model_typed.specs.Nodes.{Node}
 use Rattle.x5_model_typed.specs.Rules.{pair_in, rdn_in, name_in}
 use Rattle.x5_model_typed.proofs.Laws.{list_row}
-use Rattle.x5_model_messages.specs.Terms.{node_of, pair_node, pairs_node, name_value_node}
+use Rattle.x5_model_messages.specs.Terms.{pair_node, pairs_node, name_value_node}
 use Rattle.x5_model_messages.specs.Laws.{TypesReadBack, NamesReadBack, has_known_types}
 
 known : (k : ℕ) → is_known k ≡ true → known_below (2 ∷ 5 ∷ 4 ∷ k ∷ []) ≡ Some k

@@ -1,11 +1,11 @@
 -- Requests are read back, component by component.
-use Rattle.std.proofs.Common.{◌≡◌, ℕ, Bool, true, false, List, [], ◌∷◌, ◌++◌, map, refl, ap, ap₂, sym, ◌∙◌}
+use Rattle.std.proofs.Common.{◌≡◌, ℕ, true, List, [], ◌∷◌, map, refl, ap, ap₂, sym, ◌∙◌}
 use Rattle.std.specs.List.{list_all}
 use Rattle.std.specs.declared.option.Option.{Option}
 use Rattle.std.specs.declared.option.Option.TheVariants.{None, Some}
-use Rattle.x5_model.specs.Values.{TypeRef, Value, TextValue, OctetsValue, OidValue, NameOf, Offered, Rdn, Name, written, written_pair}
+use Rattle.x5_model.specs.Values.{TypeRef, Value, TextValue, OctetsValue, OidValue, NameOf, Offered, Rdn, Name, written_pair}
 use Rattle.x5_model.specs.Types.{is_type}
-use Rattle.x5_model.specs.Normal.{stored, stored_rdn}
+use Rattle.x5_model.specs.Normal.{stored_rdn}
 use Rattle.x5_model.specs.Assertions.{offered, assertion_of, substring_item_of}
 use Rattle.x5_model.specs.Filters.{Assertion, Parts, PiecePlace, Initial, Any, Last, Piece, SubstringItem, Item, Equality, Substrings, GreaterOrEqual, LessOrEqual, Present, Approximate, Filter, Filters, Is, And, Or, Not, Nil, More}
 use Rattle.x5_model.specs.Requests.{Subset, Base, OneLevel, WholeSubtree, Selection, All, Only, Attribute, Change, AddAttribute, RemoveAttribute, AddValues, RemoveValues, Controls, Body, Read, Compare, ListBelow, Search, AddEntry, RemoveEntry, ModifyEntry, ModifyDn, Request}

@@ -1,8 +1,8 @@
 -- Requests as octets, computed: they are canonical octets of what is written of them, and what is written says them.
-use Rattle.std.proofs.Common.{◌≡◌, ℕ, Bool, true, false, List, [], ◌∷◌, refl}
+use Rattle.std.proofs.Common.{◌≡◌, true, false, [], ◌∷◌, refl}
 use Rattle.std.specs.declared.option.Option.TheVariants.{None, Some}
-use Rattle.x5_model.specs.Requests.{All, Only, Request, Read, ModifyDn}
-use Rattle.x5_model.specs.Values.{Known, Unknown}
+use Rattle.x5_model.specs.Requests.{All, Only, Request, Read}
+use Rattle.x5_model.specs.Values.{Known}
 use Rattle.x5_model_typed.specs.Named.{DapRequest}
 use Rattle.x5_model_typed.specs.Layouts.{Surroundings, layout}
 use Rattle.x5_model_typed.specs.Written.{canonical_octets}

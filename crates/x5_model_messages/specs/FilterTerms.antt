@@ -1,6 +1,6 @@
 -- Filters as the nodes of messages, and what such nodes say (X.511, section 7.8).
 use Rattle.std.specs.Prelude.{ℕ, ◌==◌, if◌then◌else◌, List, [], ◌∷◌, map}
-use Rattle.x5_model.specs.Values.{TypeRef, Unknown, TextValue}
+use Rattle.x5_model.specs.Values.{Unknown, TextValue}
 use Rattle.x5_model.specs.Assertions.{substring_item_of}
 use Rattle.x5_model.specs.Filters.{PiecePlace, Initial, Any, Last, Piece, SubstringItem, Item, Equality, Substrings, GreaterOrEqual, LessOrEqual, Present, Approximate, Filter, Filters, Is, And, Or, Not, Nil, More}
 use Rattle.x5_model_typed.specs.Nodes as nodes

@@ -1,6 +1,6 @@
 -- Requests as the nodes of messages, and what such nodes say (X.511, sections 7, 9 to 11; docs/FORMATS.md, section 4). The argument stands
 -- by itself, since messages between agents have it within theirs (X.518, section 12).
-use Rattle.std.specs.Prelude.{ℕ, Bool, false, ◌==◌, if◌then◌else◌, List, [], ◌∷◌, ◌++◌, map}
+use Rattle.std.specs.Prelude.{ℕ, false, ◌==◌, if◌then◌else◌, List, [], ◌∷◌, ◌++◌, map}
 use Rattle.std.specs.declared.option.Option.{Option}
 use Rattle.std.specs.declared.option.Option.TheVariants.{None, Some}
 use Rattle.x5_model.specs.Words.{in_option}

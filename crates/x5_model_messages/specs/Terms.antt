@@ -1,6 +1,6 @@
 -- Names, values and attributes as the nodes of messages, and what such nodes say (X.501, X.511; docs/FORMATS.md, section 4).
 -- An object identifier 2.5.4 and a number of the table is a known type.
-use Rattle.std.specs.Prelude.{ℕ, ℤ, pos, negsuc, Bool, true, false, ◌==◌, if◌then◌else◌, List, [], ◌∷◌, map}
+use Rattle.std.specs.Prelude.{ℕ, pos, Bool, false, ◌==◌, if◌then◌else◌, List, [], ◌∷◌, map}
 use Rattle.std.specs.declared.option.Option.{Option}
 use Rattle.std.specs.declared.option.Option.TheVariants.{None, Some}
 use Rattle.x5_model.specs.Values as values
