@@ -20,6 +20,8 @@ pub use crate::form::{
 };
 pub use crate::leaf::{leaf_node, read_leaf};
 pub use crate::node::{Bytes, Characters, Node};
+pub use crate::number::is_among;
+pub use crate::oid::is_short;
 pub use crate::table::{BIT_SEGMENT, SEGMENT, layout};
-pub use crate::text::{is_numeric, is_printable};
+pub use crate::text::{is_length, is_numeric, is_printable, is_text};
 pub use x5_memory::NoMemory;

@@ -91,7 +91,8 @@ fn number_of(octets: &[u8]) -> Option<i64>
     }
 }
 
-fn is_among(numbers: Numbers, number: i64) -> bool
+/// Whether the number is one of these. No memory.
+pub fn is_among(numbers: Numbers, number: i64) -> bool
     ensures { result ≡ numbers_view numbers number }
 {
     match numbers {

@@ -129,7 +129,7 @@ fn has_room(arcs: &[u32], mut room: usize) -> bool
 }
 
 /// Whether the content has 1,024 octets at most.
-fn is_short(arcs: &[u32]) -> bool
+pub fn is_short(arcs: &[u32]) -> bool
     ensures { result ≡ leaves.short_oid arcs.now }
 {
     match arcs {

@@ -18,7 +18,7 @@ use x5_memory::NoMemory;
 use x5_syntax::MOST_OCTETS;
 
 /// Whether there are characters, and not too many.
-fn is_length(text: &[u8]) -> bool
+pub fn is_length(text: &[u8]) -> bool
     ensures { result ≡ leaves.is_length text.now }
 {
     !text.is_empty() && text.len() <= MOST_OCTETS
@@ -89,7 +89,8 @@ fn all_seven_bit(text: &[u8]) -> bool
     text.iter().all(|octet| *octet < 128)
 }
 
-fn is_text(letters: Letters, text: &[u8]) -> bool
+/// Whether the octets are characters that may stand there, not too many of them. No memory.
+pub fn is_text(letters: Letters, text: &[u8]) -> bool
     ensures { result ≡ letters_view letters text.now }
 {
     match letters {

@@ -1,0 +1,8 @@
+mod Characters
+mod Classes
+mod Elements
+mod Measures
+mod Members
+mod Numbers
+mod Putting
+mod Sameness

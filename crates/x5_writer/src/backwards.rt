@@ -1,0 +1,139 @@
+//! Octets that are written from the last to the first, and the headers of elements (X.690, 8.1 and 10.1).
+ghost use Rattle.std.specs.Prelude.{◌≡◌, ◌<◌, ◌≤◌, [], ◌∷◌, ◌++◌, length, reverse, OnOk};
+ghost use Rattle.x5_model_octets.specs.Elements.{group_from, groups, identifier, identifier_octets, shortest_length, without_zeros};
+
+use std::alloc::Global;
+use std::marker::Model;
+use x5_memory::NoMemory;
+
+/// Octets, each put before those that are there.
+#[derive(Drop)]
+pub(crate) struct Backwards {
+    octets: Vec<u8>,
+}
+
+impl Model for Backwards {
+    ghost use Rattle.std.specs.Prelude.{ℕ, List, reverse};
+
+    ghost Value = { List ℕ };
+
+    ghost view = { λ b. reverse b.octets.items };
+}
+
+impl Backwards {
+    pub(crate) fn new(alloc: Global) -> Backwards
+        ensures { result ≡ [] }
+    {
+        Backwards {
+            octets: Vec::new(alloc),
+        }
+    }
+
+    pub(crate) fn len(&self) -> usize
+        ensures { result ≡ length self.now }
+    {
+        self.octets.len()
+    }
+
+    pub(crate) fn put(&mut self, octet: u8) -> Result<(), NoMemory>
+        ensures { OnOk result (self.new ≡ octet ∷ self.old) }
+    {
+        self.octets.push(octet)?;
+        Ok(())
+    }
+
+    pub(crate) fn put_all(&mut self, octets: &[u8]) -> Result<(), NoMemory>
+        ensures { OnOk result (self.new ≡ octets.now ++ self.old) }
+    {
+        let mut i = octets.len();
+        while i > 0 {
+            i -= 1;
+            self.put(octets[i])?;
+        }
+        Ok(())
+    }
+
+    /// The octets, from the first to the last.
+    pub(crate) fn into_octets(self) -> Vec<u8>
+        ensures { result.items ≡ self }
+    {
+        let Backwards { mut octets } = self;
+        octets.reverse();
+        octets
+    }
+
+    /// The header of an element whose content has that length: the fewest octets for the tag number and for a
+    /// definite length.
+    pub(crate) fn put_header(
+        &mut self,
+        class: u8,
+        constructed: bool,
+        tag: u32,
+        length: usize,
+    ) -> Result<(), NoMemory>
+        requires { class < 4 }
+        ensures { OnOk result (self.new ≡ identifier_octets (identifier constructed class tag) ++ (shortest_length length ++ self.old)) }
+    {
+        self.put_length(length as u64)?;
+        self.put_identifier(class, constructed, tag)
+    }
+
+    fn put_length(&mut self, length: u64) -> Result<(), NoMemory>
+        ensures { OnOk result (self.new ≡ shortest_length length ++ self.old) }
+    {
+        if length < 128 {
+            return self.put(length as u8);
+        }
+        let octets = length.to_be_bytes();
+        let digits = significant(&octets);
+        self.put_all(digits)?;
+        self.put(128 + digits.len() as u8)
+    }
+
+    fn put_identifier(&mut self, class: u8, constructed: bool, tag: u32) -> Result<(), NoMemory>
+        requires { class < 4 }
+        ensures { OnOk result (self.new ≡ identifier_octets (identifier constructed class tag) ++ self.old) }
+    {
+        let form = if constructed { 32 } else { 0 };
+        let leading = 64 * class + form;
+        if tag < 31 {
+            return self.put(leading + tag as u8);
+        }
+        self.put_groups(u64::from(tag))?;
+        self.put(leading + 31)
+    }
+
+    /// A number in groups of seven bits, each but the last with bit 8 set (X.690, 8.1.2.4.2 and 8.19.2).
+    pub(crate) fn put_groups(&mut self, number: u64) -> Result<(), NoMemory>
+        ensures { OnOk result (self.new ≡ groups number ++ self.old) }
+    {
+        self.put((number % 128) as u8)?;
+        self.put_group(number, 1 << 7)?;
+        self.put_group(number, 1 << 14)?;
+        self.put_group(number, 1 << 21)?;
+        self.put_group(number, 1 << 28)
+    }
+
+    /// A group, if the number reaches it.
+    fn put_group(&mut self, number: u64, power: u64) -> Result<(), NoMemory>
+        requires { 0 < power }
+        ensures { OnOk result (self.new ≡ group_from number power ++ self.old) }
+    {
+        if number >= power {
+            self.put((128 + number / power % 128) as u8)?;
+        }
+        Ok(())
+    }
+}
+
+/// The octets from the first that isn't zero.
+pub(crate) fn significant(octets: &[u8]) -> &[u8]
+    ensures value { result.now ≡ without_zeros octets.now }
+    ensures few { length result.now ≤ length octets.now }
+{
+    let mut digits = octets;
+    while let [0, rest @ ..] = digits {
+        digits = rest;
+    }
+    digits
+}
