@@ -5,3 +5,4 @@ pub mod Spotted
 pub mod Knowing
 pub mod Holding
 pub mod Posted
+pub mod Changed

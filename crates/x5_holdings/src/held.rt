@@ -28,8 +28,8 @@ use x5_ops::{AgentId, Moment, Nssr, NssrList, Request, Specific, SpecificList};
 #[derive(Debug, Drop)]
 pub struct Held {
     prefix: Name,
-    tree: DseTree,
-    postings: Postings,
+    pub(crate) tree: DseTree,
+    pub(crate) postings: Postings,
     log: ChangeLog,
     subordinate: SpecificList,
     nssrs: NssrList,

@@ -3,6 +3,7 @@
 #![tactic(auto)]
 
 mod below;
+mod changing;
 mod held;
 mod holdings;
 mod log;
