@@ -1,6 +1,8 @@
 pub mod Rows
 pub mod RowOrder
+pub mod Logs
 pub mod State
+pub mod Making
 pub mod Spots
 pub mod Tables
 pub mod Known

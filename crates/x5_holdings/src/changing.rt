@@ -1,18 +1,47 @@
 //! Changes of a context's entries, without memory: the index of their values goes with them.
 
-ghost use Rattle.std.specs.Prelude.{◌≡◌, ◌+◌, ◌≤◌, false, length, IfOk, IfErr, OnOk, OnErr, IsTrue, Some};
+ghost use Rattle.std.specs.Prelude.{◌≡◌, ◌+◌, ◌<◌, ◌≤◌, false, length, IfOk, IfErr, OnOk, OnErr, IsTrue, Some};
 ghost use Rattle.std.specs.Option.{option_map};
 ghost use Rattle.x5_model.specs.Attributes.{is_ordered};
 ghost use Rattle.x5_dse.specs.Linked.{entry_in, is_first, is_live, node_with};
 ghost use Rattle.x5_dse.specs.Changes.{NotRemoved, NotRenamed, Removed, Renamed, Replaced};
 ghost use Rattle.x5_index.specs.Index.{terms_of};
-ghost use Rattle.x5_holdings.specs.State.{OnlyEntries};
+ghost use Rattle.x5_holdings.specs.Logs.{IsLogged};
+ghost use Rattle.x5_holdings.specs.declared.changing.EntryChange.TheVariants.{Add, Remove, Rename};
+ghost use Rattle.x5_holdings.specs.Making.{CanAdd, CanRemove, CanRename, HasRoom, IsChanged, IsMade, IsReady, IsSame};
+ghost use Rattle.x5_holdings.specs.State.{OnlyEntries, OnlyLog};
 
 use crate::held::Held;
+use crate::log::Logged;
 use x5_dse::{DseFault, NodeId};
 use x5_index::Room;
 use x5_match::Entry;
-use x5_names::Rdn;
+use x5_memory::NoMemory;
+use x5_names::{Name, Rdn};
+
+/// A change of a context's entries, made ready: the entry that comes has its values in the room (X.511, section 11).
+#[derive(Debug, Drop)]
+pub enum EntryChange {
+    Add {
+        name: Name,
+        entry: Entry,
+        room: Room,
+    },
+    Remove {
+        node: NodeId,
+    },
+    Replace {
+        node: NodeId,
+        entry: Entry,
+        room: Room,
+    },
+    Rename {
+        node: NodeId,
+        rdn: Rdn,
+        entry: Entry,
+        room: Room,
+    },
+}
 
 impl Held {
     /// Removes the node's entry, which is a leaf other than the prefix's, and answers it (X.511, section 11.2). No memory.
@@ -67,5 +96,87 @@ impl Held {
         self.postings.drop_node(node.0, &before);
         self.postings.put(node.0, room);
         Ok(before)
+    }
+
+    /// Adds an entry that can be added. No memory.
+    fn add_ready(&mut self, name: Name, entry: Entry, room: Room)
+        requires { CanAdd self.old name entry room }
+        ensures made { IsMade self.old (Add name entry room) self.new }
+        ensures others { OnlyEntries self.old self.new }
+    {
+        match self.insert(name, entry, room) {
+            Ok(_) => {}
+            Err(_) => unreachable!(),
+        }
+    }
+
+    /// Removes an entry that can be removed. No memory.
+    fn remove_ready(&mut self, node: NodeId)
+        requires { CanRemove self.old node }
+        ensures made { IsMade self.old (Remove node) self.new }
+        ensures others { OnlyEntries self.old self.new }
+    {
+        match self.remove(node) {
+            Ok(_) => {}
+            Err(_) => unreachable!(),
+        }
+    }
+
+    /// Renames an entry that can be renamed. No memory.
+    fn rename_ready(&mut self, node: NodeId, rdn: Rdn, entry: Entry, room: Room)
+        requires { CanRename self.old node rdn entry room }
+        ensures made { IsMade self.old (Rename node rdn entry room) self.new }
+        ensures others { OnlyEntries self.old self.new }
+    {
+        match self.rename(node, rdn, entry, room) {
+            Ok(_) => {}
+            Err(_) => unreachable!(),
+        }
+    }
+
+    /// Makes a change that is ready. No memory.
+    fn make(&mut self, change: EntryChange)
+        requires { IsReady self.old change }
+        ensures made { IsMade self.old change self.new }
+        ensures others { OnlyEntries self.old self.new }
+    {
+        match change {
+            EntryChange::Add { name, entry, room } => self.add_ready(name, entry, room),
+            EntryChange::Remove { node } => self.remove_ready(node),
+            EntryChange::Replace { node, entry, room } => {
+                self.replace(node, entry, room);
+            }
+            EntryChange::Rename { node, rdn, entry, room } => self.rename_ready(node, rdn, entry, room),
+        }
+    }
+
+    /// Notes a change in the log. No memory.
+    fn note(&mut self, logged: Logged)
+        requires { 0 < self.old.log.spare }
+        ensures noted { IsLogged self.old.log logged self.new.log }
+        ensures others { OnlyLog self.old self.new }
+    {
+        self.log.note(logged);
+    }
+
+    /// Makes a change that is ready, and notes it in the log (X.511, section 11; X.525, section 9). No memory.
+    pub fn change(&mut self, change: EntryChange, logged: Logged)
+        requires ready { IsReady self.old change }
+        requires room { 0 < self.old.log.spare }
+        ensures { IsChanged self.old change logged self.new }
+    {
+        self.make(change);
+        self.note(logged);
+    }
+
+    /// Makes room for so many entries with so many values, and for a change in the log. After want of memory the context is as it
+    /// was.
+    pub fn make_room(&mut self, entries: usize, values: usize) -> Result<(), NoMemory>
+        ensures same { IsSame self.old self.new }
+        ensures ok { OnOk result (HasRoom self.new entries values) }
+    {
+        self.reserve(entries, values)?;
+        self.log.reserve()?;
+        Ok(())
     }
 }

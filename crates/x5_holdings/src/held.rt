@@ -30,7 +30,7 @@ pub struct Held {
     prefix: Name,
     pub(crate) tree: DseTree,
     pub(crate) postings: Postings,
-    log: ChangeLog,
+    pub(crate) log: ChangeLog,
     subordinate: SpecificList,
     nssrs: NssrList,
     wide: Pins,

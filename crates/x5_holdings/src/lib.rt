@@ -12,6 +12,7 @@ mod pins;
 mod rows;
 mod tables;
 
+pub use changing::EntryChange;
 pub use held::{Copied, Held};
 pub use holdings::{Holdings, Pin};
-pub use log::{ChangeLog, Logged, LoggedList};
+pub use log::{ChangeLog, Logged};
