@@ -6,3 +6,4 @@ pub mod Knowing
 pub mod Holding
 pub mod Posted
 pub mod Changed
+pub mod Placing

@@ -3,6 +3,7 @@ pub mod RowOrder
 pub mod Logs
 pub mod State
 pub mod Making
+pub mod Placed
 pub mod Spots
 pub mod Tables
 pub mod Known

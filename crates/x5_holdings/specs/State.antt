@@ -132,7 +132,7 @@ pub record OnlyEntries (old after : Kept) : Type 0 where
   pub subordinate : after.subordinate ≡ old.subordinate
   pub nssrs : after.nssrs ≡ old.nssrs
 
--- nor its log aside
+-- a context's log aside, nothing changed in it
 pub record OnlyLog (old after : Kept) : Type 0 where
   pub prefix : after.prefix ≡ old.prefix
   pub nodes : after.nodes ≡ old.nodes

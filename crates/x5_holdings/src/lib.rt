@@ -8,6 +8,7 @@ mod held;
 mod holdings;
 mod log;
 mod order;
+mod own;
 mod pins;
 mod rows;
 mod tables;
