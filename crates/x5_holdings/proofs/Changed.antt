@@ -108,17 +108,17 @@ pub same_node : (nodes : List Node) → ascending node_below nodes ≡ true → 
     node_key n ≡ node_key m → n ≡ m
 same_node [] h n m i j e = elim i [ ]
 same_node (x ∷ xs) h n m i j e = elim (in_first n x xs i) [
-    | inl p ↦ elim (in_first m x xs j) [
-      | inl q ↦ p ∙ sym q
-      | inr k ↦ absurd (node_never m (subst (λ (z : Key). key_below z (node_key m) ≡ true) (sym (ap node_key p) ∙ e)
-          (first_below node_below node_chain x m xs h k)))
-    ]
-    | inr l ↦ elim (in_first m x xs j) [
-      | inl q ↦ absurd (node_never n (subst (λ (z : Key). key_below z (node_key n) ≡ true) (sym (ap node_key q) ∙ sym e)
-          (first_below node_below node_chain x n xs h l)))
-      | inr k ↦ same_node xs (rest_ascending node_below node_chain x xs h) n m l k e
-    ]
+  | inl p ↦ elim (in_first m x xs j) [
+    | inl q ↦ p ∙ sym q
+    | inr k ↦ absurd (node_never m (subst (λ (z : Key). key_below z (node_key m) ≡ true) (sym (ap node_key p) ∙ e)
+        (first_below node_below node_chain x m xs h k)))
   ]
+  | inr l ↦ elim (in_first m x xs j) [
+    | inl q ↦ absurd (node_never n (subst (λ (z : Key). key_below z (node_key n) ≡ true) (sym (ap node_key q) ∙ sym e)
+        (first_below node_below node_chain x n xs h l)))
+    | inr k ↦ same_node xs (rest_ascending node_below node_chain x xs h) n m l k e
+  ]
+]
 
 -- ---- what is posted
 

@@ -79,7 +79,13 @@ impl Held {
     /// Gives the node's entry another RDN and other attributes, whose values the room has; what stands below it goes with it, and
     /// the node is another than the prefix's. Answers the entry that was there (X.511, section 11.4). No memory: it needs room
     /// for the values.
-    pub fn rename(&mut self, node: NodeId, rdn: Rdn, entry: Entry, room: Room) -> Result<Entry, DseFault>
+    pub fn rename(
+        &mut self,
+        node: NodeId,
+        rdn: Rdn,
+        entry: Entry,
+        room: Room,
+    ) -> Result<Entry, DseFault>
         requires live { IsTrue (is_live self.old.nodes.nodes node) }
         requires other { is_first self.old.nodes.nodes node ≡ false }
         requires values { room ≡ terms_of entry }
@@ -146,7 +152,12 @@ impl Held {
             EntryChange::Replace { node, entry, room } => {
                 self.replace(node, entry, room);
             }
-            EntryChange::Rename { node, rdn, entry, room } => self.rename_ready(node, rdn, entry, room),
+            EntryChange::Rename {
+                node,
+                rdn,
+                entry,
+                room,
+            } => self.rename_ready(node, rdn, entry, room),
         }
     }
 

@@ -1,5 +1,5 @@
 -- The context at the place is changed, and the tables stay.
-use Rattle.std.proofs.Common.{◌≡◌, ◌<◌, length, sym, subst, refl, slice_set}
+use Rattle.std.proofs.Common.{◌<◌, length, sym, subst, refl, slice_set}
 use Rattle.x5_holdings.specs.Inside.{state_of}
 use Rattle.x5_holdings.specs.Making.{IsChanged}
 use Rattle.x5_holdings.specs.Placed.{IsOwnChanged}
@@ -18,7 +18,7 @@ invariant_of-self c = record {
 pub returns : goal.returns
 returns c =
     let there : c.args.own < length c.self.inside.own.items = subst (λ (s : State). c.args.own < length s.own)
-        (sym c.self.view_is) c.requires.there in
+    (sym c.self.view_is) c.requires.there in
     subst (λ (s : State). IsOwnChanged s c.args.own (λ before after. IsChanged before c.args.change c.args.logged after)
     (record (state_of c.self.inside) { own = slice_set c.self.inside.own.items c.args.own c.change.new.self }))
     c.self.view_is (record {

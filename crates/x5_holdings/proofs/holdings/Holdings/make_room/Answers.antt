@@ -1,5 +1,5 @@
 -- The context at the place has more room, and the tables stay.
-use Rattle.std.proofs.Common.{◌≡◌, ◌<◌, length, sym, subst, refl, slice_set}
+use Rattle.std.proofs.Common.{◌<◌, length, sym, subst, refl, slice_set}
 use Rattle.x5_holdings.specs.Inside.{state_of}
 use Rattle.x5_holdings.specs.Making.{HasRoom, IsSame}
 use Rattle.x5_holdings.specs.Placed.{IsOwnChanged}
@@ -19,7 +19,7 @@ invariant_of-self c = record {
 pub returns-clause-same : goal.returns-clause-same
 returns-clause-same c =
     let there : c.args.own < length c.self.inside.own.items = subst (λ (s : State). c.args.own < length s.own)
-        (sym c.self.view_is) c.requires in
+    (sym c.self.view_is) c.requires in
     subst (λ (s : State). IsOwnChanged s c.args.own IsSame
     (record (state_of c.self.inside) { own = slice_set c.self.inside.own.items c.args.own c.make_room.new.self }))
     c.self.view_is (record {
@@ -33,7 +33,7 @@ returns-clause-same c =
 pub returns-clause-ok : goal.returns-clause-ok
 returns-clause-ok c =
     let there : c.args.own < length c.self.inside.own.items = subst (λ (s : State). c.args.own < length s.own)
-        (sym c.self.view_is) c.requires in
+    (sym c.self.view_is) c.requires in
     then_ok c.make_room.result (λ (room : HasRoom c.make_room.new.self c.args.entries c.args.values).
     subst (λ (s : State). IsOwnChanged s c.args.own (λ (b a : Kept). HasRoom a c.args.entries c.args.values)
     (record (state_of c.self.inside) { own = slice_set c.self.inside.own.items c.args.own c.make_room.new.self }))
