@@ -1,18 +1,17 @@
 -- The way down from the prefix to a name: where it ends, and what it tells of the name and of the names above it.
-use Rattle.std.proofs.Common.{◌≡◌, ℕ, zero, suc, ◌+◌, ◌-◌, ◌<◌, ◌≤◌, Bool, true, false, ◌⊎◌, inl, inr, List, [], ◌∷◌, ◌++◌, length, map, take, drop, get_or, refl, sym, ap, subst, ◌∙◌, arith, Option, Some, None, Ok, Err}
-use Rattle.std.proofs.lemmas.List.{length-map, length-take, length-drop, length_push, map-append, map_push, take_all, take-take, take_more, get_or_at, get_or-take, get_or-drop, get_or-map, drop-map}
+use Rattle.std.proofs.Common.{◌≡◌, ℕ, zero, suc, ◌+◌, ◌-◌, ◌<◌, ◌≤◌, true, false, inl, inr, List, [], ◌∷◌, ◌++◌, length, take, drop, get_or, refl, sym, ap, subst, ◌∙◌, arith, Some, None, Err}
+use Rattle.std.proofs.lemmas.List.{length-map, length-take, length-drop, map-append, take_all, take-take, take_more, get_or_at, get_or-take, get_or-drop}
 use Rattle.std.specs.Option.{option_map}
 use Rattle.x5_model.specs.Members.{In}
 use Rattle.x5_model.specs.Keys.{Key, KeyRdn, IsPrefix, is_prefix, parent}
-use Rattle.x5_model.specs.Values.{Name, Rdn, key_of_rdn, key_of}
+use Rattle.x5_model.specs.Values.{Name, key_of_rdn, key_of}
 use Rattle.x5_model.proofs.Prefixes.{prefix_decides, prefix_chain, prefix_length, parent_is_prefix}
-use Rattle.x5_model_tree.specs.Tree.{is_there}
 use Rattle.x5_dse.specs.declared.node.NodeId.{NodeId}
-use Rattle.x5_dse.specs.Linked.{Node, id_of, length_in, node_key, node_at, node_with, entries_of, IsLowest}
-use Rattle.x5_dse.specs.Inside.{Slots, Spot, top, is_used, parent_at, depth_at, rdn_at, path, path_of, name_at, node_of, nodes_of, spot_at, spots_of, IsPlace, IsChild, IsRow, IsDown, IsSite}
+use Rattle.x5_dse.specs.Linked.{Node, length_in, node_key, node_with, IsLowest}
+use Rattle.x5_dse.specs.Inside.{Slots, Spot, top, is_used, parent_at, rdn_at, path, path_of, name_at, node_of, spot_at, spots_of, IsPlace, IsChild, IsRow, IsDown, IsSite}
 use Rattle.x5_dse.proofs.Ids.{same_id}
-use Rattle.x5_dse.proofs.Spots.{lt_or_le, child_found, child_missing}
-use Rattle.x5_dse.proofs.Named.{key_in, all_nodes, order_used, top_used, key_length, unique, child_key, child_parent, above_there, ordered, of_nodes, found, none_found, live_node, there_if_used, absent_if, under_prefix}
+use Rattle.x5_dse.proofs.Spots.{lt_or_le}
+use Rattle.x5_dse.proofs.Named.{key_in, all_nodes, order_used, key_length, unique, child_key, child_parent, above_there, ordered, of_nodes, live_node, under_prefix}
 
 take_nil : {A : Type 0} (k : ℕ) → take {A = A} k [] ≡ []
 take_nil zero = refl

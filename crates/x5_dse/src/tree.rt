@@ -217,7 +217,8 @@ impl DseTree {
     /// Replaces the node's entry, and answers the one that was there (X.511, section 11.3). No memory.
     pub fn replace(&mut self, node: NodeId, entry: Entry) -> Entry
         requires { IsTrue (is_live self.old.nodes node) }
-        ensures { Replaced self.old node entry result self.new }
+        ensures replaced { Replaced self.old node entry result self.new }
+        ensures prefix { prefix_of self.new.nodes ≡ prefix_of self.old.nodes }
     {
         let held = take_out(&mut self.slots, node);
         self.slots[node.0] = Some(Dse {
@@ -235,6 +236,7 @@ impl DseTree {
         requires live { IsTrue (is_live self.old.nodes node) }
         requires other { is_first self.old.nodes node ≡ false }
         ensures ok { IfOk result (λ entry. Removed self.old node entry self.new) }
+        ensures prefix { prefix_of self.new.nodes ≡ prefix_of self.old.nodes }
         ensures fault { IfErr result (λ fault. NotRemoved self.old.nodes node fault) }
         ensures err { OnErr result (self.new ≡ self.old) }
     {
@@ -251,11 +253,15 @@ impl DseTree {
     }
 
     /// Gives the node's entry another RDN and other attributes; what stands below it goes with it (X.511, section 11.4). The node is
-    /// another than the prefix's. No memory.
-    pub fn rename(&mut self, node: NodeId, rdn: Rdn, entry: Entry) -> Result<(), DseFault>
+    /// another than the prefix's. Answers the entry that was there. No memory.
+    pub fn rename(&mut self, node: NodeId, rdn: Rdn, entry: Entry) -> Result<Entry, DseFault>
         requires live { IsTrue (is_live self.old.nodes node) }
         requires other { is_first self.old.nodes node ≡ false }
         ensures ok { OnOk result (Renamed self.old node rdn entry self.new) }
+        ensures before { IfOk result (λ before. option_map entry_in (node_with self.old.nodes node) ≡ Some before) }
+        ensures linked { IsLinked self.old.nodes }
+        ensures numbered { AreNumbered self.old.nodes }
+        ensures prefix { prefix_of self.new.nodes ≡ prefix_of self.old.nodes }
         ensures fault { IfErr result (λ fault. NotRenamed self.old.nodes node rdn fault) }
         ensures err { OnErr result (self.new ≡ self.old) }
     {
@@ -273,6 +279,6 @@ impl DseTree {
             own: Own::Renamed(rdn),
             entry,
         });
-        Ok(())
+        Ok(held.entry)
     }
 }

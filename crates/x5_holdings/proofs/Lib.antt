@@ -5,3 +5,5 @@ pub mod Spotted
 pub mod Knowing
 pub mod Holding
 pub mod Posted
+pub mod Changed
+pub mod Placing

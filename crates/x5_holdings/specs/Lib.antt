@@ -1,6 +1,9 @@
 pub mod Rows
 pub mod RowOrder
+pub mod Logs
 pub mod State
+pub mod Making
+pub mod Placed
 pub mod Spots
 pub mod Tables
 pub mod Known

@@ -20,14 +20,14 @@ use Rattle.x5_ops.specs.KnowledgeViews.{specific_view, cross_view, nssr_view}
 use Rattle.x5_dse.specs.declared.node.NodeId.{NodeId}
 use Rattle.x5_dse.specs.Linked.{Node, Nodes, entries_of, entry_in, node_with, prefix_of}
 use Rattle.x5_index.specs.Index.{Posting, Index, IsEntryAt, is_there}
-use Rattle.x5_holdings.specs.declared.log.ChangeLog.{ChangeLog}
+use Rattle.x5_holdings.specs.Logs.{Log}
 
 -- a context with its entries, the index of their values, the log of its changes, and the knowledge that goes with it
 pub record Kept : Type 0 where
   pub prefix : Name
   pub nodes : Nodes
   pub postings : Index
-  pub log : ChangeLog
+  pub log : Log
   pub subordinate : List Specific
   pub nssrs : List Nssr
 
@@ -129,5 +129,13 @@ are_once copies = distinct same_key (map (λ c. key_of c.prefix) copies)
 pub record OnlyEntries (old after : Kept) : Type 0 where
   pub prefix : after.prefix ≡ old.prefix
   pub log : after.log ≡ old.log
+  pub subordinate : after.subordinate ≡ old.subordinate
+  pub nssrs : after.nssrs ≡ old.nssrs
+
+-- a context's log aside, nothing changed in it
+pub record OnlyLog (old after : Kept) : Type 0 where
+  pub prefix : after.prefix ≡ old.prefix
+  pub nodes : after.nodes ≡ old.nodes
+  pub postings : after.postings ≡ old.postings
   pub subordinate : after.subordinate ≡ old.subordinate
   pub nssrs : after.nssrs ≡ old.nssrs

@@ -28,9 +28,9 @@ use x5_ops::{AgentId, Moment, Nssr, NssrList, Request, Specific, SpecificList};
 #[derive(Debug, Drop)]
 pub struct Held {
     prefix: Name,
-    tree: DseTree,
-    postings: Postings,
-    log: ChangeLog,
+    pub(crate) tree: DseTree,
+    pub(crate) postings: Postings,
+    pub(crate) log: ChangeLog,
     subordinate: SpecificList,
     nssrs: NssrList,
     wide: Pins,

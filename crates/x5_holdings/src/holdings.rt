@@ -38,7 +38,7 @@ pub struct Holdings {
     me: AgentId,
     moment: Moment,
     superior: Option<AgentId>,
-    own: Vec<Held>,
+    pub(crate) own: Vec<Held>,
     copies: Vec<Copied>,
     root: SpecificList,
     cross: CrossList,

@@ -3,14 +3,17 @@
 #![tactic(auto)]
 
 mod below;
+mod changing;
 mod held;
 mod holdings;
 mod log;
 mod order;
+mod own;
 mod pins;
 mod rows;
 mod tables;
 
+pub use changing::EntryChange;
 pub use held::{Copied, Held};
 pub use holdings::{Holdings, Pin};
-pub use log::{ChangeLog, Logged, LoggedList};
+pub use log::{ChangeLog, Logged};

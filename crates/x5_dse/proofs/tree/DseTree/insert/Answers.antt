@@ -1,5 +1,5 @@
 -- The slot that was taken is put at its site.
-use Rattle.std.proofs.Common.{◌≡◌, ℕ, ◌+◌, ◌-◌, ◌≤◌, ◌<◌, ◌++◌, Bool, true, not, ◌∷◌, List, length, take, drop, set, sym, ap, subst, ◌∙◌, arith, if◌then◌else◌, is_ok, Some}
+use Rattle.std.proofs.Common.{◌≡◌, ◌+◌, ◌-◌, ◌≤◌, ◌<◌, ◌++◌, Bool, true, not, ◌∷◌, List, length, take, drop, set, sym, ap, subst, ◌∙◌, arith, if◌then◌else◌, is_ok, Some}
 use Rattle.std.specs.Vec.{vec_len}
 use Rattle.x5_model.specs.Values.{last_rdn}
 use Rattle.x5_dse.specs.declared.node.NodeId.{NodeId}

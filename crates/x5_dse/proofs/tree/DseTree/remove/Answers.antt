@@ -4,11 +4,11 @@ use Rattle.std.specs.Vec.{vec_len}
 use Rattle.x5_model.specs.Members.{In}
 use Rattle.x5_dse.specs.declared.node.NodeId.{NodeId}
 use Rattle.x5_dse.specs.declared.node.DseFault.TheVariants.{NotLeaf}
-use Rattle.x5_dse.specs.Linked.{Nodes, is_first, is_live}
+use Rattle.x5_dse.specs.Linked.{Nodes, is_first, is_live, prefix_of}
 use Rattle.x5_dse.specs.Changes.{Removed, NotRemoved}
 use Rattle.x5_dse.specs.Slot.{Slot}
 use Rattle.x5_dse.specs.Inside.{Slots, nodes_of, node_of, parent_at, IsKept}
-use Rattle.x5_dse.proofs.Named.{live_used, live_node}
+use Rattle.x5_dse.proofs.Named.{live_used, live_node, prefix_key}
 use Rattle.x5_dse.proofs.Removing.{not_first, no_leaf, removed_kept, removed}
 use Rattle.x5_dse.proofs.tree.DseTree.remove.Goals as goal
 
@@ -87,3 +87,24 @@ returns-clause-ok c =
     (subst (λ (n : Nodes). Removed n c.args.node c.held.inside.entry (record { nodes = nodes_of c.self.inside.prefix (set c.self.inside.slots.items c.args.node.0 None) (take c.place_of_node-place.result c.self.inside.order.items ++ drop (suc c.place_of_node-place.result) c.self.inside.order.items); spare = vec_len c.push.new.self })) c.self.view_is
     (removed c.self.inside.prefix c.self.inside.slots.items c.self.inside.order.items c.self.inside.free.items c.self.invariant.0 c.args.node placed none c.place_of_node-place.result within at
     c.held.inside.entry (ap (λ (t : Slot). t.entry) (sym was)) (vec_len c.self.inside.free) (vec_len c.push.new.self) free_len)))
+
+pub returns-clause-prefix : goal.returns-clause-prefix
+returns-clause-prefix c =
+    let row = c.self.invariant.0.row in
+    let live : is_live (nodes_of c.self.inside.prefix c.self.inside.slots.items c.self.inside.order.items) c.args.node ≡ true = subst (λ (n : Nodes). is_live n.nodes c.args.node ≡ true) (sym c.self.view_is) c.requires.live in
+    let other : is_first (nodes_of c.self.inside.prefix c.self.inside.slots.items c.self.inside.order.items) c.args.node ≡ false = subst (λ (n : Nodes). is_first n.nodes c.args.node ≡ false) (sym c.self.view_is) c.requires.other in
+    let used = live_used c.self.inside.prefix c.self.inside.slots.items c.self.inside.order.items row c.args.node live in
+    let placed = not_first c.self.inside.prefix c.self.inside.slots.items c.self.inside.order.items row c.args.node used other in
+    let leaf : (k : NodeId) → In k c.deref-2.result.now → parent_at c.deref.result.now k ≡ c.args.node → ⊥ = c.if-has_children.ensures in
+    let none : (k : NodeId) → In k c.self.inside.order.items → parent_at c.self.inside.slots.items k ≡ c.args.node → ⊥ =
+    λ k i e. leaf k (subst (λ (ns : List NodeId). In k ns) (sym c.deref-2.ensures.value) i) (subst (λ (s : Slots). parent_at s k ≡ c.args.node) (sym c.deref.ensures.value) e) in
+    let within : c.place_of_node-place.result < length c.self.inside.order.items = subst (λ (ns : List NodeId). c.place_of_node-place.result < length ns) c.deref-4.ensures.value c.place_of_node-place.ensures.0 in
+    let at : get_or c.self.inside.order.items c.place_of_node-place.result c.args.node ≡ c.args.node = subst (λ (ns : List NodeId). get_or ns c.place_of_node-place.result c.args.node ≡ c.args.node) c.deref-4.ensures.value (c.place_of_node-place.ensures.1 c.args.node) in
+    let ok : is_ok c.push.result ≡ true = c.is_err.ensures.negation ∙ ap not c.if-is_err.false in
+    let free_len : vec_len c.push.new.self ≡ vec_len c.self.inside.free + 1 = c.push.ensures.len ∙ ap (λ (b : Bool). if b then vec_len c.self.inside.free + 1 else vec_len c.self.inside.free) ok in
+    let was = c.held.view_is ∙ c.take_out-held.ensures.held in
+    let kept = removed_kept c.self.inside.prefix c.self.inside.slots.items c.self.inside.order.items c.self.inside.free.items c.self.invariant.0 c.args.node placed none c.place_of_node-place.result within at in
+    ap (λ (l : Slots). prefix_of (nodes_of c.self.inside.prefix l c.remove.new.self.items)) c.take_out-held.ensures.slots
+    ∙ (ap (λ (ns : List NodeId). prefix_of (nodes_of c.self.inside.prefix (set c.self.inside.slots.items c.args.node.0 None) ns)) c.remove.ensures.items
+    ∙ (prefix_key c.self.inside.prefix (set c.self.inside.slots.items c.args.node.0 None) (take c.place_of_node-place.result c.self.inside.order.items ++ drop (suc c.place_of_node-place.result) c.self.inside.order.items) kept.row
+    ∙ (sym (prefix_key c.self.inside.prefix c.self.inside.slots.items c.self.inside.order.items row) ∙ ap (λ (n : Nodes). prefix_of n.nodes) c.self.view_is)))
