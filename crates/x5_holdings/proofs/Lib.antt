@@ -1,3 +1,4 @@
+pub mod Sorting
 pub mod Numbered
 pub mod Sought
 pub mod Finding
@@ -5,3 +6,4 @@ pub mod Spotted
 pub mod Knowing
 pub mod Holding
 pub mod Posted
+pub mod Under

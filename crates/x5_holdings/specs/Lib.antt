@@ -1,5 +1,6 @@
 pub mod Rows
 pub mod RowOrder
+pub mod Runs
 pub mod State
 pub mod Spots
 pub mod Tables

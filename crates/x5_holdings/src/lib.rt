@@ -9,8 +9,10 @@ mod log;
 mod order;
 mod pins;
 mod rows;
+mod runs;
 mod tables;
 
 pub use held::{Copied, Held};
 pub use holdings::{Holdings, Pin};
 pub use log::{ChangeLog, Logged, LoggedList};
+pub use rows::Row;
