@@ -123,8 +123,14 @@ drop_ordered rows n ordered k d low high =
 
 pub take_ordered : (rows : List KeyRow) (n : ℕ) → IsSorted row_cmp rows → IsSorted row_cmp (take n rows)
 take_ordered rows n ordered k d low high =
-    let l : (k + 1 < n) × (k + 1 < length rows) = (omega (arith, high, length-take n rows), omega (arith, high,
-    length-take n rows)) in
+    let l : (k + 1 < n) × (k + 1 < length rows) = (
+      omega (arith, high, length-take n rows),
+      omega (
+        arith,
+        high,
+        length-take n rows,
+      ),
+    ) in
     (λ i. is_lt (row_cmp (get_or-take n rows (k + 1) d l.0 i) (get_or-take n rows k d (omega (arith, l.0)) i)))
     ∙ ordered k d low l.1
 
@@ -143,8 +149,10 @@ module _ {A : Type 0} (test : A → Bool) where
       ∙ sym (ap (λ (b : Bool). step b x (filter test xs)) (h.1 0 x (omega arith) (omega arith)))
   from_start (x ∷ xs) (suc c) h =
       ap (λ (ys : List A). x ∷ ys)
-      (from_start xs c ((λ k d low high. h.0 (suc k) d (omega arith) (omega arith)),
-      (λ k d low high. h.1 (suc k) d (omega arith) (omega arith))))
+      (from_start xs c (
+        (λ k d low high. h.0 (suc k) d (omega arith) (omega arith)),
+        (λ k d low high. h.1 (suc k) d (omega arith) (omega arith)),
+      ))
       ∙ sym (ap (λ (b : Bool). step b x (filter test xs)) (h.0 0 x (omega arith) (omega arith)))
 
   pub run_between : (xs : List A) (s c : ℕ) → AllWithin (λ x. test x ≡ false) xs 0 s
@@ -303,7 +311,7 @@ module _ (count : ℕ) where
       ap (λ (rs : List KeyRow). places ++ long_places count rs) (drop_drop rows next n)
       ∙ ap (λ (rs : List KeyRow). places ++ map (λ (x : KeyRow). x.1) rs) e ∙ h
     where
-      nothing : (m : ℕ) → drop {KeyRow} m [] ≡ []
+      nothing : (m : ℕ) → drop {A = KeyRow} m [] ≡ []
       nothing zero = refl
       nothing (suc m) = refl
 

@@ -109,7 +109,12 @@ impl Holdings {
     }
 
     /// The places of those of them whose prefixes have so many RDNs.
-    pub fn own_at_depth(&self, alloc: Global, rdns: &[Rdn], depth: usize) -> Result<Vec<usize>, NoMemory>
+    pub fn own_at_depth(
+        &self,
+        alloc: Global,
+        rdns: &[Rdn],
+        depth: usize,
+    ) -> Result<Vec<usize>, NoMemory>
         ensures { IfOk result (λ places. places.items ≡ long_places depth (run_of (map (λ c. key_of c.prefix) self.now.own) (key_of rdns.now))) }
     {
         self.tables().own.places_under(alloc, rdns, depth)
@@ -123,7 +128,12 @@ impl Holdings {
     }
 
     /// The places of those of them whose prefixes have so many RDNs.
-    pub fn copies_at_depth(&self, alloc: Global, rdns: &[Rdn], depth: usize) -> Result<Vec<usize>, NoMemory>
+    pub fn copies_at_depth(
+        &self,
+        alloc: Global,
+        rdns: &[Rdn],
+        depth: usize,
+    ) -> Result<Vec<usize>, NoMemory>
         ensures { IfOk result (λ places. places.items ≡ long_places depth (run_of (map (λ c. key_of c.prefix) self.now.copies) (key_of rdns.now))) }
     {
         self.tables().copies.places_under(alloc, rdns, depth)
@@ -146,7 +156,12 @@ impl Held {
     }
 
     /// The places of those of them whose pins have so many RDNs.
-    pub fn subordinate_at_depth(&self, alloc: Global, rdns: &[Rdn], depth: usize) -> Result<Vec<usize>, NoMemory>
+    pub fn subordinate_at_depth(
+        &self,
+        alloc: Global,
+        rdns: &[Rdn],
+        depth: usize,
+    ) -> Result<Vec<usize>, NoMemory>
         ensures { IfOk result (λ places. places.items ≡ long_places depth (run_of (map (λ k. key_of k.pin) self.now.subordinate) (key_of rdns.now))) }
     {
         self.below().places_under(alloc, rdns, depth)
