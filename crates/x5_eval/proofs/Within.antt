@@ -51,7 +51,7 @@ less_or_same a b l = grind arith
 not_so : (b : Bool) → (b ≡ true → ⊥) → b ≡ false
 not_so b f = elim (true_or_false b) [ inl t ↦ absurd (f t) | inr e ↦ e ]
 
-node_chain : (x y z : Node) → node_below x y ≡ true → node_below y z ≡ true → node_below x z ≡ true
+pub node_chain : (x y z : Node) → node_below x y ≡ true → node_below y z ≡ true → node_below x z ≡ true
 node_chain x y z = below_chain (node_key x) (node_key y) (node_key z)
 
 -- of a key there is one node
