@@ -37,10 +37,10 @@ module _ (nodes : List Node) (numbered : AreNumbered nodes) where
   once_ids [] h f = tt
   once_ids (x ∷ xs) h f = (
     λ i. (
-      let w = of_map id_of x.id xs i in
-      let e : x ≡ w.0 = same_node x w.0 (f x here) (f w.0 (there w.1)) w.2 in
-      never_below (node_key x) (subst (λ (y : Node). node_below x y ≡ true) (sym e)
-      (first_below node_below node_chain x w.0 xs h w.1))),
+        let w = of_map id_of x.id xs i in
+        let e : x ≡ w.0 = same_node x w.0 (f x here) (f w.0 (there w.1)) w.2 in
+        never_below (node_key x) (subst (λ (y : Node). node_below x y ≡ true) (sym e)
+        (first_below node_below node_chain x w.0 xs h w.1))),
     once_ids xs (rest_ascending node_below node_chain x xs h) (λ y j. f y (there j)),
   )
 
@@ -112,11 +112,11 @@ module _ (nodes : List Node) (numbered : AreNumbered nodes) where
               let at : IsEntryAt postings number no_entry = record {
                 exact = λ kind normal. (
                   (λ j. (
-                    let t : is_there postings number ≡ true = any_in (λ p. p.node == number) (record {
-                      term = (kind, normal);
-                      node = number;
-                    }) postings j (same_number number) in
-                    cc)),
+                      let t : is_there postings number ≡ true = any_in (λ p. p.node == number) (record {
+                        term = (kind, normal);
+                        node = number;
+                      }) postings j (same_number number) in
+                      cc)),
                   (λ h. cc),
                 );
               } in
@@ -150,8 +150,8 @@ module _ (nodes : List Node) (numbered : AreNumbered nodes) where
         by false h = h
         by true h = (
           λ i. (
-            let w = of_map as_id (as_id n) ns (of_filter (is_found_at nodes subset base f) (as_id n) (map as_id ns) i).0 in
-            o.0 (subst (λ (m : ℕ). In m ns) (ap (λ (k : NodeId). k.0) (sym w.2)) w.1)),
+              let w = of_map as_id (as_id n) ns (of_filter (is_found_at nodes subset base f) (as_id n) (map as_id ns) i).0 in
+              o.0 (subst (λ (m : ℕ). In m ns) (ap (λ (k : NodeId). k.0) (sym w.2)) w.1)),
           h,
         )
 

@@ -150,8 +150,13 @@ module _ (nodes : List Node) (linked : IsLinked nodes) where
           let s : length (parent (node_key n)) + 1 ≡ length (node_key n) = parent_length (node_key n)
           (omega (arith, e)) in
           prefix_chain (prefix_of nodes) (parent (node_key n)) (node_key n)
-          (subst (λ (k : Key). IsPrefix (prefix_of nodes) k) w.2 (upper w.0 (omega (arith, s, le, ap length
-          w.2)) w.1)) (parent_is_prefix (node_key n))
+          (subst (λ (k : Key). IsPrefix (prefix_of nodes) k) w.2 (upper w.0 (omega (
+            arith,
+            s,
+            le,
+            ap length
+                w.2,
+          )) w.1)) (parent_is_prefix (node_key n))
 
   pub rooted : (n : Node) → In n nodes → IsPrefix (prefix_of nodes) (node_key n)
   rooted n i = rooted_within (length (node_key n)) n (omega arith) i

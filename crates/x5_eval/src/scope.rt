@@ -40,7 +40,12 @@ fn nodes_from(
 }
 
 /// The same where the base stands above the context or nowhere: the prefix's entry, or all of them.
-fn nodes_above(alloc: Global, held: &Held, base: &Name, subset: Subset) -> Result<Vec<NodeId>, NoMemory>
+fn nodes_above(
+    alloc: Global,
+    held: &Held,
+    base: &Name,
+    subset: Subset,
+) -> Result<Vec<NodeId>, NoMemory>
     requires linked { IsLinked held.now.nodes.nodes }
     requires absent { option_map id_of (node_at held.now.nodes.nodes (key_of base.now)) ≡ None }
     ensures { IfOk result (λ found. found.items ≡ map id_of (asked_nodes held.now.nodes.nodes (subset_view subset) (key_of base.now))) }
