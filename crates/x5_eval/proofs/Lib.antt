@@ -1,2 +1,4 @@
 pub mod Names
 pub mod Telling
+pub mod Within
+pub mod Chosen

@@ -4,5 +4,7 @@
 
 mod naming;
 mod reading;
+mod scope;
+mod subsets;
 
 pub use reading::{read_copy, read_own};

@@ -23,6 +23,7 @@ use Rattle.std.specs.Slice.{IsItemAt}
 use Rattle.x5_holdings.specs.Spots.{joined, first_to, IsSpotOf}
 use Rattle.x5_holdings.specs.State.{State, held_view, copy_view, holdings_view}
 use Rattle.x5_holdings.specs.Tables.{AreTables, below_own, below_copies}
+use Rattle.x5_holdings.proofs.Numbered.{row_places}
 use Rattle.x5_holdings.proofs.Sought.{item_at, no_item}
 use Rattle.x5_holdings.proofs.Finding.{at_first, find_left, find_right, find_map, own_references, copied_references}
 
@@ -107,28 +108,28 @@ module _ (s : State) (t : Tables) (key : Key) (h : AreTables s t) where
   pub own_placed : (found : Option ℕ) → IsFirstPlace (places_of t.own) key found → IsPlaceOf held_view s.own
       (model.held_at (holdings_view s).own key) found
   own_placed found f = at_first held_view (λ (c : model.Held). key_of c.prefix) key s.own found
-      (subst (λ (p : Places). IsFirstPlace p key found) h.own f)
+      (subst (λ (p : Places). IsFirstPlace p key found) (row_places _ _ h.own) f)
 
   pub copy_placed : (found : Option ℕ) → IsFirstPlace (places_of t.copies) key found → IsPlaceOf copy_view s.copies
       (model.copy_at (holdings_view s) key) found
   copy_placed found f = at_first copy_view (λ (c : model.Copy). key_of c.held.prefix) key s.copies found
-      (subst (λ (p : Places). IsFirstPlace p key found) h.copies f)
+      (subst (λ (p : Places). IsFirstPlace p key found) (row_places _ _ h.copies) f)
 
   pub cross_placed : (found : Option ℕ) → IsFirstPlace (places_of t.cross) key found → IsPlaceOf cross_view s.cross
       (specific_at (holdings_view s).cross key) found
   cross_placed found f = at_first cross_view (λ (k : world.Specific). key_of k.pin) key s.cross found
-      (subst (λ (p : Places). IsFirstPlace p key found) h.cross f)
+      (subst (λ (p : Places). IsFirstPlace p key found) (row_places _ _ h.cross) f)
 
   pub root_placed : (found : Option ℕ) → IsFirstPlace (places_of t.root) key found → IsPlaceOf specific_view s.root
       (specific_at (holdings_view s).root key) found
   root_placed found f = at_first specific_view (λ (k : world.Specific). key_of k.pin) key s.root found
-      (subst (λ (p : Places). IsFirstPlace p key found) h.root f)
+      (subst (λ (p : Places). IsFirstPlace p key found) (row_places _ _ h.root) f)
 
 pub nssr_placed : (nssrs : List Nssr) (rows : List KeyRow) (key : Key) (found : Option ℕ) → AreRowsOf rows
     (map (λ n. key_of n.at) nssrs) → IsFirstPlace (places_of rows) key found → IsPlaceOf nssr_view nssrs
     (nssr_at (map nssr_view nssrs) key) found
 nssr_placed nssrs rows key found h f = at_first nssr_view (λ (n : world.Nssr). key_of n.at) key nssrs found
-    (subst (λ (p : Places). IsFirstPlace p key found) h f)
+    (subst (λ (p : Places). IsFirstPlace p key found) (row_places _ _ h) f)
 
 -- ---- subordinate references: those of contexts, of copies that may be used, and of the root
 

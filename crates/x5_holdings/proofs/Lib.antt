@@ -1,3 +1,4 @@
+pub mod Sorting
 pub mod Numbered
 pub mod Sought
 pub mod Finding
@@ -7,3 +8,4 @@ pub mod Holding
 pub mod Posted
 pub mod Changed
 pub mod Placing
+pub mod Under

@@ -2,18 +2,22 @@
 -- among
 -- them with a place exactly where the member there has it.
 use Rattle.std.proofs.Common.{◌≡◌, ℕ, zero, suc, ◌+◌, ◌<◌, ◌≤◌, Bool, true, false, ◌&&◌, ◌||◌, ◌==◌, List, [], ◌∷◌}
-use Rattle.std.proofs.Common.{◌++◌, map, take, length, get_or, refl, sym, ap, ◌∙◌, arith, append_assoc}
+use Rattle.std.proofs.Common.{◌++◌, map, take, length, get_or, refl, sym, ap, subst, ◌∙◌, arith, append_assoc}
 use Rattle.std.specs.Prelude.{slice_get}
 use Rattle.std.specs.List.{list_any, enumerate_from}
-use Rattle.std.specs.List.Sorted.{IsPermutation}
+use Rattle.std.specs.List.Sorted.{IsSorted, IsStable}
 use Rattle.std.specs.declared.result.Result.{Result}
 use Rattle.std.specs.declared.result.Result.TheVariants.{Ok, Err}
 use Rattle.std.specs.Result.{IfOk}
 use Rattle.std.proofs.lemmas.List.{take_all, map_push}
-use Rattle.std.proofs.lemmas.List.Sorted.{list_any-IsPermutation}
-use Rattle.x5_model.specs.Words.{some_and}
+use Rattle.std.proofs.lemmas.List.Sorted.{ranks_by}
+use Rattle.x5_model.specs.Words.{some_and, sorted}
 use Rattle.x5_model.specs.Keys.{Key, same_key}
-use Rattle.x5_holdings.specs.Rows.{KeyRow, same_row, places_of, places_in, numbered, AreRowsOf}
+use Rattle.x5_model.proofs.Lists.{any_in, of_any}
+use Rattle.x5_model.proofs.Ascending.{of_sorted, in_sorted}
+use Rattle.x5_holdings.specs.Rows.{KeyRow, same_row, places_of, places_in, numbered, row_cmp, row_below, AreRowsOf}
+use Rattle.x5_holdings.specs.RowOrder.{row_cmp_total}
+use Rattle.x5_holdings.proofs.Sorting.{stable_sort}
 
 abbrev numbered_from : ℕ → List Key → List KeyRow
 numbered_from i keys = map (λ p. (p.1, p.0)) (enumerate_from i keys)
@@ -111,12 +115,34 @@ numbered_places keys =
     λ i key n. (any_map (λ (row : KeyRow). same_row row (key, n)) (λ (p : ℕ × Key). (p.1, p.0))
     (enumerate_from 0 keys) ∙ at_from (λ (k : Key). same_key k key) keys 0 n n (omega arith)) i
 
--- a sort keeps the rows
-pub sorted_rows : (rows sorted : List KeyRow) → IsPermutation rows sorted → (keys : List Key) → rows ≡ numbered keys →
-    AreRowsOf sorted keys
-sorted_rows rows sorted p keys e =
-    (λ i key n. sym (list_any-IsPermutation (λ (row : KeyRow). same_row row (key, n)) rows sorted p) i)
-    ∙ ap (λ (l : List KeyRow). places_of l) e ∙ numbered_places keys
+-- a stable sort gives the rows in order
+pub sorted_rows : (rows ordered : List KeyRow) → IsSorted row_cmp ordered → IsStable row_cmp rows ordered → (keys : List Key)
+    → rows ≡ numbered keys → AreRowsOf ordered keys
+sorted_rows rows ordered s t keys e =
+    stable_sort row_below (ranks_by row_cmp_total (λ (r : KeyRow). r)) (numbered keys) ordered s
+    (subst (λ (rs : List KeyRow). IsStable row_cmp rs ordered) e t)
+
+any_sorted : (test : KeyRow → Bool) (rows : List KeyRow) → list_any test (sorted row_below rows) ≡ list_any test rows
+any_sorted test rows = by (list_any test (sorted row_below rows)) (list_any test rows) refl refl
+  where
+    by : (a b : Bool) → list_any test (sorted row_below rows) ≡ a → list_any test rows ≡ b → a ≡ b
+    by true true e f = refl
+    by false false e f = refl
+    by true false e f = absurd (
+        let w = of_any test (sorted row_below rows) e in
+        let g : list_any test rows ≡ true = any_in test w.0 rows (of_sorted row_below w.0 rows w.1) w.2 in
+        cc)
+    by false true e f = absurd (
+        let w = of_any test rows f in
+        let g : list_any test (sorted row_below rows) ≡ true = any_in test w.0 (sorted row_below rows)
+        (in_sorted row_below w.0 rows w.1) w.2 in
+        cc)
+
+-- which key stands where, by the rows
+pub row_places : (rows : List KeyRow) (keys : List Key) → AreRowsOf rows keys → places_of rows ≡ places_in keys
+row_places rows keys h =
+    ap (λ (l : List KeyRow). places_of l) h
+    ∙ (λ i key n. any_sorted (λ row. same_row row (key, n)) (numbered keys) i) ∙ numbered_places keys
 
 -- the table of a loop's rows
 pub made : {E : Type 0} (r : Result (List KeyRow) E) (rows : List KeyRow) (keys : List Key)

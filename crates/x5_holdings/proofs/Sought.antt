@@ -30,7 +30,7 @@ pub no_item : {A : Type 0} (xs : List A) (i : ℕ) (r : Option (Bor A)) → IsIt
 no_item xs i None h e = h.3
 no_item xs i (Some y) h e = cc
 
-same_item : {A : Type 0} (xs : List A) (i : ℕ) (d f : A) → i < length xs → get_or xs i d ≡ get_or xs i f
+pub same_item : {A : Type 0} (xs : List A) (i : ℕ) (d f : A) → i < length xs → get_or xs i d ≡ get_or xs i f
 same_item [] i d f lt = absurd (omega arith)
 same_item (y ∷ xs) zero d f lt = refl
 same_item (y ∷ xs) (suc i) d f lt = same_item xs i d f (omega arith)
@@ -56,7 +56,7 @@ less_of Less e = refl
 less_of Equal e = cc
 less_of Greater e = cc
 
-below_key : (a b : KeyRow) → key_below a.0 b.0 ≡ true → is_lt (row_cmp a b) ≡ true
+pub below_key : (a b : KeyRow) → key_below a.0 b.0 ≡ true → is_lt (row_cmp a b) ≡ true
 below_key a b h = ap (λ (o : Ordering). is_lt (ordering_then o (nat_cmp a.1 b.1))) (less_of (key_cmp a.0 b.0) h)
 
 equal_of : (o : Ordering) → is_eq o ≡ true → o ≡ Equal

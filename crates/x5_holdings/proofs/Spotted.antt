@@ -13,7 +13,7 @@ use Rattle.x5_holdings.specs.Rows.{KeyRow, Places, AreRowsOf, places_of, numbere
 use Rattle.x5_holdings.specs.Known.{IsPlaceOf}
 use Rattle.x5_holdings.specs.Spots.{spots_from, spots_in, joined, pins_in, Spotted, AreBelow, IsSpotOf, IsSpot}
 use Rattle.std.proofs.lemmas.List.{length-map, length-take, map-append, map_push, take_all}
-use Rattle.x5_holdings.proofs.Numbered.{taken}
+use Rattle.x5_holdings.proofs.Numbered.{taken, row_places}
 use Rattle.x5_holdings.proofs.Finding.{at_first}
 
 -- ---- one more member, and one more list
@@ -194,7 +194,7 @@ module _ (b : Spotted) (lists : List (List Specific)) (key : Key) (h : AreBelow 
       (find (λ k. same_key (key_of k.pin) key) (map (λ k. k) (joined lists))) found
   placed found f =
       at_first (λ (k : Specific). k) (λ k. key_of k.pin) key (joined lists) found
-      (subst (λ (p : Places). IsFirstPlace p key found) h.rows f)
+      (subst (λ (p : Places). IsFirstPlace p key found) (row_places _ _ h.rows) f)
 
   pub no_spot : IsFirstPlace (places_of b.rows) key None → IsSpot lists key None
   no_spot f = same_map (λ (k : Specific). same_key (key_of k.pin) key) (joined lists) ∙ placed None f

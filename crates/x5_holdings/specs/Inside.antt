@@ -20,6 +20,7 @@ kept_view h = record {
 
 pub record IsHeld (h : held.Inside) : Type 0 where
   pub kept : IsKept (kept_view h)
+  pub below : AreRowsOf h.below (map (λ k. key_of k.pin) h.subordinate)
   pub wide : AreRowsOf h.wide (map (λ n. key_of n.at) h.nssrs)
 
 abbrev pub copy_kept : copied.Inside → CopyKept

@@ -1,6 +1,7 @@
 pub mod Rows
 pub mod RowOrder
 pub mod Logs
+pub mod Runs
 pub mod State
 pub mod Making
 pub mod Placed

@@ -6,8 +6,8 @@ use Rattle.std.specs.List.{list_any, enumerate_from}
 use Rattle.std.specs.Option.{MatchOption}
 use Rattle.std.specs.declared.option.Option.{Option}
 use Rattle.std.specs.declared.cmp.Ordering.{Ordering}
-use Rattle.std.specs.Ordering.{ordering_then, nat_cmp}
-use Rattle.x5_model.specs.Words.{some_and}
+use Rattle.std.specs.Ordering.{is_lt, ordering_then, nat_cmp}
+use Rattle.x5_model.specs.Words.{some_and, sorted}
 use Rattle.x5_model.specs.Keys.{Key, same_key, key_cmp}
 
 abbrev pub KeyRow : Type 0
@@ -35,9 +35,16 @@ places_in keys key place = some_and (λ k. same_key k key) (slice_get keys place
 abbrev pub numbered : List Key → List KeyRow
 numbered keys = map (λ p. (p.1, p.0)) (enumerate_from 0 keys)
 
+-- in the order of their keys, and those of one key in that of the list
+abbrev pub row_below : KeyRow → KeyRow → Bool
+row_below a b = is_lt (row_cmp a b)
+
+abbrev pub rows_of : List Key → List KeyRow
+rows_of keys = sorted row_below (numbered keys)
+
 -- the rows are those of the list's members
 abbrev pub AreRowsOf : List KeyRow → List Key → Type 0
-AreRowsOf rows keys = places_of rows ≡ places_in keys
+AreRowsOf rows keys = rows ≡ rows_of keys
 
 -- the first place of a key
 abbrev pub IsFirstPlace : Places → Key → Option ℕ → Type 0

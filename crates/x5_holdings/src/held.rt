@@ -10,10 +10,11 @@ ghost use Rattle.x5_ops.specs.RequestViews.{request_view};
 ghost use Rattle.x5_dse.specs.Linked.{entries_of};
 ghost use Rattle.x5_dse.specs.Changes.{Inserted, NotInserted};
 ghost use Rattle.x5_index.specs.Index.{terms_of};
+ghost use Rattle.x5_holdings.specs.Rows.{AreRowsOf};
 ghost use Rattle.x5_holdings.specs.State.{IsBrought, IsKept, OnlyEntries, brought_for, brought_references, stamp_of};
 
 use crate::log::ChangeLog;
-use crate::pins::{Pins, entries_of_nssrs};
+use crate::pins::{Pins, entries_of_nssrs, pins_of_references};
 use std::alloc::Global;
 use std::marker::Model;
 use x5_dse::{DseFault, DseTree, NodeId};
@@ -33,6 +34,7 @@ pub struct Held {
     pub(crate) log: ChangeLog,
     subordinate: SpecificList,
     nssrs: NssrList,
+    below: Pins,
     wide: Pins,
 }
 
@@ -65,6 +67,7 @@ impl Held {
         ensures subordinate { IfOk result (λ held. held.subordinate ≡ subordinate) }
         ensures nssrs { IfOk result (λ held. held.nssrs ≡ nssrs) }
     {
+        let below = pins_of_references(alloc, subordinate.as_slice())?;
         let wide = entries_of_nssrs(alloc, nssrs.as_slice())?;
         let tree = DseTree::new(alloc, prefix.clone()?, entry)?;
         let top = tree.top();
@@ -77,6 +80,7 @@ impl Held {
             log,
             subordinate,
             nssrs,
+            below,
             wide,
         })
     }
@@ -124,6 +128,20 @@ impl Held {
         ensures { result.now ≡ self.now.nssrs }
     {
         self.nssrs.as_slice()
+    }
+
+    /// The pins of the subordinate references. No memory.
+    pub(crate) fn below(&self) -> &Pins
+        ensures { AreRowsOf result.now (map (λ k. key_of k.pin) self.now.subordinate) }
+    {
+        &self.below
+    }
+
+    /// The entries at which NSSRs stand. No memory.
+    pub(crate) fn wide(&self) -> &Pins
+        ensures { AreRowsOf result.now (map (λ n. key_of n.at) self.now.nssrs) }
+    {
+        &self.wide
     }
 
     /// The NSSR at the entry whose name has these RDNs, if there is one; the first of several. No memory.

@@ -10,7 +10,7 @@ ghost use Rattle.x5_ops.specs.RequestViews.{request_view};
 ghost use Rattle.x5_holdings.specs.Known.{IsPlaceOf, IsKnown, IsKnownAt};
 ghost use Rattle.x5_holdings.specs.Spots.{first_to, joined};
 ghost use Rattle.x5_holdings.specs.State.{are_once, copy_view, held_view, holdings_view};
-ghost use Rattle.x5_holdings.specs.Tables.{below_copies, below_own};
+ghost use Rattle.x5_holdings.specs.Tables.{AreTables, below_copies, below_own};
 
 use crate::below::Below;
 use crate::held::{Copied, Held, may_use_copies};
@@ -140,6 +140,13 @@ impl Holdings {
         ensures { result ≡ self.now.superior }
     {
         self.superior
+    }
+
+    /// What is kept beside the lists. No memory.
+    pub(crate) fn tables(&self) -> &Tables
+        ensures { AreTables self.now result.now }
+    {
+        &self.tables
     }
 
     /// The contexts that it masters, in their order. No memory.

@@ -11,9 +11,11 @@ mod order;
 mod own;
 mod pins;
 mod rows;
+mod runs;
 mod tables;
 
 pub use changing::EntryChange;
 pub use held::{Copied, Held};
 pub use holdings::{Holdings, Pin};
 pub use log::{ChangeLog, Logged};
+pub use rows::Row;

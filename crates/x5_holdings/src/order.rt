@@ -1,7 +1,7 @@
 //! The order of names, by their RDNs.
 
 ghost use Rattle.std.specs.Prelude.{◌≡◌, map};
-ghost use Rattle.x5_model.specs.Keys.{pair_cmp, rdn_cmp, key_cmp};
+ghost use Rattle.x5_model.specs.Keys.{pair_cmp, rdn_cmp, key_cmp, is_prefix};
 ghost use Rattle.x5_model.specs.Values.{key_of_pair, key_of_rdn, key_of};
 
 use std::cmp::Ordering;
@@ -55,4 +55,11 @@ pub(crate) fn compare_names(a: &[Rdn], b: &[Rdn]) -> Ordering
     } else {
         Ordering::Less
     }
+}
+
+/// Whether the name of these RDNs begins with those. No memory.
+pub(crate) fn begins_with(name: &[Rdn], rdns: &[Rdn]) -> bool
+    ensures { result ≡ is_prefix (key_of rdns.now) (key_of name.now) }
+{
+    rdns.len() <= name.len() && compare_names(&name[..rdns.len()], rdns).is_eq()
 }

@@ -1,6 +1,6 @@
 //! The names of a list, found by key without a walk: rows in order, among which a key is looked for by halves.
 
-ghost use Rattle.std.specs.Prelude.{◌≡◌, ◌++◌, ◌∷◌, [], List, true, false, length, map, IfOk, OnOk};
+ghost use Rattle.std.specs.Prelude.{◌≡◌, ◌≤◌, ◌++◌, ◌∷◌, [], List, true, false, length, map, IfOk, OnOk};
 ghost use Rattle.std.specs.List.Sorted.{IsSorted, IsPartitionPoint};
 ghost use Rattle.x5_model.specs.Keys.{Key, key_below};
 ghost use Rattle.x5_model.specs.Values.{key_of};
@@ -41,9 +41,10 @@ pub(crate) fn add(rows: &mut Vec<Row>, name: &Name) -> Result<(), NoMemory>
 }
 
 /// How many rows there are of keys below that of these RDNs.
-fn count_below(rows: &[Row], rdns: &[Rdn]) -> usize
+pub(crate) fn count_below(rows: &[Row], rdns: &[Rdn]) -> usize
     requires { IsSorted row_cmp rows.now }
-    ensures { IsPartitionPoint (λ (r : KeyRow). key_below r.0 (key_of rdns.now) ≡ true) (λ (r : KeyRow). key_below r.0 (key_of rdns.now) ≡ false) rows.now result }
+    ensures within { result ≤ length rows.now }
+    ensures parts { IsPartitionPoint (λ (r : KeyRow). key_below r.0 (key_of rdns.now) ≡ true) (λ (r : KeyRow). key_below r.0 (key_of rdns.now) ≡ false) rows.now result }
 {
     rows.partition_point(|row| row.compare(rdns).is_lt())
 }
@@ -65,6 +66,14 @@ impl Pins {
         let mut rows = rows;
         rows.sort()?;
         Ok(Pins { rows })
+    }
+
+    /// The rows in their order. No memory.
+    pub(crate) fn rows(&self) -> &[Row]
+        ensures rows { result.now ≡ self.now }
+        ensures ordered { IsSorted row_cmp self.now }
+    {
+        self.rows.as_slice()
     }
 
     /// The first place of the name of these RDNs. No memory.

@@ -3,7 +3,7 @@
 ghost use Rattle.std.specs.Prelude.{◌≡◌};
 ghost use Rattle.std.specs.Ordering.{as_partial_cmp};
 ghost use Rattle.std.proofs.Common.{refl};
-ghost use Rattle.x5_model.specs.Keys.{key_cmp};
+ghost use Rattle.x5_model.specs.Keys.{is_prefix, key_cmp};
 ghost use Rattle.x5_model.specs.Values.{key_of};
 ghost use Rattle.x5_holdings.specs.Rows as rows;
 ghost use Rattle.x5_holdings.specs.RowOrder.{same_row_laws, same_row_equivalence, row_partial_order, row_cmp_total, row_ties};
@@ -14,7 +14,7 @@ use x5_names::{Name, Rdn};
 
 /// A name, and its place in a list.
 #[derive(Debug, Drop)]
-pub(crate) struct Row {
+pub struct Row {
     name: Name,
     place: usize,
 }
@@ -43,8 +43,22 @@ impl Row {
         crate::order::compare_names(self.name.rdns(), rdns)
     }
 
-    /// Its place. No memory.
-    pub(crate) fn place(&self) -> usize
+    /// Whether its name is that of these RDNs, or stands below it. No memory.
+    pub(crate) fn is_under(&self, rdns: &[Rdn]) -> bool
+        ensures { result ≡ is_prefix (key_of rdns.now) self.now.0 }
+    {
+        crate::order::begins_with(self.name.rdns(), rdns)
+    }
+
+    /// Its name. No memory.
+    pub fn name(&self) -> &Name
+        ensures { key_of result.now ≡ self.now.0 }
+    {
+        &self.name
+    }
+
+    /// Its place in the list. No memory.
+    pub fn place(&self) -> usize
         ensures { result ≡ self.now.1 }
     {
         self.place

@@ -28,5 +28,6 @@ invariant_of-self-2 c =
               named = entry_below inserted.above (last_rdn c.args.name) c.args.entry;
             }) refl refl inserted.fresh c.self.invariant.kept.posted);
       };
+      below = c.self.invariant.below;
       wide = c.self.invariant.wide;
     }

@@ -2,6 +2,7 @@
 use Rattle.std.proofs.Common.{◌≡◌, List, subst, ap, ◌∙◌, map}
 use Rattle.x5_model.specs.Values.{key_of}
 use Rattle.x5_ops.specs.declared.knowledge.Nssr.{Nssr}
+use Rattle.x5_ops.specs.declared.knowledge.Specific.{Specific}
 use Rattle.x5_index.specs.Index.{Posting, IsPut}
 use Rattle.x5_holdings.specs.Rows.{AreRowsOf}
 use Rattle.x5_holdings.proofs.Posted.{top_live, one_prefix, posted_alone}
@@ -24,6 +25,8 @@ invariant_of-result c =
             (subst (λ (ps : List Posting). IsPut ps c.top-top.result.0 c.entry-2.result.now c.add.new.self.postings)
             c.new-postings.ensures c.in_ok-add.ensures.ok);
       };
+      below = subst (λ (l : List Specific). AreRowsOf c.in_ok-below.below (map (λ (k : Specific). key_of k.pin) l))
+          c.as_slice.ensures c.in_ok-below.ensures;
       wide = subst (λ (l : List Nssr). AreRowsOf c.in_ok-wide.wide (map (λ (n : Nssr). key_of n.at) l))
-          c.as_slice.ensures c.in_ok-wide.ensures;
+          c.as_slice-2.ensures c.in_ok-wide.ensures;
     }
