@@ -1,0 +1,4 @@
+pub mod Spelled
+pub mod Members
+pub mod Keyed
+pub mod Kept
