@@ -26,7 +26,7 @@ one_more ks new es i e v lt is at h g q =
     ∙ ap (λ (xs : List Named). list_any (same_key q) ks || is_there xs q) (sym (drop_at es i e lt is))
     ∙ g q
 
-nothing_left : {A : Type 0} (xs : List A) (i : ℕ) → length xs ≤ i → drop i xs ≡ []
+pub nothing_left : {A : Type 0} (xs : List A) (i : ℕ) → length xs ≤ i → drop i xs ≡ []
 nothing_left [] zero le = refl
 nothing_left [] (suc i) le = refl
 nothing_left (x ∷ xs) zero le = absurd (omega arith)

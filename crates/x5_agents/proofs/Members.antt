@@ -69,7 +69,7 @@ there_sorted es key =
     any_alike (λ (e : Named). same_key (key_at e) key) (sorted_entries es) es (λ e i. (in_union e es).1 i) (λ e i. (in_union e es).0 i)
 
 filter_alike : {A : Type 0} (f g : A → Bool) (xs : List A) → ((x : A) → f x ≡ g x) → filter f xs ≡ filter g xs
-filter_alike f g xs h = ap (λ (t : A → Bool). filter t xs) (λ i x. h x i)
+filter_alike {A} f g xs h = ap (λ (t : A → Bool). filter t xs) (λ i x. h x i)
 
 pub below_sorted : (es : List Named) (ks : List Specific) → references_below (sorted_entries es) ks ≡ references_below es ks
 below_sorted es ks =

@@ -27,9 +27,9 @@ fn with_entry(alloc: Global, held: Held, named: &Named) -> Result<Held, NoMemory
     held.reserve(1, room.len())?;
     let name = named.name.clone()?;
     let entry = named.entry.clone()?;
-    if held.insert(name, entry, room).is_err() {
+    let Ok(_node) = held.insert(name, entry, room) else {
         unreachable!()
-    }
+    };
     Ok(held)
 }
 
