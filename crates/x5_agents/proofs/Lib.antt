@@ -5,3 +5,6 @@ pub mod Kept
 pub mod Growing
 pub mod Several
 pub mod Wholes
+pub mod Firsts
+pub mod Taking
+pub mod Copying

@@ -1,10 +1,9 @@
 //! The copies that an agent is to have.
 
-ghost use Rattle.std.specs.Prelude.{◌≡◌, ◌==◌, [], true, map, IfOk};
-ghost use Rattle.std.specs.List.{filter};
+ghost use Rattle.std.specs.Prelude.{◌≡◌, ◌==◌, ◌&&◌, not, [], true, map, IfOk};
+ghost use Rattle.std.specs.List.{filter, list_any};
 ghost use Rattle.x5_model.specs.Keys.{same_key};
 ghost use Rattle.x5_model.specs.Values.{key_of};
-ghost use Rattle.x5_model.specs.Words.{has};
 ghost use Rattle.x5_model_run.specs.History.{first_agreements};
 ghost use Rattle.x5_model_held.specs.Beginning.{described_copy};
 ghost use Rattle.x5_holdings.specs.State.{are_once, copy_view};
@@ -13,16 +12,21 @@ use std::alloc::Global;
 use x5_holdings::Copied;
 use x5_know::Agreement;
 use x5_memory::NoMemory;
-use x5_names::Name;
+use x5_names::Key;
 use x5_ops::AgentId;
 
-/// Whether one of the copies is of the context of this prefix. No memory.
-fn is_copied(copies: &[Copied], prefix: &Name) -> bool
-    ensures { result ≡ has same_key (map (λ c. key_of c.prefix) copies.now) (key_of prefix.now) }
+/// Whether one of the copies is of the context of this key. No memory.
+fn is_copied(copies: &[Copied], key: &Key) -> bool
+    ensures { result ≡ list_any (λ c. same_key (key_of c.prefix) key.now) copies.now }
 {
-    copies
-        .iter()
-        .any(|copied| copied.prefix().key() == prefix.key())
+    copies.iter().any(|copied| copied.prefix().key() == key)
+}
+
+/// Whether the agreement brings the agent a copy of a context of which it has none yet. No memory.
+fn is_new(copies: &[Copied], me: AgentId, agreement: &Agreement) -> bool
+    ensures { result ≡ ((agreement.now.consumer == me) && not (list_any (λ c. same_key (key_of c.prefix) (key_of agreement.now.context)) copies.now)) }
+{
+    agreement.consumer == me && !is_copied(copies, agreement.context.key())
 }
 
 /// Copies of the contexts that the agreements bring to the agent, of which nothing was sent yet; where several bring one context,
@@ -37,8 +41,9 @@ pub(crate) fn copies_of(
 {
     let mut copies = Vec::new(alloc);
     for agreement in agreements {
-        if agreement.consumer == me && !is_copied(&copies, &agreement.context) {
-            copies.push(Copied::new(agreement.context.clone()?, agreement.supplier))?;
+        if is_new(&copies, me, agreement) {
+            let prefix = agreement.context.clone()?;
+            copies.push(Copied::new(prefix, agreement.supplier))?;
         }
     }
     Ok(copies)

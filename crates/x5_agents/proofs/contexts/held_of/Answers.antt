@@ -1,5 +1,6 @@
 -- The first entry is the prefix's, and the others are grown over it.
 use Rattle.std.proofs.Common.{◌≡◌, List, [], ◌∷◌, map, sym, ap, ◌∙◌}
+use Rattle.std.specs.List.{each_same}
 use Rattle.std.proofs.lemmas.Result.{IfOk-weaker}
 use Rattle.x5_model.specs.Entries.{Named}
 use Rattle.x5_model_tree.specs.Described.{is_grown}
@@ -42,5 +43,6 @@ returns c =
     (c.in_ok-held.ensures.prefix ∙ c.prefix.view_is ∙ c.in_ok-prefix.ensures.cases) (alone c.before)
     (ap (λ (ks : List Specific). map specific_view ks) (c.in_ok-held.ensures.subordinate ∙ c.subordinate.view_is)
     ∙ c.in_ok-subordinate.ensures)
-    (ap (λ (ns : List Nssr). map nssr_view ns) (c.in_ok-held.ensures.nssrs ∙ c.in_ok-clone.ensures.cases)) g)
+    (ap (λ (ns : List Nssr). map nssr_view ns) (c.in_ok-held.ensures.nssrs
+    ∙ each_same c.args.context.now.nssr c.in_ok-clone.field-0 c.in_ok-clone.ensures.cases)) g)
     c.with_entries.ensures
