@@ -8,3 +8,6 @@ pub mod Wholes
 pub mod Firsts
 pub mod Taking
 pub mod Copying
+pub mod Parts
+pub mod Described
+pub mod Each
