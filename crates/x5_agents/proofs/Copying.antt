@@ -84,16 +84,16 @@ module _ (me : ℕ) (gs : List Agreement) where
         → now ≡ copies ++ unsent g ∷ [] → AreCopied now (i + 1)
     one_copied now e n = (
       ap (λ (l : List CopyKept). map copy_view l ++ left (keys_of l) (i + 1)) n
-      ∙ (λ j. map-append copy_view copies (unsent g ∷ []) j ++ left (map-append (λ (c : CopyKept). key_of c.prefix) copies (unsent g ∷ []) j) (i + 1))
-      ∙ ap (λ (l : List Agreement). (map copy_view copies ++ described_copy g ∷ []) ++ map described_copy l)
-      (sym (first_like (key_of g.context ∷ keys_of copies) (keys_of copies ++ key_of g.context ∷ []) rest (has_push (keys_of copies) (key_of g.context))))
-      ∙ append_assoc (map copy_view copies) (described_copy g ∷ []) (map described_copy (first_agreements (key_of g.context ∷ keys_of copies) rest))
-      ∙ ap (λ (l : List Agreement). map copy_view copies ++ map described_copy l) (sym (first_new ours.0 ours.1))
-      ∙ so_far.0,
+          ∙ (λ j. map-append copy_view copies (unsent g ∷ []) j ++ left (map-append (λ (c : CopyKept). key_of c.prefix) copies (unsent g ∷ []) j) (i + 1))
+          ∙ ap (λ (l : List Agreement). (map copy_view copies ++ described_copy g ∷ []) ++ map described_copy l)
+          (sym (first_like (key_of g.context ∷ keys_of copies) (keys_of copies ++ key_of g.context ∷ []) rest (has_push (keys_of copies) (key_of g.context))))
+          ∙ append_assoc (map copy_view copies) (described_copy g ∷ []) (map described_copy (first_agreements (key_of g.context ∷ keys_of copies) rest))
+          ∙ ap (λ (l : List Agreement). map copy_view copies ++ map described_copy l) (sym (first_new ours.0 ours.1))
+          ∙ so_far.0,
       ap (λ (l : List Key). distinct same_key l)
-      (ap (λ (l : List CopyKept). keys_of l) n ∙ map-append (λ (c : CopyKept). key_of c.prefix) copies (unsent g ∷ []))
-      ∙ (once_decides same_key key_decides (keys_of copies ++ key_of g.context ∷ [])).1
-      (once_push (key_of g.context) (keys_of copies) ((once_decides same_key key_decides (keys_of copies)).0 so_far.1) absent),
+          (ap (λ (l : List CopyKept). keys_of l) n ∙ map-append (λ (c : CopyKept). key_of c.prefix) copies (unsent g ∷ []))
+          ∙ (once_decides same_key key_decides (keys_of copies ++ key_of g.context ∷ [])).1
+          (once_push (key_of g.context) (keys_of copies) ((once_decides same_key key_decides (keys_of copies)).0 so_far.1) absent),
     )
       where
         ours : ((g.consumer == me) ≡ true) × (has same_key (keys_of copies) (key_of g.context) ≡ false)
@@ -111,7 +111,7 @@ module _ (me : ℕ) (gs : List Agreement) where
         → now ≡ copies → AreCopied now (i + 1)
     none_copied now e n = (
       ap (λ (l : List CopyKept). map copy_view l ++ left (keys_of l) (i + 1)) n
-      ∙ ap (λ (l : List Agreement). map copy_view copies ++ map described_copy l) (sym (first_old (g.consumer == me) refl e))
-      ∙ so_far.0,
+          ∙ ap (λ (l : List Agreement). map copy_view copies ++ map described_copy l) (sym (first_old (g.consumer == me) refl e))
+          ∙ so_far.0,
       ap (λ (l : List CopyKept). are_once l) n ∙ so_far.1,
     )

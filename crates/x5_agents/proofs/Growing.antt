@@ -69,9 +69,9 @@ module _ (xs : List Named) (e : Named) (grown : is_grown xs (e ∷ []) ≡ true)
   in_order order =
       let once : Once (keys_of xs) = (once_decides same_key key_decides (keys_of xs)).0 (entries_once xs order) in
       let new : In (key_at e) (keys_of xs) → ⊥ = (λ i.
-          let f = of_map key_at (key_at e) xs i in
-          let not_same = none_of (λ (g : Named). same_key (key_at g) (key_at e)) f.0 xs absent f.1 in
-          let same = (key_decides (key_at f.0) (key_at e)).1 (sym f.2) in cc) in
+      let f = of_map key_at (key_at e) xs i in
+      let not_same = none_of (λ (g : Named). same_key (key_at g) (key_at e)) f.0 xs absent f.1 in
+      let same = (key_decides (key_at f.0) (key_at e)).1 (sym f.2) in cc) in
       union_in_order (xs ++ e ∷ [])
       ((once_decides same_key key_decides (keys_of (xs ++ e ∷ []))).1
       (subst Once (sym (map-append key_at xs (e ∷ []))) (once_push (key_at e) (keys_of xs) once new)))
@@ -85,7 +85,7 @@ not_refused nodes e k Exists grown at f =
 not_refused nodes e k NoParent grown at f =
     let some = parent_there (entries_of nodes) e grown in
     let none : is_there (entries_of nodes) (parent (key_at e)) ≡ false =
-        ap (λ (q : Key). is_there (entries_of nodes) (parent q)) (sym at) ∙ f.1 in cc
+    ap (λ (q : Key). is_there (entries_of nodes) (parent q)) (sym at) ∙ f.1 in cc
 not_refused nodes e k NotLeaf grown at f = f
 
 -- the entry that is taken is just this one
@@ -96,11 +96,11 @@ same_entry old e id after order grown kept w =
     let found = of_find (λ (n : Node). same_key (node_key n) (parent (key_of e.name))) w.above old.nodes w.below in
     let at : key_at w.above.named ≡ parent (key_at e) = (key_decides (node_key w.above) (parent (key_of e.name))).0 found.1 in
     let name : w.above.named.name ≡ name_above e.name =
-        spells (entries_of old.nodes) e grown order w.above.named (in_map named_of w.above old.nodes found.0) at in
+    spells (entries_of old.nodes) e grown order w.above.named (in_map named_of w.above old.nodes found.0) at in
     let filled : is_empty e.name ≡ false =
-        not_true (is_empty e.name) (both_true (is_entry_name e.name) (is_ordered e.entry && (has_rdn e.entry (last_rdn e.name) && is_empty (entry_refusals e.entry))) kept).0 in
+    not_true (is_empty e.name) (both_true (is_entry_name e.name) (is_ordered e.entry && (has_rdn e.entry (last_rdn e.name) && is_empty (entry_refusals e.entry))) kept).0 in
     let whole : w.above.named.name ++ last_rdn e.name ∷ [] ≡ e.name =
-        ap (λ (n : Name). n ++ last_rdn e.name ∷ []) name ∙ rejoined e.name filled in
+    ap (λ (n : Name). n ++ last_rdn e.name ∷ []) name ∙ rejoined e.name filled in
     w.entries ∙ ap (λ (n : Name). sorted_entries (entries_of old.nodes ++ record { name = n; entry = e.entry } ∷ [])) whole
 
 pub one_grown : (old after : Kept) (e : Named) → ascending named_below (entries_of old.nodes.nodes) ≡ true
@@ -114,7 +114,7 @@ one_grown old after e order grown is rest =
       members = λ f. (
         (λ i. in_either f xs (e ∷ []) ((in_union f (xs ++ e ∷ [])).1 (subst (λ (ys : List Named). In f ys) is i))),
         λ s. subst (λ (ys : List Named). In f ys) (sym is) ((in_union f (xs ++ e ∷ [])).0
-        (elim s [ inl i ↦ in_left f xs (e ∷ []) i | inr i ↦ in_right f xs (e ∷ []) i ])),
+            (elim s [ inl i ↦ in_left f xs (e ∷ []) i | inr i ↦ in_right f xs (e ∷ []) i ])),
       );
       rest = rest;
     }
@@ -146,7 +146,7 @@ module _ (old mid : Kept) (e : Named) (name : Name) (entry : Entry) (order : asc
   taken id after f w g =
       let same : record { name = name; entry = entry } ≡ e = (λ i. record { name = first i; entry = second i }) in
       let is : entries_of after.nodes.nodes ≡ sorted_entries (entries_of mid.nodes.nodes ++ e ∷ []) =
-          same_entry mid.nodes e id after.nodes order_too grown_too kept
-          (subst (λ (x : Named). Inserted mid.nodes x.name x.entry id after.nodes) same w) in
+      same_entry mid.nodes e id after.nodes order_too grown_too kept
+      (subst (λ (x : Named). Inserted mid.nodes x.name x.entry id after.nodes) same w) in
       one_grown old after e order grown
       (is ∙ ap (λ (ns : List Node). sorted_entries (entries_of ns ++ e ∷ [])) nodes) (still_only old mid after f g)

@@ -53,9 +53,11 @@ pub grown_first : (xs : List Named) (e : Named) (more : List Named) → is_grown
 grown_first xs e more h =
     let above : Named → Bool = (λ (f : Named). same_spelling f.name (name_above e.name)) in
     let w = both_true (list_any above xs) (not (is_there xs (key_at e)) && is_grown (e ∷ xs) more) h in
-    let v = both_true (not (is_there xs (key_at e))) (is_grown (e ∷ xs) more) w.1 in
-    (and_true (list_any above xs) (not (is_there xs (key_at e)) && true) w.0
-    (and_true (not (is_there xs (key_at e))) true v.0 refl), v.1)
+    let v = both_true (not (is_there xs (key_at e))) (is_grown (e ∷ xs) more) w.1 in (
+      and_true (list_any above xs) (not (is_there xs (key_at e)) && true) w.0
+          (and_true (not (is_there xs (key_at e))) true v.0 refl),
+      v.1,
+    )
 
 -- entries in order, with these members
 pub in_order_of : (xs es : List Named) → ascending named_below xs ≡ true → distinct same_key (keys_of es) ≡ true

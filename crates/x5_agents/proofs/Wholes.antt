@@ -29,7 +29,7 @@ use Rattle.x5_agents.proofs.Spelled.{one_name}
 pub not_bare : (c : Context) → is_whole c ≡ true → c.entries ≡ [] → ⊥
 not_bare c e none =
     let rooted : is_rooted c c.entries ≡ true =
-        (both_true (is_rooted c c.entries) (list_all is_kept c.entries && distinct same_key (keys_of c.entries)) e).0 in
+    (both_true (is_rooted c c.entries) (list_all is_kept c.entries && distinct same_key (keys_of c.entries)) e).0 in
     let bare : is_rooted c [] ≡ true = ap (λ (es : List Named). is_rooted c es) (sym none) ∙ rooted in cc
 
 module _ (c : Context) (first : Named) (more : List Named) (whole : is_whole c ≡ true) (is : c.entries ≡ first ∷ more) where
@@ -73,14 +73,14 @@ pub held_whole : (c : Context) (first : Named) (more : List Named) (ks : List mo
     → Grown old more now → held_view now ≡ described_context ks c
 held_whole c first more ks old now whole is prefix entries below nssrs g =
     let all : entries_of now.nodes.nodes ≡ sorted_entries c.entries =
-        in_order_of (entries_of now.nodes.nodes) (first ∷ more) g.order (once c first more whole is) (λ e. (
-          λ i. joined e (subst (λ (es : List Named). In e es ⊎ In e more) entries ((g.members e).0 i)),
-          λ i. (g.members e).1 (subst (λ (es : List Named). In e es ⊎ In e more) (sym entries) (apart e i)),
-        ))
-        ∙ ap sorted_entries (sym is) in
+    in_order_of (entries_of now.nodes.nodes) (first ∷ more) g.order (once c first more whole is) (λ e. (
+      λ i. joined e (subst (λ (es : List Named). In e es ⊎ In e more) entries ((g.members e).0 i)),
+      λ i. (g.members e).1 (subst (λ (es : List Named). In e es ⊎ In e more) (sym entries) (apart e i)),
+    ))
+    ∙ ap sorted_entries (sym is) in
     let p : now.prefix ≡ c.prefix = g.rest.prefix ∙ prefix in
     let s : map specific_view now.subordinate ≡ references_below (sorted_entries c.entries) ks =
-        ap (λ (xs : List Specific). map specific_view xs) g.rest.subordinate ∙ below ∙ sym (below_sorted c.entries ks) in
+    ap (λ (xs : List Specific). map specific_view xs) g.rest.subordinate ∙ below ∙ sym (below_sorted c.entries ks) in
     let n : map nssr_view now.nssrs ≡ c.nssrs = ap (λ (xs : List Nssr). map nssr_view xs) g.rest.nssrs ∙ nssrs in
     λ i. record { prefix = p i; entries = all i; subordinate = s i; nssrs = n i }
   where

@@ -19,11 +19,7 @@ use x5_names::Key;
 use x5_ops::{ContextSpec, Moment, Specific};
 
 /// The context as its agent holds it, with those of the references that belong to it. Its first entry is the prefix's.
-fn held_of(
-    alloc: Global,
-    context: &ContextSpec,
-    specific: &[Specific],
-) -> Result<Held, NoMemory>
+fn held_of(alloc: Global, context: &ContextSpec, specific: &[Specific]) -> Result<Held, NoMemory>
     requires { is_whole (context_view context.now) ≡ true }
     ensures { IfOk result (λ held. held_view held ≡ described_context (map specific_view specific.now) (context_view context.now)) }
 {
@@ -34,7 +30,14 @@ fn held_of(
     let log = ChangeLog::new(alloc, Moment(0));
     let prefix = context.prefix.clone()?;
     let entry = first.entry.clone()?;
-    let held = Held::new(alloc, prefix, entry, log, subordinate, context.nssr.clone()?)?;
+    let held = Held::new(
+        alloc,
+        prefix,
+        entry,
+        log,
+        subordinate,
+        context.nssr.clone()?,
+    )?;
     with_entries(alloc, held, rest)
 }
 

@@ -8,12 +8,11 @@ ghost use Rattle.x5_model_tree.specs.Described.{is_grown, is_kept};
 ghost use Rattle.x5_dse.specs.Linked.{entries_of};
 ghost use Rattle.x5_agents.specs.Growing.{Grown};
 
+use std::alloc::Global;
 use x5_holdings::Held;
 use x5_index::Room;
 use x5_memory::NoMemory;
 use x5_ops::Named;
-
-use std::alloc::Global;
 
 /// The context with this entry more. The one above it is there, and it isn't.
 fn with_entry(alloc: Global, held: Held, named: &Named) -> Result<Held, NoMemory>

@@ -12,9 +12,9 @@ pub loop-agreement-preserved : goal.loop-agreement-preserved
 loop-agreement-preserved c =
     let key = key_of c.agreement-item.result.context in
     let is = ap (λ (b : Bool). (c.agreement-item.result.consumer == c.args.me) && not b)
-        (sym (has_map c.loop-agreement.copies.items key)
-        ∙ ap (λ (l : List CopyKept). list_any (λ (k : CopyKept). same_key (key_of k.prefix) key) l) (sym c.deref.ensures.value))
-        ∙ sym c.is_new.ensures in
+    (sym (has_map c.loop-agreement.copies.items key)
+    ∙ ap (λ (l : List CopyKept). list_any (λ (k : CopyKept). same_key (key_of k.prefix) key) l) (sym c.deref.ensures.value))
+    ∙ sym c.is_new.ensures in
     elim c.if-is_new.branch [
       | then-is_new+in_ok-prefix+in_ok-push w ↦
           one_copied c.args.me c.args.agreements.now c.loop-agreement.copies.items c.loop-agreement.agreement-index

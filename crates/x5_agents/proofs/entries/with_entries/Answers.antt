@@ -9,7 +9,7 @@ loop-named-init c = begun c.args.held c.args.entries.now c.requires.order c.requ
 pub with_entry-requires : goal.with_entry-requires
 with_entry-requires c =
     let s = at_place c.args.held c.args.entries.now c.loop-named.held c.loop-named.named-index c.named-item.result
-        c.loop-named-test.true c.named-item.is c.loop-named.invariant in
+    c.loop-named-test.true c.named-item.is c.loop-named.invariant in
     record {
       order = s.order;
       grown = next_grown c.args.held c.args.entries.now c.loop-named.held c.named-item.result

@@ -35,13 +35,13 @@ loop-place-preserved c =
     c.in_ok-push.ensures.items c.in_ok-holdings_of.ensures c.loop-place.invariant
 
 pub returns-clause-count : goal.returns-clause-count
-returns-clause-count c = 
+returns-clause-count c =
     c.loop-place.invariant.0
     ∙ at_end c.loop-place.place (length c.as_slice-agent-items.result.now) c.loop-place.auto.place-end c.loop-place-test.false
     ∙ ap length c.as_slice-agent-items.ensures
 
 pub returns-clause-each : goal.returns-clause-each
-returns-clause-each c me l = 
+returns-clause-each c me l =
     c.loop-place.invariant.1 me
     (within me c.loop-place.place (length c.as_slice-agent-items.result.now) c.loop-place-test.false
     (subst (λ (xs : List DescribedAgent). me < length xs) (sym c.as_slice-agent-items.ensures) l))

@@ -14,8 +14,8 @@ pub loop-known-preserved : goal.loop-known-preserved
 loop-known-preserved c =
     let above = parent (key_of c.known-item.result.pin) in
     let is : is_there c.args.context.now.entries above ≡ c.in_ok-is_below.field-0 =
-        ap (λ (es : List Named). is_there es above) (sym c.as_slice.ensures)
-        ∙ sym (c.in_ok-keys.ensures above) ∙ sym c.in_ok-is_below.ensures in
+    ap (λ (es : List Named). is_there es above) (sym c.as_slice.ensures)
+    ∙ sym (c.in_ok-keys.ensures above) ∙ sym c.in_ok-is_below.ensures in
     let below : model.Specific → Bool = (λ (k : model.Specific). is_there c.args.context.now.entries (parent (key_of k.pin))) in
     elim c.if-branch.branch [
       | then-branch+in_ok-in_context+in_ok-push w ↦
