@@ -1,0 +1,13 @@
+pub mod Spelled
+pub mod Members
+pub mod Keyed
+pub mod Kept
+pub mod Growing
+pub mod Several
+pub mod Wholes
+pub mod Firsts
+pub mod Taking
+pub mod Copying
+pub mod Parts
+pub mod Described
+pub mod Each

@@ -1,0 +1,47 @@
+//! The entries of a naming context, as its agent keeps them.
+
+ghost use Rattle.std.specs.Prelude.{◌≡◌, ◌∷◌, [], true, IfOk};
+ghost use Rattle.std.specs.List.{list_all};
+ghost use Rattle.x5_model.specs.Words.{ascending};
+ghost use Rattle.x5_model_tree.specs.Tree.{named_below};
+ghost use Rattle.x5_model_tree.specs.Described.{is_grown, is_kept};
+ghost use Rattle.x5_dse.specs.Linked.{entries_of};
+ghost use Rattle.x5_agents.specs.Growing.{Grown};
+
+use std::alloc::Global;
+use x5_holdings::Held;
+use x5_index::Room;
+use x5_memory::NoMemory;
+use x5_ops::Named;
+
+/// The context with this entry more. The one above it is there, and it isn't.
+fn with_entry(alloc: Global, held: Held, named: &Named) -> Result<Held, NoMemory>
+    requires order { ascending named_below (entries_of held.nodes.nodes) ≡ true }
+    requires grown { is_grown (entries_of held.nodes.nodes) (named.now ∷ []) ≡ true }
+    requires kept { is_kept named.now ≡ true }
+    ensures { IfOk result (λ after. Grown held (named.now ∷ []) after) }
+{
+    let mut held = held;
+    let room = Room::new(alloc, &named.entry)?;
+    held.reserve(1, room.len())?;
+    let name = named.name.clone()?;
+    let entry = named.entry.clone()?;
+    let Ok(_node) = held.insert(name, entry, room) else {
+        unreachable!()
+    };
+    Ok(held)
+}
+
+/// The context with these entries more, each behind the one above it.
+pub(crate) fn with_entries(alloc: Global, held: Held, entries: &[Named]) -> Result<Held, NoMemory>
+    requires order { ascending named_below (entries_of held.nodes.nodes) ≡ true }
+    requires grown { is_grown (entries_of held.nodes.nodes) entries.now ≡ true }
+    requires kept { list_all is_kept entries.now ≡ true }
+    ensures { IfOk result (λ after. Grown held entries.now after) }
+{
+    let mut held = held;
+    for named in entries {
+        held = with_entry(alloc, held, named)?;
+    }
+    Ok(held)
+}
