@@ -14,5 +14,6 @@ invariant_of-self-2 c = record {
         (posted_without c.self.inside.postings.postings c.drop_node.new.self.postings c.args.node
         c.self.inside.tree.nodes c.drop_node.ensures.dropped c.self.invariant.kept.posted);
   };
+  below = c.self.invariant.below;
   wide = c.self.invariant.wide;
 }

@@ -13,5 +13,6 @@ invariant_of-self-2 c = record {
         c.rename.ensures.numbered c.in_ok-before.ensures.ok c.drop_node.ensures.dropped
         (c.put.ensures.put c.args.entry c.requires.ordered c.requires.values) c.self.invariant.kept.posted;
   };
+  below = c.self.invariant.below;
   wide = c.self.invariant.wide;
 }
