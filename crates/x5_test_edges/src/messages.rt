@@ -2,7 +2,7 @@
 use std::alloc::Global;
 use std::test::Fail;
 use x5_ber::BerFault;
-use x5_typed::{Breach, Named, Node, ReadFault, read};
+use x5_typed::{Breach, Named, Node, ReadFault, Surroundings, World, read};
 
 /// A request to read the name /C=NL, with an octet of another one behind it.
 const REQUEST: [u8; 28] = [
@@ -36,7 +36,7 @@ fn components(node: &Node<'_>) -> usize {
 }
 
 fn breach(alloc: Global, form: Named, octets: &[u8]) -> Option<Breach> {
-    match read(alloc, form, octets) {
+    match read(alloc, Surroundings::Nowhere, form, octets) {
         Err(ReadFault::Breach(breach)) => Some(breach),
         _ => None,
     }
@@ -44,15 +44,47 @@ fn breach(alloc: Global, form: Named, octets: &[u8]) -> Option<Breach> {
 
 #[test]
 fn a_request_is_read(rt: HostRuntime) -> Result<(), Fail> {
-    let node = read(rt.alloc(), Named::DapRequest, &REQUEST[..27])?;
+    let node = read(
+        rt.alloc(),
+        Surroundings::Nowhere,
+        Named::DapRequest,
+        &REQUEST[..27],
+    )?;
     assert_eq!(rt; components(&node), 3);
     Ok(())
 }
 
 #[test]
 fn a_chained_request_is_read(rt: HostRuntime) -> Result<(), Fail> {
-    let node = read(rt.alloc(), Named::DspRequest, &CHAINED)?;
+    let node = read(
+        rt.alloc(),
+        Surroundings::Nowhere,
+        Named::DspRequest,
+        &CHAINED,
+    )?;
     assert_eq!(rt; components(&node), 2);
+    Ok(())
+}
+
+/// A time on the second day of 1993.
+const TIME: [u8; 17] = *b"\x18\x0f19930102000010Z";
+
+#[test]
+fn a_time_is_read_as_its_moment(rt: HostRuntime) -> Result<(), Fail> {
+    let world = World {
+        year: 1993,
+        month: 1,
+        day: 1,
+        second: 5,
+        agents: &[],
+    };
+    let node = read(
+        rt.alloc(),
+        Surroundings::World(world),
+        Named::Time,
+        &TIME,
+    )?;
+    assert!(rt; matches!(node, Node::Number(86_405)));
     Ok(())
 }
 

@@ -3,11 +3,11 @@ use Rattle.std.specs.Prelude.{◌≡◌, ℕ, ◌+◌, List, length}
 use Rattle.x5_ber.specs.Reading.{Stands}
 use Rattle.x5_model_typed.specs.Trees.{Trees, LieAll}
 use Rattle.x5_model_typed.specs.Judged.{State, judged_all}
-use Rattle.x5_types.specs.FormView.{table}
+use Rattle.x5_model_typed.specs.Forms.{Layout}
 
 -- Of members that begin at the start, those that stand at the place are left, and judging them from where reading
 -- stands now is judging all from where it began.
-pub record Ahead (bytes : List ℕ) (depth start : ℕ) (ts : Trees) (octets : List ℕ) (begun : State) (place : ℕ)
+pub record Ahead (table : Layout) (bytes : List ℕ) (depth start : ℕ) (ts : Trees) (octets : List ℕ) (begun : State) (place : ℕ)
     (now : State) : Type 0 where
   pub others : Trees
   pub rest : List ℕ

@@ -8,13 +8,13 @@ use Rattle.x5_model_typed.specs.Trees.{Tree, Lies}
 use Rattle.x5_model_typed.specs.Nodes.{Node}
 use Rattle.x5_model_typed.specs.Named.{Named}
 use Rattle.x5_model_typed.specs.Judged.{Breach, Ber, judged}
-use Rattle.x5_types.specs.FormView.{table}
+use Rattle.x5_model_typed.specs.Forms.{Layout}
 
-pub data ComesTo (form : Named) (octets : List ℕ) : Result Node Breach → Type 0 where
+pub data ComesTo (table : Layout) (form : Named) (octets : List ℕ) : Result Node Breach → Type 0 where
   -- the first fault of the element (X.690)
-  faulty : (fault : Fault) → FirstFault octets outermost 0 fault → ComesTo form octets (Err (Ber fault))
+  faulty : (fault : Fault) → FirstFault octets outermost 0 fault → ComesTo table form octets (Err (Ber fault))
   -- an octet behind the one whole element
   more : (tree : Tree) (first rest : List ℕ) (o : ℕ) → Lies 1 0 tree first → octets ≡ first ++ (o ∷ rest)
-      → ComesTo form octets (Err (Ber (BadTag (length first))))
+      → ComesTo table form octets (Err (Ber (BadTag (length first))))
   -- what the one element is judged to be
-  whole : (tree : Tree) → Lies 1 0 tree octets → ComesTo form octets (judged table (table form) tree)
+  whole : (tree : Tree) → Lies 1 0 tree octets → ComesTo table form octets (judged table (table form) tree)

@@ -5,6 +5,7 @@ ghost use Rattle.x5_model_octets.specs.Faults as faults;
 ghost use Rattle.x5_model_octets.specs.Faults.{begins_with_end, head_at, outermost};
 ghost use Rattle.x5_ber.specs.Views.{head_view};
 ghost use Rattle.x5_ber.specs.Reading.{Stands};
+ghost use Rattle.x5_model_typed.specs.Forms as forms;
 ghost use Rattle.x5_model_typed.specs.Judged as judged;
 ghost use Rattle.x5_model_typed.specs.Nodes as nodes;
 ghost use Rattle.x5_model_typed.specs.Trees as trees;
@@ -21,16 +22,16 @@ use crate::state::State;
 use std::alloc::Global;
 use x5_ber::{BerFault, Head, read_header, read_tlv};
 use x5_rules::settle;
-use x5_types::{Alternative, Choices, Content, Named, Node, layout, leaf_node};
+use x5_types::{Alternative, Choices, Content, Named, Node, Surroundings, layout, leaf_node};
 
 /// The value as it is kept, by the rule of its type.
 fn settled<'a>(
     alloc: Global,
     at: usize,
-    a: Alternative,
+    a: Alternative<'_>,
     node: Option<Node<'a>>,
 ) -> Result<Node<'a>, ReadFault>
-    ensures { Gives (λ m n. node_view m ≡ n) (judged.settled at (alternative_view a) (option_view node.entry)) result }
+    ensures { Gives (λ m n. node_view m ≡ n) (judged.settled at (alternative_view a.entry) (option_view node.entry)) result }
 {
     let Some(node) = node else {
         return Err(ReadFault::Breach(wrong_content(at)));
@@ -49,12 +50,12 @@ fn settled<'a>(
 fn read_octets<'a>(
     alloc: Global,
     octets: &'a [u8],
-    choices: Choices,
+    choices: Choices<'_>,
     at: usize,
     class: u8,
     tag: u32,
 ) -> Result<Node<'a>, ReadFault>
-    ensures { Gives (λ m n. node_view m ≡ n) (judged.judged table (choices_view choices) (trees.Leaf at class tag octets.now)) result }
+    ensures { (layout : forms.Layout) → Gives (λ m n. node_view m ≡ n) (judged.judged layout (choices_view choices.entry) (trees.Leaf at class tag octets.now)) result }
 {
     let Some(a) = choices.by_tag(class, tag) else {
         return Err(ReadFault::Breach(wrong_tag(at)));
@@ -69,13 +70,13 @@ fn read_piece<'a>(
     bytes: &'a [u8],
     at: usize,
     head: Head,
-    choices: Choices,
+    choices: Choices<'_>,
 ) -> Result<(Node<'a>, usize), ReadFault>
     requires inside { Within at head.content (length bytes.now) }
     ensures nearer { IfOk result (λ r. Within at r.1 (length bytes.now)) }
-    ensures reads { (depth : ℕ) (t : trees.Tree) (octets : List ℕ) → trees.Lies depth at t octets → Stands bytes.now at octets
+    ensures reads { (layout : forms.Layout) (depth : ℕ) (t : trees.Tree) (octets : List ℕ) → trees.Lies depth at t octets → Stands bytes.now at octets
         → head_at outermost bytes.now at ≡ Ok (head_view head) → head.identifier.constructed ≡ false
-        → Gives (λ m n. (node_view m.0 ≡ n) × (m.1 ≡ at + length octets)) (judged.judged table (choices_view choices) t) result }
+        → Gives (λ m n. (node_view m.0 ≡ n) × (m.1 ≡ at + length octets)) (judged.judged layout (choices_view choices.entry) t) result }
 {
     let Some(end) = end_of(bytes, head)? else {
         return Err(ReadFault::Breach(wrong_content(at)));
@@ -94,21 +95,22 @@ fn read_piece<'a>(
 
 /// Reads an element as a value of one of the types, by its head: its value, and the place behind it.
 #[cycle(reading)]
-fn read_element<'a>(
+fn read_element<'a, 's>(
     alloc: Global,
+    surroundings: Surroundings<'s>,
     bytes: &'a [u8],
     at: usize,
     head: Head,
-    choices: Choices,
+    choices: Choices<'s>,
 ) -> Result<(Node<'a>, usize), ReadFault>
     requires inside { Within at head.content (length bytes.now) }
     ensures nearer { IfOk result (λ r. Within at r.1 (length bytes.now)) }
     ensures reads { (depth : ℕ) (t : trees.Tree) (octets : List ℕ) → trees.Lies depth at t octets → Stands bytes.now at octets
         → head_at outermost bytes.now at ≡ Ok (head_view head)
-        → Gives (λ m n. (node_view m.0 ≡ n) × (m.1 ≡ at + length octets)) (judged.judged table (choices_view choices) t) result }
+        → Gives (λ m n. (node_view m.0 ≡ n) × (m.1 ≡ at + length octets)) (judged.judged (table surroundings.entry) (choices_view choices.entry) t) result }
 {
     if head.identifier.constructed {
-        read_open(alloc, bytes, at, head, choices)
+        read_open(alloc, surroundings, bytes, at, head, choices)
     } else {
         read_piece(alloc, bytes, at, head, choices)
     }
@@ -116,24 +118,25 @@ fn read_element<'a>(
 
 /// A constructed element.
 #[cycle(reading)]
-fn read_open<'a>(
+fn read_open<'a, 's>(
     alloc: Global,
+    surroundings: Surroundings<'s>,
     bytes: &'a [u8],
     at: usize,
     head: Head,
-    choices: Choices,
+    choices: Choices<'s>,
 ) -> Result<(Node<'a>, usize), ReadFault>
     requires inside { Within at head.content (length bytes.now) }
     ensures nearer { IfOk result (λ r. Within at r.1 (length bytes.now)) }
     ensures reads { (depth : ℕ) (t : trees.Tree) (octets : List ℕ) → trees.Lies depth at t octets → Stands bytes.now at octets
         → head_at outermost bytes.now at ≡ Ok (head_view head) → head.identifier.constructed ≡ true
-        → Gives (λ m n. (node_view m.0 ≡ n) × (m.1 ≡ at + length octets)) (judged.judged table (choices_view choices) t) result }
+        → Gives (λ m n. (node_view m.0 ≡ n) × (m.1 ≡ at + length octets)) (judged.judged (table surroundings.entry) (choices_view choices.entry) t) result }
 {
     let Some(a) = choices.by_tag(head.identifier.class, head.identifier.tag) else {
         return Err(ReadFault::Breach(wrong_tag(at)));
     };
     let end = end_of(bytes, head)?;
-    let (node, next) = read_content(alloc, bytes, at, head.content, end, a.content)?;
+    let (node, next) = read_content(alloc, surroundings, bytes, at, head.content, end, a.content)?;
     let node = settled(alloc, at, a, node)?;
     Ok((node, next))
 }
@@ -156,22 +159,23 @@ fn end_of(bytes: &[u8], head: Head) -> Result<Option<usize>, ReadFault>
 
 /// Reads a constructed content from the place, of the element at the other one: what it is, and the place behind it.
 #[cycle(reading)]
-fn read_content<'a>(
+fn read_content<'a, 's>(
     alloc: Global,
+    surroundings: Surroundings<'s>,
     bytes: &'a [u8],
     at: usize,
     place: usize,
     end: Option<usize>,
-    content: Content,
+    content: Content<'s>,
 ) -> Result<(Option<Node<'a>>, usize), ReadFault>
     requires inside { place ≤ length bytes.now }
     ensures nearer { IfOk result (λ r. (place ≤ r.1) × (r.1 ≤ length bytes.now)) }
     ensures reads { (depth : ℕ) (ts : trees.Trees) (octets : List ℕ) → trees.LieAll depth place ts octets → Stands bytes.now place octets
         → EndsAt bytes.now end (place + length octets)
-        → Gives (λ m s. (option_view m.0 ≡ judged.ended s) × (m.1 ≡ behind end (place + length octets))) (judged.judged_all table (judged.begun at (content_view content)) ts) result }
+        → Gives (λ m s. (option_view m.0 ≡ judged.ended s) × (m.1 ≡ behind end (place + length octets))) (judged.judged_all (table surroundings.entry) (judged.begun at (content_view content.entry)) ts) result }
 {
     let mut state = State::new(alloc, at, content)?;
-    let next = read_members(alloc, bytes, place, end, &mut state)?;
+    let next = read_members(alloc, surroundings, bytes, place, end, &mut state)?;
     let node = state.ended(alloc)?;
     Ok((node, next))
 }
@@ -197,12 +201,13 @@ fn stands_end(bytes: &[u8], place: usize) -> bool
 
 /// Reads members up to the end of their content: the place behind it.
 #[cycle(reading)]
-fn read_members<'a>(
+fn read_members<'a, 's>(
     alloc: Global,
+    surroundings: Surroundings<'s>,
     bytes: &'a [u8],
     start: usize,
     end: Option<usize>,
-    state: &mut State<'a>,
+    state: &mut State<'a, 's>,
 ) -> Result<usize, ReadFault>
     requires inside { start ≤ length bytes.now }
     requires state { IsState state.old }
@@ -210,11 +215,11 @@ fn read_members<'a>(
     ensures nearer { IfOk result (λ next. (start ≤ next) × (next ≤ length bytes.now)) }
     ensures reads { (depth : ℕ) (ts : trees.Trees) (octets : List ℕ) → trees.LieAll depth start ts octets → Stands bytes.now start octets
         → EndsAt bytes.now end (start + length octets)
-        → Gives (λ next s. (state_view state.new ≡ s) × (next ≡ behind end (start + length octets))) (judged.judged_all table (state_view state.old) ts) result }
+        → Gives (λ next s. (state_view state.new ≡ s) × (next ≡ behind end (start + length octets))) (judged.judged_all (table surroundings.entry) (state_view state.old) ts) result }
 {
     let mut place = start;
     while !is_over(bytes, place, end) {
-        place = read_member(alloc, bytes, place, state)?;
+        place = read_member(alloc, surroundings, bytes, place, state)?;
     }
     Ok(past_end(bytes, place, end))
 }
@@ -234,22 +239,23 @@ fn past_end(bytes: &[u8], place: usize, end: Option<usize>) -> usize
 
 /// Reads the member at the place: the place behind it.
 #[cycle(reading)]
-fn read_member<'a>(
+fn read_member<'a, 's>(
     alloc: Global,
+    surroundings: Surroundings<'s>,
     bytes: &'a [u8],
     at: usize,
-    state: &mut State<'a>,
+    state: &mut State<'a, 's>,
 ) -> Result<usize, ReadFault>
     requires inside { at ≤ length bytes.now }
     requires state { IsState state.old }
     ensures kept { IsState state.new }
     ensures nearer { IfOk result (λ next. Within at next (length bytes.now)) }
     ensures reads { (depth : ℕ) (t : trees.Tree) (octets : List ℕ) → trees.Lies depth at t octets → Stands bytes.now at octets
-        → Gives (λ next s. (state_view state.new ≡ s) × (next ≡ at + length octets)) (judged.judged_member table (state_view state.old) t) result }
+        → Gives (λ next s. (state_view state.new ≡ s) × (next ≡ at + length octets)) (judged.judged_member (table surroundings.entry) (state_view state.old) t) result }
 {
     let head = head_of(bytes, at)?;
-    let awaited = state.awaits(at, head.identifier.class, head.identifier.tag)?;
-    let (node, next) = read_element(alloc, bytes, at, head, awaited.choices)?;
+    let awaited = state.awaits(surroundings, at, head.identifier.class, head.identifier.tag)?;
+    let (node, next) = read_element(alloc, surroundings, bytes, at, head, awaited.choices)?;
     state.step(alloc, at, awaited.step, node)?;
     Ok(next)
 }
@@ -267,31 +273,41 @@ fn head_of(bytes: &[u8], at: usize) -> Result<Head, ReadFault>
     }
 }
 
-/// Reads octets as a value of the type: the value, if they are one spelling of it and nothing else.
+/// Reads octets as a value of the type in the surroundings: the value, if they are one spelling of it and nothing else.
 ///
 /// # Errors
 /// The first breach in the order of reading: the whole first reading, whatever the type, before the second. Or that
 /// memory ran out.
-pub fn read<'a>(alloc: Global, form: Named, octets: &'a [u8]) -> Result<Node<'a>, ReadFault>
+pub fn read<'a>(
+    alloc: Global,
+    surroundings: Surroundings<'_>,
+    form: Named,
+    octets: &'a [u8],
+) -> Result<Node<'a>, ReadFault>
     // The value or the breach is the one that reading comes to, and it comes to exactly one.
-    ensures reads { (e : Result nodes.Node judged.Breach) → ComesTo (named_view form) octets.now e → Gives (λ m n. node_view m ≡ n) e result }
-    ensures comes { (e : Result nodes.Node judged.Breach) × ComesTo (named_view form) octets.now e }
+    ensures reads { (e : Result nodes.Node judged.Breach) → ComesTo (table surroundings.entry) (named_view form) octets.now e → Gives (λ m n. node_view m ≡ n) e result }
+    ensures comes { (e : Result nodes.Node judged.Breach) × ComesTo (table surroundings.entry) (named_view form) octets.now e }
     // A value is spelled by the octets.
-    ensures spelled { IfOk result (λ m. Spells table (named_view form) octets.now (node_view m)) }
+    ensures spelled { IfOk result (λ m. Spells (table surroundings.entry) (named_view form) octets.now (node_view m)) }
 {
     match read_tlv(octets, 0) {
         Err(fault) => Err(ReadFault::Breach(Breach::Ber(fault))),
         Ok((_, next)) if next < octets.len() => Err(ReadFault::Breach(wrong_tag(next))),
-        Ok(_) => read_whole(alloc, form, octets),
+        Ok(_) => read_whole(alloc, surroundings, form, octets),
     }
 }
 
 /// Octets that are one element, as a value of the type.
-fn read_whole<'a>(alloc: Global, form: Named, octets: &'a [u8]) -> Result<Node<'a>, ReadFault>
+fn read_whole<'a>(
+    alloc: Global,
+    surroundings: Surroundings<'_>,
+    form: Named,
+    octets: &'a [u8],
+) -> Result<Node<'a>, ReadFault>
     ensures { (t : trees.Tree) → trees.Lies 1 0 t octets.now
-        → Gives (λ m n. node_view m ≡ n) (judged.judged table (table (named_view form)) t) result }
+        → Gives (λ m n. node_view m ≡ n) (judged.judged (table surroundings.entry) (table surroundings.entry (named_view form)) t) result }
 {
     let head = head_of(octets, 0)?;
-    let (node, _) = read_element(alloc, octets, 0, head, layout(form))?;
+    let (node, _) = read_element(alloc, surroundings, octets, 0, head, layout(surroundings, form))?;
     Ok(node)
 }

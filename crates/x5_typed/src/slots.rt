@@ -9,7 +9,7 @@ ghost use Rattle.x5_types.specs.NodeView.{node_view, option_view};
 ghost use Rattle.x5_typed.specs.StateView.{awaited_view, left_view, IsPlace, IsSlot, SlotIs};
 
 use crate::fault::{Breach, wrong_content, wrong_tag};
-use x5_types::{Choices, Component, Content, Named, Node, Presence};
+use x5_types::{Choices, Component, Content, Named, Node, Presence, Surroundings};
 
 /// The components that may still come.
 #[derive(Clone, Copy)]
@@ -29,8 +29,8 @@ pub(crate) enum Step {
 
 /// What the next member has to be.
 #[derive(Clone, Copy)]
-pub(crate) struct Awaited {
-    pub choices: Choices,
+pub(crate) struct Awaited<'s> {
+    pub choices: Choices<'s>,
     pub step: Step,
 }
 
@@ -97,8 +97,8 @@ fn listed_behind(components: &'static [Component], i: usize) -> Left
 }
 
 /// The components of a content.
-pub(crate) fn components_in(content: Content) -> Left
-    ensures { left_view result ≡ judged.components_in (content_view content) }
+pub(crate) fn components_in(content: Content<'_>) -> Left
+    ensures { left_view result ≡ judged.components_in (content_view content.entry) }
 {
     match content {
         Content::Sequence(components) | Content::Set(components) => Left::Listed(components),
@@ -107,20 +107,21 @@ pub(crate) fn components_in(content: Content) -> Left
 }
 
 /// In a SEQUENCE the first component that has the tag, where those before it may be missing.
-pub(crate) fn sequence_awaits(
+pub(crate) fn sequence_awaits<'s>(
+    surroundings: Surroundings<'s>,
     left: &Left,
     at: usize,
     class: u8,
     tag: u32,
-) -> Result<Awaited, Breach>
+) -> Result<Awaited<'s>, Breach>
     ensures fits { IfOk result (λ a. IsPlace (length (left_view left.now)) a.step) }
     ensures awaits { MatchResult result
-        (λ a. judged.sequence_awaits table at class tag 0 (left_view left.now) ≡ Ok (awaited_view a))
-        (λ b. judged.sequence_awaits table at class tag 0 (left_view left.now) ≡ Err (breach_view b)) }
+        (λ a. judged.sequence_awaits (table surroundings.entry) at class tag 0 (left_view left.now) ≡ Ok (awaited_view a))
+        (λ b. judged.sequence_awaits (table surroundings.entry) at class tag 0 (left_view left.now) ≡ Err (breach_view b)) }
 {
     for i in 0..left.len() {
         let component = left.component(i);
-        let choices = component.choices();
+        let choices = component.choices(surroundings);
         if choices.by_tag(class, tag).is_some() {
             return Ok(Awaited {
                 choices,
@@ -143,21 +144,22 @@ pub(crate) fn is_taken(slots: &[Option<Node<'_>>], i: usize) -> bool
 }
 
 /// In a SET the component that has the tag; each stands once.
-pub(crate) fn set_awaits(
+pub(crate) fn set_awaits<'s>(
+    surroundings: Surroundings<'s>,
     left: &Left,
     slots: &[Option<Node<'_>>],
     at: usize,
     class: u8,
     tag: u32,
-) -> Result<Awaited, Breach>
+) -> Result<Awaited<'s>, Breach>
     requires { length slots.now ≡ length (left_view left.now) }
     ensures fits { IfOk result (λ a. IsSlot (length slots.now) a.step) }
     ensures awaits { MatchResult result
-        (λ a. judged.set_awaits table at class tag 0 (left_view left.now) (map option_view slots.now) ≡ Ok (awaited_view a))
-        (λ b. judged.set_awaits table at class tag 0 (left_view left.now) (map option_view slots.now) ≡ Err (breach_view b)) }
+        (λ a. judged.set_awaits (table surroundings.entry) at class tag 0 (left_view left.now) (map option_view slots.now) ≡ Ok (awaited_view a))
+        (λ b. judged.set_awaits (table surroundings.entry) at class tag 0 (left_view left.now) (map option_view slots.now) ≡ Err (breach_view b)) }
 {
     for i in 0..left.len() {
-        let choices = left.component(i).choices();
+        let choices = left.component(i).choices(surroundings);
         let taken = is_taken(slots, i);
         if choices.by_tag(class, tag).is_some() {
             if taken {

@@ -14,16 +14,16 @@ use crate::slots::{
 use std::alloc::Global;
 use x5_memory::NoMemory;
 use x5_types::{
-    BIT_SEGMENT, Bytes, Choices, Component, Content, Named, Node, SEGMENT, layout, read_bits,
+    BIT_SEGMENT, Bytes, Choices, Component, Content, Named, Node, SEGMENT, Surroundings, layout, read_bits,
     read_leaf,
 };
 
 /// Where reading stands: the element's place and content, the components that may still come, what the members so far
 /// say (of a SET in a slot for each component), and the last member's place.
 #[derive(Drop)]
-pub(crate) struct State<'a> {
+pub(crate) struct State<'a, 's> {
     pub at: usize,
-    pub content: Content,
+    pub content: Content<'s>,
     pub left: Left,
     pub nodes: Vec<Node<'a>>,
     pub slots: Vec<Option<Node<'a>>>,
@@ -50,23 +50,29 @@ fn is_last_ragged(nodes: &[Node<'_>]) -> bool
     is_ragged(&nodes[nodes.len() - 1])
 }
 
-fn next_of(form: Named) -> Awaited
-    ensures { awaited_view result ≡ record { types = table (named_view form); step = judged.Next } }
+fn next_of<'s>(surroundings: Surroundings<'s>, form: Named) -> Awaited<'s>
+    ensures { awaited_view result ≡ record { types = table surroundings.entry (named_view form); step = judged.Next } }
 {
     Awaited {
-        choices: layout(form),
+        choices: layout(surroundings, form),
         step: Step::Next,
     }
 }
 
-impl<'a> State<'a> {
+impl<'a, 's> State<'a, 's> {
     /// What the next member has to be, by its place and tag.
-    pub(crate) fn awaits(&self, at: usize, class: u8, tag: u32) -> Result<Awaited, Breach>
+    pub(crate) fn awaits(
+        &self,
+        surroundings: Surroundings<'s>,
+        at: usize,
+        class: u8,
+        tag: u32,
+    ) -> Result<Awaited<'s>, Breach>
         requires { IsState self.now }
         ensures fits { IfOk result (λ a. Fits a.step self.now) }
         ensures awaits { MatchResult result
-            (λ a. judged.awaits table (state_view self.now) at class tag ≡ Ok (awaited_view a))
-            (λ b. judged.awaits table (state_view self.now) at class tag ≡ Err (breach_view b)) }
+            (λ a. judged.awaits (table surroundings.entry) (state_view self.now) at class tag ≡ Ok (awaited_view a))
+            (λ b. judged.awaits (table surroundings.entry) (state_view self.now) at class tag ≡ Err (breach_view b)) }
     {
         match self.content {
             Content::Primitive(_) | Content::Never => Err(wrong_content(self.at)),
@@ -77,19 +83,19 @@ impl<'a> State<'a> {
             Content::JoinedBits(_) => self.awaits_bits(),
             Content::Explicit(form) => {
                 if self.nodes.is_empty() {
-                    Ok(next_of(form))
+                    Ok(next_of(surroundings, form))
                 } else {
                     Err(wrong_tag(at))
                 }
             }
-            Content::Sequence(_) => sequence_awaits(&self.left, at, class, tag),
-            Content::Set(_) => set_awaits(&self.left, &self.slots, at, class, tag),
-            Content::Members(form) => Ok(next_of(form)),
+            Content::Sequence(_) => sequence_awaits(surroundings, &self.left, at, class, tag),
+            Content::Set(_) => set_awaits(surroundings, &self.left, &self.slots, at, class, tag),
+            Content::Members(form) => Ok(next_of(surroundings, form)),
         }
     }
 
     /// The next segment of a bit string: one with unused bits is the last.
-    fn awaits_bits(&self) -> Result<Awaited, Breach>
+    fn awaits_bits(&self) -> Result<Awaited<'s>, Breach>
         ensures fits { IfOk result (λ a. Fits a.step self.now) }
         ensures awaits { MatchResult result
             (λ a. awaits_bits (state_view self.now) ≡ Ok (awaited_view a))
@@ -106,8 +112,8 @@ impl<'a> State<'a> {
     }
 
     /// The beginning of a content.
-    pub(crate) fn new(alloc: Global, at: usize, content: Content) -> Result<State<'a>, NoMemory>
-        ensures begun { IfOk result (λ s. state_view s ≡ judged.begun at (content_view content)) }
+    pub(crate) fn new(alloc: Global, at: usize, content: Content<'s>) -> Result<State<'a, 's>, NoMemory>
+        ensures begun { IfOk result (λ s. state_view s ≡ judged.begun at (content_view content.entry)) }
         ensures kept { IfOk result IsState }
     {
         let left = components_in(content);
@@ -229,8 +235,8 @@ fn push_defaults(
     Ok(())
 }
 
-fn empty_slots<'a>(alloc: Global, content: Content) -> Result<Vec<Option<Node<'a>>>, NoMemory>
-    ensures { IfOk result (λ slots. map option_view slots.items ≡ judged.slots_in (content_view content)) }
+fn empty_slots<'a>(alloc: Global, content: Content<'_>) -> Result<Vec<Option<Node<'a>>>, NoMemory>
+    ensures { IfOk result (λ slots. map option_view slots.items ≡ judged.slots_in (content_view content.entry)) }
 {
     match content {
         Content::Set(components) => empty(alloc, components),

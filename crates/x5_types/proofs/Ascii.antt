@@ -49,6 +49,7 @@ are_ascii : (ls : Letters) (t : List ℕ) → letters_view ls t ≡ true → IsA
 are_ascii letters.Numeric t e = text_low leaves.is_numeric numeric_low t e
 are_ascii letters.Printable t e = text_low is_printable printable_low t e
 are_ascii letters.SevenBit t e = text_low leaves.is_seven_bit seven_low t e
+are_ascii (letters.World s) t e = agent_text t (first_so (leaves.is_agent_name t) _ e)
 are_ascii letters.Agent t e = agent_text t (first_so (leaves.is_agent_name t) _ e)
 
 pub are_utf8 : (ls : Letters) (t : List ℕ) → letters_view ls t ≡ true → IsUtf8 t

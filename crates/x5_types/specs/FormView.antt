@@ -9,8 +9,9 @@ use Rattle.x5_model_typed.specs.Leaves as leaves
 use Rattle.x5_model_typed.specs.Rules as rules
 use Rattle.x5_model_typed.specs.Judged as judged
 use Rattle.x5_model_typed.specs.Layouts as layouts
-use Rattle.std.specs.declared.option.Option.TheVariants.{None}
 use Rattle.std.specs.Prelude.{false}
+use Rattle.x5_types.specs.declared.surroundings.Surroundings.{Surroundings}
+use Rattle.x5_types.specs.Times.{surroundings_view}
 use Rattle.x5_types.specs.declared.form.Operation.{Operation}
 use Rattle.x5_types.specs.declared.form.Operation.TheVariants as o
 use Rattle.x5_types.specs.declared.form.Named.{Named}
@@ -100,6 +101,14 @@ named_view n.AttributeError = named.AttributeError
 named_view n.NameError = named.NameError
 named_view n.ServiceError = named.ServiceError
 named_view n.UpdateError = named.UpdateError
+named_view n.Time = named.Time
+named_view n.ShadowError = named.ShadowError
+named_view n.Agreement = named.Agreement
+named_view n.ShadowArgument = named.ShadowArgument
+named_view n.WorldAgents = named.WorldAgents
+named_view n.WorldAgent = named.WorldAgent
+named_view n.WorldAgentName = named.WorldAgentName
+named_view n.DispResult = named.DispResult
 named_view (n.Argument op) = named.Argument (operation_view op)
 named_view (n.Chained op) = named.Chained (operation_view op)
 named_view (n.Outcome op) = named.Outcome (operation_view op)
@@ -117,6 +126,7 @@ abbrev pub letters_view : Letters → List ℕ → Bool
 letters_view letters.Numeric = leaves.text_of leaves.is_numeric
 letters_view letters.Printable = leaves.text_of is_printable
 letters_view letters.SevenBit = leaves.text_of leaves.is_seven_bit
+letters_view (letters.World s) = λ t. if leaves.is_agent_name t then (surroundings_view s).is_agent t else false
 letters_view letters.Agent = λ t. if leaves.is_agent_name t then layouts.any_agent t else false
 
 abbrev pub leaf_view : Leaf → forms.Leaf (List ℕ)
@@ -127,6 +137,7 @@ leaf_view leaf.Oid = leaves.oid leaves.any_oid
 leaf_view leaf.ShortOid = leaves.oid leaves.short_oid
 leaf_view leaf.Octets = leaves.octet_string
 leaf_view (leaf.Text ls) = leaves.text_where (letters_view ls)
+leaf_view (leaf.Time s) = layouts.time_leaf (surroundings_view s)
 leaf_view leaf.Universal = leaves.universal_string
 leaf_view leaf.Segment = judged.octets_leaf
 
@@ -151,6 +162,7 @@ codes_view codes.ChainedArguments = layouts.named_by (layouts.operation_codes na
 codes_view codes.Outcomes = layouts.named_by (layouts.operation_codes named.Outcome)
 codes_view codes.DapErrors = layouts.named_by layouts.dap_errors
 codes_view codes.DspErrors = layouts.named_by layouts.dsp_errors
+codes_view codes.ShadowResults = layouts.named_by layouts.shadow_results
 
 abbrev pub presence_view : Presence → forms.Presence
 presence_view presence.Required = forms.Required
@@ -203,10 +215,6 @@ choices_view (choices.Listed types) = types_view types.now
 choices_view (choices.One a) = alternative_view a ∷ []
 choices_view (choices.Filter levels) = layouts.filter levels
 
--- No world: in messages of users and between agents there are no times, and agents of any name.
-abbrev pub nowhere : layouts.Surroundings
-nowhere = record { moment = λ t. None; time = λ m. []; is_agent = λ a. false }
-
--- The types of messages.
-abbrev pub table : forms.Layout
-table = layouts.layout nowhere
+-- The types of messages in these surroundings.
+abbrev pub table : Surroundings → forms.Layout
+table s = layouts.layout (surroundings_view s)

@@ -5,10 +5,11 @@ ghost use Rattle.x5_model_typed.specs.Judged as judged;
 ghost use Rattle.x5_types.specs.FormView.{choices_view, component_view, named_view, table};
 
 use crate::form::{Alternative, Choices, Component, Content, Named, Presence, Rule};
+use crate::surroundings::Surroundings;
 use crate::table::layout;
 
 /// An explicit context tag around a type.
-fn tagged(tag: u32, form: Named) -> Choices
+fn tagged<'s>(tag: u32, form: Named) -> Choices<'s>
     ensures { choices_view result ≡ forms.context tag (forms.Explicit (named_view form)) ∷ [] }
 {
     Choices::One(Alternative {
@@ -22,11 +23,11 @@ fn tagged(tag: u32, form: Named) -> Choices
 
 impl Component {
     /// The types that its elements are of.
-    pub fn choices(self) -> Choices
-        ensures { choices_view result ≡ forms.alternatives table (component_view self) }
+    pub fn choices<'s>(self, surroundings: Surroundings<'s>) -> Choices<'s>
+        ensures { choices_view result ≡ forms.alternatives (table surroundings.entry) (component_view self) }
     {
         match self.tag {
-            None => layout(self.form),
+            None => layout(surroundings, self.form),
             Some(tag) => tagged(tag, self.form),
         }
     }

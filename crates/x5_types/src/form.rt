@@ -4,6 +4,8 @@ ghost use Rattle.x5_model_typed.specs.Forms as forms;
 ghost use Rattle.x5_model_typed.specs.Layouts as layouts;
 ghost use Rattle.x5_types.specs.FormView.{types_view, choices_view, alternative_view, content_view};
 
+use crate::surroundings::Surroundings;
+
 /// What a request asks for (X.511).
 #[derive(Clone, Copy)]
 pub enum Operation {
@@ -29,6 +31,7 @@ pub enum Named {
     Chained(Operation),
     DapResult,
     DspResult,
+    DispResult,
     Outcome(Operation),
     AnyNumber,
     /// An INTEGER from the first to the second.
@@ -41,6 +44,7 @@ pub enum Named {
     Value,
     Part,
     AgentName,
+    Time,
     Options,
     RefType,
     Name,
@@ -82,6 +86,12 @@ pub enum Named {
     NameError,
     ServiceError,
     UpdateError,
+    ShadowError,
+    Agreement,
+    ShadowArgument,
+    WorldAgents,
+    WorldAgent,
+    WorldAgentName,
 }
 
 /// Which numbers an INTEGER or ENUMERATED has.
@@ -96,17 +106,19 @@ pub enum Numbers {
 
 /// Which characters a text has.
 #[derive(Clone, Copy)]
-pub enum Letters {
+pub enum Letters<'s> {
     Numeric,
     Printable,
     SevenBit,
     /// The name of an agent.
     Agent,
+    /// The name of one of the agents that the surroundings have.
+    World(Surroundings<'s>),
 }
 
 /// Contents of octets.
 #[derive(Clone, Copy)]
-pub enum Leaf {
+pub enum Leaf<'s> {
     Boolean,
     Null,
     Number(Numbers),
@@ -114,7 +126,9 @@ pub enum Leaf {
     /// An object identifier whose content has 1,024 octets at most.
     ShortOid,
     Octets,
-    Text(Letters),
+    Text(Letters<'s>),
+    /// A time after the start, as its moment.
+    Time(Surroundings<'s>),
     /// Four octets a character.
     Universal,
     /// A segment of a string.
@@ -150,6 +164,7 @@ pub enum Codes {
     Outcomes,
     DapErrors,
     DspErrors,
+    ShadowResults,
 }
 
 /// Whether a component has to be there, and what it is where it isn't. The number of a code names the type of the
@@ -171,10 +186,10 @@ pub struct Component {
 
 /// What an element's content is.
 #[derive(Clone, Copy)]
-pub enum Content {
-    Primitive(Leaf),
+pub enum Content<'s> {
+    Primitive(Leaf<'s>),
     /// A string, whole or in segments (X.690, 8.7 and 8.21).
-    Joined(Leaf),
+    Joined(Leaf<'s>),
     /// A bit string, whole or in segments (X.690, 8.6).
     JoinedBits(BitLeaf),
     /// One element of the type.
@@ -205,29 +220,29 @@ pub enum Rule {
 /// A tag that a type's elements may have, with the content and the rule of the whole. Where the tag says which of
 /// several types it is, the value is marked with it.
 #[derive(Clone, Copy)]
-pub struct Alternative {
+pub struct Alternative<'s> {
     pub class: u8,
     pub tag: u32,
     pub marked: bool,
-    pub content: Content,
+    pub content: Content<'s>,
     pub rule: Rule,
 }
 
 /// The types that an element may be of.
 #[derive(Clone, Copy)]
-pub enum Choices {
-    Listed(&'static [Alternative]),
-    One(Alternative),
+pub enum Choices<'s> {
+    Listed(&'static [Alternative<'static>]),
+    One(Alternative<'s>),
     /// A filter of so many levels at most.
     Filter(u8),
 }
 
-impl Choices {
+impl<'s> Choices<'s> {
     /// The alternative with the tag.
-    pub fn by_tag(self, class: u8, tag: u32) -> Option<Alternative>
+    pub fn by_tag(self, class: u8, tag: u32) -> Option<Alternative<'s>>
         ensures { MatchOption result
-            (forms.by_tag class tag (choices_view self) ≡ None)
-            (λ a. forms.by_tag class tag (choices_view self) ≡ Some (alternative_view a)) }
+            (forms.by_tag class tag (choices_view self.entry) ≡ None)
+            (λ a. forms.by_tag class tag (choices_view self.entry) ≡ Some (alternative_view a)) }
     {
         match self {
             Choices::Listed(types) => listed_by_tag(types, class, tag),
@@ -237,10 +252,10 @@ impl Choices {
     }
 }
 
-fn one_by_tag(alternative: Alternative, class: u8, tag: u32) -> Option<Alternative>
+fn one_by_tag<'s>(alternative: Alternative<'s>, class: u8, tag: u32) -> Option<Alternative<'s>>
     ensures { MatchOption result
-        (forms.by_tag class tag (alternative_view alternative ∷ []) ≡ None)
-        (λ a. forms.by_tag class tag (alternative_view alternative ∷ []) ≡ Some (alternative_view a)) }
+        (forms.by_tag class tag (alternative_view alternative.entry ∷ []) ≡ None)
+        (λ a. forms.by_tag class tag (alternative_view alternative.entry ∷ []) ≡ Some (alternative_view a)) }
 {
     if alternative.class == class && alternative.tag == tag {
         Some(alternative)
@@ -249,7 +264,11 @@ fn one_by_tag(alternative: Alternative, class: u8, tag: u32) -> Option<Alternati
     }
 }
 
-fn listed_by_tag(types: &'static [Alternative], class: u8, tag: u32) -> Option<Alternative>
+fn listed_by_tag<'s>(
+    types: &'static [Alternative<'static>],
+    class: u8,
+    tag: u32,
+) -> Option<Alternative<'s>>
     ensures { MatchOption result
         (forms.by_tag class tag (types_view types.now) ≡ None)
         (λ a. forms.by_tag class tag (types_view types.now) ≡ Some (alternative_view a)) }
@@ -263,7 +282,7 @@ fn listed_by_tag(types: &'static [Alternative], class: u8, tag: u32) -> Option<A
 }
 
 /// The content of a filter with the context tag, of so many levels at most. The 17th on its way has none.
-fn filter_content(levels: u8, tag: u32) -> Option<Content>
+fn filter_content<'s>(levels: u8, tag: u32) -> Option<Content<'s>>
     ensures { MatchOption result
         (forms.by_tag 2 tag (layouts.filter levels) ≡ None)
         (λ c. forms.by_tag 2 tag (layouts.filter levels) ≡ Some (forms.choice tag (content_view c))) }
@@ -281,7 +300,7 @@ fn filter_content(levels: u8, tag: u32) -> Option<Content>
     }
 }
 
-fn filter_by_tag(levels: u8, class: u8, tag: u32) -> Option<Alternative>
+fn filter_by_tag<'s>(levels: u8, class: u8, tag: u32) -> Option<Alternative<'s>>
     ensures { MatchOption result
         (forms.by_tag class tag (layouts.filter levels) ≡ None)
         (λ a. forms.by_tag class tag (layouts.filter levels) ≡ Some (alternative_view a)) }

@@ -2,15 +2,18 @@
 ghost use Rattle.std.specs.Prelude.{◌≡◌, IfOk};
 ghost use Rattle.x5_model_typed.specs.Forms as forms;
 ghost use Rattle.x5_model_typed.specs.Judged as judged;
+ghost use Rattle.x5_model_typed.specs.Layouts as layouts;
 ghost use Rattle.x5_model_typed.specs.Leaves as leaves;
 ghost use Rattle.x5_types.specs.FormView.{bit_leaf_view, content_view, leaf_view};
 ghost use Rattle.x5_types.specs.NodeView.{bytes_view, option_view};
+ghost use Rattle.x5_types.specs.Times.{surroundings_view};
 
 use crate::bits::{bits_of_content, read_bits};
 use crate::form::{BitLeaf, Content, Leaf};
 use crate::node::{Bytes, Node};
 use crate::number::number;
 use crate::oid::{oid, short_oid};
+use crate::surroundings::Surroundings;
 use crate::text::{text, universal};
 use std::alloc::Global;
 use x5_memory::NoMemory;
@@ -44,14 +47,24 @@ fn octet_string<'a>(octets: Bytes<'a>) -> Option<Node<'a>>
     }
 }
 
+/// A time as the number of its moment.
+fn time<'a>(surroundings: Surroundings<'_>, octets: &[u8]) -> Option<Node<'a>>
+    ensures { option_view result ≡ (layouts.time_leaf (surroundings_view surroundings.entry)).reads octets.now }
+{
+    match surroundings.moment(octets) {
+        Some(moment) => Some(Node::Number(i64::from(moment))),
+        None => None,
+    }
+}
+
 /// What the octets of a content say, which may have been joined from segments. None if they are outside the type
 /// (X.690, section 8).
 pub fn read_leaf<'a>(
     alloc: Global,
-    leaf: Leaf,
+    leaf: Leaf<'_>,
     octets: Bytes<'a>,
 ) -> Result<Option<Node<'a>>, NoMemory>
-    ensures { IfOk result (λ n. option_view n ≡ (leaf_view leaf).reads (bytes_view octets.entry)) }
+    ensures { IfOk result (λ n. option_view n ≡ (leaf_view leaf.entry).reads (bytes_view octets.entry)) }
 {
     match leaf {
         Leaf::Boolean => Ok(boolean(octets.as_slice())),
@@ -62,6 +75,7 @@ pub fn read_leaf<'a>(
         Leaf::Octets => Ok(octet_string(octets)),
         Leaf::Text(letters) => Ok(text(letters, octets)),
         Leaf::Universal => universal(alloc, octets.as_slice()),
+        Leaf::Time(surroundings) => Ok(time(surroundings, octets.as_slice())),
         Leaf::Segment => Ok(Some(Node::Octets(octets))),
     }
 }
@@ -82,10 +96,10 @@ fn read_bit_content<'a>(
 /// What a primitive content says. None if it is outside the type, or the type has no primitive contents.
 pub fn leaf_node<'a>(
     alloc: Global,
-    content: Content,
+    content: Content<'_>,
     octets: &'a [u8],
 ) -> Result<Option<Node<'a>>, NoMemory>
-    ensures { IfOk result (λ n. option_view n ≡ judged.leaf_node (content_view content) octets.now) }
+    ensures { IfOk result (λ n. option_view n ≡ judged.leaf_node (content_view content.entry) octets.now) }
 {
     match content {
         Content::Primitive(leaf) | Content::Joined(leaf) => read_leaf(

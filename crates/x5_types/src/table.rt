@@ -6,11 +6,13 @@ ghost use Rattle.x5_model_typed.specs.Leaves as leaves;
 ghost use Rattle.x5_model_typed.specs.Layouts as layouts;
 ghost use Rattle.x5_model_typed.specs.Named as named;
 ghost use Rattle.x5_types.specs.FormView.{choices_view, types_view, content_view, named_view, operation_view, codes_view, table};
+ghost use Rattle.x5_types.specs.Times.{nowhere};
 
 use crate::form::{
     Alternative, BitLeaf, Choices, Codes, Component, Content, Given, Leaf, Letters, Named, Numbers,
     Operation, Presence, Rule,
 };
+use crate::surroundings::Surroundings;
 
 macro_rules! universal {
     ($tag:expr, $content:expr, $rule:expr) => {
@@ -59,7 +61,7 @@ macro_rules! chained {
     };
 }
 
-const DAP_REQUEST: &[Alternative] = &[choice!(
+const DAP_REQUEST: &[Alternative<'static>] = &[choice!(
     1,
     Content::Sequence(&[
         component!(
@@ -71,7 +73,7 @@ const DAP_REQUEST: &[Alternative] = &[choice!(
     ])
 )];
 
-const DAP_ANSWER: &[Alternative] = &[
+const DAP_ANSWER: &[Alternative<'static>] = &[
     choice!(
         2,
         Content::Sequence(&[
@@ -96,7 +98,7 @@ const DAP_ANSWER: &[Alternative] = &[
     ),
 ];
 
-const DSP_REQUEST: &[Alternative] = &[choice!(
+const DSP_REQUEST: &[Alternative<'static>] = &[choice!(
     1,
     Content::Sequence(&[
         component!(
@@ -112,7 +114,7 @@ const DSP_REQUEST: &[Alternative] = &[choice!(
     ])
 )];
 
-const DSP_ANSWER: &[Alternative] = &[
+const DSP_ANSWER: &[Alternative<'static>] = &[
     choice!(
         2,
         Content::Sequence(&[
@@ -137,25 +139,29 @@ const DSP_ANSWER: &[Alternative] = &[
     ),
 ];
 
-const DAP_RESULT: &[Alternative] = &[universal!(
+const DAP_RESULT: &[Alternative<'static>] = &[universal!(
     16,
     Content::Sequence(&[component!(None, Named::AnyNumber, Presence::Code(Codes::Outcomes))]),
     Rule::Any
 )];
 
-const ANY_NUMBER: &[Alternative] = &[universal!(
+const ANY_NUMBER: &[Alternative<'static>] = &[universal!(
     2,
     Content::Primitive(Leaf::Number(Numbers::Any)),
     Rule::Any
 )];
 
-const BOOLEAN: &[Alternative] = &[universal!(1, Content::Primitive(Leaf::Boolean), Rule::Any)];
+const BOOLEAN: &[Alternative<'static>] = &[universal!(
+    1,
+    Content::Primitive(Leaf::Boolean),
+    Rule::Any
+)];
 
-const NULL: &[Alternative] = &[universal!(5, Content::Primitive(Leaf::Null), Rule::Any)];
+const NULL: &[Alternative<'static>] = &[universal!(5, Content::Primitive(Leaf::Null), Rule::Any)];
 
-const ANY_OID: &[Alternative] = &[universal!(6, Content::Primitive(Leaf::Oid), Rule::Any)];
+const ANY_OID: &[Alternative<'static>] = &[universal!(6, Content::Primitive(Leaf::Oid), Rule::Any)];
 
-const VALUE: &[Alternative] = &[
+const VALUE: &[Alternative<'static>] = &[
     universal!(6, Content::Primitive(Leaf::ShortOid), Rule::Any),
     universal!(4, Content::Joined(Leaf::Octets), Rule::Any),
     universal!(16, Content::Members(Named::Rdn), Rule::Name),
@@ -173,7 +179,7 @@ const VALUE: &[Alternative] = &[
     ),
 ];
 
-const PART: &[Alternative] = &[
+const PART: &[Alternative<'static>] = &[
     universal!(
         19,
         Content::Joined(Leaf::Text(Letters::Printable)),
@@ -191,27 +197,31 @@ const PART: &[Alternative] = &[
     universal!(16, Content::Members(Named::Rdn), Rule::Text),
 ];
 
-const AGENT_NAME: &[Alternative] = &[universal!(
+const AGENT_NAME: &[Alternative<'static>] = &[universal!(
     19,
     Content::Joined(Leaf::Text(Letters::Agent)),
     Rule::Any
 )];
 
-const OPTIONS: &[Alternative] = &[universal!(3, Content::JoinedBits(BitLeaf::Options), Rule::Any)];
+const OPTIONS: &[Alternative<'static>] = &[universal!(
+    3,
+    Content::JoinedBits(BitLeaf::Options),
+    Rule::Any
+)];
 
-const REF_TYPE: &[Alternative] = &[universal!(
+const REF_TYPE: &[Alternative<'static>] = &[universal!(
     2,
     Content::Primitive(Leaf::Number(Numbers::RefType)),
     Rule::Any
 )];
 
-const NAME: &[Alternative] = &[universal!(16, Content::Members(Named::Rdn), Rule::Name)];
+const NAME: &[Alternative<'static>] = &[universal!(16, Content::Members(Named::Rdn), Rule::Name)];
 
-const RDN: &[Alternative] = &[universal!(17, Content::Members(Named::Pair), Rule::Rdn)];
+const RDN: &[Alternative<'static>] = &[universal!(17, Content::Members(Named::Pair), Rule::Rdn)];
 
-const RDNS: &[Alternative] = &[universal!(16, Content::Members(Named::Rdn), Rule::Any)];
+const RDNS: &[Alternative<'static>] = &[universal!(16, Content::Members(Named::Rdn), Rule::Any)];
 
-const PAIR: &[Alternative] = &[universal!(
+const PAIR: &[Alternative<'static>] = &[universal!(
     16,
     Content::Sequence(&[
         component!(None, Named::AnyOid, Presence::Required),
@@ -220,7 +230,7 @@ const PAIR: &[Alternative] = &[universal!(
     Rule::Pair
 )];
 
-const ATTRIBUTE: &[Alternative] = &[universal!(
+const ATTRIBUTE: &[Alternative<'static>] = &[universal!(
     16,
     Content::Sequence(&[
         component!(None, Named::AnyOid, Presence::Required),
@@ -229,19 +239,31 @@ const ATTRIBUTE: &[Alternative] = &[universal!(
     Rule::Any
 )];
 
-const ATTRIBUTES: &[Alternative] = &[universal!(17, Content::Members(Named::Attribute), Rule::Any)];
+const ATTRIBUTES: &[Alternative<'static>] = &[universal!(
+    17,
+    Content::Members(Named::Attribute),
+    Rule::Any
+)];
 
-const VALUES: &[Alternative] = &[universal!(17, Content::Members(Named::Value), Rule::Some)];
+const VALUES: &[Alternative<'static>] = &[universal!(
+    17,
+    Content::Members(Named::Value),
+    Rule::Some
+)];
 
-const TYPE_LIST: &[Alternative] = &[universal!(17, Content::Members(Named::AnyOid), Rule::Any)];
+const TYPE_LIST: &[Alternative<'static>] = &[universal!(
+    17,
+    Content::Members(Named::AnyOid),
+    Rule::Any
+)];
 
-const SELECTION: &[Alternative] = &[universal!(
+const SELECTION: &[Alternative<'static>] = &[universal!(
     17,
     Content::Set(&[component!(Some(1), Named::TypeList, Presence::Default(Given::Vacant))]),
     Rule::Any
 )];
 
-const CONTROLS: &[Alternative] = &[universal!(
+const CONTROLS: &[Alternative<'static>] = &[universal!(
     17,
     Content::Set(&[
         component!(Some(0), Named::Options, Presence::Default(Given::NoOptions)),
@@ -256,7 +278,7 @@ const CONTROLS: &[Alternative] = &[universal!(
     Rule::Controls
 )];
 
-const ASSERTION: &[Alternative] = &[universal!(
+const ASSERTION: &[Alternative<'static>] = &[universal!(
     16,
     Content::Sequence(&[
         component!(None, Named::AnyOid, Presence::Required),
@@ -265,16 +287,20 @@ const ASSERTION: &[Alternative] = &[universal!(
     Rule::Any
 )];
 
-const CHANGES: &[Alternative] = &[universal!(16, Content::Members(Named::Change), Rule::Any)];
+const CHANGES: &[Alternative<'static>] = &[universal!(
+    16,
+    Content::Members(Named::Change),
+    Rule::Any
+)];
 
-const CHANGE: &[Alternative] = &[
+const CHANGE: &[Alternative<'static>] = &[
     choice!(0, Content::Explicit(Named::Attribute)),
     choice!(1, Content::Explicit(Named::AnyOid)),
     choice!(2, Content::Explicit(Named::Attribute)),
     choice!(3, Content::Explicit(Named::Attribute)),
 ];
 
-const ITEM: &[Alternative] = &[
+const ITEM: &[Alternative<'static>] = &[
     choice!(0, Content::Explicit(Named::Assertion)),
     choice!(1, Content::Explicit(Named::Substrings)),
     choice!(2, Content::Explicit(Named::Assertion)),
@@ -283,7 +309,7 @@ const ITEM: &[Alternative] = &[
     choice!(5, Content::Explicit(Named::Assertion)),
 ];
 
-const SUBSTRINGS: &[Alternative] = &[universal!(
+const SUBSTRINGS: &[Alternative<'static>] = &[universal!(
     16,
     Content::Sequence(&[
         component!(None, Named::AnyOid, Presence::Required),
@@ -292,15 +318,19 @@ const SUBSTRINGS: &[Alternative] = &[universal!(
     Rule::Any
 )];
 
-const PARTS: &[Alternative] = &[universal!(16, Content::Members(Named::PlacedPart), Rule::Parts)];
+const PARTS: &[Alternative<'static>] = &[universal!(
+    16,
+    Content::Members(Named::PlacedPart),
+    Rule::Parts
+)];
 
-const PLACED_PART: &[Alternative] = &[
+const PLACED_PART: &[Alternative<'static>] = &[
     choice!(0, Content::Explicit(Named::Part)),
     choice!(1, Content::Explicit(Named::Part)),
     choice!(2, Content::Explicit(Named::Part)),
 ];
 
-const CHAINING: &[Alternative] = &[universal!(
+const CHAINING: &[Alternative<'static>] = &[universal!(
     17,
     Content::Set(&[
         component!(Some(0), Named::Name, Presence::Required),
@@ -312,9 +342,13 @@ const CHAINING: &[Alternative] = &[universal!(
     Rule::Any
 )];
 
-const TRACE: &[Alternative] = &[universal!(16, Content::Members(Named::TraceItem), Rule::Trace)];
+const TRACE: &[Alternative<'static>] = &[universal!(
+    16,
+    Content::Members(Named::TraceItem),
+    Rule::Trace
+)];
 
-const PROGRESS: &[Alternative] = &[universal!(
+const PROGRESS: &[Alternative<'static>] = &[universal!(
     16,
     Content::Sequence(&[
         component!(None, Named::Enumeration(1, 3), Presence::Required),
@@ -327,7 +361,7 @@ const PROGRESS: &[Alternative] = &[universal!(
     Rule::Progress
 )];
 
-const TRACE_ITEM: &[Alternative] = &[universal!(
+const TRACE_ITEM: &[Alternative<'static>] = &[universal!(
     16,
     Content::Sequence(&[
         component!(None, Named::AgentName, Presence::Required),
@@ -338,9 +372,13 @@ const TRACE_ITEM: &[Alternative] = &[universal!(
     Rule::Any
 )];
 
-const AGENTS: &[Alternative] = &[universal!(16, Content::Members(Named::Agent), Rule::Any)];
+const AGENTS: &[Alternative<'static>] = &[universal!(
+    16,
+    Content::Members(Named::Agent),
+    Rule::Any
+)];
 
-const AGENT: &[Alternative] = &[universal!(
+const AGENT: &[Alternative<'static>] = &[universal!(
     16,
     Content::Sequence(&[
         component!(None, Named::AgentName, Presence::Required),
@@ -349,7 +387,7 @@ const AGENT: &[Alternative] = &[universal!(
     Rule::Any
 )];
 
-const REFERENCE: &[Alternative] = &[universal!(
+const REFERENCE: &[Alternative<'static>] = &[universal!(
     17,
     Content::Set(&[
         component!(Some(0), Named::Name, Presence::Required),
@@ -366,9 +404,13 @@ const REFERENCE: &[Alternative] = &[universal!(
     Rule::Any
 )];
 
-const REFERENCES: &[Alternative] = &[universal!(16, Content::Members(Named::Reference), Rule::Any)];
+const REFERENCES: &[Alternative<'static>] = &[universal!(
+    16,
+    Content::Members(Named::Reference),
+    Rule::Any
+)];
 
-const SOURCE: &[Alternative] = &[universal!(
+const SOURCE: &[Alternative<'static>] = &[universal!(
     16,
     Content::Sequence(&[
         component!(None, Named::Name, Presence::Required),
@@ -382,9 +424,13 @@ const SOURCE: &[Alternative] = &[universal!(
     Rule::Any
 )];
 
-const SOURCES: &[Alternative] = &[universal!(16, Content::Members(Named::Source), Rule::Any)];
+const SOURCES: &[Alternative<'static>] = &[universal!(
+    16,
+    Content::Members(Named::Source),
+    Rule::Any
+)];
 
-const ENTRY_INFO: &[Alternative] = &[universal!(
+const ENTRY_INFO: &[Alternative<'static>] = &[universal!(
     16,
     Content::Sequence(&[
         component!(None, Named::Name, Presence::Required),
@@ -394,13 +440,13 @@ const ENTRY_INFO: &[Alternative] = &[universal!(
     Rule::Any
 )];
 
-const ENTRY_INFOS: &[Alternative] = &[universal!(
+const ENTRY_INFOS: &[Alternative<'static>] = &[universal!(
     16,
     Content::Members(Named::EntryInfo),
     Rule::Any
 )];
 
-const SUB: &[Alternative] = &[universal!(
+const SUB: &[Alternative<'static>] = &[universal!(
     16,
     Content::Sequence(&[
         component!(None, Named::Rdn, Presence::Required),
@@ -409,9 +455,9 @@ const SUB: &[Alternative] = &[universal!(
     Rule::Any
 )];
 
-const SUBS: &[Alternative] = &[universal!(16, Content::Members(Named::Sub), Rule::Any)];
+const SUBS: &[Alternative<'static>] = &[universal!(16, Content::Members(Named::Sub), Rule::Any)];
 
-const QUALIFIER: &[Alternative] = &[universal!(
+const QUALIFIER: &[Alternative<'static>] = &[universal!(
     17,
     Content::Set(&[
         component!(
@@ -428,7 +474,7 @@ const QUALIFIER: &[Alternative] = &[universal!(
     Rule::Any
 )];
 
-const ATTRIBUTE_ERROR: &[Alternative] = &[universal!(
+const ATTRIBUTE_ERROR: &[Alternative<'static>] = &[universal!(
     16,
     Content::Sequence(&[
         component!(None, Named::NumberBelow(1, 6), Presence::Required),
@@ -437,7 +483,7 @@ const ATTRIBUTE_ERROR: &[Alternative] = &[universal!(
     Rule::Any
 )];
 
-const NAME_ERROR: &[Alternative] = &[universal!(
+const NAME_ERROR: &[Alternative<'static>] = &[universal!(
     16,
     Content::Sequence(&[
         component!(None, Named::NumberBelow(1, 1), Presence::Required),
@@ -446,7 +492,7 @@ const NAME_ERROR: &[Alternative] = &[universal!(
     Rule::Any
 )];
 
-const SERVICE_ERROR: &[Alternative] = &[universal!(
+const SERVICE_ERROR: &[Alternative<'static>] = &[universal!(
     16,
     Content::Sequence(&[
         component!(None, Named::NumberBelow(1, 12), Presence::Required),
@@ -456,13 +502,13 @@ const SERVICE_ERROR: &[Alternative] = &[universal!(
     Rule::Any
 )];
 
-const UPDATE_ERROR: &[Alternative] = &[universal!(
+const UPDATE_ERROR: &[Alternative<'static>] = &[universal!(
     16,
     Content::Sequence(&[component!(None, Named::NumberBelow(1, 7), Presence::Required)]),
     Rule::Any
 )];
 
-const READ_ARGUMENT: &[Alternative] = &[universal!(
+const READ_ARGUMENT: &[Alternative<'static>] = &[universal!(
     17,
     Content::Set(&[
         component!(Some(0), Named::Name, Presence::Required),
@@ -480,7 +526,7 @@ const READ_ARGUMENT: &[Alternative] = &[universal!(
     Rule::Any
 )];
 
-const COMPARE_ARGUMENT: &[Alternative] = &[universal!(
+const COMPARE_ARGUMENT: &[Alternative<'static>] = &[universal!(
     17,
     Content::Set(&[
         component!(Some(0), Named::Name, Presence::Required),
@@ -494,7 +540,7 @@ const COMPARE_ARGUMENT: &[Alternative] = &[universal!(
     Rule::Any
 )];
 
-const LIST_BELOW_ARGUMENT: &[Alternative] = &[universal!(
+const LIST_BELOW_ARGUMENT: &[Alternative<'static>] = &[universal!(
     17,
     Content::Set(&[
         component!(Some(0), Named::Name, Presence::Required),
@@ -507,7 +553,7 @@ const LIST_BELOW_ARGUMENT: &[Alternative] = &[universal!(
     Rule::Any
 )];
 
-const SEARCH_ARGUMENT: &[Alternative] = &[universal!(
+const SEARCH_ARGUMENT: &[Alternative<'static>] = &[universal!(
     17,
     Content::Set(&[
         component!(Some(0), Named::Name, Presence::Required),
@@ -535,7 +581,7 @@ const SEARCH_ARGUMENT: &[Alternative] = &[universal!(
     Rule::Any
 )];
 
-const ADD_ENTRY_ARGUMENT: &[Alternative] = &[universal!(
+const ADD_ENTRY_ARGUMENT: &[Alternative<'static>] = &[universal!(
     17,
     Content::Set(&[
         component!(Some(0), Named::Name, Presence::Required),
@@ -549,7 +595,7 @@ const ADD_ENTRY_ARGUMENT: &[Alternative] = &[universal!(
     Rule::Any
 )];
 
-const REMOVE_ENTRY_ARGUMENT: &[Alternative] = &[universal!(
+const REMOVE_ENTRY_ARGUMENT: &[Alternative<'static>] = &[universal!(
     17,
     Content::Set(&[
         component!(Some(0), Named::Name, Presence::Required),
@@ -562,7 +608,7 @@ const REMOVE_ENTRY_ARGUMENT: &[Alternative] = &[universal!(
     Rule::Any
 )];
 
-const MODIFY_ENTRY_ARGUMENT: &[Alternative] = &[universal!(
+const MODIFY_ENTRY_ARGUMENT: &[Alternative<'static>] = &[universal!(
     17,
     Content::Set(&[
         component!(Some(0), Named::Name, Presence::Required),
@@ -576,7 +622,7 @@ const MODIFY_ENTRY_ARGUMENT: &[Alternative] = &[universal!(
     Rule::Any
 )];
 
-const MODIFY_DN_ARGUMENT: &[Alternative] = &[universal!(
+const MODIFY_DN_ARGUMENT: &[Alternative<'static>] = &[universal!(
     17,
     Content::Set(&[
         component!(Some(0), Named::Name, Presence::Required),
@@ -595,23 +641,23 @@ const MODIFY_DN_ARGUMENT: &[Alternative] = &[universal!(
     Rule::Any
 )];
 
-const CHAINED_READ: &[Alternative] = chained!(Operation::Read);
+const CHAINED_READ: &[Alternative<'static>] = chained!(Operation::Read);
 
-const CHAINED_COMPARE: &[Alternative] = chained!(Operation::Compare);
+const CHAINED_COMPARE: &[Alternative<'static>] = chained!(Operation::Compare);
 
-const CHAINED_LIST_BELOW: &[Alternative] = chained!(Operation::ListBelow);
+const CHAINED_LIST_BELOW: &[Alternative<'static>] = chained!(Operation::ListBelow);
 
-const CHAINED_SEARCH: &[Alternative] = chained!(Operation::Search);
+const CHAINED_SEARCH: &[Alternative<'static>] = chained!(Operation::Search);
 
-const CHAINED_ADD_ENTRY: &[Alternative] = chained!(Operation::AddEntry);
+const CHAINED_ADD_ENTRY: &[Alternative<'static>] = chained!(Operation::AddEntry);
 
-const CHAINED_REMOVE_ENTRY: &[Alternative] = chained!(Operation::RemoveEntry);
+const CHAINED_REMOVE_ENTRY: &[Alternative<'static>] = chained!(Operation::RemoveEntry);
 
-const CHAINED_MODIFY_ENTRY: &[Alternative] = chained!(Operation::ModifyEntry);
+const CHAINED_MODIFY_ENTRY: &[Alternative<'static>] = chained!(Operation::ModifyEntry);
 
-const CHAINED_MODIFY_DN: &[Alternative] = chained!(Operation::ModifyDn);
+const CHAINED_MODIFY_DN: &[Alternative<'static>] = chained!(Operation::ModifyDn);
 
-const READ_OUTCOME: &[Alternative] = &[universal!(
+const READ_OUTCOME: &[Alternative<'static>] = &[universal!(
     17,
     Content::Set(&[
         component!(Some(0), Named::EntryInfo, Presence::Required),
@@ -620,7 +666,7 @@ const READ_OUTCOME: &[Alternative] = &[universal!(
     Rule::Any
 )];
 
-const COMPARE_OUTCOME: &[Alternative] = &[universal!(
+const COMPARE_OUTCOME: &[Alternative<'static>] = &[universal!(
     17,
     Content::Set(&[
         component!(Some(0), Named::Boolean, Presence::Required),
@@ -634,7 +680,7 @@ const COMPARE_OUTCOME: &[Alternative] = &[universal!(
     Rule::Any
 )];
 
-const LIST_BELOW_OUTCOME: &[Alternative] = &[universal!(
+const LIST_BELOW_OUTCOME: &[Alternative<'static>] = &[universal!(
     17,
     Content::Set(&[
         component!(Some(0), Named::Subs, Presence::Required),
@@ -648,7 +694,7 @@ const LIST_BELOW_OUTCOME: &[Alternative] = &[universal!(
     Rule::Any
 )];
 
-const SEARCH_OUTCOME: &[Alternative] = &[universal!(
+const SEARCH_OUTCOME: &[Alternative<'static>] = &[universal!(
     17,
     Content::Set(&[
         component!(Some(0), Named::EntryInfos, Presence::Required),
@@ -661,22 +707,74 @@ const SEARCH_OUTCOME: &[Alternative] = &[universal!(
     ]),
     Rule::Any
 )];
+
+const DISP_RESULT: &[Alternative<'static>] = &[universal!(
+    16,
+    Content::Sequence(&[component!(None, Named::AnyNumber, Presence::Code(Codes::ShadowResults))]),
+    Rule::Any
+)];
+
+const SHADOW_ERROR: &[Alternative<'static>] = &[universal!(
+    16,
+    Content::Sequence(&[
+        component!(None, Named::NumberBelow(1, 11), Presence::Required),
+        component!(Some(0), Named::Time, Presence::Default(Given::Vacant)),
+        component!(Some(1), Named::Time, Presence::Default(Given::Vacant))
+    ]),
+    Rule::Any
+)];
+
+const AGREEMENT: &[Alternative<'static>] = &[universal!(
+    2,
+    Content::Primitive(Leaf::Number(Numbers::FromTo(0, 4_294_967_295))),
+    Rule::Any
+)];
+
+const SHADOW_ARGUMENT: &[Alternative<'static>] = &[universal!(
+    16,
+    Content::Sequence(&[
+        component!(None, Named::Agreement, Presence::Required),
+        component!(Some(0), Named::Time, Presence::Default(Given::Vacant)),
+        component!(None, Named::Enumeration(1, 2), Presence::Required)
+    ]),
+    Rule::Any
+)];
+
+const WORLD_AGENTS: &[Alternative<'static>] = &[universal!(
+    16,
+    Content::Members(Named::WorldAgent),
+    Rule::Any
+)];
+
+const WORLD_AGENT: &[Alternative<'static>] = &[universal!(
+    16,
+    Content::Sequence(&[
+        component!(None, Named::WorldAgentName, Presence::Required),
+        component!(None, Named::Boolean, Presence::Default(Given::Flag(false)))
+    ]),
+    Rule::Any
+)];
+
 /// What a string's segments are (X.690, 8.7.3.2).
-pub const SEGMENT: &[Alternative] = &[universal!(4, Content::Joined(Leaf::Segment), Rule::Any)];
+pub const SEGMENT: &[Alternative<'static>] = &[universal!(
+    4,
+    Content::Joined(Leaf::Segment),
+    Rule::Any
+)];
 /// What a bit string's segments are (X.690, 8.6.4.2).
-pub const BIT_SEGMENT: &[Alternative] = &[universal!(
+pub const BIT_SEGMENT: &[Alternative<'static>] = &[universal!(
     3,
     Content::JoinedBits(BitLeaf::Segment),
     Rule::Any
 )];
 
-fn numbers(low: u32, high: u32) -> Content
+fn numbers<'s>(low: u32, high: u32) -> Content<'s>
     ensures { content_view result ≡ forms.Primitive (leaves.number (leaves.from_to low high)) }
 {
     Content::Primitive(Leaf::Number(Numbers::FromTo(low, high)))
 }
 
-fn argument(operation: Operation) -> &'static [Alternative]
+fn argument(operation: Operation) -> &'static [Alternative<'static>]
     ensures { types_view result.now ≡ layouts.is (layouts.set (layouts.argument (operation_view operation))) }
 {
     match operation {
@@ -691,8 +789,8 @@ fn argument(operation: Operation) -> &'static [Alternative]
     }
 }
 
-fn chained(operation: Operation) -> &'static [Alternative]
-    ensures { types_view result.now ≡ table (named.Chained (operation_view operation)) }
+fn chained(operation: Operation) -> &'static [Alternative<'static>]
+    ensures { types_view result.now ≡ layouts.layout nowhere (named.Chained (operation_view operation)) }
 {
     match operation {
         Operation::Read => CHAINED_READ,
@@ -706,7 +804,7 @@ fn chained(operation: Operation) -> &'static [Alternative]
     }
 }
 
-fn outcome(operation: Operation) -> &'static [Alternative]
+fn outcome(operation: Operation) -> &'static [Alternative<'static>]
     ensures { types_view result.now ≡ layouts.is (layouts.outcome (operation_view operation)) }
 {
     match operation {
@@ -722,10 +820,20 @@ fn outcome(operation: Operation) -> &'static [Alternative]
 }
 
 /// What the type is: the elements that are values of it.
-pub fn layout(form: Named) -> Choices
-    ensures { choices_view result ≡ table (named_view form) }
+pub fn layout<'s>(surroundings: Surroundings<'s>, form: Named) -> Choices<'s>
+    ensures { choices_view result ≡ table surroundings.entry (named_view form) }
 {
     match form {
+        Named::Time => Choices::One(universal!(
+            24,
+            Content::Joined(Leaf::Time(surroundings)),
+            Rule::Any
+        )),
+        Named::WorldAgentName => Choices::One(universal!(
+            19,
+            Content::Joined(Leaf::Text(Letters::World(surroundings))),
+            Rule::Any
+        )),
         Named::Filter(levels) => Choices::Filter(levels),
         Named::Filters(levels) => Choices::One(universal!(
             17,
@@ -791,6 +899,12 @@ pub fn layout(form: Named) -> Choices
         Named::NameError => Choices::Listed(NAME_ERROR),
         Named::ServiceError => Choices::Listed(SERVICE_ERROR),
         Named::UpdateError => Choices::Listed(UPDATE_ERROR),
+        Named::DispResult => Choices::Listed(DISP_RESULT),
+        Named::ShadowError => Choices::Listed(SHADOW_ERROR),
+        Named::Agreement => Choices::Listed(AGREEMENT),
+        Named::ShadowArgument => Choices::Listed(SHADOW_ARGUMENT),
+        Named::WorldAgents => Choices::Listed(WORLD_AGENTS),
+        Named::WorldAgent => Choices::Listed(WORLD_AGENT),
     }
 }
 
@@ -828,6 +942,10 @@ impl Codes {
                 3 => Some(Named::ServiceError),
                 8 => Some(Named::UpdateError),
                 9 => Some(Named::Reference),
+                _ => None,
+            },
+            Codes::ShadowResults => match number {
+                1 | 2 | 3 => Some(Named::Null),
                 _ => None,
             },
         }

@@ -89,14 +89,15 @@ fn all_seven_bit(text: &[u8]) -> bool
     text.iter().all(|octet| *octet < 128)
 }
 
-fn is_text(letters: Letters, text: &[u8]) -> bool
-    ensures { result ≡ letters_view letters text.now }
+fn is_text(letters: Letters<'_>, text: &[u8]) -> bool
+    ensures { result ≡ letters_view letters.entry text.now }
 {
     match letters {
         Letters::Numeric => all_numeric(text) && is_length(text),
         Letters::Printable => all_printable(text) && is_length(text),
         Letters::SevenBit => all_seven_bit(text) && is_length(text),
         Letters::Agent => is_agent_name(text),
+        Letters::World(surroundings) => is_agent_name(text) && surroundings.is_agent(text),
     }
 }
 
@@ -120,8 +121,8 @@ fn as_text<'a>(octets: Bytes<'a>) -> Option<Characters<'a>>
 
 /// The text, where its characters may stand there.
 #[tactic(auto, using(crate::proofs::Ascii::are_utf8))]
-pub(crate) fn text<'a>(letters: Letters, octets: Bytes<'a>) -> Option<Node<'a>>
-    ensures { option_view result ≡ (leaves.text_where (letters_view letters)).reads (bytes_view octets.entry) }
+pub(crate) fn text<'a>(letters: Letters<'_>, octets: Bytes<'a>) -> Option<Node<'a>>
+    ensures { option_view result ≡ (leaves.text_where (letters_view letters.entry)).reads (bytes_view octets.entry) }
 {
     if !is_text(letters, octets.as_slice()) {
         return None;

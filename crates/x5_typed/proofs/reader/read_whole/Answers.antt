@@ -13,13 +13,13 @@ returns-in_err-head c tree l =
 
 pub returns-in_err-node : goal.returns-in_err-node
 returns-in_err-node c tree l =
-    whole_wrong (choices_view c.layout.result) (table (named_view c.args.form)) tree (0 + length c.args.octets.now)
+    whole_wrong (table c.args.surroundings) (choices_view c.layout.result) (table c.args.surroundings (named_view c.args.form)) tree (0 + length c.args.octets.now)
     c.in_err-node.field-0.0 c.from_residual-in_err-node.result c.layout.ensures
     (c.in_err-node.ensures.reads 1 tree c.args.octets.now l (all_stand c.args.octets.now) c.in_ok-head.ensures.head)
     (err_is c.from_residual-in_err-node.result c.in_err-node.field-0.0 c.from_residual-in_err-node.ensures.1)
 
 pub returns : goal.returns
 returns c tree l =
-    whole_read (choices_view c.layout.result) (table (named_view c.args.form)) tree (0 + length c.args.octets.now)
+    whole_read (table c.args.surroundings) (choices_view c.layout.result) (table c.args.surroundings (named_view c.args.form)) tree (0 + length c.args.octets.now)
     c.in_ok-node.node _ c.layout.ensures
     (c.in_ok-node.ensures.reads 1 tree c.args.octets.now l (all_stand c.args.octets.now) c.in_ok-head.ensures.head)

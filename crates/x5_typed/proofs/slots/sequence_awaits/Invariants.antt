@@ -6,5 +6,5 @@ use Rattle.x5_types.specs.FormView.{table}
 use Rattle.x5_typed.specs.StateView.{left_view}
 
 abbrev pub invariant-loop-i : goal.invariant-loop-i
-invariant-loop-i l = judged.sequence_awaits table l.at l.class l.tag l.i (drop l.i (left_view l.left))
-    ≡ judged.sequence_awaits table l.at l.class l.tag 0 (left_view l.left)
+invariant-loop-i l = judged.sequence_awaits (table l.surroundings) l.at l.class l.tag l.i (drop l.i (left_view l.left))
+    ≡ judged.sequence_awaits (table l.surroundings) l.at l.class l.tag 0 (left_view l.left)

@@ -8,5 +8,5 @@ use Rattle.x5_typed.specs.StateView.{left_view}
 
 abbrev pub invariant-loop-i : goal.invariant-loop-i
 invariant-loop-i l =
-    judged.set_awaits table l.at l.class l.tag l.i (drop l.i (left_view l.left)) (drop l.i (map option_view l.slots))
-    ≡ judged.set_awaits table l.at l.class l.tag 0 (left_view l.left) (map option_view l.slots)
+    judged.set_awaits (table l.surroundings) l.at l.class l.tag l.i (drop l.i (left_view l.left)) (drop l.i (map option_view l.slots))
+    ≡ judged.set_awaits (table l.surroundings) l.at l.class l.tag 0 (left_view l.left) (map option_view l.slots)
