@@ -31,7 +31,11 @@ impl<'s> World<'s> {
     fn first_second(self) -> u64
         ensures first { result ≡ times.first_second self.entry }
     {
-        let days = days_before(u64::from(self.year), u64::from(self.month), u64::from(self.day));
+        let days = days_before(
+            u64::from(self.year),
+            u64::from(self.month),
+            u64::from(self.day),
+        );
         86_400 * days + u64::from(self.second)
     }
 

@@ -1,5 +1,7 @@
 //! GeneralizedTime in whole seconds of UTC, `YYYYMMDDHHMMSSZ` (X.680, section 46), as seconds of the Gregorian calendar.
 ghost use Rattle.std.specs.Prelude.{◌≡◌, ◌≤◌, ◌<◌, ◌+◌, length, true};
+ghost use Rattle.std.specs.Char.{is_ascii_digit};
+ghost use Rattle.std.specs.List.{list_all};
 ghost use Rattle.x5_types.specs.Times as times;
 
 /// What a digit says.
@@ -27,13 +29,20 @@ fn year_in(octets: &[u8]) -> u64
     100 * two_at(octets, 0) + two_at(octets, 2)
 }
 
+fn are_digits(octets: &[u8]) -> bool
+    ensures { result ≡ list_all is_ascii_digit octets.now }
+{
+    octets.iter().all(|octet| octet.is_ascii_digit())
+}
+
 /// Whether there are fourteen digits and a Z.
 fn has_form(octets: &[u8]) -> bool
     ensures { result ≡ times.has_form octets.now }
 {
-    octets.len() == 15
-        && octets[..14].iter().all(|octet| octet.is_ascii_digit())
-        && octets[14] == b'Z'
+    if octets.len() != 15 {
+        return false;
+    }
+    are_digits(&octets[..14]) && octets[14] == b'Z'
 }
 
 /// Every fourth year, but of those of full centuries only every fourth.
@@ -113,13 +122,7 @@ fn is_clock(hour: u64, minute: u64, second: u64) -> bool
     hour < 24 && minute < 60 && second < 60
 }
 
-/// Whether the octets, which have the form, are a date, and a time of the day.
-fn is_time(octets: &[u8]) -> bool
-    ensures time { result ≡ times.is_time octets.now }
-{
-    has_form(octets) && is_sound(octets)
-}
-
+/// Whether the octets, which have the form, are a date and a time of the day.
 fn is_sound(octets: &[u8]) -> bool
     requires { times.has_form octets.now ≡ true }
     ensures { result ≡ times.is_sound octets.now }
@@ -141,7 +144,7 @@ fn seconds_in(octets: &[u8]) -> u64
 pub(crate) fn second_of(octets: &[u8]) -> Option<u64>
     ensures { result ≡ times.second_of octets.now }
 {
-    if is_time(octets) {
+    if has_form(octets) && is_sound(octets) {
         Some(seconds_in(octets))
     } else {
         None
