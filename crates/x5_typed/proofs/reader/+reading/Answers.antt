@@ -140,3 +140,17 @@ read_open-returns-clause-reads t c depth tree octets l s e form =
     (head_view c.args.head) tree octets b (behind c.in_ok-end.end (c.args.head.content + length b.content))
     (c.in_ok-node.node, c.in_ok-node.next) c.in_ok-node-2.node c.in-Some.ensures next
     (c.in_ok-node.ensures.reads (depth + 1) b.members b.content b.lie b.stand there) c.in_ok-node-2.ensures
+
+-- ---- a primitive element
+
+pub read_element-returns-else-head-clause-reads : goal.read_element-returns-else-head-clause-reads
+read_element-returns-else-head-clause-reads t c depth tree octets l s e =
+    c.read_piece.ensures.reads (table c.args.surroundings) depth tree octets l s e c.if-head.false
+
+-- ---- a content
+
+pub read_content-returns-clause-reads : goal.read_content-returns-clause-reads
+read_content-returns-clause-reads t c depth ts octets l s e =
+    let stand : Gives {X = ℕ} (λ next s. (state_view c.in_ok-state.state ≡ s) × (next ≡ next))
+        (judged.judged_all (table c.args.surroundings) (state_view c.in_ok-state.state) ts) (Ok c.in_ok-next.next) = ? in
+    ?
