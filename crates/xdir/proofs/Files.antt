@@ -34,7 +34,7 @@ module _ (f : File) (asked : List Asked) (commands : List Command) (are : asked 
   first_asked : (text : List ℕ) → IsFirstOutput f commands text → IsFirstAskedOutput f asked text
   first_asked text p = record { commands = commands; are = are; first = p }
 
-  nothing : (text : List ℕ) → ⊥ → IsNotYet asked text
+  pub nothing : (text : List ℕ) → ⊥ → IsNotYet asked text
   nothing text p = absurd p
 
   pub runs_asked : (status : Status) (old new : Option (List ℕ)) (before after : ℕ) → WritesRun status f commands old new before after
@@ -44,7 +44,7 @@ module _ (f : File) (asked : List Asked) (commands : List Command) (are : asked 
 -- ---- a script over a star
 
 module _ (f : File) (octets : List ℕ) (asked : List Asked) (asks : AsksFor f.world octets asked) where
-  as_commands : (commands : List Command) → asked ≡ map lines.Runs commands → AsksFor f.world octets (map lines.Runs commands)
+  pub as_commands : (commands : List Command) → asked ≡ map lines.Runs commands → AsksFor f.world octets (map lines.Runs commands)
   as_commands commands are = asks ∙ ap Ok are
 
   script_output : (text : List ℕ) → IsAskedOutput f asked text → IsScriptOutput f octets text
@@ -53,7 +53,7 @@ module _ (f : File) (octets : List ℕ) (asked : List Asked) (asks : AsksFor f.w
   first_script : (text : List ℕ) → IsFirstAskedOutput f asked text → IsFirstScriptOutput f octets text
   first_script text p = record { commands = p.commands; asked = as_commands p.commands p.are; first = p.first }
 
-  other_line : (text : List ℕ) → IsNotYet asked text → RefusesScript f.world octets text
+  pub other_line : (text : List ℕ) → IsNotYet asked text → RefusesScript f.world octets text
   other_line text p = not_yet asked p.before asks p.first p.is_line
 
   pub runs_script : (status : Status) (old new : Option (List ℕ)) (before after : ℕ) → WritesAsked status f asked old new before after
@@ -61,7 +61,7 @@ module _ (f : File) (octets : List ℕ) (asked : List Asked) (asks : AsksFor f.w
   runs_script status old new before after w = ends_more script_output first_script other_line status old new before after w
 
 -- the line of a script's first line that is refused
-refuses_as : (f : File) (octets : List ℕ) (number : ℕ) (fault : ScriptFault) → IsLineFault number fault (script_of (names_in f.world) (lost_in f.world) octets)
+pub refuses_as : (f : File) (octets : List ℕ) (number : ℕ) (fault : ScriptFault) → IsLineFault number fault (script_of (names_in f.world) (lost_in f.world) octets)
     → (text : List ℕ) → IsScriptLine number fault text → RefusesScript f.world octets text
 refuses_as f octets number (script.BadWord column) h text is = faulty_line number (words.BadWord column) h is
 refuses_as f octets number (script.BadName column) h text is = faulty_line number (words.BadName column) h is
@@ -85,7 +85,7 @@ of_file told name octets f is status old new before after w =
 
 -- ---- over a world that is a star, or none
 
-over_star : (told : Option (List outside.File)) (name : List ℕ) (f : File) → IsStar f.world → (text : List ℕ)
+pub over_star : (told : Option (List outside.File)) (name : List ℕ) (f : File) → IsStar f.world → (text : List ℕ)
     → OfScript told name (RefusesScript f.world) text → RefusesOver told name f text
 over_star told name f star text p = inr (star, p)
 
@@ -177,7 +177,7 @@ module _ (told : Option (List outside.File)) (names : FileNames) (octets : List 
     no_star_of text r =
         record { world = octets; world_is = octets_is; refuses = inr (record { file = f; described = described; refuses = r }) }
 
-    refusal_of : (text : List ℕ) → RefusesOver told names.script f text → Refuses told names text
+    pub refusal_of : (text : List ℕ) → RefusesOver told names.script f text → Refuses told names text
     refusal_of text (inl r) = inl (no_star_of text r)
     refusal_of text (inr p) = inr (record {
       world = octets;
@@ -212,7 +212,7 @@ module _ (told : Option (List outside.File)) (names : FileNames) (octets : List 
 
   -- one that isn't
   module _ (fault : LoadFault) (faults : Loads (Err fault) octets) where
-    wrong_as : (text : List ℕ) → IsWorldLine fault text → RefusesWorld told names.world text
+    pub wrong_as : (text : List ℕ) → IsWorldLine fault text → RefusesWorld told names.world text
     wrong_as text is = record { world = octets; world_is = octets_is; refuses = inl (wrong octets fault faults text is) }
 
     pub refuses_file : (status : Status) (old new : Option (List ℕ)) (before after : ℕ) → WritesSuchLine status (IsWorldLine fault) old new before after

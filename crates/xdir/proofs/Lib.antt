@@ -7,3 +7,5 @@ pub mod Agents
 pub mod Taken
 pub mod Few
 pub mod Checks
+pub mod Summed
+pub mod Counts
