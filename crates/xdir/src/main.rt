@@ -75,8 +75,8 @@ fn unread<R: Eprint>(rt: &R, name: &str, reason: Option<ErrorKind>) -> ExitCode 
     ExitCode::from(Status::ReadFault as u8)
 }
 
-// Says on standard error what was wrong, and gives the status. `name` is that of the last file read, and `line` the first that was
-// printed.
+// Says on standard error what was wrong, and gives the status. `name` is that of the last file read, or of generated ones, and `line`
+// the first that was printed.
 fn ended<R: Eprint>(rt: &R, status: Status, name: &str, line: &str) -> ExitCode {
     let _ = match status {
         Status::Done => Ok(()),
