@@ -41,7 +41,7 @@ module _ {output refusal output' refusal' : List ℕ → Type 0} (out : (text : 
 
 -- a line that is written alone, where it is a refusal, ends a summary too
 module _ {P Q : List ℕ → Type 0} (more : (text : List ℕ) → P text → Q text) where
-  such_at_once : (output : List ℕ → Type 0) (status : Status) (old new : Option (List ℕ)) (before after : ℕ)
+  pub such_at_once : (output : List ℕ → Type 0) (status : Status) (old new : Option (List ℕ)) (before after : ℕ)
       → WritesSuchLine status P old new before after → EndsAtOnce output Q status old new before after
   such_at_once output Refused old new before after w = wrote_more more old new w
   such_at_once output WriteFault old new before after w = (w.0, broke_more (λ text p. inr (more text p)) old new w.1)

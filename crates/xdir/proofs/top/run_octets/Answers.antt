@@ -13,6 +13,7 @@ use Rattle.xdir.specs.Star.{star_file}
 use Rattle.xdir.proofs.Ends.{such_prints}
 use Rattle.xdir.proofs.Few.{few}
 use Rattle.xdir.proofs.Files.{runs_script, refuses_line}
+use Rattle.xdir.proofs.Summed.{sums_script, sums_refused_line}
 use Rattle.xdir.proofs.top.run_octets.Goals as goal
 
 told : {refusal : ScriptRefusal} {number : ℕ} {fault : ScriptFault} (names : List (List ℕ)) (script : List ℕ) → refusal ≡ Line number fault
@@ -31,18 +32,32 @@ run_commands-requires-clause-named g c =
     (IfOk-at_ok (All (AreNamed c.args.star.now.names)) c.in-Ok.ensures (script_named c.args.star.now.names 0 c.args.script.now))
 
 pub returns-in-Ok-clause-writes : goal.returns-in-Ok-clause-writes
-returns-in-Ok-clause-writes g c =
+returns-in-Ok-clause-writes g c = λ printed.
     runs_script (star_file c.args.star.now) c.args.script.now (map command_view c.deref.result.now)
     (subst (λ (names : List (List ℕ)). script_of names 0 c.args.script.now ≡ Ok (map command_view c.deref.result.now)) c.requires.named
     (subst (λ (cs : List Command). script_of c.args.star.now.names 0 c.args.script.now ≡ Ok (map command_view cs)) (sym c.deref.ensures.value) c.in-Ok.ensures))
-    c.run_commands.result (g.K.Sink.octets c.args.out.now) (g.K.Sink.octets c.run_commands.new.out) (g.K.Sink.fault_count c.args.out.now) (g.K.Sink.fault_count c.run_commands.new.out) c.run_commands.ensures.writes
+    c.run_commands.result (g.K.Sink.octets c.args.out.now) (g.K.Sink.octets c.run_commands.new.out) (g.K.Sink.fault_count c.args.out.now) (g.K.Sink.fault_count c.run_commands.new.out) (c.run_commands.ensures.writes printed)
+
+pub returns-in-Ok-clause-sums : goal.returns-in-Ok-clause-sums
+returns-in-Ok-clause-sums g c = λ printed.
+    sums_script (star_file c.args.star.now) c.args.script.now (map command_view c.deref.result.now)
+    (subst (λ (names : List (List ℕ)). script_of names 0 c.args.script.now ≡ Ok (map command_view c.deref.result.now)) c.requires.named
+    (subst (λ (cs : List Command). script_of c.args.star.now.names 0 c.args.script.now ≡ Ok (map command_view cs)) (sym c.deref.ensures.value) c.in-Ok.ensures))
+    c.run_commands.result (g.K.Sink.octets c.args.out.now) (g.K.Sink.octets c.run_commands.new.out) (g.K.Sink.fault_count c.args.out.now) (g.K.Sink.fault_count c.run_commands.new.out) (c.run_commands.ensures.sums printed)
 
 pub returns-in-Err-Line-clause-prints : goal.returns-in-Err-Line-clause-prints
 returns-in-Err-Line-clause-prints g c = such_prints c.refuse_line.result _ _ _ _ _ c.refuse_line.ensures
 
 pub returns-in-Err-Line-clause-writes : goal.returns-in-Err-Line-clause-writes
-returns-in-Err-Line-clause-writes g c =
+returns-in-Err-Line-clause-writes g c = λ printed.
     refuses_line (star_file c.args.star.now) c.args.script.now c.in-Err-Line.number c.in-Err-Line.fault
+    (subst (λ (names : List (List ℕ)). IsLineFault c.in-Err-Line.number c.in-Err-Line.fault (script_of names 0 c.args.script.now)) c.requires.named
+    (told c.args.star.now.names c.args.script.now c.in-Err-Line.field-0-is c.in-Err-Line.ensures))
+    c.refuse_line.result (g.K.Sink.octets c.args.out.now) (g.K.Sink.octets c.refuse_line.new.out) (g.K.Sink.fault_count c.args.out.now) (g.K.Sink.fault_count c.refuse_line.new.out) c.refuse_line.ensures
+
+pub returns-in-Err-Line-clause-sums : goal.returns-in-Err-Line-clause-sums
+returns-in-Err-Line-clause-sums g c = λ printed.
+    sums_refused_line (star_file c.args.star.now) c.args.script.now c.in-Err-Line.number c.in-Err-Line.fault
     (subst (λ (names : List (List ℕ)). IsLineFault c.in-Err-Line.number c.in-Err-Line.fault (script_of names 0 c.args.script.now)) c.requires.named
     (told c.args.star.now.names c.args.script.now c.in-Err-Line.field-0-is c.in-Err-Line.ensures))
     c.refuse_line.result (g.K.Sink.octets c.args.out.now) (g.K.Sink.octets c.refuse_line.new.out) (g.K.Sink.fault_count c.args.out.now) (g.K.Sink.fault_count c.refuse_line.new.out) c.refuse_line.ensures
