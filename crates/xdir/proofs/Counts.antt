@@ -16,12 +16,17 @@ use Rattle.x5_model_star.proofs.Runs.{star_run_is_run}
 use Rattle.x5_model_world.specs.WorldFile.{File}
 use Rattle.x5_know.specs.Moments.{moment_text}
 use Rattle.x5_dispatch.specs.Star.{AnswersStar}
+use Rattle.x5_ops.specs.declared.agents.AgentId.{AgentId}
 use Rattle.x5_ops.specs.declared.answers.Reply.{Reply}
 use Rattle.x5_ops.specs.declared.journal.Journal.{Journal}
+use Rattle.x5_ops.specs.declared.requests.Request.{Request as Asking}
 use Rattle.x5_report.specs.Blocks.{names_in}
 use Rattle.x5_report.specs.Counted.{IsOf}
 use Rattle.x5_report.specs.declared.report.LineOutcome.TheVariants.{Answered}
-use Rattle.xdir.specs.Counted.{IsGiven, CountsOneMore, AddsBlock, IsCounted}
+use Rattle.x5_script.specs.declared.command.Command.{Command as Line}
+use Rattle.x5_script.specs.declared.command.Command.TheVariants.{Nothing, Ask, Outage, Refresh, Deliver, Lose}
+use Rattle.xdir.specs.Star.{IsTaken, run_view}
+use Rattle.xdir.specs.Counted.{CountsOneMore, AddsBlock, IsCounted}
 use Rattle.xdir.specs.Summed.{IsSummary}
 use Rattle.xdir.proofs.Known.{same_journal}
 use Rattle.xdir.proofs.SoFar.{IsAsked}
@@ -37,6 +42,16 @@ silent_adds_none (x ∷ xs) = ap (both (block_counts x)) (silent_adds_none xs)
 pub comment_adds : (f : File) (counts : Counts) → AddsBlock f Blank counts counts
 comment_adds f counts sent blocks before =
     record { block = Silent; given = refl; counted = before ∙ ap capped_counts (silent_adds_none blocks) }
+
+-- of what a run takes, all but requests are comments
+pub other_adds : (f : File) (agents : ℕ) (c : Line) (counts : Counts) → IsTaken agents c
+    → ((to : AgentId) (request : Asking) → c ≡ Ask to request → ⊥) → AddsBlock f (run_view c) counts counts
+other_adds f agents Nothing counts taken no_ask = comment_adds f counts
+other_adds f agents (Ask to request) counts taken no_ask = absurd (no_ask to request refl)
+other_adds f agents (Outage change) counts taken no_ask = absurd taken
+other_adds f agents (Refresh id push total) counts taken no_ask = absurd taken
+other_adds f agents (Deliver dsp to octets) counts taken no_ask = absurd taken
+other_adds f agents (Lose reply k) counts taken no_ask = absurd taken
 
 -- what a star answers is counted as its block
 pub answer_adds : (f : File) (to : ℕ) (r : Request) (reply : Reply) (journal : Journal) (old new : Counts)

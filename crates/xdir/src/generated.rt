@@ -1,13 +1,14 @@
 //! A run of the script over the world that are made of a number.
 ghost use Rattle.std.specs.Prelude.{◌≡◌, Some};
 ghost use Rattle.x5_gen.specs.Script.{script_text};
+ghost use Rattle.x5_gen.specs.World.{world_text};
 ghost use Rattle.x5_know.specs.WorldView.{world_view};
 ghost use Rattle.x5_load.specs.Views.{file_view};
 ghost use Rattle.x5_model_tree.specs.Described.{IsDescribed};
-ghost use Rattle.xdir.specs.Generated.{WritesGenerated, made_files, script_name};
+ghost use Rattle.xdir.specs.Generated.{WritesGenerated, made_files, made_names, script_name};
 ghost use Rattle.xdir.specs.Star.{IsReady, star_file};
 ghost use Rattle.xdir.specs.Steps.{Prints};
-ghost use Rattle.xdir.specs.Summed.{SumsOver, SumsScript};
+ghost use Rattle.xdir.specs.Summed.{SumsOver, SumsScript, WritesSummed};
 
 use crate::refusals::{NO_STAR, put_refusal, refuse_world};
 use crate::run::Printed;
@@ -25,11 +26,20 @@ pub fn run_made<K: Sink>(alloc: Global, number: u32, out: &mut K) -> Status
     ensures { WritesGenerated result number (K.octets out.old) (K.octets out.new) (K.fault_count out.old) (K.fault_count out.new) }
 {
     match world_of(alloc, number) {
-        Ok(octets) => match load(alloc, octets.as_slice()) {
-            Ok(world) => run_made_over(alloc, world, number, out),
-            Err(fault) => refuse_world(alloc, &fault, out),
-        },
+        Ok(octets) => run_made_world(alloc, octets.as_slice(), number, out),
         Err(NoMemory) => Status::NoMemory,
+    }
+}
+
+/// Runs the script that is made of the number over the world that these octets, made of it, describe.
+fn run_made_world<K: Sink>(alloc: Global, octets: &[u8], number: u32, out: &mut K) -> Status
+    requires { octets.now ≡ world_text number }
+    ensures prints { Prints result }
+    ensures sums { WritesSummed result (Some (made_files number)) made_names (K.octets out.old) (K.octets out.new) (K.fault_count out.old) (K.fault_count out.new) }
+{
+    match load(alloc, octets) {
+        Ok(world) => run_made_over(alloc, world, number, out),
+        Err(fault) => refuse_world(alloc, &fault, out),
     }
 }
 

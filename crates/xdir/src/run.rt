@@ -9,7 +9,7 @@ ghost use Rattle.xdir.specs.Run.{is_other};
 ghost use Rattle.xdir.specs.Star.{IsReady, IsTaken, run_view, star_file};
 ghost use Rattle.xdir.specs.Steps.{Prints, WritesAsked, WritesRun};
 ghost use Rattle.xdir.specs.Blocks.{IsReadBlock, WritesBlock};
-ghost use Rattle.xdir.specs.Summed.{SumsAsked};
+ghost use Rattle.xdir.specs.Summed.{SumsAsked, SumsRun};
 
 use crate::refusals::refuse_other;
 use crate::star::Star;
@@ -71,10 +71,28 @@ pub fn run_commands<K: Sink>(
 {
     match first_other(commands) {
         Some(before) => refuse_other(alloc, before, out),
-        None => match printed {
-            Printed::Blocks => print_run(alloc, star, commands, out),
-            Printed::Summary => print_summary(alloc, star, commands, out),
-        },
+        None => run_taken(alloc, printed, star, commands, out),
+    }
+}
+
+/// Runs commands that are all taken.
+fn run_taken<K: Sink>(
+    alloc: Global,
+    printed: Printed,
+    star: &Star,
+    commands: &[Command],
+    out: &mut K,
+) -> Status
+    requires ready { IsReady star.now }
+    requires few { length commands.now ≤ 100000 }
+    requires taken { All (IsTaken (length star.now.agents)) commands.now }
+    ensures prints { Prints result }
+    ensures writes { printed ≡ Printed.Blocks → WritesRun result (star_file star.now) (map run_view commands.now) (K.octets out.old) (K.octets out.new) (K.fault_count out.old) (K.fault_count out.new) }
+    ensures sums { printed ≡ Printed.Summary → SumsRun result (star_file star.now) (map run_view commands.now) (K.octets out.old) (K.octets out.new) (K.fault_count out.old) (K.fault_count out.new) }
+{
+    match printed {
+        Printed::Blocks => print_run(alloc, star, commands, out),
+        Printed::Summary => print_summary(alloc, star, commands, out),
     }
 }
 

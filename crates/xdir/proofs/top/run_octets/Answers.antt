@@ -13,7 +13,7 @@ use Rattle.xdir.specs.Star.{star_file}
 use Rattle.xdir.proofs.Ends.{such_prints}
 use Rattle.xdir.proofs.Few.{few}
 use Rattle.xdir.proofs.Files.{runs_script, refuses_line}
-use Rattle.xdir.proofs.Summed.{sums_script, sums_refused_line}
+use Rattle.xdir.proofs.Summaries.{sums_script, sums_refused_line}
 use Rattle.xdir.proofs.top.run_octets.Goals as goal
 
 told : {refusal : ScriptRefusal} {number : ℕ} {fault : ScriptFault} (names : List (List ℕ)) (script : List ℕ) → refusal ≡ Line number fault

@@ -2,7 +2,7 @@ use Rattle.std.proofs.Common.{ℕ, List, sym, subst}
 use Rattle.x5_port.specs.Outside.{IsContent}
 use Rattle.xdir.specs.Star.{star_file}
 use Rattle.xdir.proofs.Files.{of_file}
-use Rattle.xdir.proofs.Summed.{sums_of_file}
+use Rattle.xdir.proofs.Summaries.{sums_of_file}
 use Rattle.xdir.proofs.top.run_script.Goals as goal
 
 pub returns-in-Ok-clause-writes : goal.returns-in-Ok-clause-writes

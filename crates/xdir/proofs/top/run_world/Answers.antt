@@ -9,7 +9,7 @@ use Rattle.xdir.specs.Text.{no_star_text}
 use Rattle.xdir.proofs.Agents.{found, found_none}
 use Rattle.xdir.proofs.Ends.{such_line}
 use Rattle.xdir.proofs.Files.{star_over, none_over, star_reads, none_reads}
-use Rattle.xdir.proofs.Summed.{sums_star, sums_none}
+use Rattle.xdir.proofs.Summaries.{sums_star, sums_none}
 use Rattle.xdir.proofs.top.run_world.Goals as goal
 
 pub run_script-requires : goal.run_script-requires
