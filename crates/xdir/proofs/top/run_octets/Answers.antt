@@ -49,15 +49,17 @@ pub returns-in-Err-Line-clause-prints : goal.returns-in-Err-Line-clause-prints
 returns-in-Err-Line-clause-prints g c = such_prints c.refuse_line.result _ _ _ _ _ c.refuse_line.ensures
 
 pub returns-in-Err-Line-clause-writes : goal.returns-in-Err-Line-clause-writes
-returns-in-Err-Line-clause-writes g c = λ printed.
-    refuses_line (star_file c.args.star.now) c.args.script.now c.in-Err-Line.number c.in-Err-Line.fault
+returns-in-Err-Line-clause-writes g c =
+    let written = refuses_line (star_file c.args.star.now) c.args.script.now c.in-Err-Line.number c.in-Err-Line.fault
     (subst (λ (names : List (List ℕ)). IsLineFault c.in-Err-Line.number c.in-Err-Line.fault (script_of names 0 c.args.script.now)) c.requires.named
     (told c.args.star.now.names c.args.script.now c.in-Err-Line.field-0-is c.in-Err-Line.ensures))
-    c.refuse_line.result (g.K.Sink.octets c.args.out.now) (g.K.Sink.octets c.refuse_line.new.out) (g.K.Sink.fault_count c.args.out.now) (g.K.Sink.fault_count c.refuse_line.new.out) c.refuse_line.ensures
+    c.refuse_line.result (g.K.Sink.octets c.args.out.now) (g.K.Sink.octets c.refuse_line.new.out) (g.K.Sink.fault_count c.args.out.now) (g.K.Sink.fault_count c.refuse_line.new.out) c.refuse_line.ensures in
+    λ printed. written
 
 pub returns-in-Err-Line-clause-sums : goal.returns-in-Err-Line-clause-sums
-returns-in-Err-Line-clause-sums g c = λ printed.
-    sums_refused_line (star_file c.args.star.now) c.args.script.now c.in-Err-Line.number c.in-Err-Line.fault
+returns-in-Err-Line-clause-sums g c =
+    let written = sums_refused_line (star_file c.args.star.now) c.args.script.now c.in-Err-Line.number c.in-Err-Line.fault
     (subst (λ (names : List (List ℕ)). IsLineFault c.in-Err-Line.number c.in-Err-Line.fault (script_of names 0 c.args.script.now)) c.requires.named
     (told c.args.star.now.names c.args.script.now c.in-Err-Line.field-0-is c.in-Err-Line.ensures))
-    c.refuse_line.result (g.K.Sink.octets c.args.out.now) (g.K.Sink.octets c.refuse_line.new.out) (g.K.Sink.fault_count c.args.out.now) (g.K.Sink.fault_count c.refuse_line.new.out) c.refuse_line.ensures
+    c.refuse_line.result (g.K.Sink.octets c.args.out.now) (g.K.Sink.octets c.refuse_line.new.out) (g.K.Sink.fault_count c.args.out.now) (g.K.Sink.fault_count c.refuse_line.new.out) c.refuse_line.ensures in
+    λ printed. written
