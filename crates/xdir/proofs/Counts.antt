@@ -57,7 +57,7 @@ other_adds f agents (Lose reply k) counts taken no_ask = absurd taken
 pub answer_adds : (f : File) (to : ℕ) (r : Request) (reply : Reply) (journal : Journal) (old new : Counts)
     → ((sent : ℕ) → AnswersStar f.world sent to r reply journal)
     → ((b : Block) (blocks : List Block) → IsOf (names_in f.world) journal (Answered reply) b → old ≡ capped_counts (counts_of blocks)
-        → new ≡ capped_counts (counts_of (blocks ++ b ∷ [])))
+    → new ≡ capped_counts (counts_of (blocks ++ b ∷ [])))
     → AddsBlock f (Asks to r) old new
 answer_adds f to r reply journal old new answers counts sent blocks before =
     let a = answers sent in

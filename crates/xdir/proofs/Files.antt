@@ -11,15 +11,17 @@ use Rattle.x5_model_world.specs.Reading as model
 use Rattle.x5_model_world.specs.WorldFile.{File, Describes}
 use Rattle.x5_port.specs.Outside as outside
 use Rattle.x5_port.specs.Outside.{IsContent}
-use Rattle.x5_script.specs.Views.{IsLineFault}
+use Rattle.x5_script.specs.Views.{IsLineFault, ReadsScript}
 use Rattle.x5_script.specs.declared.command.ScriptFault.{ScriptFault}
 use Rattle.x5_script.specs.declared.command.ScriptFault.TheVariants as script
+use Rattle.x5_script.specs.declared.script.ScriptRefusal.{ScriptRefusal}
+use Rattle.x5_script.specs.declared.script.ScriptRefusal.TheVariants as refusals
 use Rattle.x5_world_members.specs.declared.fault.LoadFault.{LoadFault}
 use Rattle.x5_world_members.specs.declared.fault.LoadFault.TheVariants as world
 use Rattle.x5_words.specs.Forms.{FileNames}
 use Rattle.xdir.specs.declared.top.Status.{Status}
 use Rattle.xdir.specs.declared.top.Status.TheVariants.{Done, Refused, Usage, ReadFault, WriteFault, NoMemory, Inconsistent, TooLong}
-use Rattle.xdir.specs.Faults.{IsWorldLine, IsScriptLine}
+use Rattle.xdir.specs.Faults.{IsWorldLine, IsScriptLine, IsRefusalLine}
 use Rattle.xdir.specs.Outcomes.{IsReadable, most_octets}
 use Rattle.xdir.specs.Run.{names_in, lost_in, AsksFor, IsOutput, Runs, RunsSoFar, RefusesFile, no_json, faulty, RefusesStar, RefusesWorld, RefusesScript, faulty_line, not_yet, Refuses, Writes, TakesWorld, Reads}
 use Rattle.xdir.specs.Steps.{IsFirstOutput, WritesSuchLine, WritesRun, IsAskedOutput, IsFirstAskedOutput, IsNotYet, WritesAsked, IsScriptOutput, IsFirstScriptOutput, WritesScript, OfScript, WritesScriptFile, RefusesOver, WritesOver, ReadsOver, ReadsFile}
@@ -61,7 +63,7 @@ module _ (f : File) (octets : List ℕ) (asked : List Asked) (asks : AsksFor f.w
   runs_script status old new before after w = ends_more script_output first_script other_line status old new before after w
 
 -- the line of a script's first line that is refused
-pub refuses_as : (f : File) (octets : List ℕ) (number : ℕ) (fault : ScriptFault) → IsLineFault number fault (script_of (names_in f.world) (lost_in f.world) octets)
+refuses_as : (f : File) (octets : List ℕ) (number : ℕ) (fault : ScriptFault) → IsLineFault number fault (script_of (names_in f.world) (lost_in f.world) octets)
     → (text : List ℕ) → IsScriptLine number fault text → RefusesScript f.world octets text
 refuses_as f octets number (script.BadWord column) h text is = faulty_line number (words.BadWord column) h is
 refuses_as f octets number (script.BadName column) h text is = faulty_line number (words.BadName column) h is
@@ -70,11 +72,17 @@ refuses_as f octets number (script.BadHex column) h text is = faulty_line number
 refuses_as f octets number script.LineTooLong h text is = faulty_line number words.Long h is
 refuses_as f octets number script.NoMemory h text is = absurd is
 
-pub refuses_line : (f : File) (octets : List ℕ) (number : ℕ) (fault : ScriptFault) → IsLineFault number fault (script_of (names_in f.world) (lost_in f.world) octets)
-    → (status : Status) (old new : Option (List ℕ)) (before after : ℕ) → WritesSuchLine status (IsScriptLine number fault) old new before after
+-- and of a script that is refused, by how it is
+pub refused_as : (f : File) (octets : List ℕ) (refusal : ScriptRefusal) → ReadsScript (Err refusal) (names_in f.world) (lost_in f.world) octets
+    → (text : List ℕ) → IsRefusalLine refusal text → RefusesScript f.world octets text
+refused_as f octets (refusals.Line number fault) h text is = refuses_as f octets number fault h text is
+refused_as f octets refusals.NoMemory h text is = absurd is
+
+pub refuses_script : (f : File) (octets : List ℕ) (refusal : ScriptRefusal) → ReadsScript (Err refusal) (names_in f.world) (lost_in f.world) octets
+    → (status : Status) (old new : Option (List ℕ)) (before after : ℕ) → WritesSuchLine status (IsRefusalLine refusal) old new before after
     → WritesScript status f octets old new before after
-refuses_line f octets number fault h status old new before after w =
-    such_ends (refuses_as f octets number fault h) (IsScriptOutput f octets) (IsFirstScriptOutput f octets) status old new before after w
+refuses_script f octets refusal h status old new before after w =
+    such_ends (refused_as f octets refusal h) (IsScriptOutput f octets) (IsFirstScriptOutput f octets) status old new before after w
 
 -- the script of a file
 pub of_file : (told : Option (List outside.File)) (name octets : List ℕ) (f : File) → IsContent told name octets

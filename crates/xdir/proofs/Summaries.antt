@@ -4,23 +4,22 @@ use Rattle.x5_load.specs.Views.{Loads}
 use Rattle.x5_model_run.specs.Run.{Command}
 use Rattle.x5_model_script.specs.Lines.{Asked}
 use Rattle.x5_model_script.specs.Lines as lines
-use Rattle.x5_model_script.specs.Script.{script_of}
 use Rattle.x5_model_star.specs.Star.{IsStar}
 use Rattle.x5_model_world.specs.WorldFile.{File, Describes}
 use Rattle.x5_port.specs.Outside as outside
 use Rattle.x5_port.specs.Outside.{IsContent}
-use Rattle.x5_script.specs.Views.{IsLineFault}
-use Rattle.x5_script.specs.declared.command.ScriptFault.{ScriptFault}
+use Rattle.x5_script.specs.Views.{ReadsScript}
+use Rattle.x5_script.specs.declared.script.ScriptRefusal.{ScriptRefusal}
 use Rattle.x5_words.specs.Forms.{FileNames}
 use Rattle.x5_world_members.specs.declared.fault.LoadFault.{LoadFault}
 use Rattle.xdir.specs.declared.top.Status.{Status}
 use Rattle.xdir.specs.declared.top.Status.TheVariants.{Done, Refused, Usage, ReadFault, WriteFault, NoMemory, Inconsistent, TooLong}
-use Rattle.xdir.specs.Faults.{IsWorldLine, IsScriptLine}
+use Rattle.xdir.specs.Faults.{IsWorldLine, IsRefusalLine}
 use Rattle.xdir.specs.Run.{names_in, lost_in, AsksFor, RefusesStar}
 use Rattle.xdir.specs.Steps.{WritesSuchLine, OfScript}
 use Rattle.xdir.specs.Summed.{IsSummary, Sums, EndsAtOnce, WritesSummed, SumsRun, IsAskedSummary, SumsAsked, IsScriptSummary, SumsScript, SumsScriptFile, SumsOver}
 use Rattle.xdir.proofs.Ends.{wrote_more, broke_more}
-use Rattle.xdir.proofs.Files.{nothing, as_commands, other_line, refuses_as, over_star, refusal_of, wrong_as}
+use Rattle.xdir.proofs.Files.{nothing, as_commands, other_line, refused_as, over_star, refusal_of, wrong_as}
 
 -- what is said of the texts may say less
 module _ {output refusal output' refusal' : List ℕ → Type 0} (out : (text : List ℕ) → output text → output' text) (refuse : (text : List ℕ) → refusal text → refusal' text) where
@@ -73,11 +72,11 @@ module _ (f : File) (octets : List ℕ) (asked : List Asked) (asks : AsksFor f.w
   sums_script status old new before after w =
       at_once_more script_summary (other_line f octets asked asks) status old new before after w
 
-pub sums_refused_line : (f : File) (octets : List ℕ) (number : ℕ) (fault : ScriptFault) → IsLineFault number fault (script_of (names_in f.world) (lost_in f.world) octets)
-    → (status : Status) (old new : Option (List ℕ)) (before after : ℕ) → WritesSuchLine status (IsScriptLine number fault) old new before after
+pub sums_refused : (f : File) (octets : List ℕ) (refusal : ScriptRefusal) → ReadsScript (Err refusal) (names_in f.world) (lost_in f.world) octets
+    → (status : Status) (old new : Option (List ℕ)) (before after : ℕ) → WritesSuchLine status (IsRefusalLine refusal) old new before after
     → SumsScript status f octets old new before after
-sums_refused_line f octets number fault h status old new before after w =
-    such_at_once (refuses_as f octets number fault h) (IsScriptSummary f octets) status old new before after w
+sums_refused f octets refusal h status old new before after w =
+    such_at_once (refused_as f octets refusal h) (IsScriptSummary f octets) status old new before after w
 
 -- the script of a file
 pub sums_of_file : (told : Option (List outside.File)) (name octets : List ℕ) (f : File) → IsContent told name octets

@@ -13,7 +13,7 @@ ghost use Rattle.xdir.specs.Words.{form_in, is_made};
 use crate::check::check_file;
 use crate::generated::run_made;
 use crate::made::{print_made_script, print_made_world};
-use crate::refusals::{NO_STAR, put_refusal, refuse_line, refuse_world};
+use crate::refusals::{NO_STAR, put_refusal, refuse_script, refuse_world};
 use crate::run::{Printed, run_commands};
 use crate::show::show_file;
 use crate::star::{Star, find_star};
@@ -22,7 +22,7 @@ use x5_know::Described;
 use x5_load::load;
 use x5_memory::NoMemory;
 use x5_port::{FileFault, Files, Sink};
-use x5_script::{ScriptRefusal, read_script};
+use x5_script::read_script;
 use x5_words::{Words, read_words};
 
 /// The most octets of a file: 16 MiB.
@@ -180,7 +180,6 @@ pub fn run_octets<K: Sink>(
 {
     match read_script(alloc, script, &star.names, 0) {
         Ok(commands) => run_commands(alloc, printed, star, &commands, out),
-        Err(ScriptRefusal::Line { number, fault }) => refuse_line(alloc, number, fault, out),
-        Err(ScriptRefusal::NoMemory) => Status::NoMemory,
+        Err(refusal) => refuse_script(alloc, refusal, out),
     }
 }

@@ -1,4 +1,4 @@
-use Rattle.std.proofs.Common.{◌+◌, List, drop, map, take, sym, subst, arith}
+use Rattle.std.proofs.Common.{List, map, take, sym, subst}
 use Rattle.std.proofs.lemmas.List.{take_all}
 use Rattle.x5_model_run.specs.Run.{Command}
 use Rattle.x5_report.specs.Counted.{totals_view}
