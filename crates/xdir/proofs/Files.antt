@@ -11,15 +11,17 @@ use Rattle.x5_model_world.specs.Reading as model
 use Rattle.x5_model_world.specs.WorldFile.{File, Describes}
 use Rattle.x5_port.specs.Outside as outside
 use Rattle.x5_port.specs.Outside.{IsContent}
-use Rattle.x5_script.specs.Views.{IsLineFault}
+use Rattle.x5_script.specs.Views.{IsLineFault, ReadsScript}
 use Rattle.x5_script.specs.declared.command.ScriptFault.{ScriptFault}
 use Rattle.x5_script.specs.declared.command.ScriptFault.TheVariants as script
+use Rattle.x5_script.specs.declared.script.ScriptRefusal.{ScriptRefusal}
+use Rattle.x5_script.specs.declared.script.ScriptRefusal.TheVariants as refusals
 use Rattle.x5_world_members.specs.declared.fault.LoadFault.{LoadFault}
 use Rattle.x5_world_members.specs.declared.fault.LoadFault.TheVariants as world
 use Rattle.x5_words.specs.Forms.{FileNames}
 use Rattle.xdir.specs.declared.top.Status.{Status}
 use Rattle.xdir.specs.declared.top.Status.TheVariants.{Done, Refused, Usage, ReadFault, WriteFault, NoMemory, Inconsistent, TooLong}
-use Rattle.xdir.specs.Faults.{IsWorldLine, IsScriptLine}
+use Rattle.xdir.specs.Faults.{IsWorldLine, IsScriptLine, IsRefusalLine}
 use Rattle.xdir.specs.Outcomes.{IsReadable, most_octets}
 use Rattle.xdir.specs.Run.{names_in, lost_in, AsksFor, IsOutput, Runs, RunsSoFar, RefusesFile, no_json, faulty, RefusesStar, RefusesWorld, RefusesScript, faulty_line, not_yet, Refuses, Writes, TakesWorld, Reads}
 use Rattle.xdir.specs.Steps.{IsFirstOutput, WritesSuchLine, WritesRun, IsAskedOutput, IsFirstAskedOutput, IsNotYet, WritesAsked, IsScriptOutput, IsFirstScriptOutput, WritesScript, OfScript, WritesScriptFile, RefusesOver, WritesOver, ReadsOver, ReadsFile}
@@ -34,7 +36,7 @@ module _ (f : File) (asked : List Asked) (commands : List Command) (are : asked 
   first_asked : (text : List ℕ) → IsFirstOutput f commands text → IsFirstAskedOutput f asked text
   first_asked text p = record { commands = commands; are = are; first = p }
 
-  nothing : (text : List ℕ) → ⊥ → IsNotYet asked text
+  pub nothing : (text : List ℕ) → ⊥ → IsNotYet asked text
   nothing text p = absurd p
 
   pub runs_asked : (status : Status) (old new : Option (List ℕ)) (before after : ℕ) → WritesRun status f commands old new before after
@@ -44,7 +46,7 @@ module _ (f : File) (asked : List Asked) (commands : List Command) (are : asked 
 -- ---- a script over a star
 
 module _ (f : File) (octets : List ℕ) (asked : List Asked) (asks : AsksFor f.world octets asked) where
-  as_commands : (commands : List Command) → asked ≡ map lines.Runs commands → AsksFor f.world octets (map lines.Runs commands)
+  pub as_commands : (commands : List Command) → asked ≡ map lines.Runs commands → AsksFor f.world octets (map lines.Runs commands)
   as_commands commands are = asks ∙ ap Ok are
 
   script_output : (text : List ℕ) → IsAskedOutput f asked text → IsScriptOutput f octets text
@@ -53,7 +55,7 @@ module _ (f : File) (octets : List ℕ) (asked : List Asked) (asks : AsksFor f.w
   first_script : (text : List ℕ) → IsFirstAskedOutput f asked text → IsFirstScriptOutput f octets text
   first_script text p = record { commands = p.commands; asked = as_commands p.commands p.are; first = p.first }
 
-  other_line : (text : List ℕ) → IsNotYet asked text → RefusesScript f.world octets text
+  pub other_line : (text : List ℕ) → IsNotYet asked text → RefusesScript f.world octets text
   other_line text p = not_yet asked p.before asks p.first p.is_line
 
   pub runs_script : (status : Status) (old new : Option (List ℕ)) (before after : ℕ) → WritesAsked status f asked old new before after
@@ -70,11 +72,17 @@ refuses_as f octets number (script.BadHex column) h text is = faulty_line number
 refuses_as f octets number script.LineTooLong h text is = faulty_line number words.Long h is
 refuses_as f octets number script.NoMemory h text is = absurd is
 
-pub refuses_line : (f : File) (octets : List ℕ) (number : ℕ) (fault : ScriptFault) → IsLineFault number fault (script_of (names_in f.world) (lost_in f.world) octets)
-    → (status : Status) (old new : Option (List ℕ)) (before after : ℕ) → WritesSuchLine status (IsScriptLine number fault) old new before after
+-- and of a script that is refused, by how it is
+pub refused_as : (f : File) (octets : List ℕ) (refusal : ScriptRefusal) → ReadsScript (Err refusal) (names_in f.world) (lost_in f.world) octets
+    → (text : List ℕ) → IsRefusalLine refusal text → RefusesScript f.world octets text
+refused_as f octets (refusals.Line number fault) h text is = refuses_as f octets number fault h text is
+refused_as f octets refusals.NoMemory h text is = absurd is
+
+pub refuses_script : (f : File) (octets : List ℕ) (refusal : ScriptRefusal) → ReadsScript (Err refusal) (names_in f.world) (lost_in f.world) octets
+    → (status : Status) (old new : Option (List ℕ)) (before after : ℕ) → WritesSuchLine status (IsRefusalLine refusal) old new before after
     → WritesScript status f octets old new before after
-refuses_line f octets number fault h status old new before after w =
-    such_ends (refuses_as f octets number fault h) (IsScriptOutput f octets) (IsFirstScriptOutput f octets) status old new before after w
+refuses_script f octets refusal h status old new before after w =
+    such_ends (refused_as f octets refusal h) (IsScriptOutput f octets) (IsFirstScriptOutput f octets) status old new before after w
 
 -- the script of a file
 pub of_file : (told : Option (List outside.File)) (name octets : List ℕ) (f : File) → IsContent told name octets
@@ -85,7 +93,7 @@ of_file told name octets f is status old new before after w =
 
 -- ---- over a world that is a star, or none
 
-over_star : (told : Option (List outside.File)) (name : List ℕ) (f : File) → IsStar f.world → (text : List ℕ)
+pub over_star : (told : Option (List outside.File)) (name : List ℕ) (f : File) → IsStar f.world → (text : List ℕ)
     → OfScript told name (RefusesScript f.world) text → RefusesOver told name f text
 over_star told name f star text p = inr (star, p)
 
@@ -177,7 +185,7 @@ module _ (told : Option (List outside.File)) (names : FileNames) (octets : List 
     no_star_of text r =
         record { world = octets; world_is = octets_is; refuses = inr (record { file = f; described = described; refuses = r }) }
 
-    refusal_of : (text : List ℕ) → RefusesOver told names.script f text → Refuses told names text
+    pub refusal_of : (text : List ℕ) → RefusesOver told names.script f text → Refuses told names text
     refusal_of text (inl r) = inl (no_star_of text r)
     refusal_of text (inr p) = inr (record {
       world = octets;
@@ -212,7 +220,7 @@ module _ (told : Option (List outside.File)) (names : FileNames) (octets : List 
 
   -- one that isn't
   module _ (fault : LoadFault) (faults : Loads (Err fault) octets) where
-    wrong_as : (text : List ℕ) → IsWorldLine fault text → RefusesWorld told names.world text
+    pub wrong_as : (text : List ℕ) → IsWorldLine fault text → RefusesWorld told names.world text
     wrong_as text is = record { world = octets; world_is = octets_is; refuses = inl (wrong octets fault faults text is) }
 
     pub refuses_file : (status : Status) (old new : Option (List ℕ)) (before after : ℕ) → WritesSuchLine status (IsWorldLine fault) old new before after

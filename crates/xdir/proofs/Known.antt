@@ -23,7 +23,7 @@ use Rattle.x5_ops.specs.declared.journal.Journal.{Journal}
 use Rattle.x5_dispatch.specs.Star.{IsNamed, IsNamedLine, AreNamedLines, IsNamedAnswer, IsNamedReply, AnswersStar}
 use Rattle.x5_know.specs.Moments.{moment_text}
 use Rattle.x5_report.specs.Views.{is_known, line_known, journal_known, reply_known, answer_known}
-use Rattle.x5_report.specs.Blocks.{block_known, IsBlock, names_in}
+use Rattle.x5_report.specs.Blocks.{block_known, IsBlock, IsJournal, names_in}
 use Rattle.x5_report.specs.declared.report.LineOutcome.TheVariants.{Answered}
 use Rattle.xdir.specs.Blocks.{IsReadBlock}
 
@@ -67,6 +67,14 @@ module _ (names : List (List ℕ)) where
   reply_is (replies.Failed (errors.Service problem reference item)) n = absurd n
   reply_is (replies.Refer reference) n = absurd n
 
+-- the messages are those that the star gives, and nobody accepted an update
+module _ (f : File) (sent to : ℕ) (r : Request) (reply : Reply) (journal : Journal) (a : AnswersStar f.world sent to r reply journal) where
+  pub same_journal : IsJournal (names_in f.world) journal a.sends
+  same_journal = (
+    sym a.lines_are,
+    ap (λ (j : messages.Journal). reverse j.accepted) a.reads.journal_is ∙ sym (ap (map (agent_of (names_in f.world))) a.accepted_are),
+  )
+
 -- the block of what a star answers
 module _ (f : File) (sent line to : ℕ) (r : Request) (reply : Reply) (journal : Journal) (text : List ℕ) (a : AnswersStar f.world sent to r reply journal) where
   abbrev pub names : List (List ℕ)
@@ -81,16 +89,13 @@ module _ (f : File) (sent line to : ℕ) (r : Request) (reply : Reply) (journal 
       (both (list_all (line_known names) journal.lines) (list_all (is_known names) journal.accepted) (lines_are names journal.lines a.lines_named) accepted_known)
       (reply_is names reply a.reply_named)
 
-  nobody : reverse a.sends.accepted ≡ map (agent_of names) journal.accepted
-  nobody = ap (λ (j : messages.Journal). reverse j.accepted) a.reads.journal_is ∙ sym (ap (map (agent_of names)) a.accepted_are)
-
   pub read_block : (block_known names journal (Answered reply) ≡ true → IsBlock (names_of f.world (moment_text f.start)) names line journal (Answered reply) text)
       → IsReadBlock f sent line to r text
   read_block prints = record {
     journal = a.sends;
     reply = a.answers;
     reads = a.reads;
-    printed = prints known_block (Asks to r) a.sends (sym a.lines_are, nobody)
+    printed = prints known_block (Asks to r) a.sends (same_journal f sent to r reply journal a)
         ∙ ap (λ (x : told.Reply). print.block_text (names_of f.world (moment_text f.start)) line (Asks to r) (Replies a.sends x)) a.reply_is;
   }
 

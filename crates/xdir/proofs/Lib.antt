@@ -7,3 +7,6 @@ pub mod Agents
 pub mod Taken
 pub mod Few
 pub mod Checks
+pub mod Summaries
+pub mod Counts
+pub mod Making

@@ -4,6 +4,8 @@ use Rattle.x5_model_script.specs.Words as words
 use Rattle.x5_model_world.specs.Reading as model
 use Rattle.x5_script.specs.declared.command.ScriptFault.{ScriptFault}
 use Rattle.x5_script.specs.declared.command.ScriptFault.TheVariants as script
+use Rattle.x5_script.specs.declared.script.ScriptRefusal.{ScriptRefusal}
+use Rattle.x5_script.specs.declared.script.ScriptRefusal.TheVariants as refusals
 use Rattle.x5_world_members.specs.declared.fault.LoadFault.{LoadFault}
 use Rattle.x5_world_members.specs.declared.fault.LoadFault.TheVariants as world
 use Rattle.xdir.specs.Text.{not_json_text, refused_world_text, refused_line_text}
@@ -24,3 +26,8 @@ IsScriptLine number (script.BadFilter column) text = text ≡ refused_line_text 
 IsScriptLine number (script.BadHex column) text = text ≡ refused_line_text number (words.BadHex column)
 IsScriptLine number script.LineTooLong text = text ≡ refused_line_text number words.Long
 IsScriptLine number script.NoMemory text = ⊥
+
+-- of a script that is refused
+abbrev pub IsRefusalLine : ScriptRefusal → List ℕ → Type 0
+IsRefusalLine (refusals.Line number fault) text = IsScriptLine number fault text
+IsRefusalLine refusals.NoMemory text = ⊥

@@ -11,3 +11,6 @@ pub mod Checked
 pub mod Made
 pub mod Forms
 pub mod Blocks
+pub mod Counted
+pub mod Summed
+pub mod Generated

@@ -4,12 +4,14 @@
 mod asked;
 mod check;
 mod explained;
+mod generated;
 mod knowledge;
 mod made;
 mod refusals;
 mod run;
 mod show;
 mod star;
+mod summed;
 mod told;
 mod top;
 
@@ -24,8 +26,9 @@ use x5_port::{RealFiles, RealSink};
 
 // The forms that are taken so far, one a line.
 const USAGE: &str = "usage:
-  xdir run WORLD SCRIPT
+  xdir run [--summary] WORLD SCRIPT
   xdir check WORLD
+  xdir gen N
   xdir gen N world
   xdir gen N script
   xdir show FILE
@@ -39,7 +42,7 @@ fn main(rt: HostRuntime) -> ExitCode {
     let mut files = AskedFiles::new(RealFiles::new(&rt));
     let mut out = ToldSink::new(RealSink::new(io::writer(&rt)));
     let status = xdir(rt.alloc(), &words, &mut files, &mut out);
-    let name = files.asked().unwrap_or("");
+    let name = files.asked().unwrap_or("the generated files");
     match status {
         Status::ReadFault => unread(&rt, name, files.files().reason()),
         Status::WriteFault if out.sink().is_closed() => ExitCode::from(status as u8),
@@ -72,8 +75,8 @@ fn unread<R: Eprint>(rt: &R, name: &str, reason: Option<ErrorKind>) -> ExitCode 
     ExitCode::from(Status::ReadFault as u8)
 }
 
-// Says on standard error what was wrong, and gives the status. `name` is that of the last file read, and `line` the first that was
-// printed.
+// Says on standard error what was wrong, and gives the status. `name` is that of the last file read, or of generated ones, and `line`
+// the first that was printed.
 fn ended<R: Eprint>(rt: &R, status: Status, name: &str, line: &str) -> ExitCode {
     let _ = match status {
         Status::Done => Ok(()),

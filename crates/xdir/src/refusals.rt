@@ -2,7 +2,7 @@
 ghost use Rattle.std.specs.Prelude.{◌≡◌, ◌∷◌, ◌+◌, ◌<◌, [], codes, IfOk, string_bytes};
 ghost use Rattle.std.specs.Fmt.{decimal};
 ghost use Rattle.std.specs.List.{concat};
-ghost use Rattle.xdir.specs.Faults.{IsScriptLine, IsWorldLine};
+ghost use Rattle.xdir.specs.Faults.{IsRefusalLine, IsScriptLine, IsWorldLine};
 ghost use Rattle.xdir.specs.Steps.{WritesLine, WritesSuchLine};
 ghost use Rattle.xdir.specs.Text as shown;
 
@@ -11,7 +11,7 @@ use std::alloc::{AllocError, Global};
 use x5_load::LoadFault;
 use x5_memory::NoMemory;
 use x5_port::{Failed, Sink, put_all};
-use x5_script::ScriptFault;
+use x5_script::{ScriptFault, ScriptRefusal};
 
 /// What is printed of a world file that is no JSON.
 pub const NOT_JSON: &str = "refused world notJson\n";
@@ -105,12 +105,22 @@ pub fn refuse_world<K: Sink>(alloc: Global, fault: &LoadFault, out: &mut K) -> S
 }
 
 /// Prints what is wrong in a script's line with this number.
-pub fn refuse_line<K: Sink>(alloc: Global, number: usize, fault: ScriptFault, out: &mut K) -> Status
+fn refuse_line<K: Sink>(alloc: Global, number: usize, fault: ScriptFault, out: &mut K) -> Status
     ensures { WritesSuchLine result (IsScriptLine number fault) (K.octets out.old) (K.octets out.new) (K.fault_count out.old) (K.fault_count out.new) }
 {
     match script_line(alloc, number, fault) {
         Ok(line) => put_refusal(&line, out),
         Err(NoMemory) => Status::NoMemory,
+    }
+}
+
+/// Prints the line of a script that is refused; want of memory has none.
+pub fn refuse_script<K: Sink>(alloc: Global, refusal: ScriptRefusal, out: &mut K) -> Status
+    ensures { WritesSuchLine result (IsRefusalLine refusal) (K.octets out.old) (K.octets out.new) (K.fault_count out.old) (K.fault_count out.new) }
+{
+    match refusal {
+        ScriptRefusal::Line { number, fault } => refuse_line(alloc, number, fault, out),
+        ScriptRefusal::NoMemory => Status::NoMemory,
     }
 }
 

@@ -9,9 +9,11 @@ ghost use Rattle.xdir.specs.Run.{is_other};
 ghost use Rattle.xdir.specs.Star.{IsReady, IsTaken, run_view, star_file};
 ghost use Rattle.xdir.specs.Steps.{Prints, WritesAsked, WritesRun};
 ghost use Rattle.xdir.specs.Blocks.{IsReadBlock, WritesBlock};
+ghost use Rattle.xdir.specs.Summed.{SumsAsked, SumsRun};
 
 use crate::refusals::refuse_other;
 use crate::star::Star;
+use crate::summed::print_summary;
 use crate::top::Status;
 use std::alloc::Global;
 use x5_dispatch::{is_read, star_read};
@@ -23,7 +25,16 @@ use x5_script::Command;
 use x5_syntax::Text;
 
 /// What is printed of knowledge that holds together.
-const KNOWLEDGE: &str = "knowledge consistent\n";
+pub const KNOWLEDGE: &str = "knowledge consistent\n";
+
+/// What a run prints behind the line on knowledge.
+#[derive(Clone, Copy, Debug, PartialEq, Eq)]
+pub enum Printed {
+    /// The block of each command.
+    Blocks,
+    /// One line of counts: what all the blocks have.
+    Summary,
+}
 
 /// Whether a line asks for what no run does so far.
 fn is_other_line(command: &Command) -> bool
@@ -46,6 +57,7 @@ fn first_other(commands: &[Command]) -> Option<usize>
 /// Runs what a script's lines ask for, or prints the line of the first that asks for what no run does so far.
 pub fn run_commands<K: Sink>(
     alloc: Global,
+    printed: Printed,
     star: &Star,
     commands: &[Command],
     out: &mut K,
@@ -54,11 +66,33 @@ pub fn run_commands<K: Sink>(
     requires few { length commands.now ≤ 100000 }
     requires named { All (AreNamed star.now.names) (map command_view commands.now) }
     ensures prints { Prints result }
-    ensures writes { WritesAsked result (star_file star.now) (map command_view commands.now) (K.octets out.old) (K.octets out.new) (K.fault_count out.old) (K.fault_count out.new) }
+    ensures writes { printed ≡ Printed.Blocks → WritesAsked result (star_file star.now) (map command_view commands.now) (K.octets out.old) (K.octets out.new) (K.fault_count out.old) (K.fault_count out.new) }
+    ensures sums { printed ≡ Printed.Summary → SumsAsked result (star_file star.now) (map command_view commands.now) (K.octets out.old) (K.octets out.new) (K.fault_count out.old) (K.fault_count out.new) }
 {
     match first_other(commands) {
         Some(before) => refuse_other(alloc, before, out),
-        None => print_run(alloc, star, commands, out),
+        None => run_taken(alloc, printed, star, commands, out),
+    }
+}
+
+/// Runs commands that are all taken.
+fn run_taken<K: Sink>(
+    alloc: Global,
+    printed: Printed,
+    star: &Star,
+    commands: &[Command],
+    out: &mut K,
+) -> Status
+    requires ready { IsReady star.now }
+    requires few { length commands.now ≤ 100000 }
+    requires taken { All (IsTaken (length star.now.agents)) commands.now }
+    ensures prints { Prints result }
+    ensures writes { printed ≡ Printed.Blocks → WritesRun result (star_file star.now) (map run_view commands.now) (K.octets out.old) (K.octets out.new) (K.fault_count out.old) (K.fault_count out.new) }
+    ensures sums { printed ≡ Printed.Summary → SumsRun result (star_file star.now) (map run_view commands.now) (K.octets out.old) (K.octets out.new) (K.fault_count out.old) (K.fault_count out.new) }
+{
+    match printed {
+        Printed::Blocks => print_run(alloc, star, commands, out),
+        Printed::Summary => print_summary(alloc, star, commands, out),
     }
 }
 

@@ -7,12 +7,14 @@ ghost use Rattle.xdir.specs.Forms.{ReadsForm, WritesForm};
 ghost use Rattle.xdir.specs.Run.{Reads, Writes};
 ghost use Rattle.xdir.specs.Star.{IsReady, star_file};
 ghost use Rattle.xdir.specs.Steps.{Prints, ReadsFile, ReadsOver, WritesOver, WritesScript, WritesScriptFile};
+ghost use Rattle.xdir.specs.Summed.{SumsOver, SumsScript, SumsScriptFile, WritesSummed};
 ghost use Rattle.xdir.specs.Words.{form_in, is_made};
 
 use crate::check::check_file;
+use crate::generated::run_made;
 use crate::made::{print_made_script, print_made_world};
-use crate::refusals::{NO_STAR, put_refusal, refuse_line, refuse_world};
-use crate::run::run_commands;
+use crate::refusals::{NO_STAR, put_refusal, refuse_script, refuse_world};
+use crate::run::{Printed, run_commands};
 use crate::show::show_file;
 use crate::star::{Star, find_star};
 use std::alloc::Global;
@@ -20,7 +22,7 @@ use x5_know::Described;
 use x5_load::load;
 use x5_memory::NoMemory;
 use x5_port::{FileFault, Files, Sink};
-use x5_script::{ScriptRefusal, read_script};
+use x5_script::read_script;
 use x5_words::{Words, read_words};
 
 /// The most octets of a file: 16 MiB.
@@ -70,14 +72,28 @@ pub fn xdir<F: Files, K: Sink>(
         WritesForm form result (F.contents files.old) (K.octets out.old) (K.octets out.new) (K.fault_count out.old) (K.fault_count out.new)) }
 {
     match read_words(alloc, words) {
-        Ok(Some(Words::Run(names, false))) => {
-            run_files(alloc, names.world, names.script, files, out)
-        }
+        Ok(Some(Words::Run(names, false))) => run_files(
+            alloc,
+            Printed::Blocks,
+            names.world,
+            names.script,
+            files,
+            out,
+        ),
+        Ok(Some(Words::Run(names, true))) => run_files(
+            alloc,
+            Printed::Summary,
+            names.world,
+            names.script,
+            files,
+            out,
+        ),
         Ok(Some(Words::Check(name))) => check_file(alloc, name, files, out),
+        Ok(Some(Words::GenRun(number))) => run_made(alloc, number, out),
         Ok(Some(Words::GenWorld(number))) => print_made_world(alloc, number, out),
         Ok(Some(Words::GenScript(number))) => print_made_script(alloc, number, out),
         Ok(Some(Words::Show(name))) => show_file(alloc, name, files, out),
-        Ok(Some(Words::Run(_, true) | Words::Tree(_) | Words::GenRun(_)) | None) => Status::Usage,
+        Ok(Some(Words::Tree(_)) | None) => Status::Usage,
         Err(NoMemory) => Status::NoMemory,
     }
 }
@@ -85,17 +101,19 @@ pub fn xdir<F: Files, K: Sink>(
 /// Runs the script of one file over the world that another describes.
 fn run_files<F: Files, K: Sink>(
     alloc: Global,
+    printed: Printed,
     world: &str,
     script: &str,
     files: &mut F,
     out: &mut K,
 ) -> Status
     ensures reads { Reads result (record { world = world.now; script = script.now }) (F.contents files.old) (F.fault_count files.old) (F.fault_count files.new) (F.last_failed files.new) (K.octets out.old) (K.octets out.new) }
-    ensures writes { Writes result (F.contents files.old) (record { world = world.now; script = script.now }) (K.octets out.old) (K.octets out.new) (K.fault_count out.old) (K.fault_count out.new) }
+    ensures writes { printed ≡ Printed.Blocks → Writes result (F.contents files.old) (record { world = world.now; script = script.now }) (K.octets out.old) (K.octets out.new) (K.fault_count out.old) (K.fault_count out.new) }
+    ensures sums { printed ≡ Printed.Summary → WritesSummed result (F.contents files.old) (record { world = world.now; script = script.now }) (K.octets out.old) (K.octets out.new) (K.fault_count out.old) (K.fault_count out.new) }
 {
     match files.read_whole(alloc, world, MOST_OCTETS) {
         Ok(octets) => match load(alloc, &octets) {
-            Ok(world) => run_world(alloc, world, script, files, out),
+            Ok(world) => run_world(alloc, printed, world, script, files, out),
             Err(fault) => refuse_world(alloc, &fault, out),
         },
         Err(FileFault::Failed) => Status::ReadFault,
@@ -107,6 +125,7 @@ fn run_files<F: Files, K: Sink>(
 /// Runs the script of a file over a world, if that is a star.
 fn run_world<F: Files, K: Sink>(
     alloc: Global,
+    printed: Printed,
     world: Described,
     script: &str,
     files: &mut F,
@@ -114,10 +133,11 @@ fn run_world<F: Files, K: Sink>(
 ) -> Status
     requires { IsDescribed (world_view world) }
     ensures reads { ReadsOver result (file_view world) script.now (F.contents files.old) (F.fault_count files.old) (F.fault_count files.new) (F.last_failed files.new) (K.octets out.old) (K.octets out.new) }
-    ensures writes { WritesOver result (F.contents files.old) script.now (file_view world) (K.octets out.old) (K.octets out.new) (K.fault_count out.old) (K.fault_count out.new) }
+    ensures writes { printed ≡ Printed.Blocks → WritesOver result (F.contents files.old) script.now (file_view world) (K.octets out.old) (K.octets out.new) (K.fault_count out.old) (K.fault_count out.new) }
+    ensures sums { printed ≡ Printed.Summary → SumsOver result (F.contents files.old) script.now (file_view world) (K.octets out.old) (K.octets out.new) (K.fault_count out.old) (K.fault_count out.new) }
 {
     match find_star(alloc, world) {
-        Ok(Some(star)) => run_script(alloc, &star, script, files, out),
+        Ok(Some(star)) => run_script(alloc, printed, &star, script, files, out),
         Ok(None) => put_refusal(NO_STAR, out),
         Err(NoMemory) => Status::NoMemory,
     }
@@ -126,6 +146,7 @@ fn run_world<F: Files, K: Sink>(
 /// Runs the script of a file over a star.
 fn run_script<F: Files, K: Sink>(
     alloc: Global,
+    printed: Printed,
     star: &Star,
     script: &str,
     files: &mut F,
@@ -133,10 +154,11 @@ fn run_script<F: Files, K: Sink>(
 ) -> Status
     requires { IsReady star.now }
     ensures reads { ReadsFile result script.now (F.contents files.old) (F.fault_count files.old) (F.fault_count files.new) (F.last_failed files.new) }
-    ensures writes { WritesScriptFile result (F.contents files.old) script.now (star_file star.now) (K.octets out.old) (K.octets out.new) (K.fault_count out.old) (K.fault_count out.new) }
+    ensures writes { printed ≡ Printed.Blocks → WritesScriptFile result (F.contents files.old) script.now (star_file star.now) (K.octets out.old) (K.octets out.new) (K.fault_count out.old) (K.fault_count out.new) }
+    ensures sums { printed ≡ Printed.Summary → SumsScriptFile result (F.contents files.old) script.now (star_file star.now) (K.octets out.old) (K.octets out.new) (K.fault_count out.old) (K.fault_count out.new) }
 {
     match files.read_whole(alloc, script, MOST_OCTETS) {
-        Ok(octets) => run_octets(alloc, star, &octets, out),
+        Ok(octets) => run_octets(alloc, printed, star, &octets, out),
         Err(FileFault::Failed) => Status::ReadFault,
         Err(FileFault::TooLong) => Status::TooLong,
         Err(FileFault::NoMemory) => Status::NoMemory,
@@ -144,14 +166,20 @@ fn run_script<F: Files, K: Sink>(
 }
 
 /// Runs a script, or prints the line of its first line that isn't taken. A star loses no replies by itself.
-fn run_octets<K: Sink>(alloc: Global, star: &Star, script: &[u8], out: &mut K) -> Status
+pub fn run_octets<K: Sink>(
+    alloc: Global,
+    printed: Printed,
+    star: &Star,
+    script: &[u8],
+    out: &mut K,
+) -> Status
     requires { IsReady star.now }
     ensures prints { Prints result }
-    ensures writes { WritesScript result (star_file star.now) script.now (K.octets out.old) (K.octets out.new) (K.fault_count out.old) (K.fault_count out.new) }
+    ensures writes { printed ≡ Printed.Blocks → WritesScript result (star_file star.now) script.now (K.octets out.old) (K.octets out.new) (K.fault_count out.old) (K.fault_count out.new) }
+    ensures sums { printed ≡ Printed.Summary → SumsScript result (star_file star.now) script.now (K.octets out.old) (K.octets out.new) (K.fault_count out.old) (K.fault_count out.new) }
 {
     match read_script(alloc, script, &star.names, 0) {
-        Ok(commands) => run_commands(alloc, star, &commands, out),
-        Err(ScriptRefusal::Line { number, fault }) => refuse_line(alloc, number, fault, out),
-        Err(ScriptRefusal::NoMemory) => Status::NoMemory,
+        Ok(commands) => run_commands(alloc, printed, star, &commands, out),
+        Err(refusal) => refuse_script(alloc, refusal, out),
     }
 }

@@ -2,9 +2,11 @@ use Rattle.std.proofs.Common.{◌∙◌, ℕ, map, sym, subst, arith, All}
 use Rattle.x5_script.specs.Views.{command_view}
 use Rattle.xdir.specs.Star.{IsTaken, run_view, star_file}
 use Rattle.xdir.specs.Steps.{IsAskedOutput, IsFirstAskedOutput}
+use Rattle.xdir.specs.Summed.{IsAskedSummary}
 use Rattle.xdir.proofs.Agents.{same_lengths}
 use Rattle.xdir.proofs.Ends.{such_ends, such_prints}
 use Rattle.xdir.proofs.Files.{runs_asked}
+use Rattle.xdir.proofs.Summaries.{such_at_once, sums_asked}
 use Rattle.xdir.proofs.Taken.{all_taken, all_run, same_position, within}
 use Rattle.xdir.proofs.run.run_commands.Goals as goal
 
@@ -15,7 +17,7 @@ refuse_other-requires g c =
     omega (arith, few, less)
 
 pub returns-in-Some-clause-writes : goal.returns-in-Some-clause-writes
-returns-in-Some-clause-writes g c =
+returns-in-Some-clause-writes g c = λ printed.
     let f = star_file c.args.star.now in
     let asked = map command_view c.args.commands.now in
     such_ends (λ text is. record {
@@ -25,17 +27,35 @@ returns-in-Some-clause-writes g c =
     }) (IsAskedOutput f asked) (IsFirstAskedOutput f asked) c.refuse_other.result (g.K.Sink.octets c.args.out.now) (g.K.Sink.octets c.refuse_other.new.out)
     (g.K.Sink.fault_count c.args.out.now) (g.K.Sink.fault_count c.refuse_other.new.out) c.refuse_other.ensures
 
+pub returns-in-Some-clause-sums : goal.returns-in-Some-clause-sums
+returns-in-Some-clause-sums g c = λ printed.
+    let f = star_file c.args.star.now in
+    let asked = map command_view c.args.commands.now in
+    such_at_once (λ text is. record {
+      before = c.in-Some.before;
+      first = same_position c.args.commands.now ∙ sym c.first_other.ensures ∙ c.in-Some.is;
+      is_line = is;
+    }) (IsAskedSummary f asked) c.refuse_other.result (g.K.Sink.octets c.args.out.now) (g.K.Sink.octets c.refuse_other.new.out)
+    (g.K.Sink.fault_count c.args.out.now) (g.K.Sink.fault_count c.refuse_other.new.out) c.refuse_other.ensures
+
 pub returns-in-Some-clause-prints : goal.returns-in-Some-clause-prints
 returns-in-Some-clause-prints g c = such_prints c.refuse_other.result _ _ _ _ _ c.refuse_other.ensures
 
-pub print_run-requires-clause-taken : goal.print_run-requires-clause-taken
-print_run-requires-clause-taken g c =
+pub run_taken-requires-clause-taken : goal.run_taken-requires-clause-taken
+run_taken-requires-clause-taken g c =
     subst (λ (n : ℕ). All (IsTaken n) c.args.commands.now) (same_lengths c.args.star.now c.requires.ready)
     (all_taken c.args.star.now.names c.args.commands.now (sym c.first_other.ensures ∙ c.in-None.is) c.requires.named)
 
 pub returns-in-None-clause-writes : goal.returns-in-None-clause-writes
-returns-in-None-clause-writes g c =
+returns-in-None-clause-writes g c = λ printed.
     runs_asked (star_file c.args.star.now) (map command_view c.args.commands.now) (map run_view c.args.commands.now)
     (all_run c.args.star.now.names c.args.commands.now (sym c.first_other.ensures ∙ c.in-None.is))
-    c.print_run.result (g.K.Sink.octets c.args.out.now) (g.K.Sink.octets c.print_run.new.out)
-    (g.K.Sink.fault_count c.args.out.now) (g.K.Sink.fault_count c.print_run.new.out) c.print_run.ensures.writes
+    c.run_taken.result (g.K.Sink.octets c.args.out.now) (g.K.Sink.octets c.run_taken.new.out)
+    (g.K.Sink.fault_count c.args.out.now) (g.K.Sink.fault_count c.run_taken.new.out) (c.run_taken.ensures.writes printed)
+
+pub returns-in-None-clause-sums : goal.returns-in-None-clause-sums
+returns-in-None-clause-sums g c = λ printed.
+    sums_asked (star_file c.args.star.now) (map command_view c.args.commands.now) (map run_view c.args.commands.now)
+    (all_run c.args.star.now.names c.args.commands.now (sym c.first_other.ensures ∙ c.in-None.is))
+    c.run_taken.result (g.K.Sink.octets c.args.out.now) (g.K.Sink.octets c.run_taken.new.out)
+    (g.K.Sink.fault_count c.args.out.now) (g.K.Sink.fault_count c.run_taken.new.out) (c.run_taken.ensures.sums printed)

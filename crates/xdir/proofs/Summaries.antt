@@ -1,0 +1,132 @@
+-- What is written of the summary of a script over a star, and of the files that hold them.
+use Rattle.std.proofs.Common.{◌≡◌, inl, inr, ◌⊎◌, ℕ, List, map, Option, sym, ap, ◌∙◌, Ok, Err, append-nil}
+use Rattle.x5_load.specs.Views.{Loads}
+use Rattle.x5_model_run.specs.Run.{Command}
+use Rattle.x5_model_script.specs.Lines.{Asked}
+use Rattle.x5_model_script.specs.Lines as lines
+use Rattle.x5_model_star.specs.Star.{IsStar}
+use Rattle.x5_model_world.specs.WorldFile.{File, Describes}
+use Rattle.x5_port.specs.Outside as outside
+use Rattle.x5_port.specs.Outside.{IsContent}
+use Rattle.x5_script.specs.Views.{ReadsScript}
+use Rattle.x5_script.specs.declared.script.ScriptRefusal.{ScriptRefusal}
+use Rattle.x5_words.specs.Forms.{FileNames}
+use Rattle.x5_world_members.specs.declared.fault.LoadFault.{LoadFault}
+use Rattle.xdir.specs.declared.top.Status.{Status}
+use Rattle.xdir.specs.declared.top.Status.TheVariants.{Done, Refused, Usage, ReadFault, WriteFault, NoMemory, Inconsistent, TooLong}
+use Rattle.xdir.specs.Faults.{IsWorldLine, IsRefusalLine}
+use Rattle.xdir.specs.Run.{names_in, lost_in, AsksFor, RefusesStar}
+use Rattle.xdir.specs.Steps.{WritesSuchLine, OfScript}
+use Rattle.xdir.specs.Summed.{IsSummary, Sums, EndsAtOnce, WritesSummed, SumsRun, IsAskedSummary, SumsAsked, IsScriptSummary, SumsScript, SumsScriptFile, SumsOver}
+use Rattle.xdir.proofs.Ends.{wrote_more, broke_more}
+use Rattle.xdir.proofs.Files.{nothing, as_commands, other_line, refused_as, over_star, refusal_of, wrong_as}
+
+-- what is said of the texts may say less
+module _ {output refusal output' refusal' : List ℕ → Type 0} (out : (text : List ℕ) → output text → output' text) (refuse : (text : List ℕ) → refusal text → refusal' text) where
+  either : (text : List ℕ) → output text ⊎ refusal text → output' text ⊎ refusal' text
+  either text (inl o) = inl (out text o)
+  either text (inr r) = inr (refuse text r)
+
+  at_once_more : (status : Status) (old new : Option (List ℕ)) (before after : ℕ) → EndsAtOnce output refusal status old new before after
+      → EndsAtOnce output' refusal' status old new before after
+  at_once_more Done old new before after w = wrote_more out old new w
+  at_once_more Refused old new before after w = wrote_more refuse old new w
+  at_once_more WriteFault old new before after w = (w.0, broke_more either old new w.1)
+  at_once_more NoMemory old new before after w = w
+  at_once_more ReadFault old new before after w = w
+  at_once_more TooLong old new before after w = w
+  at_once_more Usage old new before after w = absurd w
+  at_once_more Inconsistent old new before after w = w
+
+-- a line that is written alone, where it is a refusal, ends a summary too
+module _ {P Q : List ℕ → Type 0} (more : (text : List ℕ) → P text → Q text) where
+  pub such_at_once : (output : List ℕ → Type 0) (status : Status) (old new : Option (List ℕ)) (before after : ℕ)
+      → WritesSuchLine status P old new before after → EndsAtOnce output Q status old new before after
+  such_at_once output Refused old new before after w = wrote_more more old new w
+  such_at_once output WriteFault old new before after w = (w.0, broke_more (λ text p. inr (more text p)) old new w.1)
+  such_at_once output NoMemory old new before after w = w
+  such_at_once output Done old new before after w = absurd w
+  such_at_once output ReadFault old new before after w = absurd w
+  such_at_once output TooLong old new before after w = absurd w
+  such_at_once output Usage old new before after w = absurd w
+  such_at_once output Inconsistent old new before after w = w
+
+-- ---- what is asked for, and a script
+
+module _ (f : File) (asked : List Asked) (commands : List Command) (are : asked ≡ map lines.Runs commands) where
+  asked_summary : (text : List ℕ) → IsSummary f commands text → IsAskedSummary f asked text
+  asked_summary text s = record { commands = commands; are = are; sums = s }
+
+  pub sums_asked : (status : Status) (old new : Option (List ℕ)) (before after : ℕ) → SumsRun status f commands old new before after
+      → SumsAsked status f asked old new before after
+  sums_asked status old new before after w =
+      at_once_more asked_summary (nothing f asked commands are) status old new before after w
+
+module _ (f : File) (octets : List ℕ) (asked : List Asked) (asks : AsksFor f.world octets asked) where
+  script_summary : (text : List ℕ) → IsAskedSummary f asked text → IsScriptSummary f octets text
+  script_summary text s =
+      record { commands = s.commands; asked = as_commands f octets asked asks s.commands s.are; sums = s.sums }
+
+  pub sums_script : (status : Status) (old new : Option (List ℕ)) (before after : ℕ) → SumsAsked status f asked old new before after
+      → SumsScript status f octets old new before after
+  sums_script status old new before after w =
+      at_once_more script_summary (other_line f octets asked asks) status old new before after w
+
+pub sums_refused : (f : File) (octets : List ℕ) (refusal : ScriptRefusal) → ReadsScript (Err refusal) (names_in f.world) (lost_in f.world) octets
+    → (status : Status) (old new : Option (List ℕ)) (before after : ℕ) → WritesSuchLine status (IsRefusalLine refusal) old new before after
+    → SumsScript status f octets old new before after
+sums_refused f octets refusal h status old new before after w =
+    such_at_once (refused_as f octets refusal h) (IsScriptSummary f octets) status old new before after w
+
+-- the script of a file
+pub sums_of_file : (told : Option (List outside.File)) (name octets : List ℕ) (f : File) → IsContent told name octets
+    → (status : Status) (old new : Option (List ℕ)) (before after : ℕ) → SumsScript status f octets old new before after
+    → SumsScriptFile status told name f old new before after
+sums_of_file told name octets f is status old new before after w =
+    at_once_more (λ text p. (octets, is, p)) (λ text p. (octets, is, p)) status old new before after w
+
+-- ---- over a world that is a star, or none
+
+pub sums_star : (told : Option (List outside.File)) (name : List ℕ) (f : File) → IsStar f.world
+    → (status : Status) (old new : Option (List ℕ)) (before after : ℕ) → SumsScriptFile status told name f old new before after
+    → SumsOver status told name f old new before after
+sums_star told name f star status old new before after w =
+    at_once_more (λ text p. p) (over_star told name f star) status old new before after w
+
+pub sums_none : (told : Option (List outside.File)) (name : List ℕ) (f : File)
+    → (status : Status) (old new : Option (List ℕ)) (before after : ℕ) → WritesSuchLine status (RefusesStar f) old new before after
+    → SumsOver status told name f old new before after
+sums_none told name f status old new before after w =
+    such_at_once (λ text p. inl p) (OfScript told name (IsScriptSummary f)) status old new before after w
+
+-- ---- over the world that another file describes, or that is none
+
+module _ (told : Option (List outside.File)) (names : FileNames) (octets : List ℕ) (octets_is : IsContent told names.world octets) where
+  module _ (f : File) (described : Describes octets (Ok f)) where
+    summary_of_files : (text : List ℕ) → OfScript told names.script (IsScriptSummary f) text → Sums told names text
+    summary_of_files text p = record {
+      output = p.2.sums.output;
+      runs = record {
+        world = octets;
+        script = p.0;
+        world_is = octets_is;
+        script_is = p.1;
+        file = f;
+        described = described;
+        commands = p.2.commands;
+        asked = p.2.asked ∙ ap (λ (c : List Command). Ok (map lines.Runs c)) (sym (append-nil p.2.commands));
+        prints = p.2.sums.prints;
+      };
+      sums_up = p.2.sums.sums_up;
+    }
+
+    pub sums_files : (status : Status) (old new : Option (List ℕ)) (before after : ℕ) → SumsOver status told names.script f old new before after
+        → WritesSummed status told names old new before after
+    sums_files status old new before after w =
+        at_once_more summary_of_files (refusal_of told names octets octets_is f described) status old new before after w
+
+  module _ (fault : LoadFault) (faults : Loads (Err fault) octets) where
+    pub sums_refused_file : (status : Status) (old new : Option (List ℕ)) (before after : ℕ) → WritesSuchLine status (IsWorldLine fault) old new before after
+        → WritesSummed status told names old new before after
+    sums_refused_file status old new before after w =
+        such_at_once (λ text p. inl (wrong_as told names octets octets_is fault faults text p)) (Sums told names) status old new before after w
