@@ -1,13 +1,13 @@
 -- One copy more is had where an agreement brings it and no earlier one did; no two are of one context.
-use Rattle.std.proofs.Common.{◌≡◌, ℕ, ◌+◌, ◌<◌, ◌==◌, ◌&&◌, ◌||◌, not, Bool, true, false, cond, if◌then◌else◌, inl, inr, List, [], ◌∷◌, ◌++◌, map, length, drop, get_or, refl, sym, ap, subst, ◌∙◌, Option, None}
+use Rattle.std.proofs.Common.{◌≡◌, ℕ, ◌+◌, ◌<◌, ◌==◌, ◌&&◌, ◌||◌, not, Bool, true, false, cond, if◌then◌else◌, List, [], ◌∷◌, ◌++◌, map, length, drop, get_or, refl, sym, ap, ◌∙◌, None}
 use Rattle.std.proofs.lemmas.List.{append_assoc, map-append}
 use Rattle.std.specs.List.{filter, list_any}
-use Rattle.x5_model.specs.Members.{In, Once}
+use Rattle.x5_model.specs.Members.{In}
 use Rattle.x5_model.specs.Words.{has, distinct}
 use Rattle.x5_model.specs.Keys.{Key, same_key}
 use Rattle.x5_model.specs.Values.{key_of}
 use Rattle.x5_model.proofs.KeyLaws.{key_decides}
-use Rattle.x5_model.proofs.Lists.{true_or_false, has_in}
+use Rattle.x5_model.proofs.Lists.{has_in}
 use Rattle.x5_model.proofs.Decide.{once_decides}
 use Rattle.x5_model_tree.specs.World.{Agreement}
 use Rattle.x5_model_run.specs.Holdings.{Copy}

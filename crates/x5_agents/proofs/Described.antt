@@ -1,7 +1,6 @@
 -- Each context of a described agent is whole.
-use Rattle.std.proofs.Common.{◌≡◌, true, ◌&&◌, List, map, length, arith}
+use Rattle.std.proofs.Common.{◌≡◌, true, ◌&&◌, map}
 use Rattle.std.specs.List.{list_all}
-use Rattle.x5_model.specs.Members.{In}
 use Rattle.x5_model.specs.Words.{distinct}
 use Rattle.x5_model.specs.Keys.{same_key}
 use Rattle.x5_model.specs.Values.{key_of}

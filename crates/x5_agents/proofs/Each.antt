@@ -1,11 +1,8 @@
 -- What each agent holds, one agent more at a time.
-use Rattle.std.proofs.Common.{◌≡◌, ℕ, zero, suc, ◌+◌, ◌<◌, ◌≤◌, ◌⊎◌, inl, inr, true, List, [], ◌∷◌, ◌++◌, map, length, get_or, slice_get, refl, sym, ap, subst, ◌∙◌, arith, length-append, Option, Some, option_map}
-use Rattle.std.specs.List.{list_all}
+use Rattle.std.proofs.Common.{◌≡◌, ℕ, zero, suc, ◌+◌, ◌<◌, ◌⊎◌, inl, inr, List, [], ◌∷◌, ◌++◌, map, length, get_or, slice_get, refl, sym, ap, subst, ◌∙◌, arith, length-append, Option, Some, option_map}
 use Rattle.x5_model.specs.Words.{in_option}
 use Rattle.x5_model_tree.specs.World.{Agent}
 use Rattle.x5_model_tree.specs.Masters.{agent_at}
-use Rattle.x5_model_tree.specs.Described.{IsDescribed}
-use Rattle.x5_model_run.specs.Holdings.{Holdings}
 use Rattle.x5_model_run.specs.History.{no_holdings}
 use Rattle.x5_model_held.specs.Beginning.{described_holdings, holdings_described}
 use Rattle.x5_know.specs.declared.described.DescribedAgent.{DescribedAgent}

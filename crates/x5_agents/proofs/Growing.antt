@@ -1,27 +1,27 @@
 -- An entry that is grown over others is taken among them: the one above it is there and spells its name, no entry has its
 -- key; and behind it the entries are in order, with it among them.
-use Rattle.std.proofs.Common.{◌≡◌, ℕ, zero, suc, ◌-◌, Bool, true, false, not, ◌&&◌, ◌⊎◌, ◌↔◌, inl, inr, List, [], ◌∷◌, ◌++◌, map, take, length, refl, sym, ap, subst, ◌∙◌, arith, Option, Some, None}
+use Rattle.std.proofs.Common.{◌≡◌, ℕ, suc, ◌-◌, Bool, true, false, not, ◌&&◌, inl, inr, List, [], ◌∷◌, ◌++◌, take, length, refl, sym, ap, subst, ◌∙◌, arith}
 use Rattle.std.proofs.lemmas.List.{map-append}
-use Rattle.std.specs.List.{list_any, list_all, find}
-use Rattle.x5_model.specs.Members.{In, here, there, Once}
-use Rattle.x5_model.specs.Words.{ascending, distinct, is_empty}
+use Rattle.std.specs.List.{list_any}
+use Rattle.x5_model.specs.Members.{In, Once}
+use Rattle.x5_model.specs.Words.{ascending, is_empty}
 use Rattle.x5_model.specs.Keys.{Key, same_key, parent}
-use Rattle.x5_model.specs.Values.{Rdn, Name, key_of, last_rdn, name_above}
+use Rattle.x5_model.specs.Values.{Name, key_of, last_rdn, name_above}
 use Rattle.x5_model.specs.Entries.{Entry, Named}
 use Rattle.x5_model.specs.Attributes.{is_ordered, has_rdn}
 use Rattle.x5_model.specs.Statics.{entry_refusals}
 use Rattle.x5_model.proofs.KeyLaws.{key_decides}
-use Rattle.x5_model.proofs.Lists.{both_true, not_true, in_first, in_either, in_left, in_right, in_map, of_map, any_in, of_any, of_find, none_of, once_map}
+use Rattle.x5_model.proofs.Lists.{both_true, not_true, in_either, in_left, in_right, in_map, of_map, any_in, of_any, of_find, none_of, once_map}
 use Rattle.x5_model.proofs.Decide.{once_decides}
 use Rattle.x5_model_tree.specs.Tree.{key_at, keys_of, named_below, is_there, sorted_entries}
 use Rattle.x5_model_tree.specs.Described.{same_spelling, is_grown, is_kept, is_entry_name}
-use Rattle.x5_model_tree.proofs.Grown.{same_name_key, above_key}
+use Rattle.x5_model_tree.proofs.Grown.{above_key}
 use Rattle.x5_model_tree.proofs.Order.{entries_once, union_in_order, in_union}
 use Rattle.x5_dse.specs.declared.node.NodeId.{NodeId}
 use Rattle.x5_dse.specs.declared.node.DseFault.{DseFault}
 use Rattle.x5_dse.specs.declared.node.DseFault.TheVariants.{Exists, NoParent, NotLeaf}
-use Rattle.x5_dse.specs.Linked.{Node, Nodes, entries_of, node_key, node_at, named_of}
-use Rattle.x5_dse.specs.Changes.{Inserted, NotInserted, entry_below}
+use Rattle.x5_dse.specs.Linked.{Node, Nodes, entries_of, node_key, named_of}
+use Rattle.x5_dse.specs.Changes.{Inserted, NotInserted}
 use Rattle.x5_dse.proofs.Members.{once_push}
 use Rattle.x5_holdings.specs.State.{Kept, OnlyEntries}
 use Rattle.x5_agents.specs.Growing.{Grown}

@@ -1,12 +1,12 @@
 -- What is grown over some entries is grown over others with the same members; entries are told by their members and order.
-use Rattle.std.proofs.Common.{◌≡◌, Bool, true, false, not, ◌&&◌, ◌||◌, ◌⊎◌, ◌↔◌, inl, inr, List, [], ◌∷◌, refl, sym, ap, subst, ◌∙◌}
-use Rattle.std.specs.List.{list_any, list_all, filter}
+use Rattle.std.proofs.Common.{◌≡◌, Bool, true, not, ◌&&◌, ◌↔◌, inl, inr, List, [], ◌∷◌, refl, sym, ap, subst, ◌∙◌}
+use Rattle.std.specs.List.{list_any, filter}
 use Rattle.x5_model.specs.Members.{In, here, there}
 use Rattle.x5_model.specs.Words.{ascending, distinct}
 use Rattle.x5_model.specs.Keys.{Key, same_key, parent}
 use Rattle.x5_model.specs.Values.{key_of, name_above}
 use Rattle.x5_model.specs.Entries.{Named}
-use Rattle.x5_model.proofs.Lists.{both_true, and_true, not_true, not_false, true_or_false, in_first, any_in, of_any, none_of}
+use Rattle.x5_model.proofs.Lists.{both_true, and_true, true_or_false, in_first, any_in, of_any}
 use Rattle.x5_model_tree.specs.World.{Specific}
 use Rattle.x5_model_tree.specs.Tree.{key_at, keys_of, named_below, is_there, sorted_entries}
 use Rattle.x5_model_tree.specs.Described.{same_spelling, is_grown}

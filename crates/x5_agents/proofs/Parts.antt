@@ -1,11 +1,9 @@
 -- What an agent holds by its parts is what is described of it by its parts.
-use Rattle.std.proofs.Common.{◌≡◌, ℕ, ◌==◌, if◌then◌else◌, List, [], map, length, refl, sym, ap, ◌∙◌, Option}
+use Rattle.std.proofs.Common.{◌≡◌, ℕ, ◌==◌, if◌then◌else◌, List, [], map, length, ap, ◌∙◌}
 use Rattle.std.specs.List.{filter}
 use Rattle.std.specs.Option.{is_none}
-use Rattle.x5_model_tree.specs.World as model
 use Rattle.x5_model_tree.specs.World.{Agent, World}
 use Rattle.x5_model_tree.specs.Masters.{held_contexts}
-use Rattle.x5_model_run.specs.Holdings.{Held, Copy}
 use Rattle.x5_model_run.specs.History.{agreements_of}
 use Rattle.x5_model_held.specs.Beginning.{described_context, described_copy, described_holdings}
 use Rattle.x5_ops.specs.declared.knowledge.Cross.{Cross}

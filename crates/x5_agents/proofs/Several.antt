@@ -1,6 +1,6 @@
 -- Entries that are grown one behind the other: what is taken so far and what is left are all, and what is left is grown
 -- over what is taken.
-use Rattle.std.proofs.Common.{◌≡◌, ℕ, zero, ◌+◌, ◌<◌, ◌≤◌, true, ◌⊎◌, ◌↔◌, inl, inr, List, [], ◌∷◌, length, drop, get_or, refl, sym, ap, subst, ◌∙◌}
+use Rattle.std.proofs.Common.{◌≡◌, ℕ, ◌+◌, ◌<◌, ◌≤◌, true, ◌⊎◌, ◌↔◌, inl, inr, List, [], ◌∷◌, length, drop, get_or, refl, subst}
 use Rattle.std.specs.List.{list_all}
 use Rattle.x5_model.specs.Members.{In, here, there}
 use Rattle.x5_model.specs.Words.{ascending}

@@ -1,5 +1,5 @@
 -- Names that are spelled alike are one name: type by type, text by text and normal form by normal form.
-use Rattle.std.proofs.Common.{◌≡◌, ◌==◌, ◌&&◌, true, List, [], ◌∷◌, refl}
+use Rattle.std.proofs.Common.{◌≡◌, ◌==◌, ◌&&◌, true, [], ◌∷◌, refl}
 use Rattle.std.specs.Cmp.Lexicographic.{pointwise, bytes_decides}
 use Rattle.x5_model.specs.Words.{same_octets}
 use Rattle.x5_model.specs.Values.{Pair, Rdn, Name}

@@ -1,11 +1,11 @@
 -- A described context by its first entry, which is the prefix's, and the others, and what is held of it once they are taken.
-use Rattle.std.proofs.Common.{◌≡◌, ℕ, ◌<◌, Bool, true, false, not, ◌&&◌, ◌⊎◌, ◌↔◌, inl, inr, List, [], ◌∷◌, map, length, refl, sym, ap, subst, ◌∙◌, arith}
+use Rattle.std.proofs.Common.{◌≡◌, ◌<◌, true, false, ◌&&◌, ◌⊎◌, inl, inr, List, [], ◌∷◌, map, length, sym, ap, subst, ◌∙◌, arith}
 use Rattle.std.specs.List.{list_all}
 use Rattle.x5_model.specs.Members.{In, here, there}
 use Rattle.x5_model.specs.Words.{distinct, is_empty}
 use Rattle.x5_model.specs.Keys.{same_key}
 use Rattle.x5_model.specs.Values.{Name, last_rdn}
-use Rattle.x5_model.specs.Entries.{Entry, Named}
+use Rattle.x5_model.specs.Entries.{Named}
 use Rattle.x5_model.specs.Attributes.{is_ordered, has_rdn}
 use Rattle.x5_model.specs.Statics.{entry_refusals}
 use Rattle.x5_model.proofs.Lists.{both_true, not_true, in_first}
@@ -13,7 +13,6 @@ use Rattle.x5_model_tree.specs.World as model
 use Rattle.x5_model_tree.specs.World.{Context}
 use Rattle.x5_model_tree.specs.Tree.{keys_of, sorted_entries}
 use Rattle.x5_model_tree.specs.Described.{same_spelling, is_grown, is_rooted, is_kept, is_entry_name}
-use Rattle.x5_model_run.specs.Holdings.{Held}
 use Rattle.x5_model_run.specs.History.{references_below}
 use Rattle.x5_model_held.specs.Beginning.{described_context}
 use Rattle.x5_dse.specs.Linked.{entries_of}

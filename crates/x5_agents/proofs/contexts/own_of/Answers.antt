@@ -1,5 +1,5 @@
 -- A context whose prefix is new is held, and another isn't.
-use Rattle.std.proofs.Common.{◌≡◌, Bool, true, false, cond, map, sym, ap, ◌∙◌}
+use Rattle.std.proofs.Common.{◌≡◌, true, cond, map, sym, ap, ◌∙◌}
 use Rattle.std.specs.List.{list_any}
 use Rattle.x5_model.specs.Keys.{Key, same_key}
 use Rattle.x5_model.specs.Values.{key_of}

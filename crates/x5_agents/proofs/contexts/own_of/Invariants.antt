@@ -1,6 +1,5 @@
 -- Those held so far, with those among what is left whose prefix is new, are all; and what is left is whole.
-use Rattle.std.proofs.Common.{◌≡◌, ◌++◌, [], true, map, drop}
-use Rattle.std.specs.List.{list_all}
+use Rattle.std.proofs.Common.{◌≡◌, ◌++◌, [], map, drop}
 use Rattle.x5_model_tree.specs.Masters.{held_contexts}
 use Rattle.x5_model_held.specs.Beginning.{described_context}
 use Rattle.x5_holdings.specs.State.{held_view}

@@ -1,5 +1,5 @@
 -- An agreement brings one copy more, or none.
-use Rattle.std.proofs.Common.{◌≡◌, ◌==◌, ◌&&◌, not, Bool, List, [], ◌∷◌, ◌++◌, sym, ap, ◌∙◌, None}
+use Rattle.std.proofs.Common.{◌==◌, ◌&&◌, not, Bool, List, [], ◌∷◌, ◌++◌, sym, ap, ◌∙◌, None}
 use Rattle.std.specs.List.{list_any}
 use Rattle.x5_model.specs.Keys.{same_key}
 use Rattle.x5_model.specs.Values.{key_of}

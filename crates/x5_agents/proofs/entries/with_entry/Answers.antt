@@ -1,5 +1,5 @@
 -- The entry is taken, and the context is grown by it.
-use Rattle.std.proofs.Common.{◌≡◌, ◌∙◌}
+use Rattle.std.proofs.Common.{◌∙◌}
 use Rattle.x5_agents.proofs.Growing.{refused_none, taken}
 use Rattle.x5_agents.proofs.entries.with_entry.Goals as goal
 

@@ -1,5 +1,5 @@
 -- Each agent of the list is one more, until none is left.
-use Rattle.std.proofs.Common.{◌≡◌, ℕ, ◌<◌, ◌≤◌, true, List, map, length, get_or, sym, ap, subst, ◌∙◌, arith}
+use Rattle.std.proofs.Common.{◌≡◌, ℕ, ◌<◌, ◌≤◌, List, length, get_or, sym, ap, subst, ◌∙◌, arith}
 use Rattle.std.specs.List.{list_all}
 use Rattle.x5_model_tree.specs.World.{Agent}
 use Rattle.x5_ops.proofs.Dropping.{all_at}

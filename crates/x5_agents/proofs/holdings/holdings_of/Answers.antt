@@ -1,5 +1,5 @@
 -- Its parts are those that are described.
-use Rattle.std.proofs.Common.{◌≡◌, ◌==◌, List, [], map, sym, ap, ◌∙◌}
+use Rattle.std.proofs.Common.{◌≡◌, ◌==◌, List, [], map, ap, ◌∙◌}
 use Rattle.std.proofs.lemmas.Result.{IfOk-weaker}
 use Rattle.std.specs.List.{filter}
 use Rattle.x5_model_tree.specs.World as model

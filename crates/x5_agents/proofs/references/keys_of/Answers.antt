@@ -1,5 +1,5 @@
 -- One key more is that of one entry more.
-use Rattle.std.proofs.Common.{◌≡◌, ◌||◌, List, ap, ◌∙◌}
+use Rattle.std.proofs.Common.{◌||◌, List, ap, ◌∙◌}
 use Rattle.std.specs.List.{list_any}
 use Rattle.x5_model.specs.Keys.{Key, same_key}
 use Rattle.x5_model.specs.Values.{key_of}
