@@ -1,0 +1,21 @@
+//! Whom agents know and name, over any knowledge: where what the agents of a world hold names agents of that world alone, what they
+//! find, ask and reply does so too, whatever is accepted meanwhile (X.518, sections 18 to 20). Each function here does nothing; its
+//! clauses are the theorems.
+#![tactic(auto)]
+
+ghost use Rattle.x5_model_known.specs.Holding.{KnowledgeNamesAgents, DescribedNameAgents, DescribedAreThemselves, DescribedNamesApart};
+
+/// Where what agents hold names agents of the world alone, so do the references that they find, need for a list or search, and probe
+/// by, even after an update: that changes entries, and no knowledge.
+#[tactic(auto, using(crate::proofs::Finding::knowledge_names_agents))]
+pub fn knowing()
+    ensures { KnowledgeNamesAgents }
+{}
+
+/// What a world's file describes of an agent names agents of that world alone, and whose it is; and no two agents have one name.
+#[tactic(auto, using(crate::proofs::Describing::described_name_agents, crate::proofs::Describing::described_are_themselves, crate::proofs::Describing::described_names_apart))]
+pub fn described()
+    ensures knowledge { DescribedNameAgents }
+    ensures whose { DescribedAreThemselves }
+    ensures names { DescribedNamesApart }
+{}
