@@ -4,6 +4,7 @@
 #![tactic(auto)]
 
 ghost use Rattle.x5_model_known.specs.Holding.{KnowledgeNamesAgents, DescribedNameAgents, DescribedAreThemselves, DescribedNamesApart};
+ghost use Rattle.x5_model_known.specs.Replying.{RepliesNameAgents};
 
 /// Where what agents hold names agents of the world alone, so do the references that they find, need for a list or search, and probe
 /// by, even after an update: that changes entries, and no knowledge.
@@ -18,4 +19,10 @@ pub fn described()
     ensures knowledge { DescribedNameAgents }
     ensures whose { DescribedAreThemselves }
     ensures names { DescribedNamesApart }
+{}
+
+/// So does the reply to every request: in its references, in the sources of its answer, and in the item of a loop.
+#[tactic(auto, using(crate::proofs::Replying::replies_name_agents))]
+pub fn replies()
+    ensures { RepliesNameAgents }
 {}
