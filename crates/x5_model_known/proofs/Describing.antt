@@ -1,19 +1,19 @@
 -- What a file describes of an agent names agents of its world alone: each reference, NSSR and agreement of a described
 -- world does, and what an agent holds is made of these.
-use Rattle.std.proofs.Common.{◌≡◌, ℕ, zero, suc, ◌==◌, nat_lt, Bool, true, false, not, ◌&&◌, inl, inr, List, [], ◌∷◌, length, map, slice_get, refl, sym, ap, subst, ◌∙◌, Option, Some, None, if◌then◌else◌}
+use Rattle.std.proofs.Common.{◌≡◌, ℕ, zero, suc, ◌==◌, nat_lt, Bool, true, false, not, inl, inr, List, [], ◌∷◌, length, map, slice_get, refl, ap, subst, ◌∙◌, Option, Some, None, if◌then◌else◌}
 use Rattle.std.specs.List.{filter, list_all}
 use Rattle.std.specs.Option.{is_none}
-use Rattle.x5_model.specs.Words.{has, in_option, some_and, distinct, same_octets, is_empty}
+use Rattle.x5_model.specs.Words.{has, in_option, some_and, distinct, is_empty}
 use Rattle.x5_model.specs.Members.{In, here, there}
 use Rattle.x5_model.specs.Keys.{Key, same_key, parent}
 use Rattle.x5_model.specs.Values.{key_of}
 use Rattle.x5_model.specs.Entries.{Named}
-use Rattle.x5_model.proofs.Lists.{both_true, and_true, not_false, in_first, of_map, of_filter, of_all, all_in}
+use Rattle.x5_model.proofs.Lists.{both_true, and_true, in_first, of_map, of_filter, of_all, all_in}
 use Rattle.x5_model_tree.specs.World.{Specific, Nssr, Context, Agent, Agreement, World}
 use Rattle.x5_model_tree.specs.Tree.{is_there, sorted_entries}
 use Rattle.x5_model_tree.specs.Masters.{agent_at, held_contexts}
-use Rattle.x5_model_tree.specs.Described.{is_entry_name, is_kept, is_rooted, is_nssr, is_context, is_agent_name, is_reference, are_references, is_agent, has_superior, is_number, is_agreement, most_shadows, IsDescribed}
-use Rattle.x5_model_run.specs.Holdings.{Held, Copy, Holdings}
+use Rattle.x5_model_tree.specs.Described.{is_entry_name, is_kept, is_rooted, is_nssr, is_context, is_agent_name, is_reference, are_references, is_agent, has_superior, is_number, is_agreement, IsDescribed}
+use Rattle.x5_model_run.specs.Holdings.{Holdings}
 use Rattle.x5_model_run.specs.History.{references_below, first_agreements, agreements_of, no_holdings}
 use Rattle.x5_model_held.specs.Beginning.{described_context, described_copy, described_holdings, holdings_described}
 use Rattle.x5_model_heard.specs.Told.{are_agents}
@@ -45,7 +45,8 @@ of_first before [] g i = elim i [ ]
 of_first before (x ∷ gs) g i =
     go (has same_key before (key_of x.context)) i (of_first before gs g) (of_first (key_of x.context ∷ before) gs g)
   where
-    go : (b : Bool) → In g (if b then first_agreements before gs else (x ∷ first_agreements (key_of x.context ∷ before) gs))
+    go : (b : Bool)
+        → In g (if b then first_agreements before gs else (x ∷ first_agreements (key_of x.context ∷ before) gs))
         → (In g (first_agreements before gs) → In g gs)
         → (In g (first_agreements (key_of x.context ∷ before) gs) → In g gs) → In g (x ∷ gs)
     go true j f h = there (f j)
@@ -118,10 +119,14 @@ module _ (w : World) (described : IsDescribed w) where
         cross = λ k j. of_references a.cross k d.1 j;
       }
 
-  below_names : (a : Agent) (entries : List Named) → Known a → references_name size (references_below entries a.subordinate) ≡ true
+  abbrev is_below : List Named → Specific → Bool
+  is_below entries k = is_there entries (parent (key_of k.pin))
+
+  below_names : (a : Agent) (entries : List Named) → Known a
+      → references_name size (references_below entries a.subordinate) ≡ true
   below_names a entries k =
       all_references (references_below entries a.subordinate)
-      (λ x i. k.subordinate x (of_filter (λ (y : Specific). is_there entries (parent (key_of y.pin))) x a.subordinate i).0)
+      (λ x i. k.subordinate x (of_filter (is_below entries) x a.subordinate i).0)
 
   own_names : (a : Agent) → Known a
       → list_all (context_names size) (map (described_context a.subordinate) (held_contexts [] a.contexts)) ≡ true
@@ -130,7 +135,8 @@ module _ (w : World) (described : IsDescribed w) where
       (λ c i.
       let x = of_map (described_context a.subordinate) c (held_contexts [] a.contexts) i in
       ap (context_names size) x.2
-      ∙ and_true (references_name size (references_below (sorted_entries x.0.entries) a.subordinate)) (nssrs_name size x.0.nssrs)
+      ∙ and_true (references_name size (references_below (sorted_entries x.0.entries) a.subordinate))
+      (nssrs_name size x.0.nssrs)
       (below_names a (sorted_entries x.0.entries) k)
       (nssrs_of x.0 (k.contexts x.0 (of_held [] a.contexts x.0 x.1))))
 
@@ -148,7 +154,8 @@ module _ (w : World) (described : IsDescribed w) where
       let j = of_first [] (filter (λ g. g.consumer == me) w.agreements) x.0 x.1 in
       let l = of_filter (λ (g : Agreement). g.consumer == me) x.0 w.agreements j in
       ap (copy_names size) x.2
-      ∙ and_true (nat_lt x.0.supplier size) true (supplier_there x.0 (of_all (is_agreement w) x.0 w.agreements described.agreements l.0)) refl)
+      ∙ and_true (nat_lt x.0.supplier size) true
+      (supplier_there x.0 (of_all (is_agreement w) x.0 w.agreements described.agreements l.0)) refl)
 
   root_names : (a : Agent) → Known a → (b : Bool)
       → references_name size (if b then filter (λ k. length k.pin == 1) a.subordinate else []) ≡ true
@@ -160,11 +167,9 @@ module _ (w : World) (described : IsDescribed w) where
   agent_names : (me : ℕ) (a : Agent) → Known a → holdings_name size (described_holdings w me a) ≡ true
   agent_names me a k =
       let h : Holdings = described_holdings w me a in
-      and_true (superior_names size h.superior) (list_all (context_names size) h.own
-      && (list_all (copy_names size) h.copies && (references_name size h.root && references_name size h.cross))) k.superior
-      (and_true (list_all (context_names size) h.own)
-      (list_all (copy_names size) h.copies && (references_name size h.root && references_name size h.cross)) (own_names a k)
-      (and_true (list_all (copy_names size) h.copies) (references_name size h.root && references_name size h.cross) (copies_name me)
+      and_true (superior_names size h.superior) _ k.superior
+      (and_true (list_all (context_names size) h.own) _ (own_names a k)
+      (and_true (list_all (copy_names size) h.copies) _ (copies_name me)
       (and_true (references_name size h.root) (references_name size h.cross) (root_names a k (is_none a.superior))
       (all_references a.cross k.cross))))
 

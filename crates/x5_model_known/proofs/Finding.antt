@@ -1,6 +1,6 @@
--- What an agent's knowledge names is all that name resolution, a list or search, and a probe ask: each reference is made of
--- one of its places, by cases of how it is needed. What was accepted changes entries alone.
-use Rattle.std.proofs.Common.{◌≡◌, ℕ, zero, suc, ◌==◌, nat_lt, Bool, true, false, not, ◌&&◌, inl, inr, List, [], ◌∷◌, ◌++◌, length, map, refl, sym, ap, subst, ◌∙◌, Option, Some, None, Ok, Err, if◌then◌else◌}
+-- Whom an agent's knowledge names, name resolution, a list or search, and a probe ask, and nobody else: each reference is
+-- made of one place of that knowledge, by cases of how it is needed. What was accepted changes entries alone.
+use Rattle.std.proofs.Common.{◌≡◌, ℕ, zero, suc, ◌==◌, nat_lt, Bool, true, false, not, ◌&&◌, inl, inr, List, [], ◌∷◌, ◌++◌, length, map, refl, sym, ap, ap₂, subst, ◌∙◌, Option, Some, None, Ok, Err, if◌then◌else◌}
 use Rattle.std.specs.List.{filter, flat_map, list_all, list_any}
 use Rattle.std.specs.Option.{is_some, is_none}
 use Rattle.x5_model.specs.Words.{has, is_empty, in_option, when}
@@ -9,7 +9,7 @@ use Rattle.x5_model.specs.Keys.{Key, same_key, is_child, is_root, parent}
 use Rattle.x5_model.specs.Values.{Name, key_of}
 use Rattle.x5_model.specs.Entries.{Named}
 use Rattle.x5_model.specs.Requests.{Subset, Request}
-use Rattle.x5_model.specs.References.{Progress, Start, Next, Done, RefType, Cross, NonSpecific, Subordinate, Supplier, Reference, Chained}
+use Rattle.x5_model.specs.References.{Progress, Start, Next, Done, RefType, Cross, NonSpecific, Subordinate, Reference, Chained}
 use Rattle.x5_model.specs.Statics.{fault_of}
 use Rattle.x5_model.proofs.Lists.{both_true, and_true, in_first, in_either, in_left, of_map, of_flat, of_filter, of_find, of_all, all_in}
 use Rattle.x5_model_tree.specs.World.{Access, Specific, Nssr}
@@ -18,7 +18,7 @@ use Rattle.x5_model_tree.specs.Ask.{in_subset}
 use Rattle.x5_model_tree.specs.Apply.{Outcome, apply_over}
 use Rattle.x5_model_run.specs.Journal.{Journal, same_name, is_wide}
 use Rattle.x5_model_run.specs.Holdings.{Held, Copy, Holdings, ground_at, may_copy, usable_agents, held_at, copy_at, masters_pin, usable_copies, served, subordinates, known_pin, holds_within, is_first_level}
-use Rattle.x5_model_run.specs.Needs.{others, reference, proceeding, resolves, subset_of, by_pin, is_excluded, begins_at, and_below, evaluated, answers_root, below_needs, in_scope, treated_below, to_each, wide_needs, subset_needs, part_needs, to_supplier, copied_needs, to_superior, superior_needs, nssr_at, to_nssr, from_lowest, multicast_needs, copy_answers, supplier_needs, specific_at, to_specific, specific_needs, new_name, is_refused_here, probe_by, probe_from, probe_of, probe_at_master, probe_due, probe_needs, due_probes}
+use Rattle.x5_model_run.specs.Needs.{others, reference, resolves, subset_of, by_pin, is_excluded, begins_at, and_below, evaluated, answers_root, below_needs, in_scope, treated_below, to_each, wide_needs, subset_needs, part_needs, to_supplier, copied_needs, to_superior, superior_needs, nssr_at, to_nssr, from_lowest, multicast_needs, copy_answers, specific_at, to_specific, specific_needs, new_name, is_refused_here, probe_by, probe_from, probe_of, probe_at_master, probe_due, probe_needs, due_probes}
 use Rattle.x5_model_run.specs.Chain.{Scene}
 use Rattle.x5_model_theory.proofs.Holding.{usable_is}
 use Rattle.x5_model_serve.specs.Committed.{holds_target, alone_at, with_outcome, changed_at, committed_if, committed}
@@ -27,7 +27,7 @@ use Rattle.x5_model_serve.specs.Answering.{rest_of_parts}
 use Rattle.x5_model_serve.specs.Serving.{Hand, holds_now}
 use Rattle.x5_model_serve.proofs.Walks.{rest_is_needed}
 use Rattle.x5_model_heard.specs.Told.{are_agents, name_agents, KnowsAgents}
-use Rattle.x5_model_known.specs.Holding.{access_names, references_name, nssrs_name, context_names, copy_names, superior_names, holdings_name, HoldAgents, KnowledgeNamesAgents}
+use Rattle.x5_model_known.specs.Holding.{access_names, references_name, nssrs_name, context_names, copy_names, superior_names, holdings_name, HoldAgents, KnowledgeNamesAgents, KnowledgeStays}
 
 -- the agents of a world that has so many
 module _ (n : ℕ) where
@@ -113,11 +113,9 @@ module _ (n : ℕ) where
 
   names_of : (h : Holdings) → holdings_name n h ≡ true → Names h
   names_of h e =
-      let a = both_true (superior_names n h.superior) (list_all (context_names n) h.own
-      && (list_all (copy_names n) h.copies && (references_name n h.root && references_name n h.cross))) e in
-      let b = both_true (list_all (context_names n) h.own)
-      (list_all (copy_names n) h.copies && (references_name n h.root && references_name n h.cross)) a.1 in
-      let c = both_true (list_all (copy_names n) h.copies) (references_name n h.root && references_name n h.cross) b.1 in
+      let a = both_true (superior_names n h.superior) _ e in
+      let b = both_true (list_all (context_names n) h.own) _ a.1 in
+      let c = both_true (list_all (copy_names n) h.copies) _ b.1 in
       let d = both_true (references_name n h.root) (references_name n h.cross) c.1 in
       record {
         superior = λ s p. subst (λ (o : Option ℕ). superior_names n o ≡ true) p a.0;
@@ -157,17 +155,17 @@ module _ (n : ℕ) where
     pinned_named : (k : Specific) → In k (subordinates m.request h) → specific_names k ≡ true
     pinned_named k i =
         elim (in_either k (flat_map (λ (c : Held). c.subordinate) h.own
-            ++ flat_map (λ (c : Held). c.subordinate) (usable_copies m.request h)) h.root i) [
+        ++ flat_map (λ (c : Held). c.subordinate) (usable_copies m.request h)) h.root i) [
           | inr j ↦ names.root k j
           | inl j ↦ elim (in_either k (flat_map (λ (c : Held). c.subordinate) h.own)
               (flat_map (λ (c : Held). c.subordinate) (usable_copies m.request h)) j) [
-            | inl l ↦
-                let w = of_flat (λ (c : Held). c.subordinate) k h.own l in
-                subordinate_in w.0 k (names.own w.0 w.1) w.2
-            | inr l ↦
-                let w = of_flat (λ (c : Held). c.subordinate) k (usable_copies m.request h) l in
-                subordinate_in w.0 k (usable_named w.0 w.1) w.2
-          ]
+                | inl l ↦
+                    let w = of_flat (λ (c : Held). c.subordinate) k h.own l in
+                    subordinate_in w.0 k (names.own w.0 w.1) w.2
+                | inr l ↦
+                    let w = of_flat (λ (c : Held). c.subordinate) k (usable_copies m.request h) l in
+                    subordinate_in w.0 k (usable_named w.0 w.1) w.2
+              ]
         ]
 
     -- ---- name resolution
@@ -183,7 +181,8 @@ module _ (n : ℕ) where
         (nssr_in c x t (of_find (λ (y : Nssr). same_key (key_of y.at) (key_of e.name)) x c.nssrs q).0)))
 
     multicast_named : (c : Held) → context_names n c ≡ true → AreNamed (multicast_needs h m c)
-    multicast_named c t = option_named (from_lowest h m c) (lowest c.entries (key_of m.target)) (λ e q. nssr_named c e t)
+    multicast_named c t =
+        option_named (from_lowest h m c) (lowest c.entries (key_of m.target)) (λ e q. nssr_named c e t)
 
     supplier_there : (c : Copy) → In c h.copies → are_agents n (c.supplier ∷ []) ≡ true
     supplier_there c i =
@@ -252,7 +251,8 @@ module _ (n : ℕ) where
     pin_named None = first_named (superior_needs h m) _ superior_named (root_named (is_root (key_of m.target)))
     pin_named (Some p) = by_own (held_at h.own p) refl
       where
-        by_copy : held_at h.own p ≡ None → (x : Option Copy) → copy_at h p ≡ x → found_named (at_pin h m (Some p)) ≡ true
+        by_copy : held_at h.own p ≡ None → (x : Option Copy) → copy_at h p ≡ x
+            → found_named (at_pin h m (Some p)) ≡ true
         by_copy k None q = rw (k, q) (first_named (specific_needs h m p) Stuck (specific_named p) refl)
         by_copy k (Some c) q =
             rw (k, q) (copy_named c (of_find (λ (x : Copy). same_key (key_of x.held.prefix) p) c h.copies q).0)
@@ -332,14 +332,18 @@ module _ (n : ℕ) where
     below_served test c i =
         in_left c h.own (filter unmastered (usable_copies m.request h)) (of_filter test c h.own i).0
 
+    abbrev is_asked : Subset → Held → Bool
+    is_asked subset c =
+        is_child target (key_of c.prefix)
+        && (in_subset subset target (key_of c.prefix) && not (is_excluded m.exclusions c.prefix))
+
     begins_served : (subset : Subset) (x : Progress) → Serves (begins_at h (record m { progress = x }) subset)
     begins_served subset Start = named_served subset true
     begins_served subset (Next k) = named_served subset (resolves h (record m { progress = Next k }))
     begins_served subset Done = by (is_wide m.kind)
       where
-        by : (b : Bool) → Serves (if b
-            then filter (λ (c : Held). is_child target (key_of c.prefix) && (in_subset subset target (key_of c.prefix) && not (is_excluded m.exclusions c.prefix))) h.own
-            else filter (λ (c : Held). same_key (key_of c.prefix) target) all)
+        by : (b : Bool)
+            → Serves (if b then filter (is_asked subset) h.own else filter (λ c. same_key (key_of c.prefix) target) all)
         by true = below_served _
         by false = kept_served _
 
@@ -385,11 +389,15 @@ module _ (n : ℕ) where
         map_named (λ k. reference k.pin Done Subordinate (usable_agents m.request k.access)) (filter (is_due subset) ks)
         (λ k i. usable_there m.request k.access (f k (of_filter (is_due subset) k ks i).0))
 
+    abbrev by_nssr : Held → Named → ℕ → Reference
+    by_nssr c e a =
+        record (reference e.name Done NonSpecific (a ∷ [])) { exclusions = treated_below h m c (key_of e.name) }
+
     each_named : (subset : Subset) (c : Held) (x : Nssr) (e : Named) → are_agents n x.agents ≡ true
         → AreNamed (to_each h m subset c x e)
     each_named subset c x e t =
         if_named (in_scope subset target (key_of e.name)) _
-        (map_named (λ a. record (reference e.name Done NonSpecific (a ∷ [])) { exclusions = treated_below h m c (key_of e.name) })
+        (map_named (by_nssr c e)
         (others h.me x.agents)
         (λ a i. one_there a (of_all there a (others h.me x.agents) (others_there h.me x.agents t) i)))
 
@@ -419,7 +427,8 @@ module _ (n : ℕ) where
 
     -- ---- probes
 
-    probe_entry_named : (name : Name) (c : Held) (e : Named) → context_names n c ≡ true → AreNamed (probe_from h name c e)
+    probe_entry_named : (name : Name) (c : Held) (e : Named) → context_names n c ≡ true
+        → AreNamed (probe_from h name c e)
     probe_entry_named name c e t =
         option_named (probe_by h name e) (nssr_at c.nssrs (key_of e.name))
         (λ x q. when_named _ _ (others_there h.me x.agents
@@ -460,30 +469,39 @@ module _ (n : ℕ) where
       by true = outcome_same r h c (apply_over (alone_at r h c) r.body)
       by false = refl
 
-  committed_named : (r : Request) (h : Holdings) → Names h → Names (committed r h)
-  committed_named r h names = by (apply_over (ground_at r h) r.body)
+  own_same : (r : Request) (h : Holdings) (cs : List Held)
+      → list_all (context_names n) (map (changed_at r h) cs) ≡ list_all (context_names n) cs
+  own_same r h [] = refl
+  own_same r h (c ∷ cs) = ap₂ (λ (a b : Bool). a && b) (changed_same r h c) (own_same r h cs)
+
+  -- what copies and references name
+  abbrev elsewhere : Holdings → Bool
+  elsewhere h = list_all (copy_names n) h.copies && (references_name n h.root && references_name n h.cross)
+
+  stays : (r : Request) (h : Holdings)
+      → ((committed r h).me ≡ h.me) × (holdings_name n (committed r h) ≡ holdings_name n h)
+  stays r h = by (apply_over (ground_at r h) r.body)
     where
-      by : (o : Outcome) → Names (committed_if r h o)
-      by (Err x) = names
-      by (Ok es) = record {
-        superior = names.superior;
-        own = λ c i. (let w = of_map (changed_at r h) c h.own i in
-            ap (context_names n) w.2 ∙ changed_same r h w.0 ∙ names.own w.0 w.1);
-        copies = names.copies;
-        root = names.root;
-        cross = names.cross;
-      }
+      by : (o : Outcome) → ((committed_if r h o).me ≡ h.me) × (holdings_name n (committed_if r h o) ≡ holdings_name n h)
+      by (Err x) = (refl, refl)
+      by (Ok es) = (
+        refl,
+        ap (λ (b : Bool). superior_names n h.superior && (b && elsewhere h)) (own_same r h h.own),
+      )
 
   module _ (s : Scene) (hold : HoldAgents n s) where
     now_named : (j : Journal) (k : Hand) → there k.receiver ≡ true → Names (holds_now s j k)
     now_named j k e = by (has ◌==◌ j.accepted k.receiver)
       where
-        first : Names (s.holdings k.receiver)
-        first = names_of (s.holdings k.receiver) (hold k.receiver e)
+        first : holdings_name n (s.holdings k.receiver) ≡ true
+        first = hold k.receiver e
 
-        by : (b : Bool) → Names (if b then committed s.message.request (s.holdings k.receiver) else s.holdings k.receiver)
-        by true = committed_named s.message.request (s.holdings k.receiver) first
-        by false = first
+        by : (b : Bool)
+            → Names (if b then committed s.message.request (s.holdings k.receiver) else s.holdings k.receiver)
+        by true =
+            names_of (committed s.message.request (s.holdings k.receiver))
+            ((stays s.message.request (s.holdings k.receiver)).1 ∙ first)
+        by false = names_of (s.holdings k.receiver) first
 
     knows : KnowsAgents n s
     knows = record {
@@ -497,3 +515,6 @@ module _ (n : ℕ) where
 
 pub knowledge_names_agents : KnowledgeNamesAgents
 knowledge_names_agents n s hold = knows n s hold
+
+pub knowledge_stays : KnowledgeStays
+knowledge_stays n r h = stays n r h

@@ -1,48 +1,39 @@
 -- The sources of an answer are at agents that served, and an item is the receiver's own: by one induction over all that
 -- is done, beside that of the references (`RepliesAreTold`).
-use Rattle.std.proofs.Common.{◌≡◌, ℕ, ◌==◌, nat_lt, Bool, true, false, not, ◌&&◌, List, [], ◌∷◌, ◌++◌, refl, sym, ap, subst, ◌∙◌, Option, Some, None, Ok, Err, if◌then◌else◌}
+use Rattle.std.proofs.Common.{◌≡◌, ℕ, ◌==◌, nat_lt, Bool, true, false, not, ◌&&◌, List, [], ◌∷◌, ◌++◌, refl, ap, subst, ◌∙◌, Option, if◌then◌else◌}
 use Rattle.std.specs.Bool.{⊤}
 use Rattle.std.specs.List.{list_all, filter}
 use Rattle.x5_model.specs.Words.{has}
 use Rattle.x5_model.specs.Members.{In, here, there}
-use Rattle.x5_model.specs.Requests.{Request}
 use Rattle.x5_model.specs.References.{Reference, Chained}
-use Rattle.x5_model.specs.Answers.{Source, Answer, EntryFound, Matched, Listed, Found, Changed, DirError, NoSuchObject, AttributeProblem, UpdateProblem, ServiceProblem, Reply, Answered, Failed, Referred}
+use Rattle.x5_model.specs.Answers.{Source, Answer, EntryFound, Matched, Listed, Found, Changed, DirError, NoSuchObject, AttributeProblem, UpdateProblem, ServiceProblem, Reply, Answered}
 use Rattle.x5_model.proofs.Lists.{and_true, in_left, in_right, of_map, of_filter, of_all, all_in}
 use Rattle.x5_model_tree.specs.Tree.{tree_of}
 use Rattle.x5_model_tree.specs.Ask.{Told, Shows, Compares, Lists, Finds, Changes, Refuses, unexplored_of, ask_marked}
-use Rattle.x5_model_tree.specs.Apply.{Outcome, apply_over}
 use Rattle.x5_model_run.specs.Journal.{Journal}
 use Rattle.x5_model_run.specs.Holdings.{Held, Holdings, ground_at}
 use Rattle.x5_model_run.specs.Needs.{due_probes}
 use Rattle.x5_model_run.specs.Chain.{Scene}
 use Rattle.x5_model_theory.proofs.Tests.{false_true}
-use Rattle.x5_model_serve.specs.Committed.{committed_if, committed}
+use Rattle.x5_model_serve.specs.Committed.{committed}
 use Rattle.x5_model_serve.specs.Walking.{entered}
-use Rattle.x5_model_serve.specs.Answering.{own_source, copy_source, reply_from, stamp_at, local_sources, local_told, local_part, with_unexplored, only_unexplored, limited_answer, merged, to_follow, passed_by, in_vain, is_unavailable}
-use Rattle.x5_model_serve.specs.Serving.{Hand, hand, Heard, Unheard, Hears, Gathered, Whole, Broken, Act, Serves, Follows, Sends, Tries, Takes, Spreads, Casts, Gathers, Probes, Updates, Does, holds_now, at_limit, gathered_reply, heard_or, parts_refs, user_in_vain, IsRequest, not_heard, not_told, answers, loops, is_long, done_before, refused, unfit, stuck, nowhere, refers, goes, casts, reads, reads_copy, gives_parts, asks_parts, updates, not_done, does, probes_all, misses, taken, breaks, no_probe, clear, unsure, silent, spent, lost, dropped, sends, final, referral, wide_referral, unexplored, none_yet, in_vain_too, heard, unheard, none_asked, unable_too, silent_too, answered, nobody_has, some_silent, no_part, part_unheard, part_unavailable, part_answered, part_breaks}
+use Rattle.x5_model_serve.specs.Answering.{own_source, copy_source, reply_from, stamp_at, local_sources, local_told, local_part, with_unexplored, only_unexplored, limited_answer, merged, passed_by, in_vain, is_unavailable}
+use Rattle.x5_model_serve.specs.Serving.{Hand, hand, Heard, Unheard, Hears, Gathered, Whole, Broken, Act, Serves, Follows, Sends, Tries, Takes, Spreads, Casts, Gathers, Probes, Updates, Does, holds_now, gathered_reply, heard_or, parts_refs, user_in_vain, IsRequest, not_heard, not_told, answers, loops, is_long, done_before, refused, unfit, stuck, nowhere, refers, goes, casts, reads, reads_copy, gives_parts, asks_parts, updates, not_done, does, probes_all, misses, taken, breaks, no_probe, clear, unsure, silent, spent, lost, dropped, sends, final, referral, wide_referral, unexplored, none_yet, in_vain_too, heard, unheard, none_asked, unable_too, silent_too, answered, nobody_has, some_silent, no_part, part_unheard, part_unavailable, part_answered, part_breaks}
 use Rattle.x5_model_heard.specs.Told.{are_agents, name_agents, reply_names, KnowsAgents, IsTold}
 use Rattle.x5_model_heard.proofs.Errors.{is_tree_error, fault_plain, over_plain, asked_plain}
 use Rattle.x5_model_heard.proofs.Told.{replies_are_told}
-use Rattle.x5_model_known.specs.Holding.{HoldAgents, AreThemselves}
+use Rattle.x5_model_known.specs.Holding.{AreThemselves}
 use Rattle.x5_model_known.specs.Replying.{sources_name, answer_sources, error_items, reply_sources, reply_agents, RepliesNameAgents}
-use Rattle.x5_model_known.proofs.Finding.{knowledge_names_agents}
+use Rattle.x5_model_known.proofs.Finding.{knowledge_names_agents, knowledge_stays}
 
 -- ---- an update leaves holdings with their agent
-committed_own : (r : Request) (h : Holdings) → (committed r h).me ≡ h.me
-committed_own r h = by (apply_over (ground_at r h) r.body)
-  where
-    by : (o : Outcome) → (committed_if r h o).me ≡ h.me
-    by (Ok es) = refl
-    by (Err x) = refl
-
 now_own : (s : Scene) (j : Journal) (k : Hand) → (s.holdings k.receiver).me ≡ k.receiver
     → (holds_now s j k).me ≡ k.receiver
 now_own s j k e = by (has ◌==◌ j.accepted k.receiver)
   where
     by : (b : Bool)
         → (if b then committed s.message.request (s.holdings k.receiver) else s.holdings k.receiver).me ≡ k.receiver
-    by true = committed_own s.message.request (s.holdings k.receiver) ∙ e
+    by true = (knowledge_stays 0 s.message.request (s.holdings k.receiver)).0 ∙ e
     by false = e
 
 -- ---- lists
@@ -200,7 +191,8 @@ module _ (n : ℕ) where
     probe_named : (j : Journal) (k : Hand) (r : Reference) → is_there k.receiver ≡ true
         → due_probes (holds_now s j k) k.message ≡ r ∷ [] → is_named r ≡ true
     probe_named j k r e f =
-        of_all is_named r (r ∷ []) (subst (λ (rs : List Reference). name_agents n rs ≡ true) f (knows.probes j k e)) here
+        of_all is_named r (r ∷ [])
+        (subst (λ (rs : List Reference). name_agents n rs ≡ true) f (knows.probes j k e)) here
 
     comes : (x : Act) (i j : Journal) → Does s most x i j → Comes x
     comes _ _ _ (loops e) = λ t. t
@@ -259,7 +251,8 @@ module _ (n : ℕ) where
     comes _ _ _ none_asked = tt
     comes _ _ _ (unable_too a y e d u) = tt
     comes _ _ _ (silent_too a d u) = tt
-    comes _ _ _ (answered {r = r} b c m a y e f d u) = (let next = comes _ _ _ u in λ all. next (asked_there r b c a e all))
+    comes _ _ _ (answered {r = r} b c m a y e f d u) =
+        (let next = comes _ _ _ u in λ all. next (asked_there r b c a e all))
     comes _ _ _ (nobody_has d) = λ all. refl
     comes _ _ _ (some_silent m e d) = λ all. refl
     comes _ _ _ no_part = λ all sources. sources
@@ -274,7 +267,8 @@ module _ (n : ℕ) where
         let last = comes _ _ _ u in
         λ all sources. merged_there b c (next (all_left is_named rs (r ∷ []) all) sources)
         (last (middle is_named r rs [] all))
-    comes _ _ _ (part_breaks b c r x e d u) = (let last = comes _ _ _ u in λ all sources. last (middle is_named r b c all))
+    comes _ _ _ (part_breaks b c r x e d u) =
+        (let last = comes _ _ _ u in λ all sources. last (middle is_named r b c all))
 
     -- ---- the request of a user
     served_there : (y : Reply) (i j : Journal) → is_there s.first ≡ true

@@ -1,20 +1,21 @@
-//! Whom agents know and name, over any knowledge: where what the agents of a world hold names agents of that world alone, what they
-//! find, ask and reply does so too, whatever is accepted meanwhile (X.518, sections 18 to 20). Each function here does nothing; its
-//! clauses are the theorems.
+//! Whom agents know and name, over any knowledge: where what the agents of a world hold names agents of that world alone, what
+//! they find, ask and reply does so too, whatever is accepted meanwhile (X.518, sections 18 to 20). Each function here does
+//! nothing; its clauses are the theorems.
 #![tactic(auto)]
 
-ghost use Rattle.x5_model_known.specs.Holding.{KnowledgeNamesAgents, DescribedNameAgents, DescribedAreThemselves, DescribedNamesApart};
+ghost use Rattle.x5_model_known.specs.Holding.{KnowledgeNamesAgents, KnowledgeStays, DescribedNameAgents, DescribedAreThemselves, DescribedNamesApart};
 ghost use Rattle.x5_model_known.specs.Replying.{RepliesNameAgents};
 
-/// Where what agents hold names agents of the world alone, so do the references that they find, need for a list or search, and probe
-/// by, even after an update: that changes entries, and no knowledge.
-#[tactic(auto, using(crate::proofs::Finding::knowledge_names_agents))]
+/// Where what agents hold names agents of the world alone, so do the references that they find, need for a list or search, and
+/// probe by, even after an update: that changes entries, and neither whose the holdings are nor whom they name.
+#[tactic(auto, using(crate::proofs::Finding::knowledge_names_agents, crate::proofs::Finding::knowledge_stays))]
 pub fn knowing()
-    ensures { KnowledgeNamesAgents }
+    ensures agents { KnowledgeNamesAgents }
+    ensures stays { KnowledgeStays }
 {}
 
-/// What a world's file describes of an agent names agents of that world alone, and whose it is; and no two agents have one name.
-#[tactic(auto, using(crate::proofs::Describing::described_name_agents, crate::proofs::Describing::described_are_themselves, crate::proofs::Describing::described_names_apart))]
+/// What a world's file describes of an agent names agents of that world alone, and says whose it is; and no two agents have one
+/// name.
 pub fn described()
     ensures knowledge { DescribedNameAgents }
     ensures whose { DescribedAreThemselves }
