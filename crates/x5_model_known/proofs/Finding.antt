@@ -1,5 +1,5 @@
--- Name resolution, a list or search, and a probe ask nobody but whom the knowledge of an agent names: each reference is made
--- of one place of that knowledge, by cases of how it is needed. What was accepted changes entries alone.
+-- Name resolution, a list or search, and a probe ask nobody but whom the knowledge of an agent names: each reference is
+-- made of one place of that knowledge, by cases of how it is needed. What was accepted changes entries alone.
 use Rattle.std.proofs.Common.{◌≡◌, ℕ, zero, suc, ◌==◌, nat_lt, Bool, true, false, not, ◌&&◌, inl, inr, List, [], ◌∷◌, ◌++◌, length, map, refl, sym, ap, ap₂, subst, ◌∙◌, Option, Some, None, Ok, Err, if◌then◌else◌}
 use Rattle.std.specs.List.{filter, flat_map, list_all, list_any}
 use Rattle.std.specs.Option.{is_some, is_none}
