@@ -14,9 +14,11 @@ written_values : (type : values.TypeRef) (vs : List Value)
     → map (λ v. terms.value_node (value_view v)) vs
     ≡ map (λ o. terms.value_node o.value) (map (λ v. offered type (value_view v)) vs)
 written_values type [] = refl
-written_values type (v ∷ vs) = ap (λ (ns : List nodes.Node). terms.value_node (value_view v) ∷ ns) (written_values type vs)
+written_values type (v ∷ vs) =
+    ap (λ (ns : List nodes.Node). terms.value_node (value_view v) ∷ ns) (written_values type vs)
 
-pub attribute_is : (a : Attribute) (kind vs : nodes.Node) (slice : List Value) → kind ≡ terms.type_node (type_view a.kind)
+pub attribute_is : (a : Attribute) (kind vs : nodes.Node) (slice : List Value)
+    → kind ≡ terms.type_node (type_view a.kind)
     → vs ≡ terms.node_of (map (λ v. terms.value_node (value_view v)) slice) → slice ≡ a.values
     → terms.node_of (kind ∷ vs ∷ []) ≡ terms.attribute_node (attribute_view a)
 attribute_is a kind vs slice is_kind are same =

@@ -1,10 +1,10 @@
 -- Members of a filter as nodes: what was written of each, one behind the other.
-use Rattle.std.proofs.Common.{◌≡◌, ℕ, ◌≤◌, refl, sym, ◌∙◌, List, [], ◌∷◌, ◌++◌, length, map, drop, ap, append-nil, Vec, Global}
+use Rattle.std.proofs.Common.{◌≡◌, ℕ, ◌≤◌, refl, sym, ◌∙◌, List, [], ◌∷◌, ◌++◌, length, map, drop, ap, append-nil}
+use Rattle.std.proofs.Common.{Vec, Global}
 use Rattle.std.proofs.lemmas.List.{drop_all}
 use Rattle.x5_match.specs.FilterView.{filter_view, filters_of}
 use Rattle.x5_match.specs.declared.filter.Filter.{Filter, And, Or}
 use Rattle.x5_match.proofs.CopyLemmas.{and_of_items, or_of_items}
-use Rattle.x5_model.specs.Filters as model
 use Rattle.x5_model_messages.specs.FilterTerms.{filter_node, filter_nodes}
 use Rattle.x5_model_typed.specs.Nodes as nodes
 

@@ -3,17 +3,18 @@ ghost use Rattle.std.specs.Prelude.{◌≡◌, [], ◌∷◌, IfOk, map};
 ghost use Rattle.x5_match.specs.FilterView.{filter_view};
 ghost use Rattle.x5_model_messages.specs.Requests as requests;
 ghost use Rattle.x5_model_messages.specs.FilterTerms.{filter_node as filter_node_of};
-ghost use Rattle.x5_model_messages.specs.Terms.{node_of, name_node as name_node_of, rdn_node as rdn_node_of, type_node as type_node_of};
+ghost use Rattle.x5_model_messages.specs.Terms.{node_of, name_node as name_node_of, rdn_node as rdn_node_of};
+ghost use Rattle.x5_model_messages.specs.Terms.{type_node as type_node_of};
 ghost use Rattle.x5_model_typed.specs.Leaves as leaves;
 ghost use Rattle.x5_model_typed.specs.Nodes as nodes;
 ghost use Rattle.x5_ops.specs.RequestViews.{controls_view, subset_view, selection_view, request_view};
 ghost use Rattle.x5_syntax.specs.TypeView.{type_view};
 ghost use Rattle.x5_types.specs.NodeView.{node_view};
 
+use crate::attributes::{attributes_node, changes_node};
 use crate::filters::filter_node;
 use crate::names::{name_node, rdn_node, type_node};
 use crate::parts::{five, four, many, number, one, three, two};
-use crate::attributes::{attributes_node, changes_node};
 use crate::values::assertion_node;
 use std::alloc::Global;
 use x5_match::Filter;
@@ -44,7 +45,13 @@ fn controls_node<'a>(alloc: Global, controls: Controls) -> Result<Node<'a>, NoMe
     ensures { IfOk result (λ n. node_view n ≡ requests.controls_node (controls_view controls)) }
 {
     let options = options_node(alloc, controls.nocopy, controls.nochain)?;
-    four(alloc, options, Node::Vacant, Node::Vacant, size_node(controls.size))
+    four(
+        alloc,
+        options,
+        Node::Vacant,
+        Node::Vacant,
+        size_node(controls.size),
+    )
 }
 
 /// The number of a subset (X.511, section 10.2.1).
@@ -87,7 +94,9 @@ fn search_node<'a>(
     selection: &Selection,
     controls: Node<'a>,
 ) -> Result<Node<'a>, NoMemory>
-    ensures { IfOk result (λ n. node_view n ≡ node_of (name_node_of base.now ∷ nodes.whole (requests.subset_number (subset_view subset)) ∷ filter_node_of (filter_view filter.now) ∷ requests.selection_node (selection_view selection.now) ∷ node_view controls.entry ∷ [])) }
+    ensures { IfOk result (λ n. node_view n ≡ node_of (name_node_of base.now ∷ nodes.whole (requests.subset_number (subset_view subset))
+        ∷ filter_node_of (filter_view filter.now) ∷ requests.selection_node (selection_view selection.now)
+        ∷ node_view controls.entry ∷ [])) }
 {
     let base = name_node(alloc, base)?;
     let subset = number(subset_number(subset));
@@ -104,7 +113,8 @@ fn rename_node<'a>(
     drop_old: bool,
     controls: Node<'a>,
 ) -> Result<Node<'a>, NoMemory>
-    ensures { IfOk result (λ n. node_view n ≡ node_of (name_node_of object.now ∷ rdn_node_of rdn.now ∷ nodes.Flag drop_old ∷ node_view controls.entry ∷ [])) }
+    ensures { IfOk result (λ n. node_view n ≡ node_of (name_node_of object.now ∷ rdn_node_of rdn.now ∷ nodes.Flag drop_old
+        ∷ node_view controls.entry ∷ [])) }
 {
     let object = name_node(alloc, object)?;
     let rdn = rdn_node(alloc, rdn)?;
@@ -112,10 +122,7 @@ fn rename_node<'a>(
 }
 
 /// The argument of an operation, with its controls.
-pub(crate) fn argument_node<'a>(
-    alloc: Global,
-    request: &'a Request,
-) -> Result<Node<'a>, NoMemory>
+pub(crate) fn argument_node<'a>(alloc: Global, request: &'a Request) -> Result<Node<'a>, NoMemory>
     ensures { IfOk result (λ n. node_view n ≡ requests.argument_node (request_view request.now)) }
 {
     let controls = controls_node(alloc, request.controls)?;

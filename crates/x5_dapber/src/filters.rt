@@ -51,11 +51,7 @@ fn substrings_node<'a>(alloc: Global, item: &'a SubstringItem) -> Result<Node<'a
     two(alloc, kind, pieces)
 }
 
-fn asserted<'a>(
-    alloc: Global,
-    tag: u32,
-    assertion: &'a Assertion,
-) -> Result<Node<'a>, NoMemory>
+fn asserted<'a>(alloc: Global, tag: u32, assertion: &'a Assertion) -> Result<Node<'a>, NoMemory>
     ensures { IfOk result (λ n. node_view n ≡ nodes.Chosen tag (assertion_node_of assertion.now)) }
 {
     let node = assertion_node(alloc, &assertion.kind, &assertion.value)?;

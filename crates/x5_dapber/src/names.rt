@@ -29,10 +29,7 @@ pub(crate) fn type_node<'a>(alloc: Global, kind: &TypeRef) -> Result<Node<'a>, N
     }
 }
 
-fn written_pair_node<'a>(
-    alloc: Global,
-    pair: &'a (TypeId, Text),
-) -> Result<Node<'a>, NoMemory>
+fn written_pair_node<'a>(alloc: Global, pair: &'a (TypeId, Text)) -> Result<Node<'a>, NoMemory>
     ensures { IfOk result (λ n. node_view n ≡ terms.pair_node pair.now) }
 {
     let kind = known_node(alloc, pair.0)?;
@@ -50,10 +47,7 @@ fn written_rdn_node<'a>(alloc: Global, rdn: &'a RdnValue) -> Result<Node<'a>, No
 }
 
 /// A value that is a name.
-pub(crate) fn name_value_node<'a>(
-    alloc: Global,
-    name: &'a NameValue,
-) -> Result<Node<'a>, NoMemory>
+pub(crate) fn name_value_node<'a>(alloc: Global, name: &'a NameValue) -> Result<Node<'a>, NoMemory>
     ensures { IfOk result (λ n. node_view n ≡ terms.name_value_node name.now) }
 {
     let mut rdns = Vec::new(alloc);

@@ -54,7 +54,8 @@ pub(crate) fn four<'a>(
     c: Node<'a>,
     d: Node<'a>,
 ) -> Result<Node<'a>, NoMemory>
-    ensures { IfOk result (λ n. node_view n ≡ node_of (node_view a.entry ∷ node_view b.entry ∷ node_view c.entry ∷ node_view d.entry ∷ [])) }
+    ensures { IfOk result (λ n. node_view n ≡ node_of (node_view a.entry ∷ node_view b.entry ∷ node_view c.entry
+        ∷ node_view d.entry ∷ [])) }
 {
     let mut parts = Vec::new(alloc);
     parts.push(a)?;
@@ -91,7 +92,8 @@ pub(crate) fn five<'a>(
     d: Node<'a>,
     e: Node<'a>,
 ) -> Result<Node<'a>, NoMemory>
-    ensures { IfOk result (λ n. node_view n ≡ node_of (node_view a.entry ∷ node_view b.entry ∷ node_view c.entry ∷ node_view d.entry ∷ node_view e.entry ∷ [])) }
+    ensures { IfOk result (λ n. node_view n ≡ node_of (node_view a.entry ∷ node_view b.entry ∷ node_view c.entry
+        ∷ node_view d.entry ∷ node_view e.entry ∷ [])) }
 {
     let mut parts = Vec::new(alloc);
     parts.push(a)?;

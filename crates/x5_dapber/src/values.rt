@@ -42,7 +42,8 @@ pub(crate) fn assertion_node<'a>(
     kind: &TypeRef,
     value: &'a Value,
 ) -> Result<Node<'a>, NoMemory>
-    ensures { IfOk result (λ n. node_view n ≡ terms.assertion_node (assertion_of (type_view kind.now) (value_view value.now))) }
+    ensures { IfOk result (λ n. node_view n
+        ≡ terms.assertion_node (assertion_of (type_view kind.now) (value_view value.now))) }
 {
     let kind = type_node(alloc, kind)?;
     let value = value_node(alloc, value)?;

@@ -8,5 +8,5 @@ use Rattle.x5_dapber.proofs.attributes.attribute_node.Goals as goal
 pub returns : goal.returns
 returns c =
     IfOk-weaker c.two.result _ _
-    (λ n e. e ∙ attribute_is c.args.attribute.now (node_view c.in_ok-kind.kind) (node_view c.in_ok-values.values) c.as_slice.result.now
-    c.in_ok-kind.ensures c.in_ok-values.ensures c.as_slice.ensures) c.two.ensures
+    (λ n e. e ∙ attribute_is c.args.attribute.now (node_view c.in_ok-kind.kind) (node_view c.in_ok-values.values)
+    c.as_slice.result.now c.in_ok-kind.ensures c.in_ok-values.ensures c.as_slice.ensures) c.two.ensures
