@@ -1,0 +1,2 @@
+mod AttributeParts
+mod FilterRows
