@@ -1,2 +1,4 @@
 pub mod Asked
 pub mod Scopes
+pub mod Shown
+pub mod Visited
