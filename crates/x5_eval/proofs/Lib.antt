@@ -5,3 +5,5 @@ pub mod Chosen
 pub mod Gathering
 pub mod Joining
 pub mod Visits
+pub mod Ordered
+pub mod Descending

@@ -39,7 +39,7 @@ of_has_number (x ∷ xs) n e = elim (either_true (x == n) (has ◌==◌ xs n) e)
 pub lacks_number : (xs : List ℕ) (n : ℕ) → (In n xs → ⊥) → has ◌==◌ xs n ≡ false
 lacks_number xs n f = elim (true_or_false (has ◌==◌ xs n)) [ inl t ↦ absurd (f (of_has_number xs n t)) | inr t ↦ t ]
 
-abbrev add : List ℕ → ℕ → List ℕ
+abbrev pub add : List ℕ → ℕ → List ℕ
 add before c = cond (has ◌==◌ before c) before (before ++ c ∷ [])
 
 pub add_known : (before : List ℕ) (c : ℕ) → In c before → add before c ≡ before
