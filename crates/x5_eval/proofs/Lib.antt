@@ -7,3 +7,4 @@ pub mod Joining
 pub mod Visits
 pub mod Ordered
 pub mod Descending
+pub mod Showing

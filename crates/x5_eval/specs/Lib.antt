@@ -1,4 +1,5 @@
 pub mod Asked
 pub mod Scopes
 pub mod Shown
+pub mod Spots
 pub mod Visited
