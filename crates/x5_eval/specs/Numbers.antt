@@ -1,0 +1,71 @@
+-- The contexts that an agent holds by numbers: those that it masters by their places, its copies behind them (X.518, section
+-- 19.3: evaluation of list and search). The numbers are this project's own.
+use Rattle.std.specs.Prelude.{ℕ, ◌+◌, ◌-◌, Bool, not, ◌&&◌, List, [], ◌∷◌, ◌++◌, length, map, slice_get}
+use Rattle.std.specs.List.{filter}
+use Rattle.std.specs.Option.{is_some}
+use Rattle.std.specs.declared.option.Option.TheVariants.{None}
+use Rattle.x5_model.specs.Words.{in_option, sorted, first_of}
+use Rattle.x5_model.specs.Keys.{Key, key_below, parent}
+use Rattle.x5_model.specs.Values.{key_of}
+use Rattle.x5_model.specs.Requests.{Subset, Request}
+use Rattle.x5_model_tree.specs.Tree.{is_there}
+use Rattle.x5_model_tree.specs.Ask.{in_subset}
+use Rattle.x5_model_run.specs.Holdings.{Held, Copy, Holdings, may_copy, masters_pin}
+use Rattle.x5_holdings.specs.Rows.{KeyRow, numbered}
+use Rattle.x5_holdings.specs.Runs.{run_of}
+
+abbrev pub own_pins : Holdings → List Key
+own_pins h = map (λ c. key_of c.prefix) h.own
+
+abbrev pub copy_pins : Holdings → List Key
+copy_pins h = map (λ c. key_of c.held.prefix) h.copies
+
+-- what stands at a number; nothing is past the last
+abbrev pub no_context : Held
+no_context = record { prefix = []; entries = []; subordinate = []; nssrs = [] }
+
+abbrev pub no_copy : Copy
+no_copy = record { held = no_context; stamp = None; supplier = 0 }
+
+abbrev pub copy_number : Holdings → ℕ → Copy
+copy_number h n = in_option no_copy (λ k. k) (slice_get h.copies (n - length h.own))
+
+abbrev pub held_number : Holdings → ℕ → Held
+held_number h n = in_option (copy_number h n).held (λ c. c) (slice_get h.own n)
+
+abbrev pub pin_number : Holdings → ℕ → Key
+pin_number h n = key_of (held_number h n).prefix
+
+-- the request may be answered from the copy, and its context isn't mastered
+abbrev pub counts : Request → Holdings → Copy → Bool
+counts r h k = may_copy r && (is_some k.stamp && not (masters_pin h (key_of k.held.prefix)))
+
+abbrev pub own_place : KeyRow → ℕ
+own_place row = row.1
+
+abbrev pub copy_place : Holdings → KeyRow → ℕ
+copy_place h row = length h.own + row.1
+
+abbrev pub own_numbers : Holdings → List ℕ
+own_numbers h = map own_place (numbered (own_pins h))
+
+abbrev pub copy_numbers : Holdings → List ℕ
+copy_numbers h = map (copy_place h) (numbered (copy_pins h))
+
+abbrev pub served_numbers : Request → Holdings → List ℕ
+served_numbers r h = own_numbers h ++ filter (λ n. counts r h (copy_number h n)) (copy_numbers h)
+
+abbrev pub number_below : Holdings → ℕ → ℕ → Bool
+number_below h m n = key_below (pin_number h m) (pin_number h n)
+
+-- those in the subset whose pins stand just below an entry of the context
+abbrev pub is_under : Holdings → Key → Subset → Held → ℕ → Bool
+is_under h base subset c n = in_subset subset base (pin_number h n) && is_there c.entries (parent (pin_number h n))
+
+abbrev pub numbers_under : Request → Holdings → Key → Subset → ℕ → List ℕ
+numbers_under r h base subset n =
+    sorted (number_below h) (filter (is_under h base subset (held_number h n)) (served_numbers r h))
+
+-- of contexts with one pin the first
+abbrev pub first_number : List Key → Key → ℕ
+first_number pins pin = in_option 0 own_place (first_of (run_of pins pin))
