@@ -45,7 +45,7 @@ numbers_within key n (k ∷ keys) r i = elim (in_first r (k, n) (rows_from (n + 
   | inr j ↦ (let w = numbers_within key (n + 1) keys r j in (omega (arith, w.0), omega (arith, w.1)))
 ]
 
-past_none : {A : Type 0} (xs : List A) (i : ℕ) → length xs ≤ i → slice_get xs i ≡ None
+pub past_none : {A : Type 0} (xs : List A) (i : ℕ) → length xs ≤ i → slice_get xs i ≡ None
 past_none [] zero l = refl
 past_none [] (suc i) l = refl
 past_none (x ∷ xs) zero l = absurd (omega (arith, l))

@@ -1,18 +1,19 @@
 -- The contexts that an agent holds by numbers: those that it masters by their places, its copies behind them (X.518, section
 -- 19.3: evaluation of list and search). The numbers are this project's own.
-use Rattle.std.specs.Prelude.{ℕ, ◌+◌, ◌-◌, Bool, not, ◌&&◌, List, [], ◌∷◌, ◌++◌, length, map, slice_get}
+use Rattle.std.specs.Prelude.{ℕ, ◌+◌, ◌-◌, Bool, true, not, ◌&&◌, ◌==◌, List, [], ◌∷◌, ◌++◌, length, map, slice_get}
 use Rattle.std.specs.List.{filter}
 use Rattle.std.specs.Option.{is_some}
-use Rattle.std.specs.declared.option.Option.TheVariants.{None}
+use Rattle.std.specs.declared.option.Option.{Option}
+use Rattle.std.specs.declared.option.Option.TheVariants.{None, Some}
 use Rattle.x5_model.specs.Words.{in_option, sorted, first_of}
-use Rattle.x5_model.specs.Keys.{Key, key_below, parent}
+use Rattle.x5_model.specs.Keys.{Key, key_below, is_prefix, parent}
 use Rattle.x5_model.specs.Values.{key_of}
 use Rattle.x5_model.specs.Requests.{Subset, Request}
 use Rattle.x5_model_tree.specs.Tree.{is_there}
 use Rattle.x5_model_tree.specs.Ask.{in_subset}
 use Rattle.x5_model_run.specs.Holdings.{Held, Copy, Holdings, may_copy, masters_pin}
 use Rattle.x5_holdings.specs.Rows.{KeyRow, numbered}
-use Rattle.x5_holdings.specs.Runs.{run_of}
+use Rattle.x5_holdings.specs.Runs.{run_of, is_long}
 
 abbrev pub own_pins : Holdings → List Key
 own_pins h = map (λ c. key_of c.prefix) h.own
@@ -69,3 +70,25 @@ numbers_under r h base subset n =
 -- of contexts with one pin the first
 abbrev pub first_number : List Key → Key → ℕ
 first_number pins pin = in_option 0 own_place (first_of (run_of pins pin))
+
+-- ---- those that rows of pins lead to
+
+-- the rows with so many RDNs, or all
+abbrev pub in_reach : Option ℕ → KeyRow → Bool
+in_reach None row = true
+in_reach (Some depth) row = is_long depth row
+
+abbrev pub own_reach : Holdings → Key → Option ℕ → List ℕ
+own_reach h at depth = map own_place (filter (in_reach depth) (run_of (own_pins h) at))
+
+abbrev pub copy_reach : Request → Holdings → Key → Option ℕ → List ℕ
+copy_reach r h at depth =
+    filter (λ n. counts r h (copy_number h n)) (map (copy_place h) (filter (in_reach depth) (run_of (copy_pins h) at)))
+
+abbrev pub served_reach : Request → Holdings → Key → Option ℕ → List ℕ
+served_reach r h at depth = own_reach h at depth ++ copy_reach r h at depth
+
+-- the pin stands there, with so many RDNs
+abbrev pub reaches : Key → Option ℕ → Key → Bool
+reaches at None pin = is_prefix at pin
+reaches at (Some depth) pin = is_prefix at pin && (length pin == depth)
