@@ -1,16 +1,19 @@
 -- What is shown at the nodes that are asked for is what the definition shows of the context's entries: nodes stand as the entries
 -- do, and what a search found in any order comes into order by sorting, since no two of its entries have one key.
-use Rattle.std.proofs.Common.{◌≡◌, ℕ, ◌<◌, ◌≤◌, Bool, true, false, ◌&&◌, cond, inl, inr, ◌⊎◌, List, [], ◌∷◌, length, map, refl, sym, ap, subst, ◌∙◌, arith, Option, Some, None}
-use Rattle.std.specs.List.{filter}
+use Rattle.std.proofs.Common.{◌≡◌, ℕ, ◌<◌, ◌≤◌, Bool, true, false, ◌&&◌, cond, inl, inr, ◌⊎◌, List, [], ◌∷◌, ◌-◌, length, map, refl, sym, ap, subst, ◌∙◌, arith, Option, Some, None}
+use Rattle.std.specs.List.{filter, slice_get}
+use Rattle.std.specs.Option.{option_map}
+use Rattle.std.proofs.lemmas.Option.{slice_get_within, get_or_from_slice_get}
 use Rattle.x5_model.specs.Words.{ascending, sorted, in_option}
 use Rattle.x5_model.specs.Members.{In, Once, here, there}
 use Rattle.x5_model.specs.Keys.{Key, same_key, key_below}
-use Rattle.x5_model.specs.Values.{Name, key_of}
-use Rattle.x5_model.specs.Entries.{Named}
+use Rattle.x5_model.specs.Values.{Rdn, Name, key_of, last_rdn}
+use Rattle.x5_model.specs.Entries.{Entry, Named}
+use Rattle.x5_model.specs.Selections.{shown}
 use Rattle.x5_model.specs.Filters.{Filter}
 use Rattle.x5_model.specs.Truth.{selects_entry}
 use Rattle.x5_model.specs.Requests.{Subset, Selection}
-use Rattle.x5_model.specs.Answers.{EntryInfo, Sub}
+use Rattle.x5_model.specs.Answers.{EntryInfo, Shown, Sub}
 use Rattle.x5_model.proofs.KeyLaws.{key_decides, never_below, below_chain}
 use Rattle.x5_model.proofs.Lists.{both_true, and_true, true_or_false, in_first, in_map, of_map, of_filter}
 use Rattle.x5_model.proofs.Ascending.{AllApart, first_below, rest_ascending, sorted_ascending, of_sorted, in_sorted, filter_ascending, one_list, keys_apart}
@@ -18,11 +21,46 @@ use Rattle.x5_model_tree.specs.Tree.{key_at}
 use Rattle.x5_model_tree.specs.Ask.{in_subset, sub_of, info_of}
 use Rattle.x5_model_serve.specs.Answering.{before_info}
 use Rattle.x5_dse.specs.declared.node.NodeId.{NodeId}
-use Rattle.x5_dse.specs.Linked.{Node, IsLinked, AreNumbered, entries_of, id_of, named_of, node_key, node_below, node_with, has_id, is_live}
+use Rattle.x5_dse.specs.Linked.{Node, IsLinked, AreNumbered, entries_of, id_of, entry_in, name_in, named_of, node_key, node_below, node_with, has_id, is_live}
+use Rattle.x5_dse.proofs.Lasts.{last_is}
 use Rattle.x5_eval.specs.Scopes.{asked_nodes, found_nodes, is_found, AreFound}
 use Rattle.x5_eval.specs.Spots.{sub_shown, info_shown}
 use Rattle.x5_eval.proofs.Within.{node_chain}
 use Rattle.x5_eval.proofs.Ordered.{filter_mapped}
+
+-- ---- at one node
+pub sub_at_node : (o : Option Node) (copy : Bool) (name : Name) (rdn : Rdn) → option_map name_in o ≡ Some name
+    → Some rdn ≡ slice_get name (length name - 1)
+    → record { rdn = rdn; copy = copy } ≡ in_option (record { rdn = []; copy = copy }) (λ n. sub_of (λ key. copy) n.named) o
+sub_at_node None copy name rdn e f = cc
+sub_at_node (Some n) copy name rdn e f =
+    let within : length name - 1 < length name = slice_get_within name (length name - 1) rdn (sym f) in
+    let same : n.named.name ≡ name = same_some n.named.name name e in
+    λ i. record {
+      rdn = (sym (get_or_from_slice_get name (length name - 1) rdn rdn (sym f)) ∙ last_is name rdn (omega (arith, within))
+          ∙ ap last_rdn (sym same)) i;
+      copy = copy;
+    }
+  where
+    same_some : (x y : Name) → Some x ≡ Some y → x ≡ y
+    same_some x y g = cc
+
+pub info_at_node : (o : Option Node) (copy : Bool) (selection : Selection) (name : Name) (entry : Entry) (attributes : List Shown)
+    → option_map name_in o ≡ Some name → option_map entry_in o ≡ Some entry → attributes ≡ shown selection entry
+    → record { name = name; copy = copy; attributes = attributes }
+    ≡ in_option (record { name = []; copy = copy; attributes = [] }) (λ n. info_of (λ key. copy) selection n.named) o
+info_at_node None copy selection name entry attributes e f g = cc
+info_at_node (Some n) copy selection name entry attributes e f g = λ i. record {
+  name = sym (same_name n.named.name name e) i;
+  copy = copy;
+  attributes = (g ∙ ap (shown selection) (sym (same_entry n.named.entry entry f))) i;
+}
+  where
+    same_name : (x y : Name) → Some x ≡ Some y → x ≡ y
+    same_name x y h = cc
+
+    same_entry : (x y : Entry) → Some x ≡ Some y → x ≡ y
+    same_entry x y h = cc
 
 module _ (nodes : List Node) (numbered : AreNumbered nodes) where
   -- ---- at each node what its entry shows

@@ -6,6 +6,7 @@ mod naming;
 mod reading;
 mod scope;
 mod shown;
+mod spots;
 mod subsets;
 
 pub use reading::{read_copy, read_own};

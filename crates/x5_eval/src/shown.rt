@@ -21,25 +21,17 @@ ghost use Rattle.x5_eval.specs.Spots.{AreLive, AreNamed, info_shown, spot_view, 
 use crate::naming::source;
 use crate::reading::info_at;
 use crate::scope::{nodes_found, nodes_in};
+use crate::spots::Spot;
 use std::alloc::Global;
 use x5_dse::{DseTree, NodeId};
-use x5_holdings::Held;
 use x5_know::AgentNames;
 use x5_match::Filter;
 use x5_memory::NoMemory;
 use x5_names::Name;
 use x5_ops::{
-    AgentId, Answer, Body, Chained, EntryInfo, Listed, Moment, Outcome, Selection, SourceList, Sub,
+    AgentId, Answer, Body, Chained, EntryInfo, Listed, Outcome, Selection, SourceList, Sub,
     Subset,
 };
-
-/// A context that a request may be answered from: its prefix as its holder spells it, what is held of it, and the stamp of a copy.
-#[derive(Clone, Copy, Debug)]
-pub(crate) struct Spot<'a> {
-    pub(crate) prefix: &'a Name,
-    pub(crate) held: &'a Held,
-    pub(crate) stamp: Option<Moment>,
-}
 
 /// What a list says of the entry at the node; `copy` says that it comes from a shadow.
 fn sub_at(alloc: Global, tree: &DseTree, node: NodeId, copy: bool) -> Result<Sub, NoMemory>
