@@ -8,3 +8,6 @@ pub mod Visits
 pub mod Ordered
 pub mod Descending
 pub mod Showing
+pub mod Numbering
+pub mod Reaching
+pub mod Choosing

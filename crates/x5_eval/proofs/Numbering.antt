@@ -72,6 +72,14 @@ module _ (h : Holdings) where
   behind_own n i = (let w = of_map (copy_place h) n (numbered (copy_pins h)) i in
       let s : n ≡ length h.own + w.0.1 = w.2 in omega (arith, s))
 
+  pub below_own : (n : ℕ) → In n (own_numbers h) → n < length h.own
+  below_own n i =
+      let w = of_map own_place n (numbered (own_pins h)) i in
+      let l = (numbers_within [] 0 (own_pins h) w.0 w.1).1 in
+      let s : n ≡ w.0.1 = w.2 in
+      let k : length (own_pins h) ≡ length h.own = length-map h.own (λ c. key_of c.prefix) in
+      omega (arith, l, s, k)
+
   pub copy_held : (n : ℕ) → length h.own ≤ n → held_number h n ≡ (copy_number h n).held
   copy_held n l = ap (λ (o : Option Held). in_option (copy_number h n).held (λ c. c) o) (past_none h.own n l)
 

@@ -8,5 +8,6 @@ mod scope;
 mod shown;
 mod spots;
 mod subsets;
+mod visits;
 
 pub use reading::{read_copy, read_own};

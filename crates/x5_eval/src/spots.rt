@@ -31,7 +31,7 @@ pub(crate) struct Spot<'a> {
 }
 
 /// The context of the number. No memory.
-pub(crate) fn spot(state: &Holdings, number: usize) -> Spot<'_>
+pub(crate) fn context(state: &Holdings, number: usize) -> Spot<'_>
     requires { is_held (holdings_view state.now) number ≡ true }
     ensures number { result.number ≡ number }
     ensures spot { IsSpot (holdings_view state.now) result }
@@ -141,7 +141,7 @@ fn spots_at<'a>(
 {
     let mut spots = Vec::new(alloc);
     for &number in numbers {
-        spots.push(spot(state, number))?;
+        spots.push(context(state, number))?;
     }
     Ok(spots)
 }
