@@ -20,7 +20,7 @@ use Rattle.x5_eval.proofs.Gathering.{filter_all, filter_joined}
 use Rattle.x5_eval.proofs.Ordered.{filters_swapped, filter_mapped, sorted_same, sorted_map, sorted_parts, sorted_twice, by_key, rows_by_key}
 use Rattle.x5_eval.proofs.Numbering.{past_none}
 
-abbrev rows_from : ℕ → List Key → List KeyRow
+abbrev pub rows_from : ℕ → List Key → List KeyRow
 rows_from n keys = map (λ p. (p.1, p.0)) (enumerate_from n keys)
 
 -- what stands at a row's place has the row's key
@@ -56,14 +56,14 @@ module _ (h : Holdings) where
   pub weak : IsStrictWeakOrder (number_below h)
   weak = ranks_by key_cmp_total (pin_number h)
 
-  own_row : (r : KeyRow) → In r (numbered (own_pins h)) → pin_number h (own_place r) ≡ r.0
+  pub own_row : (r : KeyRow) → In r (numbered (own_pins h)) → pin_number h (own_place r) ≡ r.0
   own_row r i = at_rows (λ c. key_of c.prefix) (λ r. pin_number h (own_place r)) 0 h.own
       (λ i k y e. ap (λ (o : Option Held). key_of (in_option (copy_number h (0 + i)).held (λ c. c) o).prefix) (ap (slice_get h.own) (none_more i) ∙ e)) r i
     where
       none_more : (i : ℕ) → 0 + i ≡ i
       none_more i = omega arith
 
-  copy_row : (r : KeyRow) → In r (numbered (copy_pins h)) → pin_number h (copy_place h r) ≡ r.0
+  pub copy_row : (r : KeyRow) → In r (numbered (copy_pins h)) → pin_number h (copy_place h r) ≡ r.0
   copy_row r i = at_rows (λ c. key_of c.held.prefix) (λ r. pin_number h (copy_place h r)) 0 h.copies
       (λ i k y e. ap (λ (o : Option Held). key_of (in_option (copy_number h (copy_place h (k, 0 + i))).held (λ c. c) o).prefix)
       (past_none h.own (copy_place h (k, 0 + i)) (omega arith))

@@ -1,6 +1,6 @@
 -- The contexts that an agent holds by numbers: those that it masters by their places, its copies behind them (X.518, section
 -- 19.3: evaluation of list and search). The numbers are this project's own.
-use Rattle.std.specs.Prelude.{ℕ, ◌+◌, ◌-◌, Bool, true, not, ◌&&◌, ◌==◌, List, [], ◌∷◌, ◌++◌, length, map, slice_get}
+use Rattle.std.specs.Prelude.{ℕ, ◌+◌, ◌-◌, nat_lt, Bool, true, not, ◌&&◌, ◌==◌, if◌then◌else◌, List, [], ◌∷◌, ◌++◌, length, map, slice_get}
 use Rattle.std.specs.List.{filter}
 use Rattle.std.specs.Option.{is_some}
 use Rattle.std.specs.declared.option.Option.{Option}
@@ -92,3 +92,7 @@ served_reach r h at depth = own_reach h at depth ++ copy_reach r h at depth
 abbrev pub reaches : Key → Option ℕ → Key → Bool
 reaches at None pin = is_prefix at pin
 reaches at (Some depth) pin = is_prefix at pin && (length pin == depth)
+
+-- the first number that has the same pin
+abbrev pub first_place : Holdings → ℕ → ℕ
+first_place h n = if nat_lt n (length h.own) then first_number (own_pins h) (pin_number h n) else n
