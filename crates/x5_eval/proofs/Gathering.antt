@@ -60,13 +60,13 @@ module _ {A : Type 0} (test : A → Bool) where
   filter_nothing (x ∷ xs) f = ap (λ (c : Bool). cond c (x ∷ filter test xs) (filter test xs)) (f x here) ∙ filter_nothing xs (λ y i. f y (there i))
 
 module _ {A : Type 0} (lt : A → A → Bool) (weak : IsStrictWeakOrder lt) where
-  of_tie : (x y : A) → ties lt x y ≡ true → (lt x y ≡ false) × (lt y x ≡ false)
+  pub of_tie : (x y : A) → ties lt x y ≡ true → (lt x y ≡ false) × (lt y x ≡ false)
   of_tie x y e = (let w = both_true (not (lt x y)) (not (lt y x)) e in (not_true (lt x y) w.0, not_true (lt y x) w.1))
 
-  tie_back : (x y : A) → ties lt x y ≡ true → ties lt y x ≡ true
+  pub tie_back : (x y : A) → ties lt x y ≡ true → ties lt y x ≡ true
   tie_back x y e = (let w = of_tie x y e in tie lt weak y x w.1 w.0)
 
-  tie_chain : (x y z : A) → ties lt x y ≡ true → ties lt y z ≡ true → ties lt x z ≡ true
+  pub tie_chain : (x y z : A) → ties lt x y ≡ true → ties lt y z ≡ true → ties lt x z ≡ true
   tie_chain x y z e f =
       let v = of_tie x y e in
       let w = of_tie y z f in

@@ -11,3 +11,7 @@ pub mod Showing
 pub mod Numbering
 pub mod Reaching
 pub mod Choosing
+pub mod Firsts
+pub mod Entering
+pub mod Rises
+pub mod Classes

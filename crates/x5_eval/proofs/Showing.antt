@@ -1,13 +1,14 @@
 -- What is shown at the nodes that are asked for is what the definition shows of the context's entries: nodes stand as the entries
 -- do, and what a search found in any order comes into order by sorting, since no two of its entries have one key.
 use Rattle.std.proofs.Common.{◌≡◌, ℕ, ◌<◌, ◌≤◌, Bool, true, false, ◌&&◌, cond, inl, inr, ◌⊎◌, List, [], ◌∷◌, ◌-◌, length, map, refl, sym, ap, subst, ◌∙◌, arith, Option, Some, None}
+use Rattle.std.proofs.lemmas.List.{length-map}
 use Rattle.std.specs.List.{filter, slice_get}
 use Rattle.std.specs.Option.{option_map}
 use Rattle.std.proofs.lemmas.Option.{slice_get_within, get_or_from_slice_get}
 use Rattle.x5_model.specs.Words.{ascending, sorted, in_option}
 use Rattle.x5_model.specs.Members.{In, Once, here, there}
 use Rattle.x5_model.specs.Keys.{Key, same_key, key_below}
-use Rattle.x5_model.specs.Values.{Rdn, Name, key_of, last_rdn}
+use Rattle.x5_model.specs.Values.{Rdn, Name, key_of, key_of_rdn, last_rdn}
 use Rattle.x5_model.specs.Entries.{Entry, Named}
 use Rattle.x5_model.specs.Selections.{shown}
 use Rattle.x5_model.specs.Filters.{Filter}
@@ -15,17 +16,19 @@ use Rattle.x5_model.specs.Truth.{selects_entry}
 use Rattle.x5_model.specs.Requests.{Subset, Selection}
 use Rattle.x5_model.specs.Answers.{EntryInfo, Shown, Sub}
 use Rattle.x5_model.proofs.KeyLaws.{key_decides, never_below, below_chain}
-use Rattle.x5_model.proofs.Lists.{both_true, and_true, true_or_false, in_first, in_map, of_map, of_filter}
+use Rattle.x5_model.proofs.Prefixes.{prefix_length}
+use Rattle.x5_model.proofs.Lists.{both_true, and_true, true_or_false, in_first, in_map, of_map, of_filter, of_find, any_in}
 use Rattle.x5_model.proofs.Ascending.{AllApart, first_below, rest_ascending, sorted_ascending, of_sorted, in_sorted, filter_ascending, one_list, keys_apart}
 use Rattle.x5_model_tree.specs.Tree.{key_at}
 use Rattle.x5_model_tree.specs.Ask.{in_subset, sub_of, info_of}
 use Rattle.x5_model_serve.specs.Answering.{before_info}
 use Rattle.x5_dse.specs.declared.node.NodeId.{NodeId}
-use Rattle.x5_dse.specs.Linked.{Node, IsLinked, AreNumbered, entries_of, id_of, entry_in, name_in, named_of, node_key, node_below, node_with, has_id, is_live}
+use Rattle.x5_dse.specs.Linked.{Node, IsLinked, AreNumbered, entries_of, id_of, entry_in, name_in, named_of, node_key, node_below, node_with, has_id, is_live, prefix_of}
+use Rattle.x5_dse.proofs.Ids.{id_decides}
 use Rattle.x5_dse.proofs.Lasts.{last_is}
 use Rattle.x5_eval.specs.Scopes.{asked_nodes, found_nodes, is_found, AreFound}
-use Rattle.x5_eval.specs.Spots.{sub_shown, info_shown}
-use Rattle.x5_eval.proofs.Within.{node_chain}
+use Rattle.x5_eval.specs.Spots.{AreLive, AreNamed, sub_shown, info_shown}
+use Rattle.x5_eval.proofs.Within.{node_chain, rooted}
 use Rattle.x5_eval.proofs.Ordered.{filter_mapped}
 
 -- ---- at one node
@@ -61,6 +64,21 @@ info_at_node (Some n) copy selection name entry attributes e f g = λ i. record 
 
     same_entry : (x y : Entry) → Some x ≡ Some y → x ≡ y
     same_entry x y h = cc
+
+-- nodes of the list are live, and below the root
+pub live_nodes : (nodes xs : List Node) (ids : List NodeId) → ((n : Node) → In n xs → In n nodes)
+    → ((id : NodeId) → In id ids → In id (map id_of xs)) → AreLive nodes ids
+live_nodes nodes xs ids f g id i =
+    let w = of_map id_of id xs (g id i) in
+    any_in (has_id id) w.0 nodes (f w.0 w.1) ((id_decides w.0.id id).1 (sym w.2))
+
+pub named_nodes : (nodes : List Node) → IsLinked nodes → (prefix : Name) → 0 < length prefix → prefix_of nodes ≡ key_of prefix → AreNamed nodes
+named_nodes nodes linked prefix some e id n at =
+    let i = (of_find (has_id id) n nodes at).0 in
+    let l = prefix_length (prefix_of nodes) (node_key n) (rooted nodes linked n i) in
+    let a : length (prefix_of nodes) ≡ length prefix = ap length e ∙ length-map prefix key_of_rdn in
+    let b : length (node_key n) ≡ length n.named.name = length-map n.named.name key_of_rdn in
+    omega (arith, l, a, b, some)
 
 module _ (nodes : List Node) (numbered : AreNumbered nodes) where
   -- ---- at each node what its entry shows
