@@ -10,7 +10,6 @@ pub mod Descending
 pub mod Showing
 pub mod Numbering
 pub mod Reaching
-pub mod Choosing
 pub mod Firsts
 pub mod Entering
 pub mod Rises

@@ -3,5 +3,4 @@ pub mod Scopes
 pub mod Shown
 pub mod Numbers
 pub mod Spots
-pub mod Walks
 pub mod Visited

@@ -6,8 +6,6 @@ mod naming;
 mod reading;
 mod scope;
 mod shown;
-mod spots;
 mod subsets;
-mod visits;
 
 pub use reading::{read_copy, read_own};
