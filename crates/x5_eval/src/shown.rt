@@ -26,8 +26,7 @@ use x5_match::Filter;
 use x5_memory::NoMemory;
 use x5_names::Name;
 use x5_ops::{
-    AgentId, Answer, Body, EntryInfo, Listed, Moment, Outcome, Selection, SourceList, Sub,
-    Subset,
+    AgentId, Answer, Body, EntryInfo, Listed, Moment, Outcome, Selection, SourceList, Sub, Subset,
 };
 
 /// What a list says of the entry at the node; `copy` says that it comes from a shadow.
