@@ -2,3 +2,15 @@ pub mod Names
 pub mod Telling
 pub mod Within
 pub mod Chosen
+pub mod Gathering
+pub mod Joining
+pub mod Visits
+pub mod Ordered
+pub mod Descending
+pub mod Showing
+pub mod Numbering
+pub mod Reaching
+pub mod Firsts
+pub mod Entering
+pub mod Rises
+pub mod Classes

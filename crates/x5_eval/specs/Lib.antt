@@ -1,2 +1,6 @@
 pub mod Asked
 pub mod Scopes
+pub mod Shown
+pub mod Numbers
+pub mod Spots
+pub mod Visited

@@ -5,6 +5,7 @@
 mod naming;
 mod reading;
 mod scope;
+mod shown;
 mod subsets;
 
 pub use reading::{read_copy, read_own};

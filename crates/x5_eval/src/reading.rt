@@ -15,6 +15,7 @@ ghost use Rattle.x5_ops.specs.RequestViews.{body_view, selection_view};
 ghost use Rattle.x5_dse.specs.Linked.{Node, node_with, is_live};
 ghost use Rattle.x5_holdings.specs.State.{Kept, CopyKept, held_view, copy_view};
 ghost use Rattle.x5_eval.specs.Asked.{IsAsked, IsTarget, IsCopyTarget, is_read, read_told};
+ghost use Rattle.x5_eval.specs.Spots.{info_shown};
 
 use crate::naming::source;
 use std::alloc::Global;
@@ -48,7 +49,8 @@ pub(crate) fn info_at(
     selection: &Selection,
 ) -> Result<EntryInfo, NoMemory>
     requires live { IsTrue (is_live tree.now.nodes node) }
-    ensures { IfOk result (λ info. (n : Node) → node_with tree.now.nodes node ≡ Some n → info_view info ≡ model.info_of (λ key. copy) (selection_view selection.now) n.named) }
+    ensures info { IfOk result (λ info. (n : Node) → node_with tree.now.nodes node ≡ Some n → info_view info ≡ model.info_of (λ key. copy) (selection_view selection.now) n.named) }
+    ensures shown { IfOk result (λ info. info_view info ≡ info_shown tree.now.nodes copy (selection_view selection.now) node) }
 {
     Ok(EntryInfo {
         name: tree.name(alloc, node)?,

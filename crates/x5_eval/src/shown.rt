@@ -1,0 +1,171 @@
+//! What one context shows of a list or search, with its source (X.511, section 10; X.518, section 19).
+
+ghost use Rattle.std.specs.Prelude.{◌≡◌, ◌<◌, ◌∷◌, ◌&&◌, [], ℕ, true, List, Some, length, map, IfOk, IsTrue};
+ghost use Rattle.std.specs.List.{filter};
+ghost use Rattle.x5_model.specs.Truth.{selects_entry};
+ghost use Rattle.x5_model.specs.Values.{key_of};
+ghost use Rattle.x5_model.specs.Words.{distinct, same_octets, sorted};
+ghost use Rattle.x5_model_tree.specs.Ask as model;
+ghost use Rattle.x5_model_tree.specs.Tree.{key_at};
+ghost use Rattle.x5_model_serve.specs.Answering.{before_info};
+ghost use Rattle.x5_match.specs.FilterView.{filter_view};
+ghost use Rattle.x5_ops.specs.AnswerViews.{answer_view, info_view, outcome_view, source_view, sub_view};
+ghost use Rattle.x5_ops.specs.RequestViews.{body_view, selection_view, subset_view};
+ghost use Rattle.x5_dse.specs.Linked.{entries_of, is_live};
+ghost use Rattle.x5_eval.specs.Shown.{nothing_by, whole};
+ghost use Rattle.x5_eval.specs.Spots.{AreLive, AreNamed, info_shown, sub_shown};
+
+use crate::naming::source;
+use crate::reading::info_at;
+use crate::scope::{nodes_found, nodes_in};
+use std::alloc::Global;
+use x5_dse::{DseTree, NodeId};
+use x5_holdings::Held;
+use x5_know::AgentNames;
+use x5_match::Filter;
+use x5_memory::NoMemory;
+use x5_names::Name;
+use x5_ops::{
+    AgentId, Answer, Body, EntryInfo, Listed, Moment, Outcome, Selection, SourceList, Sub, Subset,
+};
+
+/// What a list says of the entry at the node; `copy` says that it comes from a shadow.
+fn sub_at(alloc: Global, tree: &DseTree, node: NodeId, copy: bool) -> Result<Sub, NoMemory>
+    requires live { IsTrue (is_live tree.now.nodes node) }
+    requires named { AreNamed tree.now.nodes }
+    ensures { IfOk result (λ sub. sub_view sub ≡ sub_shown tree.now.nodes copy node) }
+{
+    let name = tree.name(alloc, node)?;
+    let Some(rdn) = name.last() else {
+        unreachable!()
+    };
+    Ok(Sub {
+        rdn: rdn.clone()?,
+        copy,
+    })
+}
+
+/// What a list says of the entries at the nodes.
+fn subs_at(
+    alloc: Global,
+    tree: &DseTree,
+    nodes: &[NodeId],
+    copy: bool,
+) -> Result<Vec<Sub>, NoMemory>
+    requires live { AreLive tree.now.nodes nodes.now }
+    requires named { AreNamed tree.now.nodes }
+    ensures { IfOk result (λ subs. map sub_view subs.items ≡ map (sub_shown tree.now.nodes copy) nodes.now) }
+{
+    let mut subs = Vec::new(alloc);
+    for &node in nodes {
+        subs.push(sub_at(alloc, tree, node, copy)?)?;
+    }
+    Ok(subs)
+}
+
+/// What a search says of the entries at the nodes.
+fn infos_at(
+    alloc: Global,
+    tree: &DseTree,
+    nodes: &[NodeId],
+    copy: bool,
+    selection: &Selection,
+) -> Result<Vec<EntryInfo>, NoMemory>
+    requires { AreLive tree.now.nodes nodes.now }
+    ensures { IfOk result (λ infos. map info_view infos.items ≡ map (info_shown tree.now.nodes copy (selection_view selection.now)) nodes.now) }
+{
+    let mut infos = Vec::new(alloc);
+    for &node in nodes {
+        infos.push(info_at(alloc, tree, node, copy, selection)?)?;
+    }
+    Ok(infos)
+}
+
+/// These in the order of their names' keys.
+fn in_order(infos: Vec<EntryInfo>) -> Result<Vec<EntryInfo>, NoMemory>
+    ensures { IfOk result (λ all. map info_view all.items ≡ sorted before_info (map info_view infos.items)) }
+{
+    let mut infos = infos;
+    infos.sort_by(|a, b| a.name.cmp_key(&b.name))?;
+    Ok(infos)
+}
+
+/// What a list finds in the context, in the order of keys.
+pub(crate) fn subs_in(
+    alloc: Global,
+    held: &Held,
+    copy: bool,
+    base: &Name,
+    subset: Subset,
+) -> Result<Vec<Sub>, NoMemory>
+    ensures { IfOk result (λ subs. map sub_view subs.items ≡ map (model.sub_of (λ key. copy)) (filter (λ e. model.in_subset (subset_view subset) (key_of base.now) (key_at e)) (entries_of held.now.nodes.nodes))) }
+{
+    let nodes = nodes_in(alloc, held, base, subset)?;
+    let tree = held.tree();
+    let _ = tree.entry(tree.top());
+    subs_at(alloc, tree, &nodes, copy)
+}
+
+/// What a search finds in the context, in the order of keys.
+pub(crate) fn infos_in(
+    alloc: Global,
+    held: &Held,
+    copy: bool,
+    base: &Name,
+    subset: Subset,
+    wanted: &Filter,
+    selection: &Selection,
+) -> Result<Vec<EntryInfo>, NoMemory>
+    ensures { IfOk result (λ infos. map info_view infos.items ≡ map (model.info_of (λ key. copy) (selection_view selection.now)) (filter (λ e. model.in_subset (subset_view subset) (key_of base.now) (key_at e) && selects_entry (filter_view wanted.now) e.entry) (entries_of held.now.nodes.nodes))) }
+{
+    let nodes = nodes_found(alloc, held, base, subset, wanted)?;
+    let tree = held.tree();
+    let _ = tree.entry(tree.top());
+    in_order(infos_at(alloc, tree, &nodes, copy, selection)?)
+}
+
+/// The context alone as the source.
+pub(crate) fn source_alone(
+    alloc: Global,
+    names: &AgentNames,
+    me: AgentId,
+    prefix: &Name,
+    stamp: Option<Moment>,
+) -> Result<SourceList, NoMemory>
+    requires there { me < length names.now }
+    requires apart { distinct same_octets names.now ≡ true }
+    ensures { IfOk result (λ sources. map (source_view names.now) sources ≡ record { context = prefix.now; agent = me; moment = stamp } ∷ []) }
+{
+    let mut sources = Listed::new(alloc);
+    sources.push(source(names, me, prefix, stamp)?)?;
+    Ok(sources)
+}
+
+/// An outcome that leaves nothing out. No memory.
+fn complete(alloc: Global) -> Outcome
+    ensures { (names : List (List ℕ)) → outcome_view names result ≡ whole }
+{
+    Outcome {
+        limited: false,
+        unexplored: Listed::new(alloc),
+    }
+}
+
+/// What no context shows. No memory.
+pub(crate) fn nothing(alloc: Global, body: &Body) -> Answer
+    ensures { (names : List (List ℕ)) → answer_view names result ≡ nothing_by (body_view body.now) }
+{
+    match body {
+        Body::List { .. } => Answer::Listed {
+            subs: Listed::new(alloc),
+            sources: Listed::new(alloc),
+            outcome: complete(alloc),
+        },
+        Body::Search { .. } => Answer::Found {
+            entries: Listed::new(alloc),
+            sources: Listed::new(alloc),
+            outcome: complete(alloc),
+        },
+        _ => Answer::Changed,
+    }
+}
