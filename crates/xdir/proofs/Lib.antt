@@ -10,3 +10,6 @@ pub mod Checks
 pub mod Summaries
 pub mod Counts
 pub mod Making
+pub mod Telling
+pub mod Trees
+pub mod TreeEnds
