@@ -14,7 +14,7 @@ use Rattle.x5_model_world.specs.WorldFile.{File}
 use Rattle.x5_port.specs.Outside.{Rose, with_octets, TookPrefix}
 use Rattle.x5_port.proofs.Octets.{with_octets-with_octets}
 use Rattle.xdir.proofs.Ends.{rose_later, took_after}
-use Rattle.xdir.proofs.SoFar.{map-snoc}
+use Rattle.xdir.proofs.Mapped.{map-snoc}
 use Rattle.xdir.specs.Outcomes.{Wrote}
 use Rattle.xdir.specs.Tree.{plain_command, IsTreeText, IsTold, IsToldSoFar, IsNoTree, TellsLines}
 use Rattle.xdir.specs.declared.top.Status.TheVariants.{WriteFault, NoMemory}
