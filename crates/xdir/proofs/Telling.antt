@@ -1,5 +1,6 @@
 -- What is printed of a reply of the one tree is what the tree tells, whatever names are printed with: the tree names no agents.
-use Rattle.std.proofs.Common.{◌≡◌, ℕ, Bool, true, false, ◌||◌, ◌&&◌, List, [], ◌∷◌, ◌++◌, map, refl, sym, ap, subst, ◌∙◌, codes, Option, None, Some, Ok, Err}
+use Rattle.std.proofs.Common.{◌≡◌, ℕ, Bool, true, false, ◌||◌, ◌&&◌, List, [], ◌∷◌, ◌++◌, map, refl, sym, ap, subst, ◌∙◌, codes, Option, None, Some, Result, Ok, Err, IfOk}
+use Rattle.std.specs.Prelude.{OnOk}
 use Rattle.std.specs.Option.{option_map}
 use Rattle.std.specs.List.{list_all}
 use Rattle.x5_model.specs.Words.{same_octets, in_option}
@@ -32,7 +33,7 @@ use Rattle.x5_ops.specs.declared.answers.Source.{Source as From}
 use Rattle.x5_ops.specs.declared.journal.Journal.{Journal}
 use Rattle.x5_ops.specs.declared.references.Reference.{Reference}
 use Rattle.x5_report.specs.Blocks.{block_known, IsBlock}
-use Rattle.x5_report.specs.Views.{names_with, is_known, source_known, reference_known, journal_known, reply_known}
+use Rattle.x5_report.specs.Views.{names_with, is_known, line_known, source_known, reference_known, journal_known, reply_known}
 use Rattle.x5_report.specs.declared.report.LineOutcome.TheVariants.{Plain, Set}
 use Rattle.xdir.specs.Tree.{IsReplied}
 
@@ -144,7 +145,9 @@ tells n source Changes = refl
 -- ---- blocks
 
 no_journal : (names : List (List ℕ)) (j : Journal) → j.lines ≡ [] → j.accepted ≡ [] → journal_known names j ≡ true
-no_journal names j lines accepted = rw lines (rw accepted refl)
+no_journal names j lines accepted =
+    both (list_all (line_known names) j.lines) (list_all (is_known names) j.accepted) (ap (list_all (line_known names)) lines)
+    (ap (list_all (is_known names)) accepted)
 
 pub reply_block : (t : Tree) (r : Request) (reply : Reply) (start : Start) (line : ℕ) (j : Journal) (text : List ℕ)
     → IsReplied t r reply → j.lines ≡ [] → j.accepted ≡ []
@@ -232,3 +235,17 @@ query_leaves t r (Compares equal copy) q = refl
 query_leaves t r (Lists subs cut) q = refl
 query_leaves t r (Finds infos cut) q = refl
 query_leaves t r Changes q = query_with t r q
+
+-- ---- results
+
+pub ok_more : {T E : Type 0} {P Q : T → Type 0} (result : Result T E) → ((x : T) → P x → Q x) → IfOk result P → IfOk result Q
+ok_more (Ok x) more p = more x p
+ok_more (Err e) more p = p
+
+pub on_ok : {T E : Type 0} {P : Type 0} (result : Result T E) → P → OnOk result P
+on_ok (Ok x) p = p
+on_ok (Err e) p = tt
+
+pub on_ok_more : {T E : Type 0} {P Q : Type 0} (result : Result T E) → (P → Q) → OnOk result P → OnOk result Q
+on_ok_more (Ok x) more p = more p
+on_ok_more (Err e) more p = tt

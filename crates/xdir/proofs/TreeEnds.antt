@@ -62,7 +62,7 @@ such_ends_tree more output first none Done old new before after w = absurd w
 such_ends_tree more output first none ReadFault old new before after w = absurd w
 such_ends_tree more output first none TooLong old new before after w = absurd w
 such_ends_tree more output first none Usage old new before after w = w
-such_ends_tree more output first none Inconsistent old new before after w = w
+such_ends_tree more output first none Inconsistent old new before after w = absurd w
 
 -- ---- where there is no one tree
 

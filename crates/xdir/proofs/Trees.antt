@@ -81,7 +81,7 @@ module _ (f : File) (consistent : IsConsistent f.world) where
     grown =
         let cs : List Command = map plain_command asked in
         let c : Command = plain_command a in
-        let line = knowledge_line (printing f) (first_breach f.world) in
+        let line : List ℕ = knowledge_line (printing f) (first_breach f.world) in
         let place : length asked + 1 ≡ 1 + length cs = let same : length cs ≡ length asked = length-map asked plain_command in omega arith in
         ap (λ (x : List ℕ). x ++ block) far.is_text
         ∙ append_assoc line (plain_texts (printing f) 1 (whole f.world) cs) block
