@@ -1,5 +1,5 @@
 -- What `tree` reads and writes, from what lines ask for to both files, by how it ends.
-use Rattle.std.proofs.Common.{◌≡◌, ◌≤◌, inl, inr, ℕ, List, length, map, Option, refl, sym, ap, subst, ◌∙◌, Ok, Err}
+use Rattle.std.proofs.Common.{◌≡◌, ◌≤◌, ◌⊎◌, inl, inr, ℕ, List, Option, Ok, Err}
 use Rattle.x5_load.specs.Views.{Loads}
 use Rattle.x5_model_script.specs.Lines.{Asked}
 use Rattle.x5_model_script.specs.Script.{script_of}
@@ -127,7 +127,7 @@ tells_file told name octets f is status old new before after w =
 module _ (told : Option (List outside.File)) (names : FileNames) (octets : List ℕ) (octets_is : IsContent told names.world octets) where
   -- a world that is described
   module _ (f : File) (described : Describes octets (Ok f)) where
-    taken : (script : List ℕ) → IsContent told names.script script → (asked : List Asked) → AsksFor f.world script asked → TakesBoth told names
+    abbrev taken : (script : List ℕ) → IsContent told names.script script → (asked : List Asked) → AsksFor f.world script asked → TakesBoth told names
     taken script script_is asked asks = record {
       world = octets;
       script = script;

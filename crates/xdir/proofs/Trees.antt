@@ -43,6 +43,11 @@ plain_texts-snoc names n t (d ∷ ds) c =
 abbrev printing : File → Names
 printing f = names_of f.world (moment_text f.start)
 
+-- so many lines stand before
+pub numbered : (asked : List Asked) (n : ℕ) → length asked ≡ n → (t : Tree) (c : Command) (block : List ℕ)
+    → ((names : Names) → block ≡ plain_text names (n + 1) t c) → (names : Names) → block ≡ plain_text names (length asked + 1) t c
+numbered asked n so t c block is names = is names ∙ ap (λ (k : ℕ). plain_text names (k + 1) t c) (sym so)
+
 -- the output for these lines was written, and the tree is the one that they leave
 pub record IsPrinted (f : File) (asked : List Asked) (t : Tree) (old now : Option (List ℕ)) : Type 0 where
   pub text : List ℕ
