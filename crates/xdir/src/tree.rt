@@ -184,7 +184,13 @@ fn request_block(
     ensures tree { OnOk result (tree_in tree.new ≡ tree_left (tree_in tree.old) (request_view request.now) (ask (tree_in tree.old) (request_view request.now))) }
 {
     let reply = answer(alloc, tree, request)?;
-    block(alloc, start, line, &no_messages(alloc), &LineOutcome::Plain(reply))
+    block(
+        alloc,
+        start,
+        line,
+        &no_messages(alloc),
+        &LineOutcome::Plain(reply),
+    )
 }
 
 /// What the tree replies; an update that isn't refused has changed it.

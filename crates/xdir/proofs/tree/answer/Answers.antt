@@ -19,8 +19,11 @@ returns-then-is_update-clause-tree c =
 
 pub returns-else-is_update-clause-reply : goal.returns-else-is_update-clause-reply
 returns-else-is_update-clause-reply c =
-    ok_more c.ask.result (λ reply told names. (source_at names c.args.tree.now.contexts (key_of (name_of (body_view
-    c.args.request.now.body))), told names)) c.ask.ensures
+    ok_more c.ask.result (λ reply told names. (
+      source_at names c.args.tree.now.contexts (key_of (name_of (body_view
+          c.args.request.now.body))),
+      told names,
+    )) c.ask.ensures
 
 pub returns-else-is_update-clause-tree : goal.returns-else-is_update-clause-tree
 returns-else-is_update-clause-tree c =

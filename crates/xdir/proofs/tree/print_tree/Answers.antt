@@ -59,6 +59,6 @@ loop-place-preserved g c =
       rising =
           let far : g.K.Sink.fault_count c.args.out.now ≤ g.K.Sink.fault_count c.loop-place.out = c.loop-place.invariant.rising in
           let more : g.K.Sink.fault_count c.loop-place.out ≤ g.K.Sink.fault_count c.put_all-in-Ok-line_block.new.sink =
-              c.put_all-in-Ok-line_block.ensures.rising in
+          c.put_all-in-Ok-line_block.ensures.rising in
           omega arith;
     }

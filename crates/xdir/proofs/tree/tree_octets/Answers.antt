@@ -14,7 +14,7 @@ use Rattle.xdir.proofs.tree.tree_octets.Goals as goal
 pub tree_commands-requires-clause-few : goal.tree_commands-requires-clause-few
 tree_commands-requires-clause-few g c =
     let f = few c.world.inside.0.1.0 (length c.as_slice-lost.result.now) c.args.script.now (map command_view c.in-Ok.commands.items)
-        c.in-Ok.ensures in
+    c.in-Ok.ensures in
     subst (λ (cs : List Command). length cs ≤ 100000) (sym c.deref.ensures.value)
     (subst (λ (n : ℕ). n ≤ 100000) (length-map c.in-Ok.commands.items command_view) f)
 
