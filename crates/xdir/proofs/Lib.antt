@@ -10,4 +10,7 @@ pub mod Checks
 pub mod Summaries
 pub mod Counts
 pub mod Making
-pub mod Named
+pub mod Mapped
+pub mod Telling
+pub mod Trees
+pub mod TreeEnds

@@ -114,31 +114,6 @@ module _ (f : File) (commands : List Command) (text : List ℕ) (far : IsText f 
   is_output described is_star =
       subst (λ (t : List ℕ). IsOutput f commands t) (sym far.printed) (star_prints_run f.world described is_star (moment_text f.start) commands far.blocks far.past far.runs)
 
--- ---- commands by their places
-
-map-snoc : {X : Type 0} (view : X → Command) (xs : List X) (x : X) → map view (xs ++ x ∷ []) ≡ map view xs ++ view x ∷ []
-map-snoc view [] x = refl
-map-snoc view (y ∷ ys) x = ap (λ (more : List Command). view y ∷ more) (map-snoc view ys x)
-
-map-both : {X : Type 0} (view : X → Command) (xs ys : List X) → map view (xs ++ ys) ≡ map view xs ++ map view ys
-map-both view [] ys = refl
-map-both view (x ∷ xs) ys = ap (λ (more : List Command). view x ∷ more) (map-both view xs ys)
-
-module _ {X : Type 0} (view : X → Command) (xs : List X) (i : ℕ) (x : X) (within : i < length xs) (is : x ≡ get_or xs i x) where
-  pub first_more : map view (take (i + 1) xs) ≡ map view (take i xs) ++ view x ∷ []
-  first_more =
-      ap (map view) (take_more xs i x within ∙ ap (λ (y : X). take i xs ++ y ∷ []) (sym is)) ∙ map-snoc view (take i xs) x
-
-  pub around : map view xs ≡ map view (take i xs) ++ view x ∷ map view (drop (i + 1) xs)
-  around =
-      ap (map view) (sym (take-append-drop (i + 1) xs))
-      ∙ map-both view (take (i + 1) xs) (drop (i + 1) xs)
-      ∙ ap (λ (first : List Command). first ++ map view (drop (i + 1) xs)) first_more
-      ∙ append_assoc (map view (take i xs)) (view x ∷ []) (map view (drop (i + 1) xs))
-
-  pub so_many : length (map view (take i xs)) ≡ i
-  so_many = length-map (take i xs) view ∙ length-take-le i xs (omega arith)
-
 -- ---- the output so far, of which the text was written
 
 pub record IsSoFar (f : File) (commands : List Command) (old now : Option (List ℕ)) : Type 0 where

@@ -14,3 +14,4 @@ pub mod Blocks
 pub mod Counted
 pub mod Summed
 pub mod Generated
+pub mod Tree

@@ -59,13 +59,13 @@ fn put_knowledge<K: Sink>(alloc: Global, world: &Described, out: &mut K) -> Stat
 
 /// The line on a world's knowledge, and whether it tells that this is consistent.
 #[derive(Drop)]
-struct Told {
-    line: String,
-    is_consistent: bool,
+pub struct Told {
+    pub line: String,
+    pub is_consistent: bool,
 }
 
 /// The line on the world's knowledge.
-fn line_of(alloc: Global, world: &Described) -> Result<Told, NoMemory>
+pub fn line_of(alloc: Global, world: &Described) -> Result<Told, NoMemory>
     requires { length world.now.agents ≤ 256 }
     ensures line { IfOk result (λ told. string_bytes told.line ≡ knowledge_text (world_view world.now)) }
     ensures consistent { IfOk result (λ told. IsTrue told.is_consistent ↔ IsConsistent (world_view world.now)) }

@@ -14,6 +14,7 @@ mod star;
 mod summed;
 mod told;
 mod top;
+mod tree;
 
 use asked::AskedFiles;
 use explained::Explained;
@@ -24,10 +25,11 @@ use told::ToldSink;
 use top::{MOST_OCTETS, Status, xdir};
 use x5_port::{RealFiles, RealSink};
 
-// The forms that are taken so far, one a line.
+// The forms, one a line.
 const USAGE: &str = "usage:
   xdir run [--summary] WORLD SCRIPT
   xdir check WORLD
+  xdir tree WORLD SCRIPT
   xdir gen N
   xdir gen N world
   xdir gen N script
@@ -46,7 +48,16 @@ fn main(rt: HostRuntime) -> ExitCode {
     match status {
         Status::ReadFault => unread(&rt, name, files.files().reason()),
         Status::WriteFault if out.sink().is_closed() => ExitCode::from(status as u8),
+        Status::Inconsistent => ended(&rt, status, world_name(&words), out.line()),
         _ => ended(&rt, status, name, out.line()),
+    }
+}
+
+// The name of the world file, which stands behind the command.
+fn world_name(words: &[String]) -> &str {
+    match words {
+        [_, world, ..] => world.as_str(),
+        _ => "",
     }
 }
 
@@ -75,8 +86,8 @@ fn unread<R: Eprint>(rt: &R, name: &str, reason: Option<ErrorKind>) -> ExitCode 
     ExitCode::from(Status::ReadFault as u8)
 }
 
-// Says on standard error what was wrong, and gives the status. `name` is that of the last file read, or of generated ones, and `line`
-// the first that was printed.
+// Says on standard error what was wrong, and gives the status. `name` is that of the last file read, of the world whose knowledge isn't
+// consistent, or of generated ones, and `line` the first that was printed.
 fn ended<R: Eprint>(rt: &R, status: Status, name: &str, line: &str) -> ExitCode {
     let _ = match status {
         Status::Done => Ok(()),

@@ -3,12 +3,13 @@ ghost use Rattle.std.specs.Prelude.{◌≡◌, ◌⊎◌, None, IfSome, true, ma
 ghost use Rattle.x5_know.specs.WorldView.{world_view};
 ghost use Rattle.x5_load.specs.Views.{file_view};
 ghost use Rattle.x5_model_tree.specs.Described.{IsDescribed};
+ghost use Rattle.x5_words.specs.Forms.{form_in};
 ghost use Rattle.xdir.specs.Forms.{ReadsForm, WritesForm};
 ghost use Rattle.xdir.specs.Run.{Reads, Writes};
 ghost use Rattle.xdir.specs.Star.{IsReady, star_file};
 ghost use Rattle.xdir.specs.Steps.{Prints, ReadsFile, ReadsOver, WritesOver, WritesScript, WritesScriptFile};
 ghost use Rattle.xdir.specs.Summed.{SumsOver, SumsScript, SumsScriptFile, WritesSummed};
-ghost use Rattle.xdir.specs.Words.{form_in, is_made};
+ghost use Rattle.xdir.specs.Words.{is_made};
 
 use crate::check::check_file;
 use crate::generated::run_made;
@@ -17,6 +18,7 @@ use crate::refusals::{NO_STAR, put_refusal, refuse_script, refuse_world};
 use crate::run::{Printed, run_commands};
 use crate::show::show_file;
 use crate::star::{Star, find_star};
+use crate::tree::tree_files;
 use std::alloc::Global;
 use x5_know::Described;
 use x5_load::load;
@@ -93,7 +95,8 @@ pub fn xdir<F: Files, K: Sink>(
         Ok(Some(Words::GenWorld(number))) => print_made_world(alloc, number, out),
         Ok(Some(Words::GenScript(number))) => print_made_script(alloc, number, out),
         Ok(Some(Words::Show(name))) => show_file(alloc, name, files, out),
-        Ok(Some(Words::Tree(_)) | None) => Status::Usage,
+        Ok(Some(Words::Tree(names))) => tree_files(alloc, names.world, names.script, files, out),
+        Ok(None) => Status::Usage,
         Err(NoMemory) => Status::NoMemory,
     }
 }

@@ -5,7 +5,8 @@ use Rattle.x5_model_run.specs.Run.{Command}
 use Rattle.x5_script.specs.declared.command.Command.{Command as Asked}
 use Rattle.xdir.specs.declared.top.Status.TheVariants.{Done}
 use Rattle.xdir.specs.Blocks.{WritesBlock}
-use Rattle.xdir.proofs.SoFar.{IsSoFar, of_nothing, first_output, first_more, around, so_many, so_far_more, writes_stopped, writes_all, prints_block, asked}
+use Rattle.xdir.proofs.Mapped.{first_more, around, so_many}
+use Rattle.xdir.proofs.SoFar.{IsSoFar, of_nothing, first_output, so_far_more, writes_stopped, writes_all, prints_block, asked}
 use Rattle.xdir.proofs.run.print_run.Goals as goal
 
 pub returns-in-Err-clause-writes : goal.returns-in-Err-clause-writes

@@ -6,7 +6,8 @@ use Rattle.x5_script.specs.declared.command.Command.{Command as Asked}
 use Rattle.xdir.specs.Counted.{IsCounted}
 use Rattle.xdir.specs.Star.{run_view, star_file}
 use Rattle.xdir.proofs.Counts.{none_counted, counted_more}
-use Rattle.xdir.proofs.SoFar.{asked, first_more}
+use Rattle.xdir.proofs.Mapped.{first_more}
+use Rattle.xdir.proofs.SoFar.{asked}
 use Rattle.xdir.proofs.summed.totals_of.Goals as goal
 
 pub loop-command-init : goal.loop-command-init
