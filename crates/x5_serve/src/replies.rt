@@ -15,6 +15,7 @@ ghost use Rattle.x5_serve.specs.Steps.{IsTelling, heard_view, IsHeardBy};
 ghost use Rattle.x5_ops.specs.declared.answers.Reply.TheVariants.{Failed};
 
 use std::alloc::Global;
+use x5_know::AgentNames;
 use x5_memory::NoMemory;
 use x5_names::Name;
 use x5_ops::problems::{
@@ -22,7 +23,7 @@ use x5_ops::problems::{
     UNAVAILABLE,
 };
 use x5_ops::{
-    AccessList, AccessPoint, AgentId, AgentNames, Chained, DirError, Listed, Progress, RdnList,
+    AccessList, AccessPoint, AgentId, Chained, DirError, Listed, Progress, RdnList,
     Reference, Reply, TraceItem,
 };
 
@@ -161,6 +162,20 @@ pub fn unavailable(reference: Reference) -> Reply
         }),
         item: None,
     })
+}
+
+/// The user's message to the agent was sent in vain: nothing was heard.
+pub fn user_in_vain(
+    alloc: Global,
+    names: &AgentNames,
+    first: AgentId,
+    message: &Chained,
+) -> Result<Reply, NoMemory>
+    requires there { first < length names.now }
+    requires apart { distinct same_octets names.now ≡ true }
+    ensures { IfOk result (λ y. reply_view names.now y ≡ answering.is_unavailable (answering.in_vain (asked_by (hand first (chained_view names.now message.now))))) }
+{
+    Ok(unavailable(own_reference(alloc, names, first, message)?))
 }
 
 /// These agents of the reference were asked in vain.

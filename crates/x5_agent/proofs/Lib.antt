@@ -1,0 +1,7 @@
+pub mod Shortness
+pub mod Alone
+pub mod Points
+pub mod Replying
+pub mod Asking
+pub mod Saying
+pub mod Serving
