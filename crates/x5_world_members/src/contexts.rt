@@ -18,7 +18,7 @@ use serde_json::Value;
 use std::alloc::Global;
 use std::marker::Model;
 use x5_know::AgentNames;
-use x5_ops::{ContextSpec, ContextSpecList, NssrList};
+use x5_ops::{ContextSpec, ContextSpecList};
 
 /// Contexts of an agent so far, and what the file uses of the limits so far. The references of a context aren't told to which
 /// context they belong: that is left the root.
@@ -88,18 +88,15 @@ fn context_behind(
     let used = with_entries(alloc, place, counts.entries, items)?;
     let entries = entries_behind(alloc, &Place::Member(place, "entries"), &prefix, items)?;
     let list = list_if_any(alloc, place, "nssr", value)?;
-    let none = Nssrs {
-        nssrs: Vec::new(alloc),
-        listed: counts.nssr_agents,
-    };
+    let none = Nssrs::new(alloc, counts.nssr_agents);
     let here = Place::Member(place, "nssr");
     let found = nssrs_behind(alloc, names, &here, &entries, none, list)?;
     only(alloc, place, &["prefix", "entries", "nssr"], members)?;
-    let Nssrs { nssrs, listed } = found;
+    let listed = found.listed();
     contexts.push(ContextSpec {
         prefix,
         entries: entries.into_list(),
-        nssr: NssrList::from_vec(nssrs),
+        nssr: found.into_list(),
     })?;
     let counts = Counts {
         contexts: counts.contexts,
