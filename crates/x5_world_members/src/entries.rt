@@ -140,6 +140,7 @@ fn whole_name(
 }
 
 /// The entries with one more, which an object describes.
+#[tactic(auto, using(crate::proofs::Owned::whole_key))]
 fn entry_behind(
     alloc: Global,
     place: &Place<'_>,
