@@ -86,7 +86,7 @@ impl References {
     }
 
     /// The references with one more of the kind, to whose name none of the kind is.
-    #[tactic(auto, using(crate::proofs::Pins::specific_more, crate::proofs::Pins::cross_more))]
+    #[tactic(auto, using(crate::proofs::Pins::specific_more, crate::proofs::Pins::cross_more, crate::proofs::Pins::specific_keys, crate::proofs::Pins::cross_keys))]
     fn with(
         self,
         alloc: Global,
