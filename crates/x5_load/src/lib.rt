@@ -3,7 +3,6 @@
 
 mod agents;
 mod agreements;
-mod distinct;
 mod limits;
 mod loading;
 mod mentioned;
