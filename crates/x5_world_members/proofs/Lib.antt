@@ -1,3 +1,4 @@
 pub mod Items
 pub mod LastRdn
-pub mod Lookups
+pub mod Owned
+pub mod Placed

@@ -1,7 +1,7 @@
 //! The entries of a context, each behind its parent.
 
-ghost use Rattle.std.specs.Prelude.{◌≡◌, [], ◌∷◌, ◌++◌, map, IfOk, OnOk};
-ghost use Rattle.std.specs.List.{find, list_any};
+ghost use Rattle.std.specs.Prelude.{◌≡◌, [], ◌∷◌, ◌++◌, map, IfOk, false};
+ghost use Rattle.std.specs.List.{find};
 ghost use Rattle.std.specs.Option.{option_copied};
 ghost use Rattle.serde_json.specs.View.{view, items_view};
 ghost use Rattle.x5_model.specs.Keys.{same_key};
@@ -16,6 +16,7 @@ use crate::entry::entry_given;
 use crate::fault::LoadFault;
 use crate::given::given_behind;
 use crate::json::{list_at, members_at, only};
+use crate::key_set::KeySet;
 use crate::names::{entry_name_at, last_rdn};
 use crate::place::Place;
 use serde_json::Value;
@@ -25,33 +26,23 @@ use x5_memory::NoMemory;
 use x5_names::Name;
 use x5_ops::{Named, NamedList};
 
-/// Entries in the order of the file, which are found by their keys.
+/// Entries in the order of the file, no two of one key, each of which is found without a walk through the others.
 #[derive(Drop)]
 pub(crate) struct Entries {
     entries: Vec<Named>,
+    keys: KeySet,
 }
 
 impl Model for Entries {
-    ghost use Rattle.std.specs.Prelude.{List};
+    ghost use Rattle.std.specs.Prelude.{◌≡◌, List, map};
     ghost use Rattle.x5_model.specs.Entries as model;
+    ghost use Rattle.x5_model_tree.specs.Tree.{key_at};
 
     ghost Value = { List model.Named };
 
     ghost view = { λ e. e.entries.items };
-}
 
-/// Whether one of the entries has the name's key.
-fn is_there(entries: &[Named], name: &Name) -> bool
-    ensures { result ≡ list_any (λ e. same_key (key_of name.now) (key_at e)) entries.now }
-{
-    entries.iter().any(|entry| name.is_same(&entry.name))
-}
-
-/// The first entry that has the name's key.
-fn entry_at<'a>(entries: &'a [Named], name: &Name) -> Option<&'a Named>
-    ensures { option_copied result ≡ find (λ e. same_key (key_of name.now) (key_at e)) entries.now }
-{
-    entries.iter().find(|entry| name.is_same(&entry.name))
+    ghost invariant = { λ e. e.keys ≡ map key_at e.entries.items };
 }
 
 impl Entries {
@@ -61,6 +52,7 @@ impl Entries {
     {
         Entries {
             entries: Vec::new(alloc),
+            keys: KeySet::new(alloc),
         }
     }
 
@@ -76,29 +68,39 @@ impl Entries {
     pub(crate) fn has(&self, name: &Name) -> bool
         ensures { result ≡ model.has_key (map key_at self.now) (key_of name.now) }
     {
-        is_there(self.entries.as_slice(), name)
+        self.keys.has(name.key())
     }
 
     /// The first entry that has the name's key.
     fn at(&self, name: &Name) -> Option<&Named>
         ensures { option_copied result ≡ find (λ e. same_key (key_of name.now) (key_at e)) self.now }
     {
-        entry_at(self.entries.as_slice(), name)
+        match self.keys.place(name.key()) {
+            Some(place) => self.entries.as_slice().get(place),
+            None => None,
+        }
     }
 
-    /// Adds an entry at the end.
-    fn push(&mut self, entry: Named) -> Result<(), NoMemory>
-        ensures { OnOk result (self.new ≡ self.old ++ entry ∷ []) }
+    /// The entries with one more, whose key none of them has.
+    fn with(self, entry: Named) -> Result<Entries, NoMemory>
+        requires { model.has_key (map key_at self) (key_at entry) ≡ false }
+        ensures { IfOk result (λ e. e ≡ self ++ entry ∷ []) }
     {
-        self.entries.push(entry)?;
-        Ok(())
+        let Entries {
+            mut entries,
+            mut keys,
+        } = self;
+        let key = entry.name.key().clone()?;
+        keys.add(key)?;
+        entries.push(entry)?;
+        Ok(Entries { entries, keys })
     }
 
     /// The entries as a list. No memory.
     pub(crate) fn into_list(self) -> NamedList
         ensures { result ≡ self }
     {
-        let Entries { entries } = self;
+        let Entries { entries, keys: _ } = self;
         NamedList::from_vec(entries)
     }
 }
@@ -138,6 +140,7 @@ fn whole_name(
 }
 
 /// The entries with one more, which an object describes.
+#[tactic(auto, using(crate::proofs::Owned::whole_key))]
 fn entry_behind(
     alloc: Global,
     place: &Place<'_>,
@@ -162,8 +165,7 @@ fn entry_behind(
         return Err(place.bad_shape(alloc));
     };
     only(alloc, place, &["name", "attrs"], members)?;
-    let mut entries = before;
-    entries.push(Named { name, entry })?;
+    let entries = before.with(Named { name, entry })?;
     Ok(entries)
 }
 

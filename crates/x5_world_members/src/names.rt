@@ -1,6 +1,6 @@
 //! Names of entries in a world file.
 
-ghost use Rattle.std.specs.Prelude.{◌≡◌, IfOk};
+ghost use Rattle.std.specs.Prelude.{◌≡◌, false, IfOk};
 ghost use Rattle.serde_json.specs.View.{view};
 ghost use Rattle.x5_model.specs.Values.{last_rdn as last_rdn_of};
 ghost use Rattle.x5_model.specs.Words.{is_empty as is_empty_list};
@@ -48,7 +48,8 @@ pub fn entry_name_at(
     name: &'static str,
     value: &Value,
 ) -> Result<Name, LoadFault>
-    ensures { Reads (λ n. n) result (model.entry_name_at (path_of place.now) name.now (view value.now)) }
+    ensures read { Reads (λ n. n) result (model.entry_name_at (path_of place.now) name.now (view value.now)) }
+    ensures some { IfOk result (λ n. is_empty_list n ≡ false) }
 {
     let found = name_at(alloc, place, name, value)?;
     if is_empty(&found) {

@@ -1,9 +1,7 @@
 //! Non-specific references of a context (X.501: NSSR), each at an entry of it.
 
-ghost use Rattle.std.specs.Prelude.{◌≡◌, ◌++◌, ◌∷◌, [], map};
-ghost use Rattle.std.specs.List.{list_any};
+ghost use Rattle.std.specs.Prelude.{◌≡◌, ◌≤◌, ◌++◌, ◌∷◌, [], map, false, IfOk};
 ghost use Rattle.serde_json.specs.View.{view, items_view};
-ghost use Rattle.x5_model.specs.Keys.{same_key};
 ghost use Rattle.x5_model.specs.Values.{key_of};
 ghost use Rattle.x5_model_world.specs.ContextText as model;
 ghost use Rattle.x5_ops.specs.KnowledgeViews.{nssr_view};
@@ -14,6 +12,7 @@ use crate::counts::counted;
 use crate::entries::Entries;
 use crate::fault::LoadFault;
 use crate::json::{members_at, only, some_at};
+use crate::key_set::KeySet;
 use crate::mentions::agents_behind;
 use crate::names::name_at;
 use crate::place::Place;
@@ -21,18 +20,21 @@ use serde_json::Value;
 use std::alloc::Global;
 use std::marker::Model;
 use x5_know::AgentNames;
+use x5_memory::NoMemory;
 use x5_names::Name;
-use x5_ops::Nssr;
+use x5_ops::{Nssr, NssrList};
 
-/// The non-specific references of a context so far, and how many agents are listed in all that the file has so far.
+/// The non-specific references of a context so far, no two at one entry, and how many agents are listed in all that the file has so
+/// far.
 #[derive(Drop)]
 pub(crate) struct Nssrs {
-    pub(crate) nssrs: Vec<Nssr>,
-    pub(crate) listed: usize,
+    nssrs: Vec<Nssr>,
+    keys: KeySet,
+    listed: usize,
 }
 
 impl Model for Nssrs {
-    ghost use Rattle.std.specs.Prelude.{◌≤◌, map};
+    ghost use Rattle.std.specs.Prelude.{◌≡◌, ◌≤◌, map};
     ghost use Rattle.x5_model_world.specs.ContextText as model;
     ghost use Rattle.x5_ops.specs.KnowledgeViews.{nssr_view};
 
@@ -40,28 +42,76 @@ impl Model for Nssrs {
 
     ghost view = { λ n. record { nssrs = map nssr_view n.nssrs.items; listed = n.listed } };
 
-    ghost invariant = { λ n. n.listed ≤ 4096 };
+    ghost invariant = { λ n. (n.listed ≤ 4096) × (n.keys ≡ model.nssr_keys (map nssr_view n.nssrs.items)) };
 }
 
-/// Whether one of the references stands at the name.
-fn stands_at(nssrs: &[Nssr], name: &Name) -> bool
-    ensures { result ≡ list_any (λ n. same_key (key_of name.now) (key_of n.at)) nssrs.now }
-{
-    nssrs.iter().any(|nssr| name.is_same(&nssr.at))
-}
+impl Nssrs {
+    /// No references yet of a context, where so many agents are listed before. No memory.
+    pub(crate) fn new(alloc: Global, listed: usize) -> Nssrs
+        requires { listed ≤ 4096 }
+        ensures { result ≡ record { nssrs = []; listed = listed } }
+    {
+        Nssrs {
+            nssrs: Vec::new(alloc),
+            keys: KeySet::new(alloc),
+            listed,
+        }
+    }
 
-/// Whether one of the references stands at the name.
-fn has_nssr(nssrs: &[Nssr], name: &Name) -> bool
-    ensures { result ≡ model.has_key (model.nssr_keys (map nssr_view nssrs.now)) (key_of name.now) }
-{
-    stands_at(nssrs, name)
+    /// How many agents are listed, 4096 at most. No memory.
+    pub(crate) fn listed(&self) -> usize
+        ensures same { result ≡ self.now.listed }
+        ensures most { result ≤ 4096 }
+    {
+        self.listed
+    }
+
+    /// Whether one of the references stands at the name. No memory.
+    fn has(&self, name: &Name) -> bool
+        ensures { result ≡ model.has_key (model.nssr_keys self.now.nssrs) (key_of name.now) }
+    {
+        self.keys.has(name.key())
+    }
+
+    /// The references with one more, at whose name none stands, where so many agents are listed with its own.
+    fn with(self, nssr: Nssr, listed: usize) -> Result<Nssrs, NoMemory>
+        requires new { model.has_key (model.nssr_keys self.nssrs) (key_of nssr.at) ≡ false }
+        requires most { listed ≤ 4096 }
+        ensures { IfOk result (λ n. n ≡ record { nssrs = self.nssrs ++ nssr_view nssr ∷ []; listed = listed }) }
+    {
+        let Nssrs {
+            mut nssrs,
+            mut keys,
+            listed: _,
+        } = self;
+        let key = nssr.at.key().clone()?;
+        keys.add(key)?;
+        nssrs.push(nssr)?;
+        Ok(Nssrs {
+            nssrs,
+            keys,
+            listed,
+        })
+    }
+
+    /// The references as a list. No memory.
+    pub(crate) fn into_list(self) -> NssrList
+        ensures { map nssr_view result ≡ self.nssrs }
+    {
+        let Nssrs {
+            nssrs,
+            keys: _,
+            listed: _,
+        } = self;
+        NssrList::from_vec(nssrs)
+    }
 }
 
 /// Whether a reference may stand at the name: an entry has it, and no reference stands there.
 fn is_place(entries: &Entries, before: &Nssrs, name: &Name) -> bool
     ensures { result ≡ model.is_place entries.now before.now.nssrs (key_of name.now) }
 {
-    entries.has(name) && !has_nssr(before.nssrs.as_slice(), name)
+    entries.has(name) && !before.has(name)
 }
 
 /// The references with one more, which an object describes.
@@ -81,17 +131,19 @@ fn nssr_behind(
         return Err(Place::Member(place, "at").bad_shape(alloc));
     }
     let texts = some_at(alloc, place, "agents", value)?;
-    let Nssrs { mut nssrs, listed } = before;
-    let listed = counted(alloc, place, listed, texts)?;
+    let listed = counted(alloc, place, before.listed(), texts)?;
     let agents = agents_behind(alloc, names, &Place::Member(place, "agents"), texts)?;
     only(alloc, place, &["at", "agents"], members)?;
     let context = Name::root(alloc);
-    nssrs.push(Nssr {
-        context,
-        at,
-        agents,
-    })?;
-    Ok(Nssrs { nssrs, listed })
+    let nssrs = before.with(
+        Nssr {
+            context,
+            at,
+            agents,
+        },
+        listed,
+    )?;
+    Ok(nssrs)
 }
 
 /// The references with all that a list describes.
