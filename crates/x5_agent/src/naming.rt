@@ -15,7 +15,8 @@ use x5_know::AgentNames;
 use x5_memory::NoMemory;
 use x5_names::{Name, Rdn};
 use x5_ops::{
-    Access, AccessList, AccessPoint, AgentId, AgentList, Listed, Progress, RefType, Reference, Request,
+    Access, AccessList, AccessPoint, AgentId, AgentList, Listed, Progress, RefType, Reference,
+    Request,
 };
 
 /// The agent as one that a reference names; `copy` says that it has a copy of the context, and isn't its master.
@@ -31,11 +32,7 @@ fn point(names: &AgentNames, agent: AgentId, copy: bool) -> Result<AccessPoint, 
 }
 
 /// This agent alone.
-pub(crate) fn one(
-    alloc: Global,
-    names: &AgentNames,
-    agent: AgentId,
-) -> Result<AccessList, NoMemory>
+pub(crate) fn one(alloc: Global, names: &AgentNames, agent: AgentId) -> Result<AccessList, NoMemory>
     requires there { agent < length names.now }
     requires apart { distinct same_octets names.now ≡ true }
     ensures { IfOk result (λ points. map (access_view names.now) points ≡ agent ∷ []) }

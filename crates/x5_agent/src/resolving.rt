@@ -23,8 +23,7 @@ use crate::naming::{asked, one, others, reference};
 use std::alloc::Global;
 use x5_dse::NodeId;
 use x5_eval::{read_copy, read_own};
-use x5_find::Found as Place;
-use x5_find::find as resolve;
+use x5_find::{Found as Place, find as resolve};
 use x5_holdings::Holdings;
 use x5_know::AgentNames;
 use x5_memory::NoMemory;
@@ -162,15 +161,11 @@ pub fn find(
         } => {
             let agents = asked(alloc, names, &message.request, to)?;
             let name = &message.target;
-            Ok(Found::Onward(reference(
-                alloc, name, kind, progress, known, agents,
-            )?))
+            Ok(Found::Onward(reference(alloc, name, kind, progress, known, agents)?))
         }
         Place::Multicast { own, node, agents } => {
             let agents = agents.as_slice();
-            Ok(Found::Onward(wide(
-                alloc, names, state, message, own, node, agents,
-            )?))
+            Ok(Found::Onward(wide(alloc, names, state, message, own, node, agents)?))
         }
         Place::NoSuchObject { at: None } => Ok(Found::Nowhere(Name::root(alloc))),
         Place::NoSuchObject {

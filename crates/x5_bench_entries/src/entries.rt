@@ -40,7 +40,10 @@ fn fill(tree: &mut DseTree, names: Vec<Name>, alloc: Global) -> Result<()> {
 }
 
 fn found(tree: &DseTree, names: &[Name]) -> usize {
-    names.iter().filter(|name| tree.find(name).is_some()).count()
+    names
+        .iter()
+        .filter(|name| tree.find(name).is_some())
+        .count()
 }
 
 pub fn measure(rt: &HostRuntime, places: &[u32]) -> Result<()> {

@@ -27,7 +27,9 @@ fn places(rt: &HostRuntime, count: u32) -> Result<Vec<u32>> {
 
 /// The number that the first word says.
 fn count(rt: &HostRuntime) -> Result<u32> {
-    let word = env::args(rt)?.nth(1).ok_or_else(|| anyhow!("how many entries?"))?;
+    let word = env::args(rt)?
+        .nth(1)
+        .ok_or_else(|| anyhow!("how many entries?"))?;
     Ok(word.parse::<u32>()?)
 }
 

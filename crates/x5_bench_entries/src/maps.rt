@@ -22,7 +22,10 @@ fn fill(map: &mut BTreeMap<String, usize>, names: Vec<String>) -> Result<()> {
 }
 
 fn found(map: &BTreeMap<String, usize>, names: &[String]) -> usize {
-    names.iter().filter(|name| map.contains_key(name.as_str())).count()
+    names
+        .iter()
+        .filter(|name| map.contains_key(name.as_str()))
+        .count()
 }
 
 fn measure_names(rt: &HostRuntime, places: &[u32]) -> Result<()> {

@@ -17,9 +17,7 @@ use std::alloc::Global;
 use x5_know::AgentNames;
 use x5_memory::NoMemory;
 use x5_names::Name;
-use x5_ops::{
-    AgentId, AgentName, Answer, Chained, DirError, Reference, ReferenceList, Reply,
-};
+use x5_ops::{AgentId, AgentName, Answer, Chained, DirError, Reference, ReferenceList, Reply};
 
 /// What becomes of a message that is sent: it doesn't reach its receiver; none is left, so it isn't sent; it reaches its receiver,
 /// whose reply will be lost; or it does, and the reply will too. Where it reaches its receiver it's as that one has it.

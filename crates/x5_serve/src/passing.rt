@@ -12,13 +12,13 @@ ghost use Rattle.x5_ops.specs.ReferenceViews.{chained_view, reference_view};
 
 use crate::replies::{copied_rdns, own_item};
 use std::alloc::Global;
-use x5_match::copied;
 use x5_know::AgentNames;
+use x5_match::copied;
 use x5_memory::NoMemory;
 use x5_names::Name;
 use x5_ops::{
-    AgentId, Body, Chained, Controls, Listed, Progress, Reference, Request, Selection,
-    Subset, Trace, TraceItem,
+    AgentId, Body, Chained, Controls, Listed, Progress, Reference, Request, Selection, Subset,
+    Trace, TraceItem,
 };
 
 /// Whether the name is what the operation is to be resolved at: its object or base, or the parent of an addEntry's object.

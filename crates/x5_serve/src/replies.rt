@@ -23,8 +23,8 @@ use x5_ops::problems::{
     UNAVAILABLE,
 };
 use x5_ops::{
-    AccessList, AccessPoint, AgentId, Chained, DirError, Listed, Progress, RdnList,
-    Reference, Reply, TraceItem,
+    AccessList, AccessPoint, AgentId, Chained, DirError, Listed, Progress, RdnList, Reference,
+    Reply, TraceItem,
 };
 
 /// What the sender of a message hears in the end: nothing, or a reply.

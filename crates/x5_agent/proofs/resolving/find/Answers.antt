@@ -67,8 +67,8 @@ returns-in-UnableToProceed c = λ s j now.
     said_is_found s j c.args.names.now (holdings_view c.args.state.now) (chained_view c.args.names.now
     c.args.message.now) c.requires.alone now found.Stuck
     (elim c.in-UnableToProceed.is [
-    | inl e ↦ (subst (Finds c.args.state.now (chained_view c.args.names.now c.args.message.now)) e
-    (c.find.ensures c.args.names.now)).0
-    | inr e ↦ (subst (Finds c.args.state.now (chained_view c.args.names.now c.args.message.now)) e
-    (c.find.ensures c.args.names.now)).0
+      | inl e ↦ (subst (Finds c.args.state.now (chained_view c.args.names.now c.args.message.now)) e
+          (c.find.ensures c.args.names.now)).0
+      | inr e ↦ (subst (Finds c.args.state.now (chained_view c.args.names.now c.args.message.now)) e
+          (c.find.ensures c.args.names.now)).0
     ])
