@@ -1,9 +1,8 @@
 -- What a search finds in one context: by links each node in the subset is tried; by the index each candidate, among which
 -- is every node whose entry the filter selects.
-use Rattle.std.proofs.Common.{◌≡◌, ℕ, Bool, true, false, ◌&&◌, ◌==◌, cond, ◌↔◌, inl, inr, List, [], ◌∷◌, map, Option}
+use Rattle.std.proofs.Common.{◌≡◌, ℕ, Bool, true, false, ◌&&◌, ◌==◌, cond, inl, inr, List, [], ◌∷◌, map, Option}
 use Rattle.std.proofs.Common.{Some, None, refl, sym, ap, subst, ◌∙◌, arith}
-use Rattle.std.specs.List.{filter, list_any}
-use Rattle.std.specs.Option.{option_map}
+use Rattle.std.specs.List.{filter}
 use Rattle.x5_model.specs.Words.{ascending, in_option}
 use Rattle.x5_model.specs.Members.{In, Once, here, there}
 use Rattle.x5_model.specs.Keys.{Key}
@@ -13,7 +12,7 @@ use Rattle.x5_model.specs.Filters.{Filter, Assertion, Equality}
 use Rattle.x5_model.specs.Truth.{is_true, is_equal, item_truth, truth_by, selects_entry}
 use Rattle.x5_model.specs.Requests.{Subset}
 use Rattle.x5_model.proofs.KeyLaws.{never_below}
-use Rattle.x5_model.proofs.Lists.{true_or_false, both_true, and_true, in_map, of_map, in_filter, of_filter, of_find, any_in}
+use Rattle.x5_model.proofs.Lists.{true_or_false, both_true, in_map, of_map, in_filter, of_filter, of_find, any_in}
 use Rattle.x5_model.proofs.Ascending.{first_below, rest_ascending, filter_ascending}
 use Rattle.x5_model_tree.specs.Ask.{in_subset}
 use Rattle.x5_dse.specs.declared.node.NodeId.{NodeId}

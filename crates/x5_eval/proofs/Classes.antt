@@ -1,12 +1,12 @@
 -- Lists that have the same members of each class, in the same order, are sorted into one list. So it makes no difference whether
 -- what references are made of was sorted before.
-use Rattle.std.proofs.Common.{◌≡◌, Bool, true, false, cond, inl, inr, ◌⊎◌, List, [], ◌∷◌, ◌++◌, refl, sym, ap, subst, ◌∙◌}
+use Rattle.std.proofs.Common.{◌≡◌, Bool, true, false, cond, inl, inr, ◌⊎◌, List, [], ◌∷◌, ◌++◌, refl, sym, ap, ◌∙◌}
 use Rattle.std.specs.List.{filter, flat_map}
 use Rattle.std.specs.List.Sorted.{ties}
 use Rattle.std.specs.Cmp.{IsStrictWeakOrder}
 use Rattle.x5_model.specs.Words.{insert_sorted, sorted}
 use Rattle.x5_model.specs.Members.{In, here, there}
-use Rattle.x5_model.proofs.Lists.{true_or_false, in_first, of_filter}
+use Rattle.x5_model.proofs.Lists.{of_filter}
 use Rattle.x5_merge.proofs.Sorting.{one_outcome, sorted_rising, class_sorted}
 use Rattle.x5_eval.proofs.Gathering.{filter_joined, of_tie, tie_back, tie_chain}
 

@@ -1,21 +1,21 @@
 -- Numbered contexts stand for those of the definition's walk: the descent over numbers is the definition's descent, and contexts
 -- that come a second time are dropped either way.
-use Rattle.std.proofs.Common.{◌≡◌, ℕ, zero, suc, Bool, true, false, cond, not, ◌==◌, ◌||◌, inl, inr, List, [], ◌∷◌, ◌++◌, map, refl, sym, ap, subst, ◌∙◌}
+use Rattle.std.proofs.Common.{◌≡◌, ℕ, zero, suc, Bool, true, false, cond, not, ◌==◌, ◌||◌, inl, inr, List, [], ◌∷◌, ◌++◌, map, refl, sym, ap, ◌∙◌}
 use Rattle.std.proofs.lemmas.List.{map-append}
-use Rattle.std.specs.List.{filter, flat_map}
+use Rattle.std.specs.List.{filter}
 use Rattle.x5_model.specs.Words.{has}
-use Rattle.x5_model.specs.Members.{In, here, there}
+use Rattle.x5_model.specs.Members.{In}
 use Rattle.x5_model.specs.Keys.{Key, same_key}
 use Rattle.x5_model.specs.Values.{key_of}
 use Rattle.x5_model.specs.Requests.{Subset}
 use Rattle.x5_model.proofs.KeyLaws.{key_decides}
-use Rattle.x5_model.proofs.Lists.{true_or_false, in_first, in_map}
+use Rattle.x5_model.proofs.Lists.{in_first, in_map}
 use Rattle.x5_model_run.specs.Holdings.{Held}
 use Rattle.x5_model_serve.specs.Walking.{just_under, beside, descent, each_once}
 use Rattle.x5_eval.specs.Visited.{place_beside, order, adds}
 use Rattle.x5_eval.proofs.Gathering.{filter_joined}
 use Rattle.x5_eval.proofs.Ordered.{filters_swapped}
-use Rattle.x5_eval.proofs.Visits.{add, add_known, add_new, of_has_number}
+use Rattle.x5_eval.proofs.Visits.{add, of_has_number}
 
 -- ---- the descent
 module _ (held : ℕ → Held) (next : ℕ → List ℕ) (all : List Held) (base : Key) (subset : Subset)

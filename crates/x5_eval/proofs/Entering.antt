@@ -1,5 +1,5 @@
 -- The walk over numbers is the definition's: it begins at the same contexts, descends alike, and drops what comes again.
-use Rattle.std.proofs.Common.{◌≡◌, ℕ, Bool, List, [], map, sym, ap, ◌∙◌, Option, Some, None}
+use Rattle.std.proofs.Common.{◌≡◌, ℕ, Bool, List, [], map, ap, ◌∙◌, Option, Some}
 use Rattle.x5_model.specs.Words.{in_option, sorted}
 use Rattle.x5_model.specs.Values.{key_of}
 use Rattle.x5_model.specs.Requests.{Subset}

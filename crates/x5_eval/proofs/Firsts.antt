@@ -1,18 +1,18 @@
 -- Of contexts with one pin the first is told by the rows of pins; so two contexts have one pin exactly where they have one first
 -- number. No copy that counts has the pin of a context that is mastered, and no two copies have one pin.
-use Rattle.std.proofs.Common.{◌≡◌, ℕ, zero, suc, ◌+◌, ◌-◌, ◌<◌, ◌≤◌, nat_lt, Bool, true, false, cond, not, ◌&&◌, ◌||◌, ◌==◌, ◌⊎◌, inl, inr, List, [], ◌∷◌, ◌++◌, length, map, refl, sym, ap, subst, ◌∙◌, arith, Option, Some, None}
-use Rattle.std.specs.List.{filter, find, enumerate_from, slice_get}
+use Rattle.std.proofs.Common.{◌≡◌, ℕ, ◌+◌, ◌<◌, ◌≤◌, nat_lt, Bool, true, false, cond, not, ◌&&◌, ◌⊎◌, inl, inr, List, [], ◌∷◌, length, map, refl, sym, ap, subst, ◌∙◌, arith, Option, Some, None}
+use Rattle.std.specs.List.{filter}
 use Rattle.std.specs.Option.{is_some}
 use Rattle.x5_model.specs.Words.{in_option, first_of, distinct, has}
-use Rattle.x5_model.specs.Members.{In, here, there}
-use Rattle.x5_model.specs.Keys.{Key, IsPrefix, same_key, is_prefix, key_below}
+use Rattle.x5_model.specs.Members.{In, here}
+use Rattle.x5_model.specs.Keys.{Key, IsPrefix, same_key, key_below}
 use Rattle.x5_model.specs.Values.{key_of}
 use Rattle.x5_model.specs.Requests.{Request}
 use Rattle.x5_model.proofs.KeyLaws.{key_decides, neither_below}
 use Rattle.x5_model.proofs.Prefixes.{prefix_decides, prefix_itself}
 use Rattle.x5_model.proofs.Lists.{both_true, not_true, in_first, in_either, in_map, of_map, in_filter, of_filter, not_found, has_in}
 use Rattle.x5_model.proofs.Ascending.{in_sorted, of_sorted}
-use Rattle.x5_model_run.specs.Holdings.{Held, Copy, Holdings, may_copy, masters_pin, held_at}
+use Rattle.x5_model_run.specs.Holdings.{Held, Holdings, may_copy, masters_pin, held_at}
 use Rattle.x5_merge.specs.Order.{Rising}
 use Rattle.x5_merge.proofs.Sorting.{sorted_rising}
 use Rattle.std.proofs.lemmas.List.MinMax.{ranks_by}

@@ -1,8 +1,8 @@
 -- The agent's part of a list or search is the merge of what the contexts show to which the walk comes, in their order: the
 -- definition puts all that they show in order and drops the later of two with one key; the merge does both as parts come.
-use Rattle.std.proofs.Common.{◌≡◌, ℕ, true, false, List, [], ◌∷◌, ◌++◌, map, refl, sym, ap, ◌∙◌, append_assoc, Option}
+use Rattle.std.proofs.Common.{◌≡◌, ℕ, true, List, [], ◌∷◌, ◌++◌, map, refl, sym, ap, ◌∙◌, append_assoc, Option}
 use Rattle.std.specs.List.{flat_map}
-use Rattle.x5_model.specs.Words.{ascending, sorted}
+use Rattle.x5_model.specs.Words.{sorted}
 use Rattle.x5_model.specs.Members.{In, here, there}
 use Rattle.x5_model.specs.Values.{Name}
 use Rattle.x5_model.specs.Filters.{Filter}

@@ -1,5 +1,5 @@
 -- By their numbers contexts are those of the definitions: those that may be served, and those just under one.
-use Rattle.std.proofs.Common.{◌≡◌, ℕ, zero, suc, ◌+◌, ◌-◌, ◌<◌, ◌≤◌, Bool, true, false, cond, not, ◌&&◌, inl, inr, List, [], ◌∷◌, ◌++◌, length, map, refl, sym, ap, subst, ◌∙◌, arith, Option, Some, None}
+use Rattle.std.proofs.Common.{◌≡◌, ℕ, zero, suc, ◌+◌, ◌-◌, ◌<◌, ◌≤◌, Bool, true, false, cond, not, ◌&&◌, inl, inr, List, [], ◌∷◌, ◌++◌, length, map, refl, sym, ap, ◌∙◌, arith, Option, Some, None}
 use Rattle.std.proofs.lemmas.List.{map-append, length-map}
 use Rattle.std.specs.List.{filter, enumerate_from, slice_get}
 use Rattle.std.specs.Option.{is_some}
@@ -14,8 +14,7 @@ use Rattle.x5_model_tree.specs.Ask.{in_subset}
 use Rattle.x5_model_run.specs.Holdings.{Held, Copy, Holdings, may_copy, masters_pin, usable_copies, served}
 use Rattle.x5_model_serve.specs.Walking.{pin_below, just_under}
 use Rattle.x5_holdings.specs.Rows.{KeyRow, numbered}
-use Rattle.x5_eval.specs.Numbers.{own_pins, copy_pins, no_copy, copy_number, held_number, pin_number, counts, own_place, copy_place, own_numbers, copy_numbers, served_numbers, number_below, is_under, numbers_under}
-use Rattle.x5_eval.proofs.Gathering.{filter_all}
+use Rattle.x5_eval.specs.Numbers.{own_pins, copy_pins, no_copy, copy_number, held_number, counts, own_place, copy_place, own_numbers, copy_numbers, served_numbers, is_under, numbers_under}
 use Rattle.x5_eval.proofs.Ordered.{filter_mapped, sorted_map}
 
 -- ---- numbers of a list

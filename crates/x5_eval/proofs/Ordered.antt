@@ -1,6 +1,6 @@
 -- What sorting leaves the same: members that are left out before or after, lists sorted part by part, and rows of keys, which
 -- stand as a sort by keys alone leaves them, since those of one key stand by their places.
-use Rattle.std.proofs.Common.{◌≡◌, ℕ, zero, suc, ◌+◌, ◌<◌, ◌≤◌, Bool, true, false, cond, not, ◌&&◌, ◌⊎◌, inl, inr, List, [], ◌∷◌, ◌++◌, map, refl, sym, ap, subst, ◌∙◌, arith}
+use Rattle.std.proofs.Common.{◌≡◌, ℕ, ◌+◌, ◌≤◌, Bool, true, false, cond, inl, inr, List, [], ◌∷◌, ◌++◌, map, refl, sym, ap, ◌∙◌, arith}
 use Rattle.std.specs.Prelude.{⊤}
 use Rattle.std.specs.List.{filter, enumerate_from}
 use Rattle.std.specs.List.Sorted.{ties}
@@ -11,10 +11,10 @@ use Rattle.std.specs.declared.cmp.Ordering.TheVariants.{Less, Equal, Greater}
 use Rattle.x5_model.specs.Words.{insert_sorted, sorted}
 use Rattle.x5_model.specs.Members.{In, here, there}
 use Rattle.x5_model.specs.Keys.{Key, key_below, key_cmp}
-use Rattle.x5_model.proofs.Lists.{in_first, of_map}
+use Rattle.x5_model.proofs.Lists.{in_first}
 use Rattle.x5_model.proofs.Ascending.{of_sorted}
 use Rattle.x5_merge.proofs.Sorting.{one_outcome, sorted_rising, class_sorted}
-use Rattle.x5_holdings.specs.Rows.{KeyRow, row_cmp, row_below, numbered, rows_of}
+use Rattle.x5_holdings.specs.Rows.{KeyRow, row_below, numbered, rows_of}
 use Rattle.x5_eval.proofs.Gathering.{filter_joined}
 
 -- ---- filters

@@ -1,11 +1,11 @@
 -- Contexts that rows of pins lead to are those that are looked for among all, in the order of their pins: rows stand by keys, a
 -- part of the rows has all that pass the test, and a sort afterwards makes one list of those mastered and the copies.
-use Rattle.std.proofs.Common.{◌≡◌, ℕ, zero, suc, ◌+◌, ◌-◌, ◌<◌, ◌≤◌, Bool, true, false, cond, not, ◌&&◌, ◌==◌, inl, inr, List, [], ◌∷◌, ◌++◌, length, map, refl, sym, ap, subst, ◌∙◌, arith, Option, Some, None}
+use Rattle.std.proofs.Common.{◌≡◌, ℕ, suc, ◌+◌, ◌-◌, Bool, true, false, cond, ◌&&◌, ◌==◌, inl, inr, List, [], ◌∷◌, ◌++◌, length, map, refl, sym, ap, subst, ◌∙◌, arith, Option, Some, None}
 use Rattle.std.proofs.lemmas.List.MinMax.{ranks_by}
 use Rattle.std.specs.Cmp.{IsStrictWeakOrder}
 use Rattle.std.specs.List.{filter, enumerate_from, slice_get}
 use Rattle.x5_model.specs.Words.{in_option, sorted}
-use Rattle.x5_model.specs.Members.{In, here, there}
+use Rattle.x5_model.specs.Members.{In}
 use Rattle.x5_model.specs.Keys.{Key, is_prefix, key_below}
 use Rattle.x5_model.specs.Values.{key_of}
 use Rattle.x5_model.specs.Requests.{Request}
@@ -14,8 +14,8 @@ use Rattle.x5_model.proofs.Lists.{in_first, in_left, in_right, in_either, in_fil
 use Rattle.x5_model.proofs.Ascending.{of_sorted}
 use Rattle.x5_model_run.specs.Holdings.{Held, Copy, Holdings}
 use Rattle.x5_holdings.specs.Rows.{KeyRow, numbered, rows_of}
-use Rattle.x5_holdings.specs.Runs.{run_of, stands_under, is_long}
-use Rattle.x5_eval.specs.Numbers.{own_pins, copy_pins, no_copy, copy_number, held_number, pin_number, counts, own_place, copy_place, own_numbers, copy_numbers, served_numbers, number_below, in_reach, own_reach, copy_reach, served_reach, reaches}
+use Rattle.x5_holdings.specs.Runs.{run_of, stands_under}
+use Rattle.x5_eval.specs.Numbers.{own_pins, copy_pins, no_copy, copy_number, pin_number, counts, own_place, copy_place, own_numbers, copy_numbers, served_numbers, number_below, in_reach, own_reach, copy_reach, served_reach, reaches}
 use Rattle.x5_eval.proofs.Gathering.{filter_all, filter_joined}
 use Rattle.x5_eval.proofs.Ordered.{filters_swapped, filter_mapped, sorted_same, sorted_map, sorted_parts, sorted_twice, by_key, rows_by_key}
 use Rattle.x5_eval.proofs.Numbering.{past_none}

@@ -1,10 +1,10 @@
 -- A pin just below an entry of a context is longer than the context's prefix, and begins with it.
-use Rattle.std.proofs.Common.{◌≡◌, ℕ, ◌+◌, ◌<◌, ◌≤◌, Bool, true, false, ◌&&◌, ◌==◌, List, [], ◌∷◌, length, map, refl, sym, ap, subst, ◌∙◌, arith, inl, inr, Option, Some, None}
+use Rattle.std.proofs.Common.{◌≡◌, ℕ, ◌+◌, ◌<◌, ◌≤◌, true, ◌==◌, List, [], ◌∷◌, length, refl, sym, ap, subst, ◌∙◌, arith, Some, None}
 use Rattle.std.proofs.lemmas.List.{length-map}
 use Rattle.x5_model.specs.Members.{In}
-use Rattle.x5_model.specs.Keys.{Key, IsPrefix, same_key, is_prefix, is_child, parent}
+use Rattle.x5_model.specs.Keys.{Key, IsPrefix, same_key, is_prefix, parent}
 use Rattle.x5_model.specs.Values.{Name, key_of, key_of_rdn}
-use Rattle.x5_model.specs.Requests.{Subset, Base, OneLevel, WholeSubtree}
+use Rattle.x5_model.specs.Requests.{Base, OneLevel}
 use Rattle.x5_model.proofs.Decide.{nat_same_decides}
 use Rattle.x5_model.proofs.KeyLaws.{key_decides}
 use Rattle.x5_model.proofs.Prefixes.{prefix_decides, prefix_itself, prefix_length, prefix_chain, parent_is_prefix, parent_length}

@@ -1,6 +1,6 @@
 -- What is shown at the nodes that are asked for is what the definition shows of the context's entries: nodes stand as the entries
 -- do, and what a search found in any order comes into order by sorting, since no two of its entries have one key.
-use Rattle.std.proofs.Common.{◌≡◌, ℕ, ◌<◌, ◌≤◌, Bool, true, false, ◌&&◌, cond, inl, inr, ◌⊎◌, List, [], ◌∷◌, ◌-◌, length, map, refl, sym, ap, subst, ◌∙◌, arith, Option, Some, None}
+use Rattle.std.proofs.Common.{◌≡◌, ◌<◌, Bool, true, ◌&&◌, inl, inr, ◌⊎◌, List, [], ◌∷◌, ◌-◌, length, map, refl, sym, ap, subst, ◌∙◌, arith, Option, Some, None}
 use Rattle.std.proofs.lemmas.List.{length-map}
 use Rattle.std.specs.List.{filter, slice_get}
 use Rattle.std.specs.Option.{option_map}
@@ -9,12 +9,12 @@ use Rattle.x5_model.specs.Words.{ascending, sorted, in_option}
 use Rattle.x5_model.specs.Members.{In, Once, here, there}
 use Rattle.x5_model.specs.Keys.{Key, same_key, key_below}
 use Rattle.x5_model.specs.Values.{Rdn, Name, key_of, key_of_rdn, last_rdn}
-use Rattle.x5_model.specs.Entries.{Entry, Named}
+use Rattle.x5_model.specs.Entries.{Entry}
 use Rattle.x5_model.specs.Selections.{shown}
 use Rattle.x5_model.specs.Filters.{Filter}
 use Rattle.x5_model.specs.Truth.{selects_entry}
 use Rattle.x5_model.specs.Requests.{Subset, Selection}
-use Rattle.x5_model.specs.Answers.{EntryInfo, Shown, Sub}
+use Rattle.x5_model.specs.Answers.{EntryInfo, Shown}
 use Rattle.x5_model.proofs.KeyLaws.{key_decides, never_below, below_chain}
 use Rattle.x5_model.proofs.Prefixes.{prefix_length}
 use Rattle.x5_model.proofs.Lists.{both_true, and_true, true_or_false, in_first, in_map, of_map, of_filter, of_find, any_in}
@@ -23,7 +23,7 @@ use Rattle.x5_model_tree.specs.Tree.{key_at}
 use Rattle.x5_model_tree.specs.Ask.{in_subset, sub_of, info_of}
 use Rattle.x5_model_serve.specs.Answering.{before_info}
 use Rattle.x5_dse.specs.declared.node.NodeId.{NodeId}
-use Rattle.x5_dse.specs.Linked.{Node, IsLinked, AreNumbered, entries_of, id_of, entry_in, name_in, named_of, node_key, node_below, node_with, has_id, is_live, prefix_of}
+use Rattle.x5_dse.specs.Linked.{Node, IsLinked, AreNumbered, entries_of, id_of, entry_in, name_in, named_of, node_key, node_below, has_id, prefix_of}
 use Rattle.x5_dse.proofs.Ids.{id_decides}
 use Rattle.x5_dse.proofs.Lasts.{last_is}
 use Rattle.x5_eval.specs.Scopes.{asked_nodes, found_nodes, is_found, AreFound}

@@ -1,12 +1,10 @@
 -- Only the prefix, or all entries with it, can be asked for.
 use Rattle.std.proofs.Common.{◌≡◌, Option, None, Some, map, refl, sym, ap, ◌∙◌}
 use Rattle.std.specs.Option.{option_map}
-use Rattle.x5_model.specs.Keys.{Key}
-use Rattle.x5_model.specs.Values.{Name, key_of}
+use Rattle.x5_model.specs.Values.{key_of}
 use Rattle.x5_model_tree.specs.Ask.{in_subset}
 use Rattle.x5_ops.specs.RequestViews.{subset_view}
 use Rattle.x5_dse.specs.Linked.{Node, Nodes, id_of, prefix_of}
-use Rattle.x5_eval.specs.Scopes.{asked_nodes}
 use Rattle.x5_eval.proofs.Telling.{ok_by}
 use Rattle.x5_eval.proofs.Within.{above_base, above_one, above_tree, none_asked}
 use Rattle.x5_eval.proofs.scope.nodes_above.Goals as goal

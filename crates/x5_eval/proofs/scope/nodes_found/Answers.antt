@@ -1,11 +1,10 @@
 -- Either way all that the search finds is found, and nothing else.
-use Rattle.std.proofs.Common.{◌≡◌, ℕ, true, List, Option, map, sym, subst, ap, ◌∙◌}
+use Rattle.std.proofs.Common.{◌≡◌, ℕ, true, List, Option, map, sym, subst, ◌∙◌}
 use Rattle.std.specs.List.{filter}
 use Rattle.x5_model.specs.Members.{In}
 use Rattle.x5_model.specs.Values.{key_of}
 use Rattle.x5_match.specs.FilterView.{filter_view}
 use Rattle.x5_ops.specs.RequestViews.{subset_view}
-use Rattle.x5_dse.specs.declared.node.NodeId.{NodeId}
 use Rattle.x5_dse.specs.Linked.{Nodes, IsLinked, AreNumbered, is_live}
 use Rattle.x5_index.specs.Index.{Index}
 use Rattle.x5_index.specs.Lookup.{IsLookUp}

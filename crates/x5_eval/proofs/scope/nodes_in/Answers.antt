@@ -1,6 +1,5 @@
 -- The node of the base has the base's key.
-use Rattle.std.proofs.Common.{◌≡◌, map, ap, ◌∙◌}
-use Rattle.std.specs.declared.vec.Vec.{Vec}
+use Rattle.std.proofs.Common.{map, ◌∙◌}
 use Rattle.x5_model.specs.Values.{key_of}
 use Rattle.x5_ops.specs.RequestViews.{subset_view}
 use Rattle.x5_dse.specs.Linked.{id_of}

@@ -2,7 +2,7 @@
 use Rattle.std.proofs.Common.{rules, of_calls, ap, ◌∙◌, map}
 use Rattle.std.proofs.lemmas.Fn.{always_returns_same}
 use Rattle.std.proofs.lemmas.List.MinMax.{ranks_by}
-use Rattle.x5_model.specs.Keys.{Key, key_below}
+use Rattle.x5_model.specs.Keys.{key_below}
 use Rattle.x5_model.specs.Values.{key_of}
 use Rattle.x5_model.proofs.KeyLaws.{key_cmp_total}
 use Rattle.x5_model_serve.specs.Answering.{before_info}

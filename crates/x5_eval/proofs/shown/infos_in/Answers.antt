@@ -10,7 +10,7 @@ use Rattle.x5_ops.specs.RequestViews.{selection_view, subset_view}
 use Rattle.x5_dse.specs.declared.node.NodeId.{NodeId}
 use Rattle.x5_dse.specs.Linked.{Nodes, IsLinked, AreNumbered, is_live}
 use Rattle.x5_holdings.proofs.Posted.{top_live}
-use Rattle.x5_eval.specs.Scopes.{AreFound, found_nodes, is_found}
+use Rattle.x5_eval.specs.Scopes.{found_nodes, is_found}
 use Rattle.x5_eval.specs.Spots.{info_shown}
 use Rattle.x5_eval.proofs.Showing.{search_shown, live_nodes}
 use Rattle.x5_eval.proofs.Telling.{ok_by}

@@ -1,5 +1,5 @@
 -- The nodes that are asked for are those of the entries that the definition names.
-use Rattle.std.proofs.Common.{◌≡◌, true, List, map, sym, subst, ap, ◌∙◌}
+use Rattle.std.proofs.Common.{◌≡◌, true, List, map, sym, subst, ◌∙◌}
 use Rattle.x5_model.specs.Members.{In}
 use Rattle.x5_model.specs.Values.{key_of}
 use Rattle.x5_model.proofs.Lists.{of_filter}
