@@ -62,3 +62,32 @@ fn nodes_are_found_by_the_first_equality(rt: HostRuntime) -> Result<(), Fail> {
     }
     Ok(())
 }
+
+/// One node, whose entry has another name than before.
+fn renamed(alloc: Global, before: &Entry, after: &Entry) -> Result<Postings, Fail> {
+    let mut postings = Postings::new(alloc);
+    postings.add(7, before)?;
+    postings.drop_node(7, before);
+    postings.add(7, after)?;
+    Ok(postings)
+}
+
+#[test]
+fn a_renamed_node_is_found_by_its_new_name(rt: HostRuntime) -> Result<(), Fail> {
+    let alloc = rt.alloc();
+    let before = entry_with(alloc, 3, "Ada")?;
+    let after = entry_with(alloc, 3, "Grace")?;
+    let postings = renamed(alloc, &before, &after)?;
+    let one: &[usize] = &[7];
+    let nobody: &[usize] = &[];
+    for (filter, expected) in [
+        ("(CN=ada)", Some(nobody)),
+        ("(CN=grace)", Some(one)),
+        ("(&(CN=ada)(CN=grace))", Some(nobody)),
+    ] {
+        let found = candidates(alloc, &postings, filter)?;
+        let nodes = found.as_ref().map(|nodes| nodes.as_slice());
+        assert!(rt; nodes == expected, "{filter}");
+    }
+    Ok(())
+}
