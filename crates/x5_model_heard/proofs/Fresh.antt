@@ -1,5 +1,5 @@
 -- An agent at which an update is found has accepted none, since it would have answered at once; and what is passed on
--- of an update stays the user's: by the cases of progress and of requests.
+-- of an update, or of a read or compare, stays the user's: by the cases of progress and of requests.
 use Rattle.std.proofs.Common.{◌≡◌, ℕ, ◌==◌, Bool, true, false, not, ◌&&◌, ◌||◌, refl, sym, ap, ◌∙◌, if◌then◌else◌}
 use Rattle.x5_model.specs.Words.{has}
 use Rattle.x5_model.specs.Values.{Name, key_of}
@@ -15,7 +15,7 @@ use Rattle.x5_model_run.specs.Chain.{is_user, is_probe, asks_part, part_body, pa
 use Rattle.x5_model_theory.proofs.Tests.{false_true}
 use Rattle.x5_model_serve.specs.Finding.{Here, Stuck, find}
 use Rattle.x5_model_serve.specs.Serving.{holds_now}
-use Rattle.x5_model_heard.specs.Kept.{HereIsFresh, UpdatesAreCarried}
+use Rattle.x5_model_heard.specs.Kept.{HereIsFresh, UpdatesAreCarried, looks_at_one}
 
 no_query : (b : Body) → is_update b ≡ true → is_query_below b ≡ true → ⊥
 no_query (Read name selection) u q = false_true u
@@ -75,13 +75,49 @@ abbrev request_by : Bool → Request → Name → Reference → Bool → Bool �
 request_by user asked t r probe part =
     if probe then probe_request t else (if part then part_request user (is_wide r.kind) t asked else asked)
 
+-- a read or compare is no update, and stays where it is a part
+alone_is_no_update : (b : Body) → looks_at_one b ≡ true → is_update b ≡ false
+alone_is_no_update (Read name selection) u = refl
+alone_is_no_update (Compare name assertion) u = refl
+alone_is_no_update (ListBelow name) u = refl
+alone_is_no_update (Search base subset f selection) u = refl
+alone_is_no_update (AddEntry name attributes) u = absurd (false_true u)
+alone_is_no_update (RemoveEntry name) u = absurd (false_true u)
+alone_is_no_update (ModifyEntry name changes) u = absurd (false_true u)
+alone_is_no_update (ModifyDn name rdn drops) u = absurd (false_true u)
+
+alone_is_no_probe : (b : Body) (t : Name) → looks_at_one b ≡ true → is_probe b t ≡ false
+alone_is_no_probe b t u = rw (alone_is_no_update b u) refl
+
+part_alone : (wide : Bool) (t : Name) (b : Body) → looks_at_one b ≡ true → part_body wide t b ≡ b
+part_alone wide t (Read name selection) u = refl
+part_alone wide t (Compare name assertion) u = refl
+part_alone wide t (ListBelow name) u = absurd (false_true u)
+part_alone wide t (Search base subset f selection) u = absurd (false_true u)
+part_alone wide t (AddEntry name attributes) u = refl
+part_alone wide t (RemoveEntry name) u = refl
+part_alone wide t (ModifyEntry name changes) u = refl
+part_alone wide t (ModifyDn name rdn drops) u = refl
+
 pub updates_are_carried : UpdatesAreCarried
-updates_are_carried s from o r same u = by (is_probe o.message.request.body r.target) (asks_part r) u
+updates_are_carried s from o r same = record {
+  update = by (is_probe o.message.request.body r.target) (asks_part r);
+  alone = λ u. alone u (same.alone u) (is_probe o.message.request.body r.target) (asks_part r) refl;
+}
   where
     by : (b c : Bool) → is_update (request_by (is_user from) o.message.request r.target r b c).body ≡ true
         → (request_by (is_user from) o.message.request r.target r b c).body ≡ s.message.request.body
     by true c f = absurd (false_true f)
     by false true f =
         let e = part_same (is_wide r.kind) r.target o.message.request.body f in
-        e ∙ same (ap is_update (sym e) ∙ f)
-    by false false f = same f
+        e ∙ same.update (ap is_update (sym e) ∙ f)
+    by false false f = same.update f
+
+    alone : looks_at_one s.message.request.body ≡ true → o.message.request.body ≡ s.message.request.body → (b c : Bool)
+        → is_probe o.message.request.body r.target ≡ b
+        → (request_by (is_user from) o.message.request r.target r b c).body ≡ s.message.request.body
+    alone u e true c f =
+        absurd (false_true (sym (alone_is_no_probe o.message.request.body r.target (ap looks_at_one e ∙ u)) ∙ f))
+    alone u e false true f =
+        part_alone (is_wide r.kind) r.target o.message.request.body (ap looks_at_one e ∙ u) ∙ e
+    alone u e false false f = e

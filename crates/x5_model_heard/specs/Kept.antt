@@ -1,7 +1,8 @@
 -- What stays while a request is passed on, over any knowledge.
-use Rattle.std.specs.Prelude.{◌≡◌, ℕ, ◌==◌, true, false, List, [], ◌∷◌}
+use Rattle.std.specs.Prelude.{◌≡◌, ℕ, Bool, ◌==◌, true, false, List, [], ◌∷◌}
 use Rattle.std.specs.declared.option.Option.{Option}
 use Rattle.x5_model.specs.Words.{has}
+use Rattle.x5_model.specs.Requests.{Body, Read, Compare}
 use Rattle.x5_model.specs.References.{Reference, Chained}
 use Rattle.x5_model_tree.specs.Ask.{is_update}
 use Rattle.x5_model_run.specs.Journal.{Journal}
@@ -24,11 +25,18 @@ HereIsFresh =
     → Arrives s k j → found_at s j k ≡ Here c → is_update k.message.request.body ≡ true
     → has ◌==◌ j.accepted k.receiver ≡ false
 
--- an update that is carried is the user's
-abbrev pub IsOfUser : Scene → Chained → Type 0
-IsOfUser s m = is_update m.request.body ≡ true → m.request.body ≡ s.message.request.body
+-- reads and compares look at one entry
+abbrev pub looks_at_one : Body → Bool
+looks_at_one (Read name selection) = true
+looks_at_one (Compare name assertion) = true
+looks_at_one other = false
 
--- 3. It stays so where it is passed on.
+-- an update that is carried is the user's; and where the user reads or compares, that is what is carried
+pub record IsOfUser (s : Scene) (m : Chained) : Type 0 where
+  pub update : is_update m.request.body ≡ true → m.request.body ≡ s.message.request.body
+  pub alone : looks_at_one s.message.request.body ≡ true → m.request.body ≡ s.message.request.body
+
+-- 3. Both stay so where they are passed on.
 abbrev pub UpdatesAreCarried : Type 0
 UpdatesAreCarried =
     (s : Scene) (from : Option ℕ) (o : Hand) (r : Reference)

@@ -12,7 +12,7 @@ pub fn hearing()
 {}
 
 /// While probes are sent nothing is accepted. Where the target of an update is found the agent has accepted none. And an
-/// update that is passed on stays the user's.
+/// update that is passed on stays the user's, as does a read or compare.
 pub fn keeping()
     ensures probes { ProbesAcceptNone }
     ensures fresh { HereIsFresh }

@@ -3,6 +3,7 @@
 ghost use Rattle.std.specs.Prelude.{◌≡◌, ℕ, ◌<◌, List, length, IfOk};
 ghost use Rattle.x5_model_run.specs.Journal.{Journal};
 ghost use Rattle.x5_model_run.specs.Chain.{Scene};
+ghost use Rattle.x5_model_heard.specs.Kept.{IsOfUser};
 ghost use Rattle.x5_model_serve.specs.Finding as finding;
 ghost use Rattle.x5_model_serve.specs.Serving.{Hand, hand, Arrives, is_idle, found_at};
 ghost use Rattle.x5_ops.specs.ReferenceViews.{chained_view, reference_view};
@@ -79,7 +80,8 @@ pub fn first_step<N: Network>(
     me: AgentId,
     message: &Chained,
 ) -> Result<Step, NoMemory>
-    requires { me < length (N.names net.now) }
+    requires there { me < length (N.names net.now) }
+    requires of_user { IsOfUser (N.scene net.now) (chained_view (N.names net.now) message.now) }
     ensures { IfOk result (λ step. IsStep (N.scene net.now) (N.most net.now) (N.names net.now) (N.journal net.now) (hand me (chained_view (N.names net.now) message.now)) step) }
 {
     if let Some(reply) = early(alloc, net, me, message)? {

@@ -7,16 +7,18 @@ ghost use Rattle.x5_model_run.specs.Network.{refuses};
 ghost use Rattle.x5_model_run.specs.Journal.{Journal, operation_of};
 ghost use Rattle.x5_model_run.specs.Chain.{Scene};
 ghost use Rattle.x5_model_heard.specs.Told.{KnowsAgents};
+ghost use Rattle.x5_model_heard.specs.Kept.{IsOfUser};
 ghost use Rattle.x5_model_serve.specs.Serving.{hand, is_done_here, with_accepted, Arrives};
 ghost use Rattle.x5_ops.specs.ReferenceViews.{chained_view};
 ghost use Rattle.x5_ops.specs.AnswerViews.{reply_view};
 ghost use Rattle.x5_serve.specs.Networks.{left_of, Stays, IsCarriedBy, IsFound, IsVerdict, IsDue, IsReady};
 
 use std::alloc::Global;
+use x5_know::AgentNames;
 use x5_memory::NoMemory;
 use x5_names::Name;
 use x5_ops::{
-    AgentId, AgentName, AgentNames, Answer, Chained, DirError, Reference, ReferenceList, Reply,
+    AgentId, AgentName, Answer, Chained, DirError, Reference, ReferenceList, Reply,
 };
 
 /// What becomes of a message that is sent: it doesn't reach its receiver; none is left, so it isn't sent; it reaches its receiver,
@@ -91,9 +93,11 @@ pub trait Network {
 
     /// Resolves the name of a message at its receiver, and answers it there from what that agent holds now, without asking anybody
     /// (X.518, sections 18 and 19). The message was looked at: it is no loop, not too long, not done before, not refused by its
-    /// request alone, and fits that. The references that it tells name agents of the network.
+    /// request alone, and fits that; an update is the user's, and so is a read or compare. The references that it tells name agents
+    /// of the network.
     fn find(&self, alloc: Global, me: AgentId, message: &Chained) -> Result<Found, NoMemory>
         requires there { me < length (names self.now) }
+        requires of_user { IsOfUser (scene self.now) (chained_view (names self.now) message.now) }
         requires arrives { Arrives (scene self.now) (hand me (chained_view (names self.now) message.now)) (journal self.now) }
         ensures { IfOk result (λ found. IsFound (scene self.now) (names self.now) (journal self.now) (hand me (chained_view (names self.now) message.now)) found) };
 

@@ -13,10 +13,11 @@ ghost use Rattle.x5_ops.specs.ReferenceViews.{chained_view, reference_view};
 use crate::replies::{copied_rdns, own_item};
 use std::alloc::Global;
 use x5_match::copied;
+use x5_know::AgentNames;
 use x5_memory::NoMemory;
 use x5_names::Name;
 use x5_ops::{
-    AgentId, AgentNames, Body, Chained, Controls, Listed, Progress, Reference, Request, Selection,
+    AgentId, Body, Chained, Controls, Listed, Progress, Reference, Request, Selection,
     Subset, Trace, TraceItem,
 };
 

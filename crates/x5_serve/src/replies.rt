@@ -15,6 +15,7 @@ ghost use Rattle.x5_serve.specs.Steps.{IsTelling, heard_view, IsHeardBy};
 ghost use Rattle.x5_ops.specs.declared.answers.Reply.TheVariants.{Failed};
 
 use std::alloc::Global;
+use x5_know::AgentNames;
 use x5_memory::NoMemory;
 use x5_names::Name;
 use x5_ops::problems::{
@@ -22,7 +23,7 @@ use x5_ops::problems::{
     UNAVAILABLE,
 };
 use x5_ops::{
-    AccessList, AccessPoint, AgentId, AgentNames, Chained, DirError, Listed, Progress, RdnList,
+    AccessList, AccessPoint, AgentId, Chained, DirError, Listed, Progress, RdnList,
     Reference, Reply, TraceItem,
 };
 
