@@ -1,0 +1,2 @@
+//! Whom agents and replies name.
+#![tactic(auto)]
