@@ -4,10 +4,12 @@ use Rattle.std.specs.Prelude.{◌≡◌, ℕ, nat_lt, Bool, true, ◌&&◌, List
 use Rattle.std.specs.List.{list_all}
 use Rattle.std.specs.declared.option.Option.{Option}
 use Rattle.x5_model.specs.Words.{in_option, distinct, same_octets}
+use Rattle.x5_model.specs.Requests.{Request}
 use Rattle.x5_model_tree.specs.World.{Access, Specific, Nssr, World}
 use Rattle.x5_model_tree.specs.Described.{IsDescribed}
 use Rattle.x5_model_run.specs.Holdings.{Held, Copy, Holdings}
 use Rattle.x5_model_run.specs.Chain.{Scene}
+use Rattle.x5_model_serve.specs.Committed.{committed}
 use Rattle.x5_model_heard.specs.Told.{are_agents, KnowsAgents}
 use Rattle.x5_model_held.specs.Beginning.{holdings_described}
 
@@ -52,6 +54,12 @@ AreThemselves n s = (a : ℕ) → nat_lt a n ≡ true → (s.holdings a).me ≡ 
 -- 1. What agents know are agents of the world, whatever was accepted.
 abbrev pub KnowledgeNamesAgents : Type 0
 KnowledgeNamesAgents = (n : ℕ) (s : Scene) → HoldAgents n s → KnowsAgents n s
+
+-- An update changes entries, and neither whose the holdings are nor whom they name.
+abbrev pub KnowledgeStays : Type 0
+KnowledgeStays =
+    (n : ℕ) (r : Request) (h : Holdings)
+    → ((committed r h).me ≡ h.me) × (holdings_name n (committed r h) ≡ holdings_name n h)
 
 -- 2. It is so for every world that a file describes, whether its knowledge is consistent or not.
 abbrev pub DescribedNameAgents : Type 0

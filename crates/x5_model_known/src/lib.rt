@@ -1,2 +1,29 @@
-//! Whom agents and replies name.
+//! Whom agents know and name, over any knowledge: where what the agents of a world hold names agents of that world alone, what
+//! they find, ask and reply does so too, whatever is accepted meanwhile (X.518, sections 18 to 20). Each function here does
+//! nothing; its clauses are the theorems.
 #![tactic(auto)]
+
+ghost use Rattle.x5_model_known.specs.Holding.{KnowledgeNamesAgents, KnowledgeStays, DescribedNameAgents, DescribedAreThemselves, DescribedNamesApart};
+ghost use Rattle.x5_model_known.specs.Replying.{RepliesNameAgents};
+
+/// Where what agents hold names agents of the world alone, so do the references that they find, need for a list or search, and
+/// probe by, even after an update: that changes entries, and neither whose the holdings are nor whom they name.
+#[tactic(auto, using(crate::proofs::Finding::knowledge_names_agents, crate::proofs::Finding::knowledge_stays))]
+pub fn knowing()
+    ensures agents { KnowledgeNamesAgents }
+    ensures stays { KnowledgeStays }
+{}
+
+/// What a world's file describes of an agent names agents of that world alone, and says whose it is; and no two agents have one
+/// name.
+pub fn described()
+    ensures knowledge { DescribedNameAgents }
+    ensures whose { DescribedAreThemselves }
+    ensures names { DescribedNamesApart }
+{}
+
+/// So does the reply to every request: in its references, in the sources of its answer, and in the item of a loop.
+#[tactic(auto, using(crate::proofs::Replying::replies_name_agents))]
+pub fn replies()
+    ensures { RepliesNameAgents }
+{}

@@ -10,3 +10,4 @@ pub mod Checks
 pub mod Summaries
 pub mod Counts
 pub mod Making
+pub mod Named
