@@ -11,4 +11,4 @@ mod replies;
 
 pub use dispatch::{ask, serve};
 pub use network::{Carried, Found, Network, Verdict};
-pub use replies::Heard;
+pub use replies::{Heard, user_in_vain};

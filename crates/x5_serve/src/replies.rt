@@ -164,6 +164,20 @@ pub fn unavailable(reference: Reference) -> Reply
     })
 }
 
+/// The user's message to the agent was sent in vain: nothing was heard.
+pub fn user_in_vain(
+    alloc: Global,
+    names: &AgentNames,
+    first: AgentId,
+    message: &Chained,
+) -> Result<Reply, NoMemory>
+    requires there { first < length names.now }
+    requires apart { distinct same_octets names.now ≡ true }
+    ensures { IfOk result (λ y. reply_view names.now y ≡ answering.is_unavailable (answering.in_vain (asked_by (hand first (chained_view names.now message.now))))) }
+{
+    Ok(unavailable(own_reference(alloc, names, first, message)?))
+}
+
 /// These agents of the reference were asked in vain.
 pub fn unavailable_of(reference: &Reference, noted: AccessList) -> Result<Reply, NoMemory>
     ensures { IfOk result (λ y. (names : List (List ℕ)) → reply_view names y ≡ answering.is_unavailable (answering.of_these (map (access_view names) noted) (reference_view names reference.now))) }

@@ -1,2 +1,6 @@
 pub mod State
 pub mod Answered
+pub mod Counts
+pub mod Sent
+pub mod Exchanges
+pub mod Arrivals
