@@ -4,3 +4,5 @@ pub mod Counts
 pub mod Sent
 pub mod Exchanges
 pub mod Arrivals
+pub mod Laws
+pub mod Users

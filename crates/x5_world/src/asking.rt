@@ -6,12 +6,13 @@ ghost use Rattle.x5_model_heard.specs.Kept.{looks_at_one};
 ghost use Rattle.x5_model_known.specs.Replying.{reply_agents};
 ghost use Rattle.x5_model_run.specs.Chain as chain;
 ghost use Rattle.x5_model_run.specs.Needs.{target_of};
-ghost use Rattle.x5_model_serve.specs.Serving.{IsRequest};
+ghost use Rattle.x5_model.specs.Answers as model;
+ghost use Rattle.x5_model_serve.specs.Serving.{IsRequest, Serves, hand};
 ghost use Rattle.x5_ops.specs.AnswerViews.{reply_view};
 ghost use Rattle.x5_ops.specs.ReferenceViews.{chained_view};
 ghost use Rattle.x5_ops.specs.RequestViews.{body_view, request_view};
-ghost use Rattle.x5_serve.specs.Networks.{Stays};
-ghost use Rattle.x5_world.specs.Exchanges.{scene_in, most_in, journal_in, names_in, IsFresh};
+ghost use Rattle.x5_serve.specs.Networks.{Stays, DoesAt};
+ghost use Rattle.x5_world.specs.Users.{IsUsers, user_in_vain_at};
 ghost use Rattle.x5_world.specs.Sent.{IsNet, is_counted, journal_of, scene_of};
 
 use crate::exchange::Exchange;
@@ -37,26 +38,36 @@ fn opening(alloc: Global, request: &Request) -> Result<Chained, NoMemory>
     })
 }
 
-/// The reply that the user has, from his message on (X.518, section 20): where nothing is heard it's `unavailable`.
-fn replied<'a>(
+/// Serves the user's message, whose reply is lost; so the user has `unavailable`.
+fn served_in_vain<N: Network>(
     alloc: Global,
-    exchange: &mut Exchange<'a>,
+    net: &mut N,
     first: AgentId,
     message: &Chained,
 ) -> Result<Reply, NoMemory>
-    requires fresh { IsFresh exchange.old first (chained_view (names_in exchange.old) message.now) }
-    ensures stays { Stays scene_in most_in names_in exchange.old exchange.new }
-    ensures asked { IfOk result (λ reply. IsRequest (scene_in exchange.new) (most_in exchange.new) (journal_in exchange.new) (reply_view (names_in exchange.new) reply)) }
+    requires there { first < length (N.names net.old) }
+    requires user { IsUsers (N.scene net.old) first (chained_view (N.names net.old) message.now) }
+    ensures stays { Stays N.scene N.most N.names net.old net.new }
+    ensures served { IfOk result (λ _. (y : model.Reply) × DoesAt N.scene N.most N.journal net.old net.new (Serves (hand first (chained_view (N.names net.old) message.now)) y)) }
+    ensures told { IfOk result (λ reply. reply_view (N.names net.old) reply ≡ user_in_vain_at first (chained_view (N.names net.old) message.now)) }
 {
-    match exchange.send(alloc, None, first, message)? {
-        Carried::Spent => unreachable!(),
-        Carried::Undelivered => user_in_vain(alloc, exchange.names(), first, message),
-        Carried::Unheard(taken) => {
-            let _ = serve(alloc, exchange, first, &taken)?;
-            user_in_vain(alloc, exchange.names(), first, message)
-        }
-        Carried::Taken(taken) => serve(alloc, exchange, first, &taken),
-    }
+    let _ = serve(alloc, net, first, message)?;
+    user_in_vain(alloc, net.names(), first, message)
+}
+
+/// The reply that the user has where his message was served.
+fn user_served<N: Network>(
+    alloc: Global,
+    net: &mut N,
+    first: AgentId,
+    message: &Chained,
+) -> Result<Reply, NoMemory>
+    requires there { first < length (N.names net.old) }
+    requires user { IsUsers (N.scene net.old) first (chained_view (N.names net.old) message.now) }
+    ensures stays { Stays N.scene N.most N.names net.old net.new }
+    ensures served { IfOk result (λ reply. DoesAt N.scene N.most N.journal net.old net.new (Serves (hand first (chained_view (N.names net.old) message.now)) (reply_view (N.names net.old) reply))) }
+{
+    serve(alloc, net, first, message)
 }
 
 /// A user's read or compare in the network, and the messages that it takes.
@@ -80,6 +91,11 @@ pub(crate) fn asked(
 {
     let message = opening(alloc, request)?;
     let mut exchange = Exchange::new(alloc, world, first, &message, most);
-    let reply = replied(alloc, &mut exchange, first, &message)?;
+    let reply = match exchange.send(alloc, None, first, &message)? {
+        Carried::Spent => unreachable!(),
+        Carried::Undelivered => user_in_vain(alloc, world.names(), first, &message)?,
+        Carried::Unheard(taken) => served_in_vain(alloc, &mut exchange, first, &taken)?,
+        Carried::Taken(taken) => user_served(alloc, &mut exchange, first, &taken)?,
+    };
     Ok((reply, exchange.into_lines()))
 }

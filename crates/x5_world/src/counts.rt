@@ -11,7 +11,11 @@ pub(crate) fn contexts(agents: &[DescribedAgent]) -> usize
     requires { contexts_of agents.now ≤ 4096 }
     ensures { result ≡ contexts_of agents.now }
 {
-    agents.iter().map(|agent| agent.spec.contexts.len()).sum()
+    let mut count = 0;
+    for agent in agents {
+        count += agent.spec.contexts.len();
+    }
+    count
 }
 
 /// How many agents stand in these NSSRs. No memory.
@@ -19,7 +23,11 @@ fn in_nssrs(nssrs: &[Nssr]) -> usize
     requires { pairs_of_nssrs nssrs.now ≤ 4096 }
     ensures { result ≡ pairs_of_nssrs nssrs.now }
 {
-    nssrs.iter().map(|nssr| nssr.agents.len()).sum()
+    let mut count = 0;
+    for nssr in nssrs {
+        count += nssr.agents.len();
+    }
+    count
 }
 
 /// How many agents stand in NSSRs of these contexts. No memory.

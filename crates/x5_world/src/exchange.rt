@@ -52,7 +52,7 @@ impl<'a> Exchange<'a> {
         most: usize,
     ) -> Exchange<'a>
         requires { IsUnderWay world.now first (chained_view world.now.names message.now) most [] }
-        ensures { (result.world ≡ world) × (result.first ≡ first) × (result.message ≡ message) × (result.most ≡ most) × (result.lines.items ≡ []) }
+        ensures { (result.world ≡ world.entry) × (result.first ≡ first) × (result.message ≡ message.entry) × (result.most ≡ most) × (result.lines.items ≡ []) }
     {
         Exchange {
             world,
@@ -98,7 +98,7 @@ impl<'a> Exchange<'a> {
 
     /// The messages that were sent, in their order. No memory.
     pub(crate) fn into_lines(self) -> Vec<Sent>
-        ensures { result ≡ self.lines }
+        ensures { result ≡ self.entry.lines }
     {
         self.lines
     }
@@ -107,6 +107,7 @@ impl<'a> Exchange<'a> {
 impl<'a> Network for Exchange<'a> {
     ghost use Rattle.x5_serve.specs.Networks.{left_of, Stays, IsCarriedBy, IsFound, IsVerdict, IsDue, IsReady};
     ghost use Rattle.x5_world.specs.Exchanges.{scene_in, most_in, journal_in, names_in};
+    ghost use Rattle.x5_world.specs.Laws.{knows};
 
     ghost scene = { scene_in };
 
@@ -129,7 +130,8 @@ impl<'a> Network for Exchange<'a> {
     }
 
     fn is_done(&self, me: AgentId, message: &Chained) -> bool {
-        let _ = (me, message);
+        let _ = me;
+        let _ = message;
         false
     }
 
@@ -138,12 +140,16 @@ impl<'a> Network for Exchange<'a> {
     }
 
     fn prepare(&self, alloc: Global, me: AgentId, message: &Chained) -> Result<Verdict, NoMemory> {
-        let _ = (alloc, me, message);
+        let _ = alloc;
+        let _ = me;
+        let _ = message;
         unreachable!()
     }
 
     fn commit(&mut self, alloc: Global, me: AgentId, message: &Chained) -> Result<(), NoMemory> {
-        let _ = (alloc, me, message);
+        let _ = alloc;
+        let _ = me;
+        let _ = message;
         unreachable!()
     }
 
@@ -158,11 +164,12 @@ impl<'a> Network for Exchange<'a> {
     }
 
     fn carry_back(&self, alloc: Global, operation: u8, reply: &Reply) -> Result<Reply, NoMemory> {
-        let _ = (alloc, operation);
+        let _ = alloc;
+        let _ = operation;
         copies::reply(reply)
     }
 
-    ghost apart = { ? };
+    ghost apart = { λ e. e.under_way.net.apart };
 
-    ghost knows = { ? };
+    ghost knows = { λ e. knows e.world.now e.first (chained_view e.world.now.names e.message.now) e.under_way.net };
 }

@@ -8,6 +8,7 @@ mod counts;
 mod exchange;
 mod journal;
 mod links;
+mod naming;
 mod world;
 
 pub use world::World;

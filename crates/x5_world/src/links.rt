@@ -100,7 +100,8 @@ fn different(numbers: &[u64]) -> usize
     let mut at = numbers.len();
     while at > 0 {
         at -= 1;
-        if !has_number(&numbers[at + 1..], numbers[at]) {
+        let again = has_number(&numbers[at + 1..], numbers[at]);
+        if !again {
             count += 1;
         }
     }

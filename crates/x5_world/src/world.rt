@@ -22,6 +22,7 @@ use crate::asking::asked;
 use crate::counts::{contexts, pairs};
 use crate::journal;
 use crate::links::Links;
+use crate::naming::copied;
 use std::alloc::Global;
 use std::marker::Model;
 use x5_agents::agents_of;
@@ -43,6 +44,7 @@ pub struct World {
 
 impl Model for World {
     ghost use Rattle.std.specs.Prelude.{map};
+    ghost use Rattle.x5_holdings.specs.State.{holdings_view};
     ghost use Rattle.x5_world.specs.State.{Net};
     ghost use Rattle.x5_world.specs.Sent.{IsNet};
 
@@ -55,18 +57,20 @@ impl Model for World {
 
 impl World {
     /// The network before the first line of a script: each agent holds what the file describes of it, and nothing was sent.
-    pub fn new(alloc: Global, described: Described) -> Result<World, NoMemory>
-        requires { IsDescribed (world_view described) }
-        ensures names { IfOk result (λ w. w.names ≡ names_in (world_view described)) }
-        ensures stands { IfOk result (λ w. IsConsistent (world_view described) → StandsAt w (record { described = world_view described; past = [] })) }
+    pub fn new(alloc: Global, described: &Described) -> Result<World, NoMemory>
+        requires described { IsDescribed (world_view described.now) }
+        requires named { described.now.names ≡ names_in (world_view described.now) }
+        ensures names { IfOk result (λ w. w.names ≡ names_in (world_view described.now)) }
+        ensures stands { IfOk result (λ w. IsConsistent (world_view described.now) → StandsAt w (record { described = world_view described.now; past = [] })) }
         ensures room { IfOk result (λ w. HasRoom w 0) }
     {
-        let agents = agents_of(alloc, &described)?;
+        let names = copied(alloc, &described.names)?;
+        let agents = agents_of(alloc, described)?;
         let links = Links::of(alloc, &described.network)?;
         let contexts = contexts(described.agents.as_slice());
         let pairs = pairs(described.agents.as_slice());
         Ok(World {
-            names: described.names,
+            names,
             agents,
             links,
             sent: 0,
