@@ -1,0 +1,6 @@
+pub mod Standing
+pub mod Journals
+pub mod Repeating
+pub mod Sending
+pub mod Holders
+pub mod Reading
