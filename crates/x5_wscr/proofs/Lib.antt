@@ -4,3 +4,5 @@ pub mod Repeating
 pub mod Sending
 pub mod Holders
 pub mod Reading
+pub mod Users
+pub mod Adding
