@@ -6,3 +6,4 @@ pub mod Holders
 pub mod Reading
 pub mod Users
 pub mod Adding
+pub mod Worlds
