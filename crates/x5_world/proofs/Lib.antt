@@ -4,3 +4,6 @@ pub mod Repeating
 pub mod Sending
 pub mod Holders
 pub mod Reading
+pub mod Users
+pub mod Adding
+pub mod Worlds
