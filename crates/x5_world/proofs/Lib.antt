@@ -7,3 +7,4 @@ pub mod Reading
 pub mod Users
 pub mod Adding
 pub mod Worlds
+pub mod Begun

@@ -68,7 +68,7 @@ pub answered : (old new : Net) (p : Point) (first most : ℕ) (r : Request) (lin
     → messages_view old.names journal.lines ≡ map (λ l. model.printed_line (line_view old.names l)) lines
     → journal.accepted ≡ [] → IsAs old new old.network (old.sent + length lines) → StandsAt old p
     → IsAnswered old new p first r reply journal
-answered old new p first most r lines reply journal asked limit printed none as s =
+answered old new p first most r lines reply journal asked limit printed none q s =
     let j : model.Journal = journal_of old.names lines in
     record {
       whole = j;
@@ -82,11 +82,11 @@ answered old new p first most r lines reply journal asked limit printed none as 
       nobody = none;
       stands = after_request old new p first r j (reply_view old.names reply) s refl
           (record {
-            names = as.names;
-            agents = as.agents;
-            network = as.network;
-            sent = as.sent ∙ ap (λ (k : ℕ). old.sent + k) (sym (many old.names lines));
-            contexts = as.contexts;
-            pairs = as.pairs;
+            names = q.names;
+            agents = q.agents;
+            network = q.network;
+            sent = q.sent ∙ ap (λ (k : ℕ). old.sent + k) (sym (many old.names lines));
+            contexts = q.contexts;
+            pairs = q.pairs;
           });
     }
