@@ -1,5 +1,5 @@
 -- What was asked was answered, and the messages are printed by the names of their agents.
-use Rattle.std.proofs.Common.{◌≡◌, ℕ, ◌+◌, true, List, length, map, ap, subst, ◌∙◌}
+use Rattle.std.proofs.Common.{◌≡◌, ℕ, ◌+◌, true, List, length, map, ap, subst, ◌∙◌, arith}
 use Rattle.std.specs.List.{list_all}
 use Rattle.x5_model_run.specs.Journal as model
 use Rattle.x5_ops.specs.JournalViews.{messages_view}
@@ -24,6 +24,7 @@ returns-clause-answered c =
     ≡ map (λ l. model.printed_line (line_view ns l)) sent) named
     (c.in_ok-lines.ensures.printed
     ∙ ap (λ (ls : List Sent). map (λ l. model.printed_line (line_view c.self.inside.names l)) ls) c.deref.ensures.value) in
+    let count : c.len.result ≡ length c.in_ok-reply.sent.items = (omega (arith, c.len.ensures)) in
     λ p s. answered old _ p c.args.first c.in_ok-most.most (request_view c.args.request.now) sent c.in_ok-reply.reply
     c.without_acceptance.result c.in_ok-reply.ensures.asked c.in_ok-most.ensures.is printed
     c.without_acceptance.ensures.accepted
@@ -31,7 +32,7 @@ returns-clause-answered c =
       names = named;
       agents = ap (λ (n : Net). n.agents) c.self.view_is;
       network = ap (λ (n : Net). n.network) c.self.view_is;
-      sent = (λ i. (c.self.view_is i).sent + c.len.ensures i);
+      sent = (λ i. (c.self.view_is i).sent + count i);
       contexts = ap (λ (n : Net). n.contexts) c.self.view_is;
       pairs = ap (λ (n : Net). n.pairs) c.self.view_is;
     }) s
