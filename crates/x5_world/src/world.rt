@@ -38,10 +38,10 @@ impl Model for World {
 
 impl World {
     /// The network before the first line of a script: each agent holds what the file describes of it, and nothing was sent.
-    pub fn new(alloc: Global, described: Described) -> Result<World, NoMemory>
-        requires { IsDescribed (world_view described) }
-        ensures names { IfOk result (λ w. w.names ≡ names_in (world_view described)) }
-        ensures stands { IfOk result (λ w. IsConsistent (world_view described) → StandsAt w (record { described = world_view described; past = [] })) }
+    pub fn new(alloc: Global, described: &Described) -> Result<World, NoMemory>
+        requires { IsDescribed (world_view described.now) }
+        ensures names { IfOk result (λ w. w.names ≡ names_in (world_view described.now)) }
+        ensures stands { IfOk result (λ w. IsConsistent (world_view described.now) → StandsAt w (record { described = world_view described.now; past = [] })) }
         ensures room { IfOk result (λ w. HasRoom w 0) }
     {
         let _ = (alloc, described);

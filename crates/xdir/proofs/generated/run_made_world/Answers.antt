@@ -1,7 +1,7 @@
 use Rattle.std.proofs.Common.{Some}
 use Rattle.x5_load.specs.Views.{file_view}
 use Rattle.xdir.specs.Generated.{made_files, made_names}
-use Rattle.xdir.proofs.Agents.{loaded}
+use Rattle.xdir.proofs.Beginning.{loaded}
 use Rattle.xdir.proofs.Ends.{such_prints}
 use Rattle.xdir.proofs.Making.{world_made}
 use Rattle.xdir.proofs.Summaries.{sums_files, sums_refused_file}
