@@ -44,7 +44,8 @@ impl World {
         ensures stands { IfOk result (λ w. IsConsistent (world_view described.now) → StandsAt w (record { described = world_view described.now; past = [] })) }
         ensures room { IfOk result (λ w. HasRoom w 0) }
     {
-        let _ = (alloc, described);
+        let _ = alloc;
+        let _ = described;
         Err(NoMemory)
     }
 
@@ -65,7 +66,9 @@ impl World {
         ensures named { IfOk result (λ out. NamesAgents self.old.names out.0 out.1) }
         ensures room_after { IfOk result (λ _. (lines : ℕ) → HasRoom self.old lines → HasRoom self.new (lines + 1)) }
     {
-        let _ = (alloc, first, request);
+        let _ = alloc;
+        let _ = first;
+        let _ = request;
         Err(NoMemory)
     }
 
@@ -90,7 +93,8 @@ impl World {
         ensures room_after { IfOk result (λ _. (lines : ℕ) → HasRoom self.old lines → HasRoom self.new (lines + 1)) }
         ensures err { OnErr result (self.new ≡ self.old) }
     {
-        let _ = (reply, number);
+        let _ = reply;
+        let _ = number;
         Err(NoMemory)
     }
 

@@ -1,6 +1,6 @@
 -- The counts grow by those of a block for each command, as the output does, and their line behind that on knowledge is the
 -- summary of the run.
-use Rattle.std.proofs.Common.{◌≡◌, ℕ, List, [], ◌∷◌, ◌++◌, codes, Option, refl, sym, ap, subst, ◌∙◌}
+use Rattle.std.proofs.Common.{◌≡◌, ℕ, List, [], ◌∷◌, ◌++◌, codes, Option, refl, sym, ap, ◌∙◌, Result, Ok, Err, IfOk}
 use Rattle.x5_model_tree.specs.Consistent.{Inconsistency}
 use Rattle.x5_model_tree.proofs.FirstBreach.{consistent_has_none}
 use Rattle.x5_model_run.specs.History.{Did, Point}
@@ -84,3 +84,7 @@ is_summary f commands net counts far text is =
           ∙ ap (λ (c : Counts). codes "knowledge consistent\n" ++ summary_line c) far.counted
           ∙ sym (ap (λ (o : Option Inconsistency). knowledge_line (names_of f.world (moment_text f.start)) o ++ summary_line (capped_counts (counts_of far.blocks))) (consistent_has_none f.world far.stands.consistent));
     }
+
+pub if_ok_more : {T E : Type 0} {P Q : T → Type 0} (result : Result T E) → ((x : T) → P x → Q x) → IfOk result P → IfOk result Q
+if_ok_more (Ok x) more p = more x p
+if_ok_more (Err e) more p = p

@@ -11,7 +11,8 @@ use Rattle.x5_model_world.specs.Reading as model
 use Rattle.x5_model_world.specs.WorldFile.{File, Describes}
 use Rattle.x5_port.specs.Outside as outside
 use Rattle.x5_port.specs.Outside.{IsContent}
-use Rattle.x5_script.specs.Views.{IsLineFault, ReadsScript}
+use Rattle.x5_script.specs.Views.{IsLineFault, ReadsScript, command_view}
+use Rattle.x5_script.specs.declared.command.Command.{Command as Line}
 use Rattle.x5_script.specs.declared.command.ScriptFault.{ScriptFault}
 use Rattle.x5_script.specs.declared.command.ScriptFault.TheVariants as script
 use Rattle.x5_script.specs.declared.script.ScriptRefusal.{ScriptRefusal}
@@ -61,6 +62,20 @@ module _ (f : File) (octets : List ℕ) (asked : List Asked) (asks : AsksFor f.w
   pub runs_script : (status : Status) (old new : Option (List ℕ)) (before after : ℕ) → WritesAsked status f asked old new before after
       → WritesScript status f octets old new before after
   runs_script status old new before after w = ends_more script_output first_script other_line status old new before after w
+
+-- as it was read, given the names of the agents and how many replies are lost
+pub asked_for : (f : File) (names : List (List ℕ)) (lost : ℕ) (octets : List ℕ) (cs items : List Line) → names ≡ names_in f.world → lost ≡ lost_in f.world
+    → cs ≡ items → script_of names lost octets ≡ Ok (map command_view items) → AsksFor f.world octets (map command_view cs)
+asked_for f names lost octets cs items same_names same_lost same e =
+    subst (λ (ns : List (List ℕ)). script_of ns (lost_in f.world) octets ≡ Ok (map command_view cs)) same_names
+    (subst (λ (n : ℕ). script_of names n octets ≡ Ok (map command_view cs)) same_lost
+    (subst (λ (xs : List Line). script_of names lost octets ≡ Ok (map command_view xs)) (sym same) e))
+
+pub refused_for : (f : File) (names : List (List ℕ)) (lost : ℕ) (octets : List ℕ) (refusal : ScriptRefusal) → names ≡ names_in f.world → lost ≡ lost_in f.world
+    → ReadsScript (Err refusal) names lost octets → ReadsScript (Err refusal) (names_in f.world) (lost_in f.world) octets
+refused_for f names lost octets refusal same_names same_lost h =
+    subst (λ (ns : List (List ℕ)). ReadsScript (Err refusal) ns (lost_in f.world) octets) same_names
+    (subst (λ (n : ℕ). ReadsScript (Err refusal) names n octets) same_lost h)
 
 -- the line of a script's first line that is refused
 refuses_as : (f : File) (octets : List ℕ) (number : ℕ) (fault : ScriptFault) → IsLineFault number fault (script_of (names_in f.world) (lost_in f.world) octets)
