@@ -1,5 +1,5 @@
 -- What a world file that is read gives: a described world, with few agents; and whether a run can begin over it.
-use Rattle.std.proofs.Common.{◌≡◌, ℕ, ◌≤◌, Bool, true, nat_le, length, map, Option, Some, None, subst, Ok, arith, List}
+use Rattle.std.proofs.Common.{◌≡◌, ℕ, ◌≤◌, Bool, true, false, nat_le, length, map, Option, Some, None, subst, Ok, arith, List}
 use Rattle.std.proofs.lemmas.Bool.{leb-true}
 use Rattle.std.proofs.lemmas.List.{length-map}
 use Rattle.x5_know.specs.WorldView.{described_agent_view, world_view}
@@ -27,6 +27,9 @@ few_loaded d h =
     omega (arith, few, same)
 
 -- ---- what was begun
+
+pub not_sound : (w : World) (b : Bool) → (IsConsistent w → b ≡ true) → b ≡ false → IsConsistent w → ⊥
+not_sound w b is off s = let on : b ≡ true = is s in cc
 
 pub begun : (d : Described) (o : Option Net) (n : Net) → o ≡ Some n → IsNetworkOf d o → IsBegun d n
 begun d o n e h = subst (IsNetworkOf d) e h

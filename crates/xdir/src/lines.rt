@@ -1,10 +1,11 @@
 //! What the lines of a script do to the network, and what comes of them.
-ghost use Rattle.std.specs.Prelude.{◌≡◌, ℕ, ◌<◌, ◌≤◌, ◌+◌, [], IfOk, length, true};
+ghost use Rattle.std.specs.Prelude.{◌≡◌, ◌↔◌, ℕ, ◌<◌, ◌≤◌, ◌+◌, [], IfOk, IsTrue, length, true};
 ghost use Rattle.x5_know.specs.WorldView.{world_view};
 ghost use Rattle.x5_model_heard.specs.Kept.{looks_at_one};
 ghost use Rattle.x5_model_run.specs.History.{Point};
 ghost use Rattle.x5_model_run.specs.Needs.{target_of};
 ghost use Rattle.x5_model_run.specs.Run.{Asks};
+ghost use Rattle.x5_model_tree.specs.Consistent.{IsConsistent};
 ghost use Rattle.x5_model_tree.specs.Described.{IsDescribed};
 ghost use Rattle.x5_ops.specs.RequestViews.{body_view, request_view};
 ghost use Rattle.x5_report.specs.declared.report.LineOutcome.TheVariants.{Set};
@@ -30,13 +31,22 @@ pub struct Course {
     pub outcome: LineOutcome,
 }
 
+/// Whether the knowledge of a world's agents is consistent.
+fn is_consistent(alloc: Global, world: &Described) -> Result<bool, NoMemory>
+    requires { length world.now.agents ≤ 256 }
+    ensures { IfOk result (λ b. IsTrue b ↔ IsConsistent (world_view world.now)) }
+{
+    Ok(check(alloc, world)?.is_none())
+}
+
 /// The network of a described world before the first line of a script, or nothing exactly where the knowledge of its agents isn't
 /// consistent.
 pub fn network_of(alloc: Global, described: &Described) -> Result<Option<World>, NoMemory>
     requires { IsDescribed (world_view described.now) }
     ensures { IfOk result (λ network. IsNetworkOf described.now network) }
 {
-    if check(alloc, described)?.is_some() {
+    let is_sound = is_consistent(alloc, described)?;
+    if !is_sound {
         return Ok(None);
     }
     Ok(Some(World::new(alloc, described)?))
