@@ -43,4 +43,4 @@ pub record IsAnswered (old new : Net) (p : Point) (first : ℕ) (r : Request) (r
 -- whom they name, in any network
 pub record NamesAgents (names : List (List ℕ)) (reply : Reply) (journal : Journal) : Type 0 where
   pub lines : list_all (line_names_agents names) journal.lines ≡ true
-  pub reply : reply_agents (length names) (reply_view names reply) ≡ true
+  pub replied : reply_agents (length names) (reply_view names reply) ≡ true

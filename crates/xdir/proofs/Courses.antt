@@ -1,6 +1,6 @@
 -- What came of a command stands for its block of a run: whom messages and reply name are agents of the world, so what is
 -- printed of it is what the definitions print of that block.
-use Rattle.std.proofs.Common.{◌≡◌, ℕ, ◌+◌, nat_lt, Bool, true, ◌&&◌, List, [], map, reverse, refl, sym, ap, subst, ◌∙◌, Some, None, Option, append-nil}
+use Rattle.std.proofs.Common.{◌≡◌, ℕ, ◌+◌, nat_lt, Bool, true, ◌&&◌, List, [], ◌∷◌, map, reverse, refl, sym, ap, subst, ◌∙◌, Some, None, Option, append-nil}
 use Rattle.std.specs.List.{list_all}
 use Rattle.x5_model.specs.Requests.{Request}
 use Rattle.x5_model.specs.Words.{in_option}
@@ -62,7 +62,7 @@ module _ (names : List (List ℕ)) where
       and_true (journal_known names journal) (reply_known names reply)
       (and_true (list_all (line_known names) journal.lines) (list_all (is_known names) journal.accepted)
       (lines_are journal.lines n.lines) (ap (list_all (is_known names)) nobody))
-      (reply_is_known names reply n.reply)
+      (reply_is_known names reply n.replied)
 
 -- ---- what came of a request
 
@@ -74,7 +74,7 @@ pub course_of : (old new : Net) (p : Point) (to : ℕ) (r : Request) (reply : Re
     → IsCourse p (Asks to r) new (answered journal reply)
 course_of old new p to r reply journal stands a n =
     let told : IsTold old.names journal (Answered reply) (model.Replies a.whole (reply_view old.names reply)) =
-    (a.whole, ((a.lines, ap reverse a.accepted ∙ sym (ap (map (agent_of old.names)) a.nobody)), refl)) in
+    (a.whole, (a.lines, ap reverse a.accepted ∙ sym (ap (map (agent_of old.names)) a.nobody)), refl) in
     record {
       block = model.Replies a.whole (reply_view old.names reply);
       gives = record { is = a.asked; stands = a.stands };
@@ -144,4 +144,4 @@ module _ (f : File) (past : List Did) (line : ℕ) (command : Command) (net : Ne
     where
       none_more : (old : Option (List ℕ)) → old ≡ with_octets [] old
       none_more None = refl
-      none_more (Some taken) = sym (append-nil taken)
+      none_more (Some taken) = ap (λ (octets : List ℕ). Some octets) (sym (append-nil taken))

@@ -150,7 +150,7 @@ no_new_name (ModifyDn name rdn drops) looks new e = cc
 askable : (w : World) (c : Asked) → IsTaken (length (names_in w)) c → IsAskable w (run_view c)
 askable w Nothing t = tt
 askable w (Ask to request) t =
-    (agent_there w.agents to t.0, (t.1.1, no_new_name (body_view request.body) t.1.0))
+    (agent_there w.agents to t.0, t.2, no_new_name (body_view request.body) t.1)
 askable w (Outage change) t = tt
 askable w (Refresh id push total) t = tt
 askable w (Deliver dsp to octets) t = tt

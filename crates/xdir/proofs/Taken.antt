@@ -27,7 +27,7 @@ module _ (names : List (List ℕ)) where
   taken Nothing other_no named short = tt
   taken (Ask to request) other_no named short =
       let looks : looks_at_one (body_view request.body) ≡ true = not_so (looks_at_one (body_view request.body)) other_no in
-      (All-head (λ a. a < length names) to [] named, (looks, short looks))
+      (All-head (λ a. a < length names) to [] named, looks, short looks)
   taken (Outage change) other_no named short = tt
   taken (Refresh id push total) other_no named short = cc
   taken (Deliver dsp to octets) other_no named short = cc
