@@ -41,6 +41,6 @@ pub record IsAnswered (old new : Net) (p : Point) (first : ℕ) (r : Request) (r
     pub stands : StandsAt new (after (did_by (Asks first r) (Replies whole (reply_view old.names reply))) p)
 
 -- whom they name, in any network
-pub record NamesAgents (names : List (List ℕ)) (reply : Reply) (journal : Journal) : Type 0 where
+pub record NamesAgents (names : List (List ℕ)) (told : Reply) (journal : Journal) : Type 0 where
   pub lines : list_all (line_names_agents names) journal.lines ≡ true
-  pub replied : reply_agents (length names) (reply_view names reply) ≡ true
+  pub reply : reply_agents (length names) (reply_view names told) ≡ true

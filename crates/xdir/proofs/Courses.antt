@@ -62,7 +62,7 @@ module _ (names : List (List ℕ)) where
       and_true (journal_known names journal) (reply_known names reply)
       (and_true (list_all (line_known names) journal.lines) (list_all (is_known names) journal.accepted)
       (lines_are journal.lines n.lines) (ap (list_all (is_known names)) nobody))
-      (reply_is_known names reply n.replied)
+      (reply_is_known names reply n.reply)
 
 -- ---- what came of a request
 
