@@ -175,7 +175,13 @@ fn print_course<K: Sink>(
     ensures line { WritesCourse result (file_view described.now) (before + 1) course.now (K.octets out.old) (K.octets out.new) (K.fault_count out.old) (K.fault_count out.new) }
 {
     let line = before as u32 + 1;
-    match block(alloc, &described.start, line, &course.journal, &course.outcome) {
+    match block(
+        alloc,
+        &described.start,
+        line,
+        &course.journal,
+        &course.outcome,
+    ) {
         Ok(text) => match put_all(out, text.as_str().as_bytes()) {
             Ok(()) => Status::Done,
             Err(Failed) => Status::WriteFault,

@@ -38,7 +38,7 @@ loop-command-preserved c =
     let old = totals_view c.loop-command.totals in
     let new = totals_view c.count_command.new.totals in
     let taken = subst (λ (names : List (List ℕ)). IsTaken (length names) line) (sym c.loop-command.invariant.names)
-        (taken_at (length c.args.network.now.names) lines i line within c.command-item.is c.requires.taken) in
+    (taken_at (length c.args.network.now.names) lines i line within c.command-item.is c.requires.taken) in
     record {
       counted = λ f stands.
           let far : IsCounted f (map run_view (take i lines)) net old = c.loop-command.invariant.counted f stands in
