@@ -28,8 +28,9 @@ pub struct World {
 }
 
 impl Model for World {
-    ghost use Rattle.std.specs.Prelude.{map};
+    ghost use Rattle.std.specs.Prelude.{[], map};
     ghost use Rattle.x5_holdings.specs.State.{holdings_view};
+    ghost use Rattle.x5_world.specs.State.{Net};
 
     ghost Value = { Net };
 
