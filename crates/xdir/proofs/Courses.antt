@@ -17,8 +17,13 @@ use Rattle.x5_model_run.specs.Run as model
 use Rattle.x5_model_world.specs.WorldFile.{File}
 use Rattle.x5_ops.specs.AgentNames.{agent_of}
 use Rattle.x5_ops.specs.AnswerViews.{reply_view}
+use Rattle.x5_ops.specs.declared.agents.AgentId.{AgentId}
 use Rattle.x5_ops.specs.declared.answers.Reply.{Reply}
-use Rattle.x5_ops.specs.declared.journal.Line.{Line}
+use Rattle.x5_ops.specs.declared.journal.Outage.{Outage as Change}
+use Rattle.x5_ops.specs.declared.requests.Request.{Request as Asking}
+use Rattle.x5_script.specs.declared.command.Command.{Command as Line}
+use Rattle.x5_script.specs.declared.command.Command.TheVariants as lines
+use Rattle.x5_ops.specs.declared.journal.Line.{Line as Message}
 use Rattle.x5_ops.specs.declared.journal.Line.TheVariants.{Msg, Dis, Raw}
 use Rattle.x5_ops.specs.declared.journal.Journal.{Journal}
 use Rattle.x5_port.specs.Outside.{with_octets}
@@ -30,7 +35,7 @@ use Rattle.x5_report.specs.declared.report.LineOutcome.TheVariants.{Set, Answere
 use Rattle.x5_world.specs.Answered.{IsAnswered, NamesAgents, is_agent, line_names_agents}
 use Rattle.x5_world.specs.State.{Net, StandsAt, after, names_in}
 use Rattle.xdir.specs.Blocks.{Gives, IsTold, IsCourse, IsCarriedOut, IsTextOf, IsBlockText, WritesCourse, WritesBlock}
-use Rattle.xdir.specs.Taken.{point}
+use Rattle.xdir.specs.Taken.{IsTaken, point, run_view}
 use Rattle.xdir.specs.declared.lines.Course.{Course}
 use Rattle.xdir.specs.declared.top.Status.{Status}
 use Rattle.xdir.specs.declared.top.Status.TheVariants.{Done, Refused, Usage, ReadFault, WriteFault, NoMemory, Inconsistent, TooLong}
@@ -40,7 +45,7 @@ use Rattle.xdir.proofs.Named.{named, reply_is_known}
 -- ---- whom messages name
 
 module _ (names : List (List ℕ)) where
-  line_is : (l : Line) → line_names_agents names l ≡ true → line_known names l ≡ true
+  line_is : (l : Message) → line_names_agents names l ≡ true → line_known names l ≡ true
   line_is (Msg None to operation progress t target fate) e = named names to e
   line_is (Msg (Some from) to operation progress t target fate) e =
       let b = both_true (is_agent names from) (is_agent names to) e in
@@ -50,7 +55,7 @@ module _ (names : List (List ℕ)) where
       and_true (is_known names from) (is_known names to) (named names from b.0) (named names to b.1)
   line_is (Raw to dsp count fate) e = named names to e
 
-  lines_are : (ls : List Line) → list_all (line_names_agents names) ls ≡ true → list_all (line_known names) ls ≡ true
+  lines_are : (ls : List Message) → list_all (line_names_agents names) ls ≡ true → list_all (line_known names) ls ≡ true
   lines_are [] e = refl
   lines_are (l ∷ more) e =
       let b = both_true (line_names_agents names l) (list_all (line_names_agents names) more) e in
@@ -96,6 +101,28 @@ lost_course p reply k net c e stands =
     subst (IsCourse p (Drops reply k) net) (sym e)
     (record { block = model.Set; gives = record { is = tt; stands = stands }; told = refl; known = refl })
 
+-- ---- what was carried out
+
+pub carried : (p : Point) (command : Command) (net : Net) (o : Option Course) (c : Course) → o ≡ Some c → IsCarriedOut p command net o
+    → IsCourse p command net c
+carried p command net o c e h = subst (IsCarriedOut p command net) e h
+
+pub silent : (p : Point) (command : Command) (net : Net) (o : Option Course) → o ≡ None → IsCarriedOut p command net o
+    → Gives p command net Silent
+silent p command net o e h = subst (IsCarriedOut p command net) e h
+
+-- ---- a comment, where no other line that is taken is left
+
+pub passed : (p : Point) (agents : ℕ) (c : Line) (net : Net) → IsTaken agents c
+    → ((to : AgentId) (request : Asking) → c ≡ lines.Ask to request → ⊥) → ((change : Change) → c ≡ lines.Outage change → ⊥)
+    → ((reply : Bool) (k : ℕ) → c ≡ lines.Lose reply k → ⊥) → StandsAt net (after (did_by Blank Silent) p) → Gives p (run_view c) net Silent
+passed p agents lines.Nothing net taken no_ask no_outage no_loss stands = record { is = tt; stands = stands }
+passed p agents (lines.Ask to request) net taken no_ask no_outage no_loss stands = absurd (no_ask to request refl)
+passed p agents (lines.Outage change) net taken no_ask no_outage no_loss stands = absurd (no_outage change refl)
+passed p agents (lines.Refresh id push total) net taken no_ask no_outage no_loss stands = absurd taken
+passed p agents (lines.Deliver dsp to octets) net taken no_ask no_outage no_loss stands = absurd taken
+passed p agents (lines.Lose reply k) net taken no_ask no_outage no_loss stands = absurd (no_loss reply k refl)
+
 -- ---- what is printed of it
 
 pub is_text_of : (f : File) (line : ℕ) (c : Course) (text : List ℕ)
@@ -115,6 +142,12 @@ is_text_of f line c text prints = record { prints = λ command b told known. by 
     by j (Plain reply) command b told is = absurd told
     by j (Refreshed number g heard) command b told is = absurd told
     by j NotConsistent command b told is = absurd told
+
+pub is_text_at : (f : File) (line : ℕ) (c : Course) (text shown : List ℕ) → shown ≡ text
+    → (block_known (names_in f.world) c.journal c.outcome ≡ true
+    → report.IsBlock (names_of f.world (moment_text f.start)) (names_in f.world) line c.journal c.outcome text)
+    → IsTextOf f line c shown
+is_text_at f line c text shown e prints = subst (IsTextOf f line c) (sym e) (is_text_of f line c text prints)
 
 module _ (f : File) (past : List Did) (line : ℕ) (command : Command) (net : Net) where
   block_text_of : (c : Course) → IsCourse (point f.world past) command net c → (text : List ℕ) → IsTextOf f line c text

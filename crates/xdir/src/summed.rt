@@ -93,8 +93,12 @@ fn count_command(
     ensures room_after { IfOk result (λ _. (lines : ℕ) → HasRoom network.old lines → HasRoom network.new (lines + 1)) }
     ensures adds { OnOk result ((p : Point) → StandsAt network.old p → AddsBlock p (run_view command.now) network.new (totals_view totals.old) (totals_view totals.new)) }
 {
-    if let Some(course) = carry_out(alloc, network, command)? {
-        totals.count(&course.journal, &course.outcome);
+    let carried = carry_out(alloc, network, command)?;
+    match carried {
+        Some(course) => {
+            totals.count(&course.journal, &course.outcome);
+            Ok(())
+        }
+        None => Ok(()),
     }
-    Ok(())
 }

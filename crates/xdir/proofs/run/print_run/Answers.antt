@@ -85,7 +85,7 @@ loop-place-preserved g c =
           (so_far_more f (map run_view (take i xs)) (run_view x) net later old mid new before after (askable_at net f.world far.is_text.past far.is_text.stands x taken) far
           (subst (λ (n : ℕ). WritesNext Done f (n + 1) (run_view x) net later mid new before after) (sym (so_many run_view xs i x within is)) c.in-Done.ensures.block));
       names = c.print_command.ensures.names ∙ c.loop-place.invariant.names;
-      room = c.in-Done.ensures.room_after;
+      room = c.in-Done.ensures.room_after refl;
       rising = omega arith;
     }
 
