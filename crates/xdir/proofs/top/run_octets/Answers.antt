@@ -36,14 +36,14 @@ pub returns-in-Ok-clause-writes : goal.returns-in-Ok-clause-writes
 returns-in-Ok-clause-writes g c = λ printed.
     let f = file_view c.args.described.now in
     runs_script f c.args.script.now (map command_view c.deref.result.now)
-    (asked_for f c.names.result.now c.len-lost_replies.result c.args.script.now c.deref.result.now c.in-Ok.commands.items (c.names.ensures ∙ c.requires.stands.names) c.len-lost_replies.ensures c.deref.ensures.value c.in-Ok.ensures)
+    (asked_for f c.names.result.now c.len-lost_replies.result c.args.script.now c.deref.result.now c.in-Ok.commands.items (c.names.ensures ∙ c.requires.stands.names) (c.len-lost_replies.ensures ∙ (λ i. length (c.described.view_is i).network.lost_replies)) c.deref.ensures.value c.in-Ok.ensures)
     c.run_commands.result (g.K.Sink.octets c.args.out.now) (g.K.Sink.octets c.run_commands.new.out) (g.K.Sink.fault_count c.args.out.now) (g.K.Sink.fault_count c.run_commands.new.out) (c.run_commands.ensures.writes printed)
 
 pub returns-in-Ok-clause-sums : goal.returns-in-Ok-clause-sums
 returns-in-Ok-clause-sums g c = λ printed.
     let f = file_view c.args.described.now in
     sums_script f c.args.script.now (map command_view c.deref.result.now)
-    (asked_for f c.names.result.now c.len-lost_replies.result c.args.script.now c.deref.result.now c.in-Ok.commands.items (c.names.ensures ∙ c.requires.stands.names) c.len-lost_replies.ensures c.deref.ensures.value c.in-Ok.ensures)
+    (asked_for f c.names.result.now c.len-lost_replies.result c.args.script.now c.deref.result.now c.in-Ok.commands.items (c.names.ensures ∙ c.requires.stands.names) (c.len-lost_replies.ensures ∙ (λ i. length (c.described.view_is i).network.lost_replies)) c.deref.ensures.value c.in-Ok.ensures)
     c.run_commands.result (g.K.Sink.octets c.args.out.now) (g.K.Sink.octets c.run_commands.new.out) (g.K.Sink.fault_count c.args.out.now) (g.K.Sink.fault_count c.run_commands.new.out) (c.run_commands.ensures.sums printed)
 
 pub returns-in-Err-clause-prints : goal.returns-in-Err-clause-prints
@@ -53,12 +53,12 @@ pub returns-in-Err-clause-writes : goal.returns-in-Err-clause-writes
 returns-in-Err-clause-writes g c = λ printed.
     let f = file_view c.args.described.now in
     refuses_script f c.args.script.now c.in-Err.refusal
-    (refused_for f c.names.result.now c.len-lost_replies.result c.args.script.now c.in-Err.refusal (c.names.ensures ∙ c.requires.stands.names) c.len-lost_replies.ensures c.in-Err.ensures)
+    (refused_for f c.names.result.now c.len-lost_replies.result c.args.script.now c.in-Err.refusal (c.names.ensures ∙ c.requires.stands.names) (c.len-lost_replies.ensures ∙ (λ i. length (c.described.view_is i).network.lost_replies)) c.in-Err.ensures)
     c.refuse_script.result (g.K.Sink.octets c.args.out.now) (g.K.Sink.octets c.refuse_script.new.out) (g.K.Sink.fault_count c.args.out.now) (g.K.Sink.fault_count c.refuse_script.new.out) c.refuse_script.ensures
 
 pub returns-in-Err-clause-sums : goal.returns-in-Err-clause-sums
 returns-in-Err-clause-sums g c = λ printed.
     let f = file_view c.args.described.now in
     sums_refused f c.args.script.now c.in-Err.refusal
-    (refused_for f c.names.result.now c.len-lost_replies.result c.args.script.now c.in-Err.refusal (c.names.ensures ∙ c.requires.stands.names) c.len-lost_replies.ensures c.in-Err.ensures)
+    (refused_for f c.names.result.now c.len-lost_replies.result c.args.script.now c.in-Err.refusal (c.names.ensures ∙ c.requires.stands.names) (c.len-lost_replies.ensures ∙ (λ i. length (c.described.view_is i).network.lost_replies)) c.in-Err.ensures)
     c.refuse_script.result (g.K.Sink.octets c.args.out.now) (g.K.Sink.octets c.refuse_script.new.out) (g.K.Sink.fault_count c.args.out.now) (g.K.Sink.fault_count c.refuse_script.new.out) c.refuse_script.ensures
