@@ -1,6 +1,7 @@
 //! What the lines of a script do to the network, and what comes of them.
 ghost use Rattle.std.specs.Prelude.{◌≡◌, ◌↔◌, ℕ, ◌<◌, ◌≤◌, ◌+◌, [], IfOk, IsTrue, length, true};
 ghost use Rattle.x5_know.specs.WorldView.{world_view};
+ghost use Rattle.x5_load.specs.Views.{IsNamed};
 ghost use Rattle.x5_model_heard.specs.Kept.{looks_at_one};
 ghost use Rattle.x5_model_run.specs.History.{Point};
 ghost use Rattle.x5_model_run.specs.Needs.{target_of};
@@ -42,7 +43,8 @@ fn is_consistent(alloc: Global, world: &Described) -> Result<bool, NoMemory>
 /// The network of a described world before the first line of a script, or nothing exactly where the knowledge of its agents isn't
 /// consistent.
 pub fn network_of(alloc: Global, described: &Described) -> Result<Option<World>, NoMemory>
-    requires { IsDescribed (world_view described.now) }
+    requires described { IsDescribed (world_view described.now) }
+    requires named { IsNamed described.now }
     ensures { IfOk result (λ network. IsNetworkOf described.now network) }
 {
     let is_sound = is_consistent(alloc, described)?;

@@ -1,7 +1,7 @@
 //! The top call: a run of a script over a world, a file that is made of a number, or what a file shows, from files to a sink.
 ghost use Rattle.std.specs.Prelude.{◌≡◌, ◌⊎◌, None, IfSome, true, map, string_bytes};
 ghost use Rattle.x5_know.specs.WorldView.{world_view};
-ghost use Rattle.x5_load.specs.Views.{file_view};
+ghost use Rattle.x5_load.specs.Views.{IsNamed, file_view};
 ghost use Rattle.x5_model_tree.specs.Described.{IsDescribed};
 ghost use Rattle.xdir.specs.Forms.{ReadsForm, WritesForm};
 ghost use Rattle.xdir.specs.Run.{Reads, Writes};
@@ -132,7 +132,8 @@ fn run_world<F: Files, K: Sink>(
     files: &mut F,
     out: &mut K,
 ) -> Status
-    requires { IsDescribed (world_view world) }
+    requires described { IsDescribed (world_view world) }
+    requires named { IsNamed world }
     ensures reads { ReadsOver result (file_view world) script.now (F.contents files.old) (F.fault_count files.old) (F.fault_count files.new) (F.last_failed files.new) (K.octets out.old) (K.octets out.new) }
     ensures writes { printed ≡ Printed.Blocks → WritesOver result (F.contents files.old) script.now (file_view world) (K.octets out.old) (K.octets out.new) (K.fault_count out.old) (K.fault_count out.new) }
     ensures sums { printed ≡ Printed.Summary → SumsOver result (F.contents files.old) script.now (file_view world) (K.octets out.old) (K.octets out.new) (K.fault_count out.old) (K.fault_count out.new) }

@@ -5,7 +5,7 @@ use Rattle.xdir.proofs.lines.network_of.Goals as goal
 
 pub is_consistent-requires : goal.is_consistent-requires
 is_consistent-requires c =
-    let few : length c.args.described.now.agents ≤ 64 = few_loaded c.args.described.now c.requires in omega arith
+    let few : length c.args.described.now.agents ≤ 64 = few_loaded c.args.described.now c.requires.described in omega arith
 
 pub returns-then-not-is_sound : goal.returns-then-not-is_sound
 returns-then-not-is_sound c =
