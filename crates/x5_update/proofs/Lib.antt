@@ -1,0 +1,3 @@
+mod Grounds
+mod Committing
+mod Alone
