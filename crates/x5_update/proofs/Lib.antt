@@ -1,3 +1,4 @@
 mod Grounds
 mod Committing
 mod Alone
+mod Committed
