@@ -1,0 +1,3 @@
+pub mod Seats
+pub mod Judging
+pub mod Plans

@@ -1,3 +1,12 @@
 //! Updates at the agent that masters their target (X.511, section 11; X.518, section 19.1): what it makes of one by what it holds
 //! and knows itself, and the change of what it holds.
 #![tactic(auto)]
+
+mod place;
+mod plans;
+mod prepare;
+mod probes;
+mod values;
+
+pub use prepare::prepare;
+pub use x5_holdings::Holdings;
