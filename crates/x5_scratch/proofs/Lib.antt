@@ -1,0 +1,5 @@
+mod Grounds
+mod Committing
+mod Alone
+mod Committed
+mod Probing
