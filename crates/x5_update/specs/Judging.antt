@@ -40,6 +40,12 @@ ground_in s r = ground_at r (holdings_view s)
 abbrev pub judged : Holdings → Request → Outcome
 judged h r = apply_over (ground_at r h) r.body
 
+-- an update that it passes
+pub record IsReady (h : Holdings) (m : model.Chained) : Type 0 where
+  pub due : IsDue h m
+  pub made : List Named
+  pub passed : judged h m.request ≡ Ok made
+
 -- the references of probes, one at most
 abbrev pub probes_of : List (List ℕ) → Option Reference → List model.Reference
 probes_of names None = []

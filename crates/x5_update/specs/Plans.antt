@@ -1,13 +1,13 @@
 -- An update that the master's ground passes, as a change of the target's context and as the step that its log keeps (X.511,
 -- section 11; X.525, section 9). Steps name entries as the master spells them, which is this project's own.
-use Rattle.std.specs.Prelude.{◌≡◌, ℕ, ◌++◌, ◌∷◌, [], slice_get}
+use Rattle.std.specs.Prelude.{◌≡◌, ℕ, ◌++◌, ◌∷◌, [], slice_get, IsTrue, List, length}
 use Rattle.std.specs.declared.option.Option.TheVariants.{Some}
 use Rattle.std.specs.declared.result.Result.{Result}
 use Rattle.std.specs.declared.result.Result.TheVariants.{Ok, Err}
 use Rattle.x5_model.specs.Keys.{KeyPair, parent}
 use Rattle.x5_model.specs.Values.{key_of, last_rdn}
 use Rattle.x5_model.specs.Entries.{Entry, Named}
-use Rattle.x5_model.specs.Attributes.{added_entry}
+use Rattle.x5_model.specs.Attributes.{added_entry, is_ordered}
 use Rattle.x5_model.specs.Changes.{modified, renamed}
 use Rattle.x5_model.specs.Requests.{Body, Read, Compare, ListBelow, Search, AddEntry, RemoveEntry, ModifyEntry, ModifyDn}
 use Rattle.x5_model_tree.specs.Tree.{entry_at}
@@ -24,18 +24,22 @@ use Rattle.x5_holdings.specs.State.{Kept, State}
 use Rattle.x5_update.specs.declared.plans.Plan.{Plan}
 use Rattle.x5_update.specs.Judging.{IsStopped}
 
+-- the entry's values, once each
+abbrev pub IsRoom : Entry → List KeyPair → Type 0
+IsRoom entry room = (room ≡ terms_of entry) × IsTrue (is_ordered entry)
+
 -- the change of the context that the update is: of its node, with the attributes that it gets and their values
 abbrev pub IsChangeOf : Kept → Body → EntryChange → Type 0
 IsChangeOf c (AddEntry name attributes) (changes.Add n entry room) =
-    (n ≡ name) × (entry ≡ added_entry (last_rdn name) attributes) × (room ≡ terms_of entry)
+    (n ≡ name) × (entry ≡ added_entry (last_rdn name) attributes) × IsRoom entry room
 IsChangeOf c (RemoveEntry name) (changes.Remove id) =
     (n : Node) × (node_with c.nodes.nodes id ≡ Some n) × (node_at c.nodes.nodes (key_of name) ≡ Some n)
 IsChangeOf c (ModifyEntry name list) (changes.Replace id entry room) =
     (n : Node) × (node_with c.nodes.nodes id ≡ Some n) × (node_at c.nodes.nodes (key_of name) ≡ Some n)
-    × (modified (last_rdn name) list n.named.entry ≡ Ok entry) × (room ≡ terms_of entry)
+    × (modified (last_rdn name) list n.named.entry ≡ Ok entry) × IsRoom entry room
 IsChangeOf c (ModifyDn name rdn drops) (changes.Rename id new entry room) =
     (n : Node) × (node_with c.nodes.nodes id ≡ Some n) × (node_at c.nodes.nodes (key_of name) ≡ Some n) × (new ≡ rdn)
-    × (entry ≡ renamed (last_rdn name) rdn drops n.named.entry) × (room ≡ terms_of entry)
+    × (entry ≡ renamed (last_rdn name) rdn drops n.named.entry) × IsRoom entry room
 IsChangeOf c body change = ⊥
 
 -- the step that tells it
@@ -64,3 +68,10 @@ pub record IsPlanOf (s : State) (own : ℕ) (body : Body) (plan : Plan) (outcome
 abbrev pub IsPlanned : Result Plan ChangeFault → State → ℕ → Body → Outcome → Type 0
 IsPlanned (Ok plan) s own body outcome = IsPlanOf s own body plan outcome
 IsPlanned (Err fault) s own body outcome = IsStopped fault outcome
+
+-- how many values it brings
+abbrev pub values_in : EntryChange → ℕ
+values_in (changes.Add name entry room) = length room
+values_in (changes.Remove id) = 0
+values_in (changes.Replace id entry room) = length room
+values_in (changes.Rename id rdn entry room) = length room

@@ -1,6 +1,6 @@
 //! The target of an update among what its master holds, and what it knows of the names at it and below it.
 
-ghost use Rattle.std.specs.Prelude.{◌≡◌, ◌<◌, false, [], length};
+ghost use Rattle.std.specs.Prelude.{◌≡◌, ◌<◌, false, length};
 ghost use Rattle.std.specs.List.{list_any};
 ghost use Rattle.x5_model.specs.Requests.{Request as request};
 ghost use Rattle.x5_model.specs.Values.{key_of};
@@ -8,11 +8,10 @@ ghost use Rattle.x5_model_tree.specs.Apply.{above_pin, is_taken};
 ghost use Rattle.x5_model_tree.specs.Tree.{is_there};
 ghost use Rattle.x5_model_run.specs.Holdings.{may_copy};
 ghost use Rattle.x5_dse.specs.Linked.{entries_of};
-ghost use Rattle.x5_ops.specs.ReferenceViews.{chained_view};
 ghost use Rattle.x5_ops.specs.RequestViews.{request_view};
 ghost use Rattle.x5_holdings.specs.State.{holdings_view};
-ghost use Rattle.x5_update.specs.Judging.{IsDue, ground_in};
-ghost use Rattle.x5_update.specs.Seats.{IsSeat};
+ghost use Rattle.x5_update.specs.Judging.{ground_in};
+ghost use Rattle.x5_update.specs.Seats.{IsSeat, IsTarget};
 
 use x5_dse::NodeId;
 use x5_holdings::{Held, Holdings, Pin};
@@ -28,7 +27,7 @@ pub(crate) struct Place {
 
 /// The target of an update. No memory.
 pub(crate) fn place_of(state: &Holdings, message: &Chained) -> Place
-    requires { IsDue (holdings_view state.now) (chained_view [] message.now) }
+    requires { IsTarget (holdings_view state.now) (request_view message.now.request) message.now.target }
     ensures { IsSeat state.now (request_view message.now.request) (key_of message.now.target) result.own result.node }
 {
     let Some(Pin::Own(own)) = state.known(&message.request, message.target.rdns()) else {
