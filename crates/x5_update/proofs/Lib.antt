@@ -3,5 +3,8 @@ mod Committing
 mod Alone
 mod Committed
 mod Probing
+mod Placing
 mod Seats
 mod Verdicts
+mod Ready
+mod Made

@@ -25,11 +25,9 @@ use Rattle.x5_model_run.specs.Placed.{fits, is_query_below}
 use Rattle.x5_model_serve.specs.Finding.{Found, Here, CopyHere, Root, Below, Onward, Nowhere, Stuck, by_first, at_pin, in_own, in_copy, resolved, found_by}
 use Rattle.x5_model_serve.specs.Finding as finding
 use Rattle.x5_model_theory.proofs.Stages.{key_length}
+use Rattle.x5_update.specs.Judging.{probes_from}
 
 -- ---- which probes are due
-
-abbrev pub probes_from : Holdings → Held → Option Name → List Reference
-probes_from h c name = in_option [] (λ n. probe_of h n c) name
 
 module _ (h : Holdings) (m : Chained) (c : Held) (p : Key) where
   abbrev at_held : Name → Option Held → List Reference

@@ -9,7 +9,7 @@ use Rattle.x5_model_tree.specs.Tree.{is_there}
 use Rattle.x5_model_run.specs.Holdings.{Held, Holdings, held_at, known_pin}
 use Rattle.x5_dse.specs.declared.node.NodeId.{NodeId}
 use Rattle.x5_dse.specs.Linked.{Node, IsLinked, node_at, node_with}
-use Rattle.x5_holdings.specs.State.{Kept, State, IsKept, are_apart, holdings_view}
+use Rattle.x5_holdings.specs.State.{Kept, State, IsKept, are_apart, held_view, holdings_view}
 
 -- the target is an entry of the context of the longest known pin on the way, which the agent masters
 pub record IsTarget (h : Holdings) (r : Request) (target : Name) : Type 0 where
@@ -23,6 +23,7 @@ pub record IsSeat (s : State) (r : Request) (key : Key) (own : ℕ) (id : NodeId
   pub kept : Kept
   pub held : slice_get s.own own ≡ Some kept
   pub long : known_pin r (holdings_view s) key ≡ Some (key_of kept.prefix)
+  pub mine : held_at (holdings_view s).own (key_of kept.prefix) ≡ Some (held_view kept)
   pub node : Node
   pub at : node_at kept.nodes.nodes key ≡ Some node
   pub there : node_with kept.nodes.nodes id ≡ Some node
