@@ -1,7 +1,7 @@
 //! The members of lists whose names stand at or below a name: ranges of sorted tables, found without a walk through all
 //! that is known.
 
-ghost use Rattle.std.specs.Prelude.{◌≡◌, ◌<◌, ◌≤◌, ◌++◌, ◌∷◌, [], List, OnOk, map, length, drop, get_or, true, false, IfOk, ℕ};
+ghost use Rattle.std.specs.Prelude.{◌≡◌, ◌||◌, ◌<◌, ◌≤◌, ◌++◌, ◌∷◌, [], List, OnOk, map, length, drop, get_or, true, false, IfOk, ℕ};
 ghost use Rattle.std.specs.List.{filter, list_any};
 ghost use Rattle.std.specs.List.Sorted.{IsSorted, IsPartitionPoint};
 ghost use Rattle.x5_model.specs.Keys.{Key, is_prefix, key_below};
@@ -157,6 +157,13 @@ impl Holdings {
     }
 }
 
+/// Whether one of what is known of pins has one.
+fn is_one(own: bool, copied: bool, below: bool, root: bool, cross: bool) -> bool
+    ensures { result ≡ (own || (copied || (below || (root || cross)))) }
+{
+    own || copied || below || root || cross
+}
+
 impl Holdings {
     /// Whether a pin is known that is the name of these RDNs or stands below it, as an update knows them: references that refreshes
     /// of copies brought don't count. No memory.
@@ -164,11 +171,12 @@ impl Holdings {
         ensures { (r : model_request) → may_copy r ≡ false → result ≡ list_any (is_prefix (key_of rdns.now)) (map key_of (known_pins r (holdings_view self.now))) }
     {
         let tables = self.tables();
-        tables.own.has_under(rdns)
-            || tables.copies.has_under(rdns)
-            || tables.below_own.has_under(rdns)
-            || tables.root.has_under(rdns)
-            || tables.cross.has_under(rdns)
+        let own = tables.own.has_under(rdns);
+        let copied = tables.copies.has_under(rdns);
+        let below = tables.below_own.has_under(rdns);
+        let root = tables.root.has_under(rdns);
+        let cross = tables.cross.has_under(rdns);
+        is_one(own, copied, below, root, cross)
     }
 }
 
