@@ -32,7 +32,7 @@ use Rattle.x5_model_updates.proofs.Outcomes.{add_free, remove_some, modify_some,
 use Rattle.x5_model_updates.proofs.Own.{counted_in, held_ground}
 use Rattle.x5_model_updates.proofs.Renaming.{new_entry_key}
 use Rattle.x5_update.proofs.Grounds.{Seat, counts, taken_is, same_entry, any_decides_has}
-use Rattle.x5_update.proofs.Committing.{counted, others, together, add_parts, remove_parts, modify_parts, rename_parts, at_key}
+use Rattle.x5_update.proofs.Joining.{counted, others, together, add_parts, remove_parts, modify_parts, rename_parts, at_key}
 
 -- the entries of a naming context: in order, each below the prefix, and of each but the prefix's the one above it is there
 pub record IsContext (c : Held) : Type 0 where

@@ -1,5 +1,5 @@
 mod Grounds
-mod Committing
+mod Joining
 mod Alone
 mod Committed
 mod Probing

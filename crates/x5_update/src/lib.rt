@@ -2,11 +2,13 @@
 //! and knows itself, and the change of what it holds.
 #![tactic(auto)]
 
+mod committing;
+mod judging;
 mod place;
 mod plans;
-mod prepare;
 mod probes;
 mod values;
 
-pub use prepare::prepare;
+pub use committing::commit;
+pub use judging::prepare;
 pub use x5_holdings::Holdings;
