@@ -5,6 +5,7 @@ mod Committed
 mod Probing
 mod Placing
 mod Seats
+mod Testing
 mod Verdicts
 mod Ready
 mod Made
