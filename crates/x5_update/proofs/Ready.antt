@@ -161,7 +161,7 @@ module _ (s : State) (r : Request) (key : Key) (own : ℕ) (id : NodeId) (is : I
           leaf = λ n q. still (λ (ns : List Node). has_below (entries_of ns) (node_key n) ≡ false)
               (subst (λ (k : Key). has_below (entries_of nodes) k ≡ false)
               (sym (ap node_key (node_inside (sym (subst (λ (ns : List Node). node_with ns i ≡ Some n) same.nodes q)
-              ∙ is_change.1) ∙ ap node_key one ∙ its_key)) leaf);
+              ∙ is_change.1)) ∙ ap node_key one ∙ its_key)) leaf);
         }
     can_change (ModifyEntry name list) (changes.Replace i entry values) us at passed is_change has =
         let one = one_node is_change.0 at is_change.2 in

@@ -31,12 +31,12 @@ use Rattle.x5_update.proofs.Grounds.{Seat, same_entry, above_is, below_is, taken
 use Rattle.x5_model.proofs.Lists.{both_true, and_true, of_find, not_found}
 
 pub in_got : {A : Type 0} (xs : List A) (n : ℕ) (x : A) → slice_get xs n ≡ Some x → In x xs
-in_got [] n x e = cc
-in_got (y ∷ xs) zero x e = subst (λ z. In x (z ∷ xs)) (inside (sym e)) here
+in_got {A} [] n x e = cc
+in_got {A} (y ∷ xs) zero x e = subst (λ (z : A). In x (z ∷ xs)) (inside (sym e)) here
   where
-    inside : {a b : A} → Some a ≡ Some b → a ≡ b
+    inside : Some x ≡ Some y → x ≡ y
     inside q = cc
-in_got (y ∷ xs) (suc n) x e = there (in_got xs n x e)
+in_got {A} (y ∷ xs) (suc n) x e = there (in_got xs n x e)
 
 ascending_entries : (nodes : List Node) → ascending node_below nodes ≡ true → ascending named_below (entries_of nodes) ≡ true
 ascending_entries [] h = refl

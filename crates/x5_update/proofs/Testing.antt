@@ -53,3 +53,9 @@ pub taken_by : (s : State) (r : Request) (key : Key) (entry known : Bool)
     → known ≡ has same_key (pins_at r (holdings_view s)) key → (entry || known) ≡ is_taken (ground_in s r) key
 taken_by s r key entry known e k =
     (λ i. (e ∙ sym (any_map (λ (d : Held). is_there d.entries key) held_view s.own)) i || k i) ∙ sym (ground_taken s r key)
+
+pub known_or : (s : State) (r : Request) (key : Key) (entry : Bool)
+    → entry ≡ list_any (λ (c : Kept). is_there (entries_of c.nodes.nodes) key) s.own → entry ≡ true → entry ≡ is_taken (ground_in s r) key
+known_or s r key entry e t =
+    t ∙ ap (λ (b : Bool). b || has same_key (pins_at r (holdings_view s)) key) (sym t)
+    ∙ taken_by s r key entry (has same_key (pins_at r (holdings_view s)) key) e refl

@@ -30,6 +30,9 @@ refused_as (faults.Refused r) m o g s = λ names. g (error_view names r) (s name
 refused_as faults.NoMemory m o g s = s
 
 -- where no attribute repeats, that's what is stored
+abbrev ok_entry : Entry → Changed
+ok_entry e = Ok e
+
 abbrev added_by : Rdn → List Attribute → Option DirError → Changed
 added_by rdn attributes None = Ok (added_entry rdn attributes)
 added_by rdn attributes (Some x) = Err x
@@ -38,12 +41,12 @@ pub added_is : (rdn : Rdn) (attributes : List Attribute) (entry : Entry) → fir
     → added rdn attributes ≡ Ok entry → entry ≡ added_entry rdn attributes
 added_is rdn attributes entry none q = inside (sym q ∙ ap (added_by rdn attributes) none)
   where
-    inside : Ok entry ≡ Ok (added_entry rdn attributes) → entry ≡ added_entry rdn attributes
+    inside : ok_entry entry ≡ ok_entry (added_entry rdn attributes) → entry ≡ added_entry rdn attributes
     inside e = cc
 
 pub never_repeats : (rdn : Rdn) (attributes : List Attribute) (x : DirError) → first_of (attribute_repeats [] attributes) ≡ None
     → added rdn attributes ≡ Err x → ⊥
-never_repeats rdn attributes x none q = (let e : Ok (added_entry rdn attributes) ≡ Err x = sym (ap (added_by rdn attributes) none) ∙ q in cc)
+never_repeats rdn attributes x none q = (let e : ok_entry (added_entry rdn attributes) ≡ Err x = sym (ap (added_by rdn attributes) none) ∙ q in cc)
 
 pub added_as : (f : ChangeFault) (rdn : Rdn) (attributes : List Attribute) (o : Outcome) → first_of (attribute_repeats [] attributes) ≡ None
     → IsRefused f (added rdn attributes) → IsStopped f o

@@ -1,6 +1,6 @@
 //! Updates at the agent that masters their target (X.511, section 11; X.518, section 19.1): what it makes of one by what it holds
 //! and knows itself, and the change of what it holds.
-#![tactic(none)]
+#![tactic(auto)]
 
 mod committing;
 mod judging;
