@@ -20,22 +20,22 @@ prefixes own = map (λ (c : Kept). key_of c.prefix) own
 -- the keys are those of the prefixes, no two of which are one
 pub record AreApart (own : List Kept) (keys : List Key) : Type 0 where
   pub apart : are_apart own ≡ true
-  pub keys : (q : Key) → list_any (same_key q) keys ≡ list_any (same_key q) (prefixes own)
+  pub known : (q : Key) → list_any (same_key q) keys ≡ list_any (same_key q) (prefixes own)
 
 pub none_yet : AreApart [] []
-none_yet = record { apart = refl; keys = λ q. refl }
+none_yet = record { apart = refl; known = λ q. refl }
 
 pub still_apart : (own : List Kept) (keys : List Key) (now : List Kept) (after : List Key) → now ≡ own → after ≡ keys
     → AreApart own keys → AreApart now after
 still_apart own keys now after n k a = record {
   apart = ap are_apart n ∙ a.apart;
-  keys = λ q. ap (list_any (same_key q)) k ∙ a.keys q ∙ ap (λ (l : List Kept). list_any (same_key q) (prefixes l)) (sym n);
+  known = λ q. ap (list_any (same_key q)) k ∙ a.known q ∙ ap (λ (l : List Kept). list_any (same_key q) (prefixes l)) (sym n);
 }
 
 pub one_apart : (own : List Kept) (keys : List Key) (now : List Kept) (after : List Key) (x : Kept) (k : Key) → key_of x.prefix ≡ k
     → list_any (same_key k) keys ≡ false → ((q : Key) → list_any (same_key q) after ≡ cond (same_key k q) true (list_any (same_key q) keys))
     → now ≡ own ++ x ∷ [] → AreApart own keys → AreApart now after
-one_apart own keys now after x k is fresh more n a = record { apart = apart_now; keys = keys_now }
+one_apart own keys now after x k is fresh more n a = record { apart = apart_now; known = keys_now }
   where
     pushed : prefixes now ≡ prefixes own ++ k ∷ []
     pushed = ap prefixes n ∙ map-append (λ (c : Kept). key_of c.prefix) own (x ∷ []) ∙ ap (λ (z : Key). prefixes own ++ z ∷ []) is
@@ -43,7 +43,7 @@ one_apart own keys now after x k is fresh more n a = record { apart = apart_now;
     absent : In k (prefixes own) → ⊥
     absent i =
         let t : list_any (same_key k) (prefixes own) ≡ true = any_in (same_key k) k (prefixes own) i ((key_decides k k).1 refl) in
-        let f : list_any (same_key k) (prefixes own) ≡ false = sym (a.keys k) ∙ fresh in
+        let f : list_any (same_key k) (prefixes own) ≡ false = sym (a.known k) ∙ fresh in
         cc
 
     apart_now : are_apart now ≡ true
@@ -61,6 +61,6 @@ one_apart own keys now after x k is fresh more n a = record { apart = apart_now;
     keys_now : (q : Key) → list_any (same_key q) after ≡ list_any (same_key q) (prefixes now)
     keys_now q =
         more q ∙ turned (same_key k q) (list_any (same_key q) keys)
-        ∙ (λ i. a.keys q i || (same_both k q i || false))
+        ∙ (λ i. a.known q i || (same_both k q i || false))
         ∙ sym (list_any-append (same_key q) (prefixes own) (k ∷ []))
         ∙ ap (list_any (same_key q)) (sym pushed)
