@@ -2,6 +2,8 @@
 //! a read or compare, with its source.
 #![tactic(auto)]
 
+mod beginning;
+mod local;
 mod naming;
 mod reading;
 mod scope;
