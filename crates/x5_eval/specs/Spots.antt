@@ -6,7 +6,7 @@ use Rattle.std.specs.declared.option.Option.TheVariants.{None, Some}
 use Rattle.x5_model.specs.Words.{in_option}
 use Rattle.x5_model.specs.Members.{In}
 use Rattle.x5_model.specs.Keys.{Key, key_below, parent}
-use Rattle.x5_model.specs.Values.{key_of}
+use Rattle.x5_model.specs.Values.{Name, key_of}
 use Rattle.x5_model.specs.Answers.{EntryInfo, Sub}
 use Rattle.x5_model.specs.Requests.{Subset, Selection}
 use Rattle.x5_model_tree.specs.Tree.{is_there}
@@ -14,13 +14,17 @@ use Rattle.x5_model_tree.specs.Ask.{in_subset, info_of, sub_of}
 use Rattle.x5_model_run.specs.Holdings as model
 use Rattle.x5_dse.specs.declared.node.NodeId.{NodeId}
 use Rattle.x5_dse.specs.Linked.{Node, entries_of, node_with, is_live}
-use Rattle.x5_holdings.specs.State.{held_view}
+use Rattle.x5_holdings.specs.State.{Kept, held_view}
 use Rattle.x5_eval.specs.Numbers.{copy_number, held_number}
 use Rattle.x5_eval.specs.declared.spots.Spot.{Spot}
 
 -- the context as the definitions see it
 abbrev pub spot_view : Spot → model.Held
 spot_view s = record (held_view s.held.now) { prefix = s.prefix.now }
+
+-- the context as the definitions see it, with this prefix
+abbrev pub held_as : Name → Kept → model.Held
+held_as prefix k = record (held_view k) { prefix = prefix }
 
 -- something is held at the number, and of when it is: a copy's stamp
 abbrev pub is_held : model.Holdings → ℕ → Bool

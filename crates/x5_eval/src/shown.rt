@@ -2,34 +2,34 @@
 
 ghost use Rattle.std.specs.Prelude.{◌≡◌, ◌<◌, ◌∷◌, ◌&&◌, [], ℕ, true, List, Some, length, map, IfOk, IsTrue};
 ghost use Rattle.std.specs.List.{filter};
-ghost use Rattle.std.specs.Option.{is_some};
 ghost use Rattle.x5_model.specs.Truth.{selects_entry};
 ghost use Rattle.x5_model.specs.Values.{key_of};
 ghost use Rattle.x5_model.specs.Words.{distinct, same_octets, sorted};
 ghost use Rattle.x5_model_tree.specs.Ask as model;
 ghost use Rattle.x5_model_tree.specs.Tree.{key_at};
-ghost use Rattle.x5_model_run.specs.Needs as needs;
+ghost use Rattle.x5_model_run.specs.Placed.{is_query_below};
 ghost use Rattle.x5_model_serve.specs.Answering.{before_info, is_in_order};
 ghost use Rattle.x5_match.specs.FilterView.{filter_view};
 ghost use Rattle.x5_ops.specs.AnswerViews.{answer_view, info_view, outcome_view, source_view, sub_view};
 ghost use Rattle.x5_ops.specs.ReferenceViews.{chained_view};
 ghost use Rattle.x5_ops.specs.RequestViews.{body_view, selection_view, subset_view};
 ghost use Rattle.x5_dse.specs.Linked.{entries_of, is_live};
-ghost use Rattle.x5_eval.specs.Shown.{nothing_by, shown_by, source_of, whole};
-ghost use Rattle.x5_eval.specs.Spots.{AreLive, AreNamed, info_shown, spot_view, sub_shown};
+ghost use Rattle.x5_eval.specs.Shown.{nothing_by, shown_by, whole};
+ghost use Rattle.x5_eval.specs.Spots.{AreLive, AreNamed, held_as, info_shown, sub_shown};
 
 use crate::naming::source;
 use crate::reading::info_at;
 use crate::scope::{nodes_found, nodes_in};
-use crate::spots::Spot;
+use crate::subsets::subset_of;
 use std::alloc::Global;
 use x5_dse::{DseTree, NodeId};
+use x5_holdings::Held;
 use x5_know::AgentNames;
 use x5_match::Filter;
 use x5_memory::NoMemory;
 use x5_names::Name;
 use x5_ops::{
-    AgentId, Answer, Body, Chained, EntryInfo, Listed, Outcome, Selection, SourceList, Sub,
+    AgentId, Answer, Body, Chained, EntryInfo, Listed, Moment, Outcome, Selection, SourceList, Sub,
     Subset,
 };
 
@@ -97,39 +97,35 @@ fn in_order(infos: Vec<EntryInfo>) -> Result<Vec<EntryInfo>, NoMemory>
 /// What a list finds in the context, in the order of keys.
 fn subs_in(
     alloc: Global,
-    spot: Spot<'_>,
+    held: &Held,
+    copy: bool,
     base: &Name,
     subset: Subset,
 ) -> Result<Vec<Sub>, NoMemory>
-    ensures { IfOk result (λ subs. map sub_view subs.items ≡ map (model.sub_of (λ key. is_some spot.stamp)) (filter (λ e. model.in_subset (subset_view subset) (key_of base.now) (key_at e)) (entries_of spot.held.now.nodes.nodes))) }
+    ensures { IfOk result (λ subs. map sub_view subs.items ≡ map (model.sub_of (λ key. copy)) (filter (λ e. model.in_subset (subset_view subset) (key_of base.now) (key_at e)) (entries_of held.now.nodes.nodes))) }
 {
-    let nodes = nodes_in(alloc, spot.held, base, subset)?;
-    let tree = spot.held.tree();
+    let nodes = nodes_in(alloc, held, base, subset)?;
+    let tree = held.tree();
     let _ = tree.entry(tree.top());
-    subs_at(alloc, tree, &nodes, spot.stamp.is_some())
+    subs_at(alloc, tree, &nodes, copy)
 }
 
 /// What a search finds in the context, in the order of keys.
 fn infos_in(
     alloc: Global,
-    spot: Spot<'_>,
+    held: &Held,
+    copy: bool,
     base: &Name,
     subset: Subset,
     wanted: &Filter,
     selection: &Selection,
 ) -> Result<Vec<EntryInfo>, NoMemory>
-    ensures { IfOk result (λ infos. map info_view infos.items ≡ map (model.info_of (λ key. is_some spot.stamp) (selection_view selection.now)) (filter (λ e. model.in_subset (subset_view subset) (key_of base.now) (key_at e) && selects_entry (filter_view wanted.now) e.entry) (entries_of spot.held.now.nodes.nodes))) }
+    ensures { IfOk result (λ infos. map info_view infos.items ≡ map (model.info_of (λ key. copy) (selection_view selection.now)) (filter (λ e. model.in_subset (subset_view subset) (key_of base.now) (key_at e) && selects_entry (filter_view wanted.now) e.entry) (entries_of held.now.nodes.nodes))) }
 {
-    let nodes = nodes_found(alloc, spot.held, base, subset, wanted)?;
-    let tree = spot.held.tree();
+    let nodes = nodes_found(alloc, held, base, subset, wanted)?;
+    let tree = held.tree();
     let _ = tree.entry(tree.top());
-    in_order(infos_at(
-        alloc,
-        tree,
-        &nodes,
-        spot.stamp.is_some(),
-        selection,
-    )?)
+    in_order(infos_at(alloc, tree, &nodes, copy, selection)?)
 }
 
 /// The context alone as the source.
@@ -137,14 +133,15 @@ fn source_alone(
     alloc: Global,
     names: &AgentNames,
     me: AgentId,
-    spot: Spot<'_>,
+    prefix: &Name,
+    stamp: Option<Moment>,
 ) -> Result<SourceList, NoMemory>
     requires there { me < length names.now }
     requires apart { distinct same_octets names.now ≡ true }
-    ensures { IfOk result (λ sources. map (source_view names.now) sources ≡ source_of me spot.stamp (spot_view spot) ∷ []) }
+    ensures { IfOk result (λ sources. map (source_view names.now) sources ≡ record { context = prefix.now; agent = me; moment = stamp } ∷ []) }
 {
     let mut sources = Listed::new(alloc);
-    sources.push(source(names, me, spot.prefix, spot.stamp)?)?;
+    sources.push(source(names, me, prefix, stamp)?)?;
     Ok(sources)
 }
 
@@ -177,35 +174,42 @@ pub(crate) fn nothing(alloc: Global, body: &Body) -> Answer
     }
 }
 
-/// What the context shows of a list or search that looks into this subset: its entries that are asked for, in the order of their
-/// keys, with the context as the source. Marks say what comes from a shadow.
+/// What a context shows of a list or search: its entries that are asked for, in the order of their keys, with the context as the
+/// source, by its prefix as its holder spells it. `stamp` is that of a copy; marks say what comes from a shadow.
 pub(crate) fn part_in(
     alloc: Global,
     names: &AgentNames,
     me: AgentId,
     message: &Chained,
-    subset: Subset,
-    spot: Spot<'_>,
+    prefix: &Name,
+    held: &Held,
+    stamp: Option<Moment>,
 ) -> Result<Answer, NoMemory>
     requires there { me < length names.now }
     requires apart { distinct same_octets names.now ≡ true }
-    requires subset { Some (subset_view subset) ≡ needs.subset_of (chained_view names.now message.now) }
-    ensures part { IfOk result (λ a. answer_view names.now a ≡ shown_by (body_view message.now.request.body) (chained_view names.now message.now) me spot.stamp (spot_view spot)) }
+    requires query { is_query_below (body_view message.now.request.body) ≡ true }
+    ensures part { IfOk result (λ a. answer_view names.now a ≡ shown_by (body_view message.now.request.body) (chained_view names.now message.now) me stamp (held_as prefix.now held.now)) }
     ensures order { IfOk result (λ a. is_in_order (answer_view names.now a) ≡ true) }
 {
-    let sources = source_alone(alloc, names, me, spot)?;
+    let Some(subset) = subset_of(message) else {
+        unreachable!()
+    };
+    let sources = source_alone(alloc, names, me, prefix, stamp)?;
     let outcome = complete(alloc);
+    let copy = stamp.is_some();
     let base = &message.target;
     match &message.request.body {
         Body::List { .. } => Ok(Answer::Listed {
-            subs: Listed::from_vec(subs_in(alloc, spot, base, subset)?),
+            subs: Listed::from_vec(subs_in(alloc, held, copy, base, subset)?),
             sources,
             outcome,
         }),
         Body::Search {
             filter, selection, ..
         } => Ok(Answer::Found {
-            entries: Listed::from_vec(infos_in(alloc, spot, base, subset, filter, selection)?),
+            entries: Listed::from_vec(infos_in(
+                alloc, held, copy, base, subset, filter, selection,
+            )?),
             sources,
             outcome,
         }),

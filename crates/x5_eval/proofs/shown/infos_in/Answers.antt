@@ -40,5 +40,5 @@ returns c =
     ∙ ap (sorted before_info) (c.in_ok-infos_at.ensures
     ∙ (λ i. map (info_shown (c.tree-tree.ensures.nodes i).nodes (c.is_some.ensures i) (selection_view c.args.selection.now)) (c.deref.ensures.value i)))
     ∙ search_shown nodes numbered linked (subset_view c.args.subset) (key_of c.args.base.now) (filter_view c.args.wanted.now)
-    (is_some c.args.spot.stamp) (selection_view c.args.selection.now) c.in_ok-nodes.field-0.items c.in_ok-nodes.ensures)
+    (is_some c.args.spot.stamp) (selection_view c.args.selection.now) c.in_ok-nodes.nodes.items c.in_ok-nodes.ensures)
     c.in_order.result c.in_order.ensures
