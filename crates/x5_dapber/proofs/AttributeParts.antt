@@ -1,0 +1,37 @@
+-- An attribute's values, each with its normal form for the type, are written and said by the values alone.
+use Rattle.std.proofs.Common.{◌≡◌, refl, sym, ◌∙◌, List, [], ◌∷◌, map, ap, ap₂}
+use Rattle.x5_model.specs.Assertions.{offered}
+use Rattle.x5_model.specs.Values as values
+use Rattle.x5_model_messages.specs.Terms as terms
+use Rattle.x5_model_typed.specs.Nodes as nodes
+use Rattle.x5_model_typed.specs.Rules as rules
+use Rattle.x5_ops.specs.RequestViews.{attribute_view}
+use Rattle.x5_ops.specs.declared.requests.Attribute.{Attribute}
+use Rattle.x5_syntax.specs.TypeView.{type_view}
+use Rattle.x5_syntax.specs.ValueView.{value_view}
+use Rattle.x5_syntax.specs.declared.values.Value.{Value}
+
+written_values : (type : values.TypeRef) (vs : List Value)
+    → map (λ v. terms.value_node (value_view v)) vs
+    ≡ map (λ o. terms.value_node o.value) (map (λ v. offered type (value_view v)) vs)
+written_values type [] = refl
+written_values type (v ∷ vs) = ap (λ (ns : List nodes.Node). terms.value_node (value_view v) ∷ ns) (written_values type vs)
+
+pub attribute_is : (a : Attribute) (kind vs : nodes.Node) (slice : List Value) → kind ≡ terms.type_node (type_view a.kind)
+    → vs ≡ terms.node_of (map (λ v. terms.value_node (value_view v)) slice) → slice ≡ a.values
+    → terms.node_of (kind ∷ vs ∷ []) ≡ terms.attribute_node (attribute_view a)
+attribute_is a kind vs slice is_kind are same =
+    ap₂ (λ (x y : nodes.Node). terms.node_of (x ∷ y ∷ [])) is_kind
+    (are ∙ ap (λ (l : List Value). terms.node_of (map (λ v. terms.value_node (value_view v)) l)) same
+    ∙ ap terms.node_of (written_values (type_view a.kind) a.values))
+
+through : {X : Type 0} (type : values.TypeRef) (f : X → values.Value) (xs : List X)
+    → map (λ x. offered type (f x)) xs ≡ map (λ v. offered type v) (map f xs)
+through type f [] = refl
+through type f (x ∷ xs) = ap (λ (l : List values.Offered). offered type (f x) ∷ l) (through type f xs)
+
+pub values_said : (type : values.TypeRef) (vs : List Value) (ns : List nodes.Node)
+    → map value_view vs ≡ map rules.value_in ns
+    → map (λ v. offered type (value_view v)) vs ≡ map (λ n. offered type (rules.value_in n)) ns
+values_said type vs ns e =
+    through type value_view vs ∙ ap (map (λ v. offered type v)) e ∙ sym (through type rules.value_in ns)

@@ -1,0 +1,4 @@
+mod AttributeParts
+mod FilterMembers
+mod FilterRows
+mod Members

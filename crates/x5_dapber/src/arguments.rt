@@ -1,0 +1,166 @@
+//! Requests and their arguments (X.511, sections 7 and 9 to 11) as values of types of messages.
+ghost use Rattle.std.specs.Prelude.{◌≡◌, [], ◌∷◌, IfOk, map};
+ghost use Rattle.x5_match.specs.FilterView.{filter_view};
+ghost use Rattle.x5_model_messages.specs.Requests as requests;
+ghost use Rattle.x5_model_messages.specs.FilterTerms.{filter_node as filter_node_of};
+ghost use Rattle.x5_model_messages.specs.Terms.{node_of, name_node as name_node_of, rdn_node as rdn_node_of, type_node as type_node_of};
+ghost use Rattle.x5_model_typed.specs.Leaves as leaves;
+ghost use Rattle.x5_model_typed.specs.Nodes as nodes;
+ghost use Rattle.x5_ops.specs.RequestViews.{controls_view, subset_view, selection_view, request_view};
+ghost use Rattle.x5_syntax.specs.TypeView.{type_view};
+ghost use Rattle.x5_types.specs.NodeView.{node_view};
+
+use crate::filters::filter_node;
+use crate::names::{name_node, rdn_node, type_node};
+use crate::parts::{five, four, many, number, one, three, two};
+use crate::attributes::{attributes_node, changes_node};
+use crate::values::assertion_node;
+use std::alloc::Global;
+use x5_match::Filter;
+use x5_memory::NoMemory;
+use x5_names::{Name, Rdn};
+use x5_ops::{Body, Controls, Request, Selection, Subset};
+use x5_syntax::TypeRef;
+use x5_types::Node;
+
+/// The options dontUseCopy and chainingProhibited.
+fn options_node<'a>(alloc: Global, nocopy: bool, nochain: bool) -> Result<Node<'a>, NoMemory>
+    ensures { IfOk result (λ n. node_view n ≡ leaves.options_node nocopy nochain) }
+{
+    two(alloc, Node::Flag(nocopy), Node::Flag(nochain))
+}
+
+fn size_node<'a>(size: Option<u32>) -> Node<'a>
+    ensures { node_view result ≡ requests.size_node size }
+{
+    match size {
+        None => Node::Vacant,
+        Some(entries) => number(entries),
+    }
+}
+
+/// Service controls (X.511, section 7.5).
+fn controls_node<'a>(alloc: Global, controls: Controls) -> Result<Node<'a>, NoMemory>
+    ensures { IfOk result (λ n. node_view n ≡ requests.controls_node (controls_view controls)) }
+{
+    let options = options_node(alloc, controls.nocopy, controls.nochain)?;
+    four(alloc, options, Node::Vacant, Node::Vacant, size_node(controls.size))
+}
+
+/// The number of a subset (X.511, section 10.2.1).
+fn subset_number(subset: Subset) -> u32
+    ensures { result ≡ requests.subset_number (subset_view subset) }
+{
+    match subset {
+        Subset::Base => 0,
+        Subset::One => 1,
+        Subset::Tree => 2,
+    }
+}
+
+fn types_node<'a>(alloc: Global, kinds: &[TypeRef]) -> Result<Node<'a>, NoMemory>
+    ensures { IfOk result (λ n. node_view n ≡ node_of (map type_node_of (map type_view kinds.now))) }
+{
+    let mut nodes = Vec::new(alloc);
+    for kind in kinds {
+        nodes.push(type_node(alloc, kind)?)?;
+    }
+    Ok(many(nodes))
+}
+
+/// A selection of attributes (X.511, section 7.6).
+fn selection_node<'a>(alloc: Global, selection: &Selection) -> Result<Node<'a>, NoMemory>
+    ensures { IfOk result (λ n. node_view n ≡ requests.selection_node (selection_view selection.now)) }
+{
+    match selection {
+        Selection::All => one(alloc, Node::Vacant),
+        Selection::Only(kinds) => one(alloc, types_node(alloc, kinds.as_slice())?),
+    }
+}
+
+/// The argument of a search (X.511, section 10.2).
+fn search_node<'a>(
+    alloc: Global,
+    base: &'a Name,
+    subset: Subset,
+    filter: &'a Filter,
+    selection: &Selection,
+    controls: Node<'a>,
+) -> Result<Node<'a>, NoMemory>
+    ensures { IfOk result (λ n. node_view n ≡ node_of (name_node_of base.now ∷ nodes.whole (requests.subset_number (subset_view subset)) ∷ filter_node_of (filter_view filter.now) ∷ requests.selection_node (selection_view selection.now) ∷ node_view controls.entry ∷ [])) }
+{
+    let base = name_node(alloc, base)?;
+    let subset = number(subset_number(subset));
+    let filter = filter_node(alloc, filter)?;
+    let selection = selection_node(alloc, selection)?;
+    five(alloc, base, subset, filter, selection, controls)
+}
+
+/// The argument of a modifyDN (X.511, section 11.4).
+fn rename_node<'a>(
+    alloc: Global,
+    object: &'a Name,
+    rdn: &'a Rdn,
+    drop_old: bool,
+    controls: Node<'a>,
+) -> Result<Node<'a>, NoMemory>
+    ensures { IfOk result (λ n. node_view n ≡ node_of (name_node_of object.now ∷ rdn_node_of rdn.now ∷ nodes.Flag drop_old ∷ node_view controls.entry ∷ [])) }
+{
+    let object = name_node(alloc, object)?;
+    let rdn = rdn_node(alloc, rdn)?;
+    four(alloc, object, rdn, Node::Flag(drop_old), controls)
+}
+
+/// The argument of an operation, with its controls.
+pub fn argument_node<'a>(
+    alloc: Global,
+    request: &'a Request,
+) -> Result<Node<'a>, NoMemory>
+    ensures { IfOk result (λ n. node_view n ≡ requests.argument_node (request_view request.now)) }
+{
+    let controls = controls_node(alloc, request.controls)?;
+    match &request.body {
+        Body::Read { object, selection } => three(
+            alloc,
+            name_node(alloc, object)?,
+            selection_node(alloc, selection)?,
+            controls,
+        ),
+        Body::Compare {
+            object,
+            kind,
+            value,
+        } => three(
+            alloc,
+            name_node(alloc, object)?,
+            assertion_node(alloc, kind, value)?,
+            controls,
+        ),
+        Body::List { object } | Body::Remove { object } => {
+            two(alloc, name_node(alloc, object)?, controls)
+        }
+        Body::Search {
+            base,
+            subset,
+            filter,
+            selection,
+        } => search_node(alloc, base, *subset, filter, selection, controls),
+        Body::Add { object, attributes } => three(
+            alloc,
+            name_node(alloc, object)?,
+            attributes_node(alloc, attributes.as_slice())?,
+            controls,
+        ),
+        Body::Modify { object, changes } => three(
+            alloc,
+            name_node(alloc, object)?,
+            changes_node(alloc, changes.as_slice())?,
+            controls,
+        ),
+        Body::ModifyDn {
+            object,
+            rdn,
+            drop_old,
+        } => rename_node(alloc, object, rdn, *drop_old, controls),
+    }
+}

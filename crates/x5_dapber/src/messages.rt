@@ -1,0 +1,40 @@
+//! Whole messages of a user (X.519, section 7), as octets.
+ghost use Rattle.std.specs.Prelude.{◌≡◌, IfOk};
+ghost use Rattle.x5_dapber.specs.Results.{IsWritten};
+ghost use Rattle.x5_model_messages.specs.Requests as requests;
+ghost use Rattle.x5_model_typed.specs.Named as named;
+ghost use Rattle.x5_model_typed.specs.Written.{canonical_octets};
+ghost use Rattle.x5_ops.specs.RequestViews.{request_view};
+ghost use Rattle.x5_types.specs.FormView.{table};
+ghost use Rattle.x5_types.specs.NodeView.{node_view};
+
+use crate::arguments::argument_node;
+use crate::parts::{chosen, number, three};
+use std::alloc::Global;
+use x5_memory::NoMemory;
+use x5_ops::Request;
+use x5_syntax::Octets;
+use x5_types::{Named, Node};
+use x5_writer::{WriteFault, write};
+
+/// A user's message: an invoke with its id, the operation's code and the argument.
+fn request_node<'a>(alloc: Global, id: u32, request: &'a Request) -> Result<Node<'a>, NoMemory>
+    ensures { IfOk result (λ n. node_view n ≡ requests.request_node id (request_view request.now)) }
+{
+    let argument = argument_node(alloc, request)?;
+    let code = number(u32::from(request.body.operation()));
+    let invoke = three(alloc, number(id), code, argument)?;
+    chosen(alloc, 1, invoke)
+}
+
+/// The canonical octets of a user's message with the id and the request (X.519, section 7; X.690, section 10).
+///
+/// # Errors
+/// `Misfit` exactly where there are none: where a part of the request passes a limit of messages, as a name of more than
+/// 16 RDNs, a text of more than 1,024 octets or a filter of more than 16 levels does. Or that memory ran out.
+pub fn encode_request(alloc: Global, id: u32, request: &Request) -> Result<Octets, WriteFault>
+    ensures { IsWritten (canonical_octets table named.DapRequest (requests.request_node id (request_view request.now))) result }
+{
+    let node = request_node(alloc, id, request)?;
+    Ok(Octets::new(write(alloc, Named::DapRequest, &node)?))
+}

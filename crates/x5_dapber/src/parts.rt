@@ -1,0 +1,103 @@
+//! Values of types with components or members, of these.
+ghost use Rattle.std.specs.Prelude.{◌≡◌, ◌∷◌, [], map, IfOk, pos};
+ghost use Rattle.x5_model_messages.specs.Terms.{node_of};
+ghost use Rattle.x5_model_typed.specs.Nodes as nodes;
+ghost use Rattle.x5_types.specs.NodeView.{node_view};
+
+use std::alloc::Global;
+use x5_memory::NoMemory;
+use x5_syntax::Text;
+use x5_types::{Characters, Node};
+
+pub fn many<'a>(parts: Vec<Node<'a>>) -> Node<'a>
+    ensures { node_view result ≡ node_of (map node_view parts.entry.items) }
+{
+    Node::Many(parts)
+}
+
+pub fn one<'a>(alloc: Global, a: Node<'a>) -> Result<Node<'a>, NoMemory>
+    ensures { IfOk result (λ n. node_view n ≡ node_of (node_view a.entry ∷ [])) }
+{
+    let mut parts = Vec::new(alloc);
+    parts.push(a)?;
+    Ok(many(parts))
+}
+
+pub fn two<'a>(alloc: Global, a: Node<'a>, b: Node<'a>) -> Result<Node<'a>, NoMemory>
+    ensures { IfOk result (λ n. node_view n ≡ node_of (node_view a.entry ∷ node_view b.entry ∷ [])) }
+{
+    let mut parts = Vec::new(alloc);
+    parts.push(a)?;
+    parts.push(b)?;
+    Ok(many(parts))
+}
+
+pub fn three<'a>(
+    alloc: Global,
+    a: Node<'a>,
+    b: Node<'a>,
+    c: Node<'a>,
+) -> Result<Node<'a>, NoMemory>
+    ensures { IfOk result (λ n. node_view n ≡ node_of (node_view a.entry ∷ node_view b.entry ∷ node_view c.entry ∷ [])) }
+{
+    let mut parts = Vec::new(alloc);
+    parts.push(a)?;
+    parts.push(b)?;
+    parts.push(c)?;
+    Ok(many(parts))
+}
+
+pub fn four<'a>(
+    alloc: Global,
+    a: Node<'a>,
+    b: Node<'a>,
+    c: Node<'a>,
+    d: Node<'a>,
+) -> Result<Node<'a>, NoMemory>
+    ensures { IfOk result (λ n. node_view n ≡ node_of (node_view a.entry ∷ node_view b.entry ∷ node_view c.entry ∷ node_view d.entry ∷ [])) }
+{
+    let mut parts = Vec::new(alloc);
+    parts.push(a)?;
+    parts.push(b)?;
+    parts.push(c)?;
+    parts.push(d)?;
+    Ok(many(parts))
+}
+
+/// One of several, by its context tag.
+pub fn chosen<'a>(alloc: Global, tag: u32, node: Node<'a>) -> Result<Node<'a>, NoMemory>
+    ensures { IfOk result (λ n. node_view n ≡ nodes.Chosen tag (node_view node.entry)) }
+{
+    Ok(Node::Chosen(tag, Box::new(alloc, node)?))
+}
+
+pub fn number<'a>(number: u32) -> Node<'a>
+    ensures { node_view result ≡ nodes.whole number }
+{
+    Node::Number(i64::from(number))
+}
+
+pub fn text<'a>(text: &'a Text) -> Node<'a>
+    ensures { node_view result ≡ nodes.Text text.now }
+{
+    Node::Text(Characters::Lent(text.as_str()))
+}
+
+pub fn five<'a>(
+    alloc: Global,
+    a: Node<'a>,
+    b: Node<'a>,
+    c: Node<'a>,
+    d: Node<'a>,
+    e: Node<'a>,
+) -> Result<Node<'a>, NoMemory>
+    ensures { IfOk result (λ n. node_view n ≡ node_of (node_view a.entry ∷ node_view b.entry ∷ node_view c.entry ∷ node_view d.entry ∷ node_view e.entry ∷ [])) }
+{
+    let mut parts = Vec::new(alloc);
+    parts.push(a)?;
+    parts.push(b)?;
+    parts.push(c)?;
+    parts.push(d)?;
+    parts.push(e)?;
+    Ok(many(parts))
+}
