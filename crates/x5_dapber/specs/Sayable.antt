@@ -23,6 +23,10 @@ IsValue n = Unit {0}
 
 -- of just so many parts
 
+abbrev pub OfOne : (Node → Type 0) → List Node → Type 0
+OfOne P (a ∷ []) = P a
+OfOne P other = ⊥
+
 abbrev pub OfTwo : (Node → Node → Type 0) → List Node → Type 0
 OfTwo P (a ∷ b ∷ []) = P a b
 OfTwo P other = ⊥
@@ -89,11 +93,7 @@ abbrev pub IsCount : Node → Type 0
 IsCount n = (k : ℕ) → number_in n ≡ Some k → k < 2 ^ 32
 
 abbrev pub IsSelection : Node → Type 0
-IsSelection n = by (parts n)
-  where
-    by : List Node → Type 0
-    by (types ∷ []) = All IsType (parts types)
-    by other = ⊥
+IsSelection n = OfOne (λ types. All IsType (parts types)) (parts n)
 
 abbrev pub AreControls : Node → Type 0
 AreControls n = OfFour (λ options priority time size. IsCount size) (parts n)
@@ -113,12 +113,6 @@ abbrev pub IsArgument : ℕ → Node → Type 0
 IsArgument code n = AreControls (last_node (parts n)) × AreParts code (parts n)
 
 abbrev pub IsRequest : Node → Type 0
-IsRequest m = by m
-  where
-    of : List Node → Type 0
-    of (id ∷ code ∷ argument ∷ []) = IsCount id × IsCount code × IsArgument (in_option 0 (λ k. k) (number_in code)) argument
-    of other = ⊥
-
-    by : Node → Type 0
-    by (Chosen tag n) = of (parts n)
-    by n = ⊥
+IsRequest (Chosen tag n) =
+    OfThree (λ id code argument. IsCount id × IsCount code × IsArgument (in_option 0 (λ k. k) (number_in code)) argument) (parts n)
+IsRequest n = ⊥

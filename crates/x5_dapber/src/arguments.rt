@@ -112,7 +112,7 @@ fn rename_node<'a>(
 }
 
 /// The argument of an operation, with its controls.
-pub fn argument_node<'a>(
+pub(crate) fn argument_node<'a>(
     alloc: Global,
     request: &'a Request,
 ) -> Result<Node<'a>, NoMemory>

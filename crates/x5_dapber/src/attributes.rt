@@ -13,7 +13,7 @@ use x5_ops::{Attribute, Change};
 use x5_types::Node;
 
 /// A type and values of it.
-pub fn attribute_node<'a>(
+pub(crate) fn attribute_node<'a>(
     alloc: Global,
     attribute: &'a Attribute,
 ) -> Result<Node<'a>, NoMemory>
@@ -25,7 +25,7 @@ pub fn attribute_node<'a>(
 }
 
 /// Attributes: a SET OF them.
-pub fn attributes_node<'a>(
+pub(crate) fn attributes_node<'a>(
     alloc: Global,
     attributes: &'a [Attribute],
 ) -> Result<Node<'a>, NoMemory>
@@ -51,7 +51,7 @@ fn change_node<'a>(alloc: Global, change: &'a Change) -> Result<Node<'a>, NoMemo
 }
 
 /// Changes: a SEQUENCE OF them.
-pub fn changes_node<'a>(alloc: Global, changes: &'a [Change]) -> Result<Node<'a>, NoMemory>
+pub(crate) fn changes_node<'a>(alloc: Global, changes: &'a [Change]) -> Result<Node<'a>, NoMemory>
     ensures { IfOk result (λ n. node_view n ≡ terms.node_of (map terms.change_node (map change_view changes.now))) }
 {
     let mut nodes = Vec::new(alloc);

@@ -77,7 +77,7 @@ fn item_node<'a>(alloc: Global, item: &'a Item) -> Result<Node<'a>, NoMemory>
 }
 
 /// A filter, by its kind.
-pub fn filter_node<'a>(alloc: Global, filter: &'a Filter) -> Result<Node<'a>, NoMemory>
+pub(crate) fn filter_node<'a>(alloc: Global, filter: &'a Filter) -> Result<Node<'a>, NoMemory>
     ensures { IfOk result (λ n. node_view n ≡ terms.filter_node (filter_view filter.now)) }
 {
     match filter {

@@ -2,16 +2,23 @@
 //! by the one reader and the one writer over the table of types (X.690).
 #![tactic(auto)]
 
-pub mod arguments;
-pub mod attributes;
-pub mod filters;
-pub mod messages;
-pub mod names;
-pub mod parts;
-pub mod read_arguments;
-pub mod read_attributes;
-pub mod read_filters;
-pub mod read_values;
-pub mod values;
+mod arguments;
+mod attributes;
+mod fault;
+mod filters;
+mod messages;
+mod names;
+mod parts;
+mod read_arguments;
+mod read_attributes;
+mod read_filters;
+mod read_values;
+mod references;
+mod replies;
+mod values;
 
+pub use crate::fault::WireFault;
+pub use crate::messages::{decode_request, encode_answer, encode_request};
 pub use x5_memory::NoMemory;
+pub use x5_typed::BerFault;
+pub use x5_writer::WriteFault;

@@ -1,19 +1,29 @@
 //! Whole messages of a user (X.519, section 7), as octets.
-ghost use Rattle.std.specs.Prelude.{◌≡◌, IfOk};
-ghost use Rattle.x5_dapber.specs.Results.{IsWritten};
+ghost use Rattle.std.specs.Prelude.{◌≡◌, ℕ, IfOk, Result, Ok};
+ghost use Rattle.x5_dapber.specs.ReplyViews.{told_reply};
+ghost use Rattle.x5_dapber.specs.Results.{IsWritten, Decodes};
+ghost use Rattle.x5_model_messages.specs.Replies as replies;
 ghost use Rattle.x5_model_messages.specs.Requests as requests;
+ghost use Rattle.x5_model_typed.specs.Judged as judged;
 ghost use Rattle.x5_model_typed.specs.Named as named;
+ghost use Rattle.x5_model_typed.specs.Nodes as nodes;
+ghost use Rattle.x5_model_typed.specs.Typed.{Spells};
 ghost use Rattle.x5_model_typed.specs.Written.{canonical_octets};
 ghost use Rattle.x5_ops.specs.RequestViews.{request_view};
+ghost use Rattle.x5_typed.specs.Comes.{ComesTo};
 ghost use Rattle.x5_types.specs.FormView.{table};
 ghost use Rattle.x5_types.specs.NodeView.{node_view};
 
 use crate::arguments::argument_node;
+use crate::fault::WireFault;
 use crate::parts::{chosen, number, three};
+use crate::read_arguments::request_in;
+use crate::replies::reply_node;
 use std::alloc::Global;
 use x5_memory::NoMemory;
-use x5_ops::Request;
+use x5_ops::{Reply, Request};
 use x5_syntax::Octets;
+use x5_typed::read;
 use x5_types::{Named, Node};
 use x5_writer::{WriteFault, write};
 
@@ -30,11 +40,52 @@ fn request_node<'a>(alloc: Global, id: u32, request: &'a Request) -> Result<Node
 /// The canonical octets of a user's message with the id and the request (X.519, section 7; X.690, section 10).
 ///
 /// # Errors
-/// `Misfit` exactly where there are none: where a part of the request passes a limit of messages, as a name of more than
+/// `Misfit` exactly where there are none, since a part of the request passes a limit of messages, as a name of more than
 /// 16 RDNs, a text of more than 1,024 octets or a filter of more than 16 levels does. Or that memory ran out.
 pub fn encode_request(alloc: Global, id: u32, request: &Request) -> Result<Octets, WriteFault>
     ensures { IsWritten (canonical_octets table named.DapRequest (requests.request_node id (request_view request.now))) result }
 {
     let node = request_node(alloc, id, request)?;
     Ok(Octets::new(write(alloc, Named::DapRequest, &node)?))
+}
+
+/// The code of a referral to a user (X.511, section 12.6).
+const REFERRAL: u32 = 4;
+
+/// The canonical octets of what is answered to a user: a result of the operation with the code, an error or a referral, with
+/// the id of the request (X.519, section 7; X.690, section 10).
+///
+/// # Errors
+/// `Misfit` exactly where there are none: the answer isn't one of that operation, or passes a limit of messages. Or that
+/// memory ran out.
+pub fn encode_answer(
+    alloc: Global,
+    id: u32,
+    operation: u8,
+    reply: &Reply,
+) -> Result<Octets, WriteFault>
+    ensures { IsWritten (canonical_octets table named.DapAnswer (replies.reply_node replies.to_user id (told_reply operation reply.now))) result }
+{
+    let node = reply_node(alloc, REFERRAL, id, operation, reply)?;
+    Ok(Octets::new(write(alloc, Named::DapAnswer, &node)?))
+}
+
+/// The id and the request of a user's message (X.519, section 7): of octets that are one spelling of it and nothing else.
+///
+/// # Errors
+/// The first breach in the order of reading, with its place: the whole first reading, whatever the type, before the
+/// second. `Unrecognised` exactly where that is the code of an operation that users don't have. Or that memory ran out.
+pub fn decode_request(alloc: Global, octets: &[u8]) -> Result<(u32, Request), WireFault>
+    // What the value says, or the breach, that reading comes to; and it comes to exactly one.
+    ensures decodes { (e : Result nodes.Node judged.Breach) → ComesTo named.DapRequest octets.now e
+        → Decodes (λ p. (p.0, request_view p.1)) requests.request_in e result }
+    ensures comes { (e : Result nodes.Node judged.Breach) × ComesTo named.DapRequest octets.now e }
+    // Of octets that spell a value of the type it's what that says, and no other octets give a request.
+    ensures exact { (n : nodes.Node) → Spells table named.DapRequest octets.now n
+        → Decodes (λ p. (p.0, request_view p.1)) requests.request_in (Ok n) result }
+    ensures spelled { IfOk result (λ p. (n : nodes.Node) × Spells table named.DapRequest octets.now n
+        × ((p.0, request_view p.1) ≡ requests.request_in n)) }
+{
+    let node = read(alloc, Named::DapRequest, octets)?;
+    Ok(request_in(alloc, &node)?)
 }

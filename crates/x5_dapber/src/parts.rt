@@ -9,13 +9,13 @@ use x5_memory::NoMemory;
 use x5_syntax::Text;
 use x5_types::{Characters, Node};
 
-pub fn many<'a>(parts: Vec<Node<'a>>) -> Node<'a>
+pub(crate) fn many<'a>(parts: Vec<Node<'a>>) -> Node<'a>
     ensures { node_view result ≡ node_of (map node_view parts.entry.items) }
 {
     Node::Many(parts)
 }
 
-pub fn one<'a>(alloc: Global, a: Node<'a>) -> Result<Node<'a>, NoMemory>
+pub(crate) fn one<'a>(alloc: Global, a: Node<'a>) -> Result<Node<'a>, NoMemory>
     ensures { IfOk result (λ n. node_view n ≡ node_of (node_view a.entry ∷ [])) }
 {
     let mut parts = Vec::new(alloc);
@@ -23,7 +23,7 @@ pub fn one<'a>(alloc: Global, a: Node<'a>) -> Result<Node<'a>, NoMemory>
     Ok(many(parts))
 }
 
-pub fn two<'a>(alloc: Global, a: Node<'a>, b: Node<'a>) -> Result<Node<'a>, NoMemory>
+pub(crate) fn two<'a>(alloc: Global, a: Node<'a>, b: Node<'a>) -> Result<Node<'a>, NoMemory>
     ensures { IfOk result (λ n. node_view n ≡ node_of (node_view a.entry ∷ node_view b.entry ∷ [])) }
 {
     let mut parts = Vec::new(alloc);
@@ -32,7 +32,7 @@ pub fn two<'a>(alloc: Global, a: Node<'a>, b: Node<'a>) -> Result<Node<'a>, NoMe
     Ok(many(parts))
 }
 
-pub fn three<'a>(
+pub(crate) fn three<'a>(
     alloc: Global,
     a: Node<'a>,
     b: Node<'a>,
@@ -47,7 +47,7 @@ pub fn three<'a>(
     Ok(many(parts))
 }
 
-pub fn four<'a>(
+pub(crate) fn four<'a>(
     alloc: Global,
     a: Node<'a>,
     b: Node<'a>,
@@ -65,25 +65,25 @@ pub fn four<'a>(
 }
 
 /// One of several, by its context tag.
-pub fn chosen<'a>(alloc: Global, tag: u32, node: Node<'a>) -> Result<Node<'a>, NoMemory>
+pub(crate) fn chosen<'a>(alloc: Global, tag: u32, node: Node<'a>) -> Result<Node<'a>, NoMemory>
     ensures { IfOk result (λ n. node_view n ≡ nodes.Chosen tag (node_view node.entry)) }
 {
     Ok(Node::Chosen(tag, Box::new(alloc, node)?))
 }
 
-pub fn number<'a>(number: u32) -> Node<'a>
+pub(crate) fn number<'a>(number: u32) -> Node<'a>
     ensures { node_view result ≡ nodes.whole number }
 {
     Node::Number(i64::from(number))
 }
 
-pub fn text<'a>(text: &'a Text) -> Node<'a>
+pub(crate) fn text<'a>(text: &'a Text) -> Node<'a>
     ensures { node_view result ≡ nodes.Text text.now }
 {
     Node::Text(Characters::Lent(text.as_str()))
 }
 
-pub fn five<'a>(
+pub(crate) fn five<'a>(
     alloc: Global,
     a: Node<'a>,
     b: Node<'a>,
@@ -99,5 +99,26 @@ pub fn five<'a>(
     parts.push(c)?;
     parts.push(d)?;
     parts.push(e)?;
+    Ok(many(parts))
+}
+
+pub(crate) fn six<'a>(
+    alloc: Global,
+    a: Node<'a>,
+    b: Node<'a>,
+    c: Node<'a>,
+    d: Node<'a>,
+    e: Node<'a>,
+    f: Node<'a>,
+) -> Result<Node<'a>, NoMemory>
+    ensures { IfOk result (λ n. node_view n ≡ node_of (node_view a.entry ∷ node_view b.entry ∷ node_view c.entry ∷ node_view d.entry ∷ node_view e.entry ∷ node_view f.entry ∷ [])) }
+{
+    let mut parts = Vec::new(alloc);
+    parts.push(a)?;
+    parts.push(b)?;
+    parts.push(c)?;
+    parts.push(d)?;
+    parts.push(e)?;
+    parts.push(f)?;
     Ok(many(parts))
 }

@@ -4,6 +4,7 @@ ghost use Rattle.x5_dapber.specs.Sayable as sayable;
 ghost use Rattle.x5_model.specs.Words.{in_option};
 ghost use Rattle.x5_model_messages.specs.Requests as requests;
 ghost use Rattle.x5_model_messages.specs.Terms as terms;
+ghost use Rattle.x5_model_typed.specs.Nodes as nodes;
 ghost use Rattle.x5_ops.specs.RequestViews.{controls_view, subset_view, selection_view, body_view, request_view};
 ghost use Rattle.x5_syntax.specs.TypeView.{type_view};
 ghost use Rattle.x5_types.specs.NodeView.{node_view};
@@ -24,7 +25,7 @@ fn count_in(node: &Node<'_>) -> Option<u32>
     ensures { result ≡ terms.number_in (node_view node.now) }
 {
     match node {
-        Node::Number(number) if 0 <= *number => Some(*number as u32),
+        Node::Number(number) => u32::try_from(*number).ok(),
         _ => None,
     }
 }
@@ -44,6 +45,12 @@ fn flag_in(node: &Node<'_>) -> bool
         Node::Flag(flag) => *flag,
         _ => false,
     }
+}
+
+fn is_vacant(node: &Node<'_>) -> bool
+    ensures { result ≡ nodes.is_vacant (node_view node.now) }
+{
+    matches!(node, Node::Vacant)
 }
 
 /// The RDN that the node says.
@@ -108,9 +115,10 @@ fn selection_in(alloc: Global, node: &Node<'_>) -> Result<Selection, NoMemory>
     let [kinds] = node.parts() else {
         unreachable!()
     };
-    match kinds {
-        Node::Vacant => Ok(Selection::All),
-        _ => Ok(Selection::Only(types_in(alloc, kinds.parts())?)),
+    if is_vacant(kinds) {
+        Ok(Selection::All)
+    } else {
+        Ok(Selection::Only(types_in(alloc, kinds.parts())?))
     }
 }
 
@@ -159,14 +167,18 @@ fn search_in(alloc: Global, parts: &[Node<'_>]) -> Result<Body, NoMemory>
     requires { sayable.AreParts 5 (map node_view parts.now) }
     ensures { IfOk result (λ b. body_view b ≡ requests.body_in 5 (map node_view parts.now)) }
 {
-    let [base, subset, filter, selection, _] = parts else {
+    if parts.len() != 5 {
         unreachable!()
-    };
+    }
+    let base = name_of(alloc, &parts[0])?;
+    let subset = subset_in(&parts[1]);
+    let filter = filter_in(alloc, &parts[2])?;
+    let selection = selection_in(alloc, &parts[3])?;
     Ok(Body::Search {
-        base: name_of(alloc, base)?,
-        subset: subset_in(subset),
-        filter: filter_in(alloc, filter)?,
-        selection: selection_in(alloc, selection)?,
+        base,
+        subset,
+        filter,
+        selection,
     })
 }
 
@@ -240,7 +252,7 @@ fn body_in(alloc: Global, code: u32, parts: &[Node<'_>]) -> Result<Body, NoMemor
 }
 
 /// The request of the operation with the code that the argument says.
-pub fn argument_in(
+pub(crate) fn argument_in(
     alloc: Global,
     code: u32,
     node: &Node<'_>,
@@ -259,16 +271,18 @@ pub fn argument_in(
 }
 
 /// The id and the request of the user's message that the node says.
-pub fn request_in(alloc: Global, node: &Node<'_>) -> Result<(u32, Request), NoMemory>
+pub(crate) fn request_in(alloc: Global, node: &Node<'_>) -> Result<(u32, Request), NoMemory>
     requires { sayable.IsRequest (node_view node.now) }
     ensures { IfOk result (λ p. (p.0, request_view p.1) ≡ requests.request_in (node_view node.now)) }
 {
     let Node::Chosen(_, message) = node else {
         unreachable!()
     };
-    let [id, code, argument] = message.parts() else {
+    let parts = message.parts();
+    if parts.len() != 3 {
         unreachable!()
-    };
-    let request = argument_in(alloc, code_in(code), argument)?;
-    Ok((code_in(id), request))
+    }
+    let code = code_in(&parts[1]);
+    let request = argument_in(alloc, code, &parts[2])?;
+    Ok((code_in(&parts[0]), request))
 }

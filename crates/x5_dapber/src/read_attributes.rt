@@ -12,8 +12,7 @@ use x5_ops::{Attribute, AttributeList, Change, ChangeList, Listed};
 use x5_types::Node;
 
 /// The attribute that the node says.
-#[tactic(auto, using(crate::proofs::AttributeParts::values_said))]
-pub fn attribute_in(alloc: Global, node: &Node<'_>) -> Result<Attribute, NoMemory>
+pub(crate) fn attribute_in(alloc: Global, node: &Node<'_>) -> Result<Attribute, NoMemory>
     requires { IsAttribute (node_view node.now) }
     ensures { IfOk result (λ a. attribute_view a ≡ terms.attribute_in (node_view node.now)) }
 {
@@ -29,7 +28,7 @@ pub fn attribute_in(alloc: Global, node: &Node<'_>) -> Result<Attribute, NoMemor
 }
 
 /// The attributes that the nodes say.
-pub fn attributes_in(alloc: Global, nodes: &[Node<'_>]) -> Result<AttributeList, NoMemory>
+pub(crate) fn attributes_in(alloc: Global, nodes: &[Node<'_>]) -> Result<AttributeList, NoMemory>
     requires { All (λ n. IsAttribute (node_view n)) nodes.now }
     ensures { IfOk result (λ l. map attribute_view l ≡ map terms.attribute_in (map node_view nodes.now)) }
 {
@@ -56,7 +55,7 @@ fn change_in(alloc: Global, node: &Node<'_>) -> Result<Change, NoMemory>
 }
 
 /// The changes that the nodes say.
-pub fn changes_in(alloc: Global, nodes: &[Node<'_>]) -> Result<ChangeList, NoMemory>
+pub(crate) fn changes_in(alloc: Global, nodes: &[Node<'_>]) -> Result<ChangeList, NoMemory>
     requires { All (λ n. IsChange (node_view n)) nodes.now }
     ensures { IfOk result (λ l. map change_view l ≡ map terms.change_in (map node_view nodes.now)) }
 {

@@ -105,7 +105,7 @@ fn filters_in(alloc: Global, node: &Node<'_>) -> Result<Vec<Filter>, NoMemory>
 
 /// The filter that the node says.
 #[cycle(filters)]
-pub fn filter_in(alloc: Global, node: &Node<'_>) -> Result<Filter, NoMemory>
+pub(crate) fn filter_in(alloc: Global, node: &Node<'_>) -> Result<Filter, NoMemory>
     requires said { IsFilter (node_view node.now) }
     ensures filter { IfOk result (λ f. filter_view f ≡ terms.filter_in (node_view node.now)) }
 {

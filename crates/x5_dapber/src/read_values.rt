@@ -28,7 +28,7 @@ fn oid_of(alloc: Global, arcs: &[u32]) -> Result<Oid, NoMemory>
 }
 
 /// The attribute type that the node says.
-pub fn type_in(alloc: Global, node: &Node<'_>) -> Result<TypeRef, NoMemory>
+pub(crate) fn type_in(alloc: Global, node: &Node<'_>) -> Result<TypeRef, NoMemory>
     requires { IsType (node_view node.now) }
     ensures { IfOk result (λ t. type_view t ≡ terms.type_in (node_view node.now)) }
 {
@@ -39,7 +39,7 @@ pub fn type_in(alloc: Global, node: &Node<'_>) -> Result<TypeRef, NoMemory>
 }
 
 /// The value that the node says.
-pub fn value_in(alloc: Global, node: &Node<'_>) -> Result<Value, NoMemory>
+pub(crate) fn value_in(alloc: Global, node: &Node<'_>) -> Result<Value, NoMemory>
     requires { IsValue (node_view node.now) }
     ensures { IfOk result (λ v. value_view v ≡ rules.value_in (node_view node.now)) }
 {
@@ -55,7 +55,7 @@ pub fn value_in(alloc: Global, node: &Node<'_>) -> Result<Value, NoMemory>
 }
 
 /// The values that the nodes say.
-pub fn values_in(alloc: Global, nodes: &[Node<'_>]) -> Result<Vec<Value>, NoMemory>
+pub(crate) fn values_in(alloc: Global, nodes: &[Node<'_>]) -> Result<Vec<Value>, NoMemory>
     requires { All (λ n. IsValue (node_view n)) nodes.now }
     ensures { IfOk result (λ vs. map value_view vs.items ≡ map rules.value_in (map node_view nodes.now)) }
 {
@@ -67,7 +67,7 @@ pub fn values_in(alloc: Global, nodes: &[Node<'_>]) -> Result<Vec<Value>, NoMemo
 }
 
 /// The type and the value of the assertion that the node says.
-pub fn asserted_in(alloc: Global, node: &Node<'_>) -> Result<(TypeRef, Value), NoMemory>
+pub(crate) fn asserted_in(alloc: Global, node: &Node<'_>) -> Result<(TypeRef, Value), NoMemory>
     requires { IsAssertion (node_view node.now) }
     ensures { IfOk result (λ p. assertion_of (type_view p.0) (value_view p.1) ≡ terms.assertion_in (node_view node.now)) }
 {

@@ -14,7 +14,7 @@ use x5_syntax::{TypeRef, Value};
 use x5_types::{Bytes, Node};
 
 /// A value, by its form.
-pub fn value_node<'a>(alloc: Global, value: &'a Value) -> Result<Node<'a>, NoMemory>
+pub(crate) fn value_node<'a>(alloc: Global, value: &'a Value) -> Result<Node<'a>, NoMemory>
     ensures { IfOk result (λ n. node_view n ≡ terms.value_node (value_view value.now)) }
 {
     match value {
@@ -26,7 +26,7 @@ pub fn value_node<'a>(alloc: Global, value: &'a Value) -> Result<Node<'a>, NoMem
 }
 
 /// Values: a SET OF them.
-pub fn values_node<'a>(alloc: Global, values: &'a [Value]) -> Result<Node<'a>, NoMemory>
+pub(crate) fn values_node<'a>(alloc: Global, values: &'a [Value]) -> Result<Node<'a>, NoMemory>
     ensures { IfOk result (λ n. node_view n ≡ terms.node_of (map (λ v. terms.value_node (value_view v)) values.now)) }
 {
     let mut nodes = Vec::new(alloc);
@@ -37,7 +37,7 @@ pub fn values_node<'a>(alloc: Global, values: &'a [Value]) -> Result<Node<'a>, N
 }
 
 /// What is asserted of a type: that it has the value (X.501, section 8).
-pub fn assertion_node<'a>(
+pub(crate) fn assertion_node<'a>(
     alloc: Global,
     kind: &TypeRef,
     value: &'a Value,

@@ -9,4 +9,4 @@ pub pieces_in-requires : goal.pieces_in-requires
 pieces_in-requires c =
     let both = two_are (λ type pieces. IsType type × All IsPiece (nodes.parts pieces)) c.parts.result.now _
     c.kind-item.result c.pieces-item.result c.parts.ensures c.kind-item.is c.pieces-item.is c.requires in
-    members_are IsPiece c.parts-2.result.now _ c.parts-2.ensures both.1
+    members_are IsPiece c.parts-2.result.now _ c.parts-2.ensures both.1.1
