@@ -11,11 +11,11 @@ use Rattle.x5_model_world.specs.ContextText.{below_parent, whole_name}
 
 found_passes : {A : Type 0} (p : A → Bool) (xs : List A) (x : A) → find p xs ≡ Some x → p x ≡ true
 found_passes p [] x e = cc
-found_passes {A} p (y ∷ ys) x e = by (p y) refl e
+found_passes {A} p (y ∷ ys) x e = by (p y) refl (found_passes p ys x) e
   where
-    by : (b : Bool) → p y ≡ b → cond b (Some y) (find p ys) ≡ Some x → p x ≡ true
-    by true is h = let same : y ≡ x = cc in ap p (sym same) ∙ is
-    by false is h = found_passes p ys x h
+    by : (b : Bool) → p y ≡ b → (find p ys ≡ Some x → p x ≡ true) → cond b (Some y) (find p ys) ≡ Some x → p x ≡ true
+    by true is more h = let same : y ≡ x = cc in ap p (sym same) ∙ is
+    by false is more h = more h
 
 one_less : {A : Type 0} (x y : A) (xs : List A) → length (x ∷ y ∷ xs) - 1 ≡ suc (length (y ∷ xs) - 1)
 one_less x y xs = omega arith

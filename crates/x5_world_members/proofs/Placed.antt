@@ -1,13 +1,20 @@
 -- A member by the place of its key.
-use Rattle.std.proofs.Common.{◌≡◌, ℕ, suc, ◌≤◌, ◌<◌, Bool, true, false, not, cond, ltb, List, [], ◌∷◌, map, length, slice_get, refl, sym, ap, ◌∙◌, arith, Option, Some, None}
+use Rattle.std.proofs.Common.{◌≡◌, ℕ, suc, ◌+◌, ◌≤◌, ◌<◌, Bool, true, false, not, cond, ltb, List, [], ◌∷◌, map, length, slice_get, refl, sym, ap, ◌∙◌, arith, Option, Some, None, Bor}
 use Rattle.std.proofs.lemmas.List.Folds.{find_at}
-use Rattle.std.proofs.lemmas.Option.{slice_get_past}
+use Rattle.std.proofs.lemmas.Option.{slice_get_past, slice_get_read}
 use Rattle.std.specs.List.{find, position, position_or_len}
+use Rattle.std.specs.Option.{option_copied}
+use Rattle.std.specs.Slice.{IsItemAt}
+
+-- what is got at a place
+pub item_got : {A : Type 0} (xs : List A) (i : ℕ) (r : Option (Bor A)) → IsItemAt xs i r → option_copied r ≡ slice_get xs i
+item_got xs i None h = sym (slice_get_past xs i h.3)
+item_got xs i (Some x) h = sym (slice_get_read xs (length xs) i x.now refl h.3.0 h.1)
 
 module _ {A B : Type 0} (q : B → Bool) (f : A → B) where
   same_place : (xs : List A) → position_or_len q (map f xs) ≡ position_or_len (λ x. q (f x)) xs
   same_place [] = refl
-  same_place (x ∷ xs) = ap (λ (n : ℕ). cond (not (q (f x))) (suc n) 0) (same_place xs)
+  same_place (x ∷ xs) = ap (λ (n : ℕ). cond (not (q (f x))) (1 + n) 0) (same_place xs)
 
   same_length : (xs : List A) → length (map f xs) ≡ length xs
   same_length [] = refl

@@ -1,23 +1,26 @@
 //! The naming contexts of an agent.
 
-ghost use Rattle.std.specs.Prelude.{◌≡◌, [], map};
-ghost use Rattle.serde_json.specs.View.{view, items_view};
+ghost use Rattle.std.specs.Prelude.{◌≡◌, ◌≤◌, [], ◌∷◌, ◌++◌, map, IfOk};
+ghost use Rattle.serde_json.specs.View.{view, items_view, members_view};
 ghost use Rattle.x5_model_world.specs.ContextText as model;
 ghost use Rattle.x5_ops.specs.KnowledgeViews.{context_view};
+ghost use Rattle.x5_world_members.specs.Parts as parts;
 ghost use Rattle.x5_world_members.specs.Paths.{path_of};
 ghost use Rattle.x5_world_members.specs.Views.{Reads};
 
 use crate::counts::{Counts, with_entries};
-use crate::entries::entries_behind;
+use crate::entries::{Entries, entries_behind};
 use crate::fault::LoadFault;
 use crate::json::{list_if_any, members_at, only, some_at};
 use crate::names::entry_name_at;
 use crate::nssrs::{Nssrs, nssrs_behind};
 use crate::place::Place;
-use serde_json::Value;
+use serde_json::{Map, Value};
 use std::alloc::Global;
 use std::marker::Model;
 use x5_know::AgentNames;
+use x5_memory::NoMemory;
+use x5_names::Name;
 use x5_ops::{ContextSpec, ContextSpecList};
 
 /// Contexts of an agent so far, and what the file uses of the limits so far. The references of a context aren't told to which
@@ -56,6 +59,30 @@ impl Contexts {
         self.counts
     }
 
+    /// The contexts with one more, where the file has so many entries and agents of non-specific references with its own.
+    fn with(
+        self,
+        context: ContextSpec,
+        entries: usize,
+        nssr_agents: usize,
+    ) -> Result<Contexts, NoMemory>
+        requires entries { entries ≤ 100_000 }
+        requires agents { nssr_agents ≤ 4096 }
+        ensures { IfOk result (λ c. c ≡ record { contexts = self.contexts ++ context_view context ∷ []; counts = record { contexts = self.counts.contexts; entries = entries; nssr_agents = nssr_agents } }) }
+    {
+        let Contexts {
+            mut contexts,
+            counts,
+        } = self;
+        contexts.push(context)?;
+        let counts = Counts {
+            contexts: counts.contexts,
+            entries,
+            nssr_agents,
+        };
+        Ok(Contexts { contexts, counts })
+    }
+
     /// The contexts as a list. No memory.
     pub fn into_list(self) -> ContextSpecList
         ensures { map context_view result ≡ self.contexts }
@@ -66,6 +93,36 @@ impl Contexts {
         } = self;
         ContextSpecList::from_vec(contexts)
     }
+}
+
+/// The contexts with one more, whose prefix and entries are read, where the file has so many entries with these.
+fn with_entries_read(
+    alloc: Global,
+    names: &AgentNames,
+    place: &Place<'_>,
+    before: Contexts,
+    prefix: Name,
+    entries: Entries,
+    used: usize,
+    members: &Map<String, Value>,
+    value: &Value,
+) -> Result<Contexts, LoadFault>
+    requires { used ≤ 100_000 }
+    ensures { Reads (λ c. c) result (parts.with_entries_read names.now (path_of place.now) before prefix entries used (members_view members.now.entries) (view value.now)) }
+{
+    let list = list_if_any(alloc, place, "nssr", value)?;
+    let none = Nssrs::new(alloc, before.counts().nssr_agents());
+    let here = Place::Member(place, "nssr");
+    let found = nssrs_behind(alloc, names, &here, &entries, none, list)?;
+    only(alloc, place, &["prefix", "entries", "nssr"], members)?;
+    let listed = found.listed();
+    let spec = ContextSpec {
+        prefix,
+        entries: entries.into_list(),
+        nssr: found.into_list(),
+    };
+    let contexts = before.with(spec, used, listed)?;
+    Ok(contexts)
 }
 
 /// The contexts with one more, which an object describes.
@@ -81,29 +138,11 @@ fn context_behind(
     let members = members_at(alloc, place, value)?;
     let prefix = entry_name_at(alloc, place, "prefix", value)?;
     let items = some_at(alloc, place, "entries", value)?;
-    let Contexts {
-        mut contexts,
-        counts,
-    } = before;
-    let used = with_entries(alloc, place, counts.entries, items)?;
+    let used = with_entries(alloc, place, before.counts().entries(), items)?;
     let entries = entries_behind(alloc, &Place::Member(place, "entries"), &prefix, items)?;
-    let list = list_if_any(alloc, place, "nssr", value)?;
-    let none = Nssrs::new(alloc, counts.nssr_agents);
-    let here = Place::Member(place, "nssr");
-    let found = nssrs_behind(alloc, names, &here, &entries, none, list)?;
-    only(alloc, place, &["prefix", "entries", "nssr"], members)?;
-    let listed = found.listed();
-    contexts.push(ContextSpec {
-        prefix,
-        entries: entries.into_list(),
-        nssr: found.into_list(),
-    })?;
-    let counts = Counts {
-        contexts: counts.contexts,
-        entries: used,
-        nssr_agents: listed,
-    };
-    Ok(Contexts { contexts, counts })
+    with_entries_read(
+        alloc, names, place, before, prefix, entries, used, members, value,
+    )
 }
 
 /// The contexts with all that a list describes.

@@ -72,6 +72,14 @@ impl Counts {
         self.entries
     }
 
+    /// How many agents of non-specific references there are so far, 4096 at most. No memory.
+    pub fn nssr_agents(&self) -> usize
+        ensures same { result ≡ self.now.nssr_agents }
+        ensures most { result ≤ 4096 }
+    {
+        self.nssr_agents
+    }
+
     /// The same with so many contexts. No memory.
     pub fn with_contexts(&self, contexts: usize) -> Counts
         requires { contexts ≤ 4096 }

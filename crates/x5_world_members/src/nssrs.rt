@@ -135,7 +135,14 @@ fn nssr_behind(
     let agents = agents_behind(alloc, names, &Place::Member(place, "agents"), texts)?;
     only(alloc, place, &["at", "agents"], members)?;
     let context = Name::root(alloc);
-    let nssrs = before.with(Nssr { context, at, agents }, listed)?;
+    let nssrs = before.with(
+        Nssr {
+            context,
+            at,
+            agents,
+        },
+        listed,
+    )?;
     Ok(nssrs)
 }
 

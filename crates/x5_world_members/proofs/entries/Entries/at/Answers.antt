@@ -5,7 +5,7 @@ use Rattle.x5_model.specs.Entries.{Named}
 use Rattle.x5_model.specs.Keys.{Key, same_key}
 use Rattle.x5_model.specs.Values.{key_of}
 use Rattle.x5_model_tree.specs.Tree.{key_at}
-use Rattle.x5_world_members.proofs.Placed.{placed, unplaced}
+use Rattle.x5_world_members.proofs.Placed.{item_got, placed, unplaced}
 use Rattle.x5_world_members.proofs.entries.Entries.at.Goals as goal
 
 pub returns-in-Some : goal.returns-in-Some
@@ -16,7 +16,7 @@ returns-in-Some c =
     ∙ sym (ap (λ (k : Key). position (same_key k) c.self.inside.keys) c.key.ensures)
     ∙ sym c.place.ensures
     ∙ c.in-Some.is in
-    c.get.ensures.lookup
+    item_got c.as_slice.result.now c.in-Some.place c.get.result c.get.ensures.lookup
     ∙ ap (λ (es : List Named). slice_get es c.in-Some.place) (c.as_slice.ensures.value ∙ c.self.view_is)
     ∙ sym (placed (same_key key) key_at c.args.self.now c.in-Some.place there)
 
