@@ -96,12 +96,11 @@ impl<'a> Pairs<'a> {
     }
 
     /// Adds a pair that isn't one of these at the end.
-    #[tactic(auto, using(crate::proofs::Texts::pair_there, crate::proofs::Texts::pair_more))]
-    pub(crate) fn add(&mut self, pair: (&'a str, &'a str)) -> Result<(), NoMemory>
-        requires { list_any (model.same_texts (texts_of pair)) self.old ≡ false }
-        ensures { OnOk result (self.new ≡ self.old ++ texts_of pair ∷ []) }
+    pub(crate) fn add(&mut self, a: &'a str, b: &'a str) -> Result<(), NoMemory>
+        requires { list_any (model.same_texts (a.now, b.now)) self.old ≡ false }
+        ensures { OnOk result (self.new ≡ self.old ++ (a.now, b.now) ∷ []) }
     {
-        let _added = self.pairs.insert(pair)?;
+        let _added = self.pairs.insert((a, b))?;
         Ok(())
     }
 

@@ -156,8 +156,8 @@ fn pairs_behind<'a>(
 {
     let mut pairs = Pairs::new(alloc);
     for (i, item) in items.iter().enumerate() {
-        let pair = pair_behind(alloc, &Place::Item(&*place, i), &pairs, item)?;
-        pairs.add(pair)?;
+        let (a, b) = pair_behind(alloc, &Place::Item(&*place, i), &pairs, item)?;
+        pairs.add(a, b)?;
     }
     Ok(pairs)
 }

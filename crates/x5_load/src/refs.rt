@@ -75,6 +75,7 @@ impl References {
     }
 
     /// Whether one of the kind is to the name. No memory.
+    #[tactic(auto, using(crate::proofs::Pins::of_cross, crate::proofs::Pins::of_subordinate))]
     fn has(&self, cross: bool, name: &Name) -> bool
         ensures { result ≡ has_key (model.pin_keys (model.of_kind self.now cross)) (key_of name.now) }
     {
@@ -85,8 +86,70 @@ impl References {
         }
     }
 
+    /// The references with one more cross reference, to whose name there is none.
+    #[tactic(auto, using(crate::proofs::Pins::cross_more, crate::proofs::Pins::cross_keys))]
+    fn with_cross(self, pin: Name, access: Access) -> Result<References, NoMemory>
+        requires { has_key (model.pin_keys self.cross) (key_of pin) ≡ false }
+        ensures { IfOk result (λ r. r ≡ model.with_reference self true (record { pin = pin; access = access })) }
+    {
+        let References {
+            specific,
+            mut cross,
+            mut crosses,
+            specific_keys,
+            mut cross_keys,
+        } = self;
+        let key = pin.key().clone()?;
+        cross_keys.add(key)?;
+        crosses.push(true)?;
+        cross.push(Cross { pin, access })?;
+        Ok(References {
+            specific,
+            cross,
+            crosses,
+            specific_keys,
+            cross_keys,
+        })
+    }
+
+    /// The references with one more subordinate reference, to whose name there is none.
+    #[tactic(auto, using(crate::proofs::Pins::specific_more, crate::proofs::Pins::specific_keys))]
+    fn with_subordinate(
+        self,
+        alloc: Global,
+        pin: Name,
+        access: Access,
+    ) -> Result<References, NoMemory>
+        requires { has_key (model.pin_keys self.subordinate) (key_of pin) ≡ false }
+        ensures { IfOk result (λ r. r ≡ model.with_reference self false (record { pin = pin; access = access })) }
+    {
+        let References {
+            mut specific,
+            cross,
+            mut crosses,
+            mut specific_keys,
+            cross_keys,
+        } = self;
+        let key = pin.key().clone()?;
+        specific_keys.add(key)?;
+        crosses.push(false)?;
+        let context = Name::root(alloc);
+        specific.push(Specific {
+            context,
+            pin,
+            access,
+        })?;
+        Ok(References {
+            specific,
+            cross,
+            crosses,
+            specific_keys,
+            cross_keys,
+        })
+    }
+
     /// The references with one more of the kind, to whose name none of the kind is.
-    #[tactic(auto, using(crate::proofs::Pins::specific_more, crate::proofs::Pins::cross_more, crate::proofs::Pins::specific_keys, crate::proofs::Pins::cross_keys))]
+    #[tactic(auto, using(crate::proofs::Pins::of_cross, crate::proofs::Pins::of_subordinate, crate::proofs::Pins::with_cross, crate::proofs::Pins::with_subordinate))]
     fn with(
         self,
         alloc: Global,
@@ -97,34 +160,11 @@ impl References {
         requires { has_key (model.pin_keys (model.of_kind self cross)) (key_of pin) ≡ false }
         ensures { IfOk result (λ r. r ≡ model.with_reference self cross (record { pin = pin; access = access })) }
     {
-        let References {
-            mut specific,
-            cross: mut across,
-            mut crosses,
-            mut specific_keys,
-            mut cross_keys,
-        } = self;
-        let key = pin.key().clone()?;
-        crosses.push(cross)?;
         if cross {
-            cross_keys.add(key)?;
-            across.push(Cross { pin, access })?;
+            self.with_cross(pin, access)
         } else {
-            let context = Name::root(alloc);
-            specific_keys.add(key)?;
-            specific.push(Specific {
-                context,
-                pin,
-                access,
-            })?;
+            self.with_subordinate(alloc, pin, access)
         }
-        Ok(References {
-            specific,
-            cross: across,
-            crosses,
-            specific_keys,
-            cross_keys,
-        })
     }
 }
 
