@@ -168,15 +168,17 @@ impl References {
     }
 }
 
-/// The references with one more, which an object describes.
+/// What an object describes as one more reference: of which kind, to which name, and at which agents. No reference of the kind is to
+/// that name.
 fn reference_behind(
     alloc: Global,
     names: &AgentNames,
     place: &Place<'_>,
-    before: References,
+    before: &References,
     value: &Value,
-) -> Result<References, LoadFault>
-    ensures { Reads (λ r. r) result (model.reference_behind names.now (path_of place.now) before (view value.now)) }
+) -> Result<(bool, Name, Access), LoadFault>
+    ensures read { Reads (λ r. model.with_reference before.now r.0 (record { pin = r.1; access = r.2 })) result (model.reference_behind names.now (path_of place.now) before.now (view value.now)) }
+    ensures new { IfOk result (λ r. has_key (model.pin_keys (model.of_kind before.now r.0)) (key_of r.1) ≡ false) }
 {
     let members = members_at(alloc, place, value)?;
     let word = text_at(alloc, place, "kind", value)?;
@@ -198,8 +200,7 @@ fn reference_behind(
         members,
     )?;
     let master = agent_of(names, master);
-    let references = before.with(alloc, cross, pin, Access { master, shadows })?;
-    Ok(references)
+    Ok((cross, pin, Access { master, shadows }))
 }
 
 /// The references that a list describes.
@@ -213,7 +214,9 @@ pub(crate) fn references_behind(
 {
     let mut references = References::new(alloc);
     for (i, item) in items.iter().enumerate() {
-        references = reference_behind(alloc, names, &Place::Item(&*place, i), references, item)?;
+        let here = Place::Item(&*place, i);
+        let (cross, pin, access) = reference_behind(alloc, names, &here, &references, item)?;
+        references = references.with(alloc, cross, pin, access)?;
     }
     Ok(references)
 }
