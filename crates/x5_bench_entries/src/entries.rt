@@ -46,7 +46,7 @@ fn found(tree: &DseTree, names: &[Name]) -> usize {
         .count()
 }
 
-pub fn measure(rt: &HostRuntime, places: &[u32]) -> Result<()> {
+pub(crate) fn measure(rt: &HostRuntime, places: &[u32]) -> Result<()> {
     let alloc = rt.alloc();
     let named = names(alloc, places)?;
     let mut tree = tree_of_one(alloc)?;

@@ -55,7 +55,7 @@ fn search(alloc: Global, postings: &Postings) -> Result<usize> {
     Ok(count)
 }
 
-pub fn measure(rt: &HostRuntime, places: &[u32]) -> Result<()> {
+pub(crate) fn measure(rt: &HostRuntime, places: &[u32]) -> Result<()> {
     let alloc = rt.alloc();
     let entries = entries(alloc, places)?;
     let began = rt.process_cpu_time()?;

@@ -87,7 +87,7 @@ fn measure_values(rt: &HostRuntime, places: &[u32]) -> Result<()> {
     Ok(())
 }
 
-pub fn measure(rt: &HostRuntime, places: &[u32]) -> Result<()> {
+pub(crate) fn measure(rt: &HostRuntime, places: &[u32]) -> Result<()> {
     measure_names(rt, places)?;
     measure_values(rt, places)
 }
