@@ -1,7 +1,7 @@
 -- The way of a request over the described agents, in the terms of the code's types: who is asked in turn, by which
 -- messages, and who answers. The proofs lead from here to the star of x5_model_star.
-use Rattle.std.specs.Prelude.{◌≡◌, ℕ, ◌-◌, false, ◌||◌, if◌then◌else◌, List, [], ◌∷◌, ◌++◌, length, take, drop, min,
-    slice_get, ⊤}
+use Rattle.std.specs.Prelude.{◌≡◌, ℕ, ◌-◌, false, ◌||◌, if◌then◌else◌, List, [], ◌∷◌, ◌++◌, length, take, drop, min}
+use Rattle.std.specs.Prelude.{slice_get, ⊤}
 use Rattle.std.specs.List.{find}
 use Rattle.std.specs.Option.{option_map, option_and_then, is_some}
 use Rattle.std.specs.declared.option.Option.{Option}
@@ -49,7 +49,7 @@ pub record Below : Type 0 where
 abbrev pub way_below : List AgentSpec → AgentSpec → Key → Option Below
 way_below agents a key =
     option_and_then (λ k. option_map (λ b. record { reference = k; agent = b }) (slice_get agents k.access.master))
-        (reference_at a key)
+    (reference_at a key)
 
 -- the superior of an agent that knows nothing on the way
 abbrev pub way_above : List AgentSpec → AgentSpec → Key → Option AgentSpec
@@ -70,7 +70,7 @@ respelled pin name = take (length pin - 1) pin ++ drop (length pin - 1) name
 abbrev pub down_line : AgentSpec → Below → ℕ → Body → Line
 down_line centre step t b =
     Msg (Some centre.name) step.agent.name (operation_of b) (Proceeding (min (length step.reference.pin) 255)) t
-        (respelled step.reference.pin (name_of b)) Sent
+    (respelled step.reference.pin (name_of b)) Sent
 
 -- what a read or compare is told at an entry, or by the lowest entry on the way
 abbrev pub told_at : Body → Named → Told

@@ -78,10 +78,12 @@ is_taken entries e rdn = not (same_key (new_key e rdn) (key_at e)) && is_there e
 
 abbrev pub moved_entry : Named → Rdn → Entry → Named → Named
 moved_entry x rdn entry e =
-    if same_key (key_at e) (key_at x) then record { name = respelled (length (name_above x.name)) rdn e.name;
-        entry = entry }
+    if same_key (key_at e) (key_at x) then record {
+      name = respelled (length (name_above x.name)) rdn e.name;
+      entry = entry;
+    }
     else (if is_prefix (key_at x) (key_at e) then record e { name = respelled (length (name_above x.name)) rdn e.name }
-        else e)
+    else e)
 
 abbrev pub moved : Named → Rdn → Entry → Node → Node
 moved x rdn entry n = record { id = n.id; named = moved_entry x rdn entry n.named }

@@ -1,8 +1,8 @@
 -- How the nodes of a tree are kept: in each slot that is used an entry with its own RDN and the node just above, and
 -- the numbers of these slots in the order of the nodes above and then of their own RDNs; so what stands just below one
 -- node is one run. The prefix's entry is in the first slot.
-use Rattle.std.specs.Prelude.{◌≡◌, ◌↔◌, ℕ, zero, suc, ◌+◌, ◌-◌, ◌<◌, ◌≤◌, Bool, true, false, IsTrue, List, [], ◌∷◌,
-    ◌++◌, length, map, take, remove, slice_index_or}
+use Rattle.std.specs.Prelude.{◌≡◌, ◌↔◌, ℕ, zero, suc, ◌+◌, ◌-◌, ◌<◌, ◌≤◌, Bool, true, false, IsTrue, List, [], ◌∷◌}
+use Rattle.std.specs.Prelude.{◌++◌, length, map, take, remove, slice_index_or}
 use Rattle.std.specs.Option.{is_some}
 use Rattle.std.specs.Ordering.{is_lt, ordering_then, nat_cmp}
 use Rattle.std.specs.Vec.{vec_len, vec_capacity}

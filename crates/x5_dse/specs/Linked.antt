@@ -109,7 +109,7 @@ abbrev pub walk_from : List Node → NodeId → NodeId → List NodeId
 walk_from nodes from at =
     map id_of
     (filter (λ n. is_prefix (key_with nodes from) (node_key n)
-        && not (key_below (node_key n) (key_with nodes at))) nodes)
+    && not (key_below (node_key n) (key_with nodes at))) nodes)
 
 -- a walk is at a node that is one of them, or at its end
 pub record IsWithin (nodes : List Node) (from at : NodeId) : Type 0 where

@@ -24,7 +24,7 @@ sub_shown nodes copy id =
 abbrev pub info_shown : List Node → Bool → Selection → NodeId → EntryInfo
 info_shown nodes copy selection id =
     in_option (record { name = []; copy = copy; attributes = [] }) (λ n. info_of (λ key. copy) selection n.named)
-        (node_with nodes id)
+    (node_with nodes id)
 
 abbrev pub AreLive : List Node → List NodeId → Type 0
 AreLive nodes ids = (id : NodeId) → In id ids → is_live nodes id ≡ true

@@ -1,7 +1,7 @@
 -- Walks over numbered contexts, depth first: `next` gives those just below one, `rank` grows from one to the next. A
 -- context that comes again is passed over, where at least as much below it was looked at before.
-use Rattle.std.specs.Prelude.{◌≡◌, ℕ, zero, suc, ◌<◌, ◌≤◌, Bool, true, false, ◌==◌, ◌⊎◌, if◌then◌else◌, List, [], ◌∷◌,
-    ◌++◌, get_or}
+use Rattle.std.specs.Prelude.{◌≡◌, ℕ, zero, suc, ◌<◌, ◌≤◌, Bool, true, false, ◌==◌, ◌⊎◌, if◌then◌else◌, List, [], ◌∷◌}
+use Rattle.std.specs.Prelude.{◌++◌, get_or}
 use Rattle.std.specs.List.{flat_map}
 use Rattle.x5_model.specs.Words.{has}
 use Rattle.x5_model.specs.Members.{In}

@@ -15,10 +15,10 @@ abbrev pub asked : ℕ → ℕ → Text → ℕ → Text
 asked n k above j =
     if nat_lt k 4 then concat (codes " read " ∷ above ∷ codes "/CN=P" ∷ decimal j ∷ codes " attrs=SN\n" ∷ [])
     else if nat_lt k 6 then concat (codes " search tree " ∷ above ∷ codes " (SN=S" ∷ decimal (j % 100)
-        ∷ codes ") attrs=CN\n" ∷ [])
+    ∷ codes ") attrs=CN\n" ∷ [])
     else if nat_lt k 7 then concat (codes " list " ∷ above ∷ codes "/CN=P" ∷ decimal j ∷ codes "\n" ∷ [])
     else if nat_lt k 8 then concat (codes " modify " ∷ above ∷ codes "/CN=P" ∷ decimal j ∷ codes " put:description="
-        ∷ decimal n ∷ codes "\n" ∷ [])
+    ∷ decimal n ∷ codes "\n" ∷ [])
     else concat (codes " nocopy read " ∷ above ∷ codes "/CN=P" ∷ decimal j ∷ codes " attrs=SN\n" ∷ [])
 
 -- a refresh of one of the nine agreements
@@ -34,7 +34,7 @@ line n a k c j =
 abbrev pub drawn_line : ℕ → ℕ → Text
 drawn_line n x =
     line n (below agents_count (after x 1)) (below 10 (after x 2)) (below agents_count (after x 3))
-        (below people_count (after x 4) + 1)
+    (below people_count (after x 4) + 1)
 
 unfoldable pub lines : ℕ → ℕ → Text
 lines x zero = []

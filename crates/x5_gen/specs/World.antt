@@ -1,8 +1,8 @@
 -- The world that is made of a number (docs/FORMATS.md, generated files): a tree of 40 agents, three below each, each
 -- with a context of 500 entries, which its superior knows by a subordinate reference or a non-specific one, and nine
 -- shadows. It is this project's own.
-use Rattle.std.specs.Prelude.{ℕ, zero, suc, ◌&&◌, ◌+◌, ◌*◌, ◌/◌, ◌%◌, ◌==◌, nat_lt, nat_le, if◌then◌else◌, List, [],
-    ◌∷◌, ◌++◌, map, codes}
+use Rattle.std.specs.Prelude.{ℕ, zero, suc, ◌&&◌, ◌+◌, ◌*◌, ◌/◌, ◌%◌, ◌==◌, nat_lt, nat_le, if◌then◌else◌, List, []}
+use Rattle.std.specs.Prelude.{◌∷◌, ◌++◌, map, codes}
 use Rattle.std.specs.List.{concat, filter, join_with_byte}
 use Rattle.std.specs.Fmt.{decimal}
 use Rattle.x5_model.specs.Values.{Text}
@@ -101,7 +101,7 @@ context_head at = concat (codes ",\"contexts\":[{\"prefix\":\"" ∷ at ∷ codes
 abbrev pub context : Text → ℕ → ℕ → Text
 context at i x =
     concat (context_head at ∷ prefix_entry at (prefix_class i) ∷ people at x people_count ∷ codes "]" ∷ nssr at i
-        ∷ codes "}]" ∷ [])
+    ∷ codes "}]" ∷ [])
 
 abbrev pub agent_head : ℕ → Text
 agent_head i = concat (codes "{\"name\":\"A" ∷ decimal i ∷ codes "\"" ∷ [])
@@ -132,4 +132,4 @@ agreements (suc i) = agreements i ++ (comma i ++ agreement (suc i))
 abbrev pub world_text : ℕ → Text
 world_text seed =
     concat (codes "{\"format\":1,\"start\":\"19930101000000Z\",\"agents\":[" ∷ agents seed agents_count
-        ∷ codes "],\"agreements\":[" ∷ agreements agreements_count ∷ codes "]}\n" ∷ [])
+    ∷ codes "],\"agreements\":[" ∷ agreements agreements_count ∷ codes "]}\n" ∷ [])

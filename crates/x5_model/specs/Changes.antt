@@ -7,12 +7,12 @@ use Rattle.std.specs.declared.result.Result.{Result}
 use Rattle.std.specs.declared.result.Result.TheVariants.{Ok, Err}
 use Rattle.x5_model.specs.Values.{TypeRef, Known, Unknown, StoredValue, Offered, Rdn}
 use Rattle.x5_model.specs.Entries.{Entry}
-use Rattle.x5_model.specs.Attributes.{is_present, has_value, entry_with, put_value, drop_value, has_rdn, with_rdn,
-    without_rdn, doubled, stored_value}
+use Rattle.x5_model.specs.Attributes.{is_present, has_value, entry_with, put_value, drop_value, has_rdn, with_rdn}
+use Rattle.x5_model.specs.Attributes.{without_rdn, doubled, stored_value}
 use Rattle.x5_model.specs.Requests.{Change, AddAttribute, RemoveAttribute, AddValues, RemoveValues}
 use Rattle.x5_model.specs.Answers.{DirError, AttributeProblem, UpdateProblem}
-use Rattle.x5_model.specs.Problems.{no_such_attribute_or_value, constraint_violation, attribute_or_value_already_exists,
-    not_allowed_on_rdn}
+use Rattle.x5_model.specs.Problems.{no_such_attribute_or_value, constraint_violation, attribute_or_value_already_exists}
+use Rattle.x5_model.specs.Problems.{not_allowed_on_rdn}
 
 -- an entry, or the first refusal
 abbrev pub Changed : Type 0
@@ -34,12 +34,12 @@ each_value change (o ∷ more) e = and_then (with_stored (stored_value o)) (each
 abbrev pub put_new : ℕ → StoredValue → Entry → Changed
 put_new kind v e =
     if has_value e kind v.normal then Err (AttributeProblem attribute_or_value_already_exists (Known kind))
-        else Ok (put_value kind v e)
+    else Ok (put_value kind v e)
 
 abbrev pub drop_old : ℕ → StoredValue → Entry → Changed
 drop_old kind v e =
     if has_value e kind v.normal then Ok (drop_value kind v.normal e)
-        else Err (AttributeProblem no_such_attribute_or_value (Known kind))
+    else Err (AttributeProblem no_such_attribute_or_value (Known kind))
 
 -- types that aren't known have been refused before
 abbrev pub on_known : (ℕ → Entry → Changed) → TypeRef → Entry → Changed
@@ -54,13 +54,13 @@ changed (AddAttribute a) e = on_known add a.kind e
     add : ℕ → Entry → Changed
     add kind f =
         if is_present f kind then Err (AttributeProblem attribute_or_value_already_exists (Known kind))
-            else each_value (put_new kind) a.values f
+        else each_value (put_new kind) a.values f
 changed (RemoveAttribute type) e = on_known remove type e
   where
     remove : ℕ → Entry → Changed
     remove kind f =
         if is_present f kind then Ok (entry_with kind [] f)
-            else Err (AttributeProblem no_such_attribute_or_value (Known kind))
+        else Err (AttributeProblem no_such_attribute_or_value (Known kind))
 changed (AddValues a) e = on_known (λ kind f. each_value (put_new kind) a.values f) a.kind e
 changed (RemoveValues a) e = on_known (λ kind f. each_value (drop_old kind) a.values f) a.kind e
 

@@ -1,18 +1,18 @@
 -- Which values are of a kind, and their normal forms, by which they are compared (X.520: matching rules; X.501, section
 -- 8: matching rules). That equal values have one normal form, and what it looks like as octets, is this project's own.
 -- Texts are octets of UTF-8; an octet below U+0080 stands for the character of its number.
-use Rattle.std.specs.Prelude.{◌≡◌, ℕ, ◌+◌, ◌*◌, ◌^◌, Bool, true, false, ◌&&◌, ◌||◌, not, if◌then◌else◌, ◌==◌, nat_lt,
-    nat_le, List, [], ◌∷◌, ◌++◌, length, map, sum, filter, flat_map, Option, Some, None, Result, Ok, Err, chars,
-    encode_utf8_all, codes}
+use Rattle.std.specs.Prelude.{◌≡◌, ℕ, ◌+◌, ◌*◌, ◌^◌, Bool, true, false, ◌&&◌, ◌||◌, not, if◌then◌else◌, ◌==◌, nat_lt}
+use Rattle.std.specs.Prelude.{nat_le, List, [], ◌∷◌, ◌++◌, length, map, sum, filter, flat_map, Option, Some, None}
+use Rattle.std.specs.Prelude.{Result, Ok, Err, chars, encode_utf8_all, codes}
 use Rattle.std.specs.List.{list_all, list_any}
 use Rattle.std.specs.Int.{to_be_bytes, w32}
 use Rattle.std.specs.Char.{is_ascii_alphabetic, is_ascii_alphanumeric, is_ascii_digit}
 use Rattle.caseless.specs.Caseless.{default_case_fold}
 use Rattle.x5_model.specs.Keys.{KeyPair, KeyRdn, Key}
-use Rattle.x5_model.specs.Values.{Text, Value, TextValue, OctetsValue, OidValue, NameOf, NameValue, Pair, Rdn, Name,
-    written_pair, written}
-use Rattle.x5_model.specs.Types.{Kind, TextKind, PrintableKind, CountryKind, NumericKind, TelephoneKind, OidKind,
-    NameKind, OctetsKind, kind_of, may_name}
+use Rattle.x5_model.specs.Values.{Text, Value, TextValue, OctetsValue, OidValue, NameOf, NameValue, Pair, Rdn, Name}
+use Rattle.x5_model.specs.Values.{written_pair, written}
+use Rattle.x5_model.specs.Types.{Kind, TextKind, PrintableKind, CountryKind, NumericKind, TelephoneKind, OidKind}
+use Rattle.x5_model.specs.Types.{NameKind, OctetsKind, kind_of, may_name}
 
 -- ---- limits, which are this project's own: octets of a value, RDNs of a name, pairs of an RDN
 

@@ -10,8 +10,8 @@ use Rattle.x5_model.specs.Values.{TypeRef, Known, Unknown}
 use Rattle.x5_model.specs.Types.{kind_of, has_order, has_substrings}
 use Rattle.x5_model.specs.Entries.{Entry}
 use Rattle.x5_model.specs.Attributes.{values_at, is_present}
-use Rattle.x5_model.specs.Filters.{Parts, Item, Equality, Substrings, GreaterOrEqual, LessOrEqual, Present, Approximate,
-    Filter, Is, And, Or, Not, Filters, Nil, More}
+use Rattle.x5_model.specs.Filters.{Parts, Item, Equality, Substrings, GreaterOrEqual, LessOrEqual, Present, Approximate}
+use Rattle.x5_model.specs.Filters.{Filter, Is, And, Or, Not, Filters, Nil, More}
 
 pub data Truth : Type 0 where
   False : Truth

@@ -2,15 +2,16 @@
 -- if they go by number, and the normal forms are those of what is spelled.
 use Rattle.std.specs.Prelude.{◌≡◌, ℕ, Bool, true, List, [], ◌∷◌, map}
 use Rattle.std.specs.List.{list_all}
-use Rattle.x5_model.specs.Values.{TypeRef, Value, TextValue, OctetsValue, OidValue, NameOf, NameValue, Rdn, Name,
-    written, written_pair}
+use Rattle.x5_model.specs.Values.{TypeRef, Value, TextValue, OctetsValue, OidValue, NameOf, NameValue, Rdn, Name}
+use Rattle.x5_model.specs.Values.{written, written_pair}
 use Rattle.x5_model.specs.Types.{is_known, is_type}
 use Rattle.x5_model.specs.Normal.{stored, stored_rdn}
 use Rattle.x5_model.specs.Assertions.{offered, normal_for, parts_for}
-use Rattle.x5_model.specs.Filters.{Assertion, SubstringItem, Item, Equality, Substrings, GreaterOrEqual, LessOrEqual,
-    Present, Approximate, Filter, Filters, Is, And, Or, Not, Nil, More}
-use Rattle.x5_model.specs.Requests.{Selection, All, Only, Attribute, Change, AddAttribute, RemoveAttribute, AddValues,
-    RemoveValues, Body, Read, Compare, ListBelow, Search, AddEntry, RemoveEntry, ModifyEntry, ModifyDn, Request}
+use Rattle.x5_model.specs.Filters.{Assertion, SubstringItem, Item, Equality, Substrings, GreaterOrEqual, LessOrEqual}
+use Rattle.x5_model.specs.Filters.{Present, Approximate, Filter, Filters, Is, And, Or, Not, Nil, More}
+use Rattle.x5_model.specs.Requests.{Selection, All, Only, Attribute, Change, AddAttribute, RemoveAttribute, AddValues}
+use Rattle.x5_model.specs.Requests.{RemoveValues, Body, Read, Compare, ListBelow, Search, AddEntry, RemoveEntry}
+use Rattle.x5_model.specs.Requests.{ModifyEntry, ModifyDn, Request}
 use Rattle.x5_model_messages.specs.Terms.{type_node, type_in, name_node, name_of}
 use Rattle.x5_model_messages.specs.Requests.{request_node, request_in}
 

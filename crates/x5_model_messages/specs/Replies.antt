@@ -6,14 +6,14 @@ use Rattle.std.specs.declared.option.Option.TheVariants.{None, Some}
 use Rattle.x5_model.specs.Words.{in_option}
 use Rattle.x5_model.specs.Values.{Text, TypeRef, Unknown, Value, Rdn, Name}
 use Rattle.x5_model.specs.Answers.{Shown, EntryInfo, Sub}
-use Rattle.x5_model.specs.References.{Progress, Start, Next, Done, RefType, Superior, Subordinate, Cross, NonSpecific,
-    Supplier, Own}
+use Rattle.x5_model.specs.References.{Progress, Start, Next, Done, RefType, Superior, Subordinate, Cross, NonSpecific}
+use Rattle.x5_model.specs.References.{Supplier, Own}
 use Rattle.x5_model_run.specs.Journal.{kind_number}
 use Rattle.x5_model_typed.specs.Nodes as nodes
 use Rattle.x5_model_typed.specs.Nodes.{Node, Vacant, Flag, Chosen, whole, parts}
 use Rattle.x5_model_typed.specs.Rules.{text_in, value_in}
-use Rattle.x5_model_messages.specs.Terms.{node_of, type_node, rdn_node, name_node, value_node, type_in, name_of, rdn_of,
-    flag_in, number_in}
+use Rattle.x5_model_messages.specs.Terms.{node_of, type_node, rdn_node, name_node, value_node, type_in, name_of, rdn_of}
+use Rattle.x5_model_messages.specs.Terms.{flag_in, number_in}
 
 -- ---- with agents by their names; `copy` says that an agent has a copy of the context
 
@@ -73,7 +73,7 @@ access_node a = node_of (nodes.Text a.agent ∷ Flag a.copy ∷ [])
 abbrev pub reference_node : Reference → Node
 reference_node r =
     node_of (name_node r.target ∷ progress_node r.progress ∷ whole (kind_number r.kind)
-        ∷ node_of (map access_node r.agents) ∷ node_of (map rdn_node r.exclusions) ∷ Flag r.tried ∷ [])
+    ∷ node_of (map access_node r.agents) ∷ node_of (map rdn_node r.exclusions) ∷ Flag r.tried ∷ [])
 
 abbrev pub item_node : TraceItem → Node
 item_node i = node_of (nodes.Text i.agent ∷ name_node i.target ∷ progress_node i.progress ∷ Flag i.wide ∷ [])

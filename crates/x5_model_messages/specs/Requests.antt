@@ -4,14 +4,15 @@ use Rattle.std.specs.Prelude.{ℕ, false, ◌==◌, if◌then◌else◌, List, [
 use Rattle.std.specs.declared.option.Option.{Option}
 use Rattle.std.specs.declared.option.Option.TheVariants.{None, Some}
 use Rattle.x5_model.specs.Words.{in_option}
-use Rattle.x5_model.specs.Requests.{Subset, Base, OneLevel, WholeSubtree, Selection, All, Only, Controls, Body, Read,
-    Compare, ListBelow, Search, AddEntry, RemoveEntry, ModifyEntry, ModifyDn, Request}
+use Rattle.x5_model.specs.Requests.{Subset, Base, OneLevel, WholeSubtree, Selection, All, Only, Controls, Body, Read}
+use Rattle.x5_model.specs.Requests.{Compare, ListBelow, Search, AddEntry, RemoveEntry, ModifyEntry, ModifyDn, Request}
 use Rattle.x5_model_run.specs.Journal.{operation_of}
 use Rattle.x5_model_typed.specs.Nodes.{Node, Vacant, Flag, Chosen, whole, parts}
 use Rattle.x5_model_typed.specs.Leaves.{options_node}
 use Rattle.x5_model_typed.specs.Judged.{last_node}
-use Rattle.x5_model_messages.specs.Terms.{node_of, type_node, rdn_node, name_node, attribute_node, assertion_node,
-    change_node, type_in, name_of, rdn_of, flag_in, number_in, attribute_in, assertion_in, change_in}
+use Rattle.x5_model_messages.specs.Terms.{node_of, type_node, rdn_node, name_node, attribute_node, assertion_node}
+use Rattle.x5_model_messages.specs.Terms.{change_node, type_in, name_of, rdn_of, flag_in, number_in, attribute_in}
+use Rattle.x5_model_messages.specs.Terms.{assertion_in, change_in}
 use Rattle.x5_model_messages.specs.FilterTerms.{filter_node, filter_in}
 
 -- ---- what is written
@@ -104,9 +105,9 @@ body_in code ns =
     else if code == 2 then three_of (λ name assertion. Compare (name_of name) (assertion_in assertion)) ns
     else if code == 4 then two_of (λ name. ListBelow (name_of name)) ns
     else if code == 5 then five_of (λ base subset filter selection. Search (name_of base) (subset_in subset)
-        (filter_in filter) (selection_in selection)) ns
+    (filter_in filter) (selection_in selection)) ns
     else if code == 6 then three_of (λ name attributes. AddEntry (name_of name)
-        (map attribute_in (parts attributes))) ns
+    (map attribute_in (parts attributes))) ns
     else if code == 7 then two_of (λ name. RemoveEntry (name_of name)) ns
     else if code == 8 then three_of (λ name changes. ModifyEntry (name_of name) (map change_in (parts changes))) ns
     else four_of (λ name rdn drops. ModifyDn (name_of name) (rdn_of rdn) (flag_in drops)) ns

@@ -4,8 +4,8 @@ use Rattle.std.specs.Prelude.{ℕ, pos, Bool, false, ◌==◌, if◌then◌else�
 use Rattle.std.specs.declared.option.Option.{Option}
 use Rattle.std.specs.declared.option.Option.TheVariants.{None, Some}
 use Rattle.x5_model.specs.Values as values
-use Rattle.x5_model.specs.Values.{TypeRef, Known, Unknown, Value, TextValue, OctetsValue, OidValue, NameOf, NameValue,
-    Rdn, Name, written, written_pair}
+use Rattle.x5_model.specs.Values.{TypeRef, Known, Unknown, Value, TextValue, OctetsValue, OidValue, NameOf, NameValue}
+use Rattle.x5_model.specs.Values.{Rdn, Name, written, written_pair}
 use Rattle.x5_model.specs.Normal.{stored, stored_rdn}
 use Rattle.x5_model.specs.Assertions.{offered, assertion_of}
 use Rattle.x5_model.specs.Filters.{Assertion}

@@ -1,6 +1,6 @@
 -- Elements of the Basic Encoding Rules, and the octets that spell them (X.690, clause 8).
-use Rattle.std.specs.Prelude.{◌≡◌, ◌≢◌, ℕ, ◌+◌, ◌/◌, ◌%◌, ◌^◌, ◌<◌, ◌≤◌, ◌==◌, Bool, true, false, if◌then◌else◌, nat_lt,
-    List, [], ◌∷◌, ◌++◌, length}
+use Rattle.std.specs.Prelude.{◌≡◌, ◌≢◌, ℕ, ◌+◌, ◌/◌, ◌%◌, ◌^◌, ◌<◌, ◌≤◌, ◌==◌, Bool, true, false, if◌then◌else◌, nat_lt}
+use Rattle.std.specs.Prelude.{List, [], ◌∷◌, ◌++◌, length}
 use Rattle.std.specs.declared.option.Option.TheVariants.{None, Some}
 use Rattle.std.specs.Int.{to_be_bytes, w64}
 use Rattle.x5_model_octets.specs.Headers.{Identifier, IsHeader, leading}
@@ -93,10 +93,10 @@ abbrev mutual
   pub HasCanonical : ℕ → Element → Type 0
   HasCanonical depth (Primitive class tag content) =
       (depth ≤ deepest) × (class < 4) × (tag < 2 ^ 31) × (length content < 2 ^ 64)
-          × (class ≡ 0 → tag ≡ 0 → content ≡ [] → ⊥)
+      × (class ≡ 0 → tag ≡ 0 → content ≡ [] → ⊥)
   HasCanonical depth (Constructed class tag members) =
       (depth ≤ deepest) × (class < 4) × (tag < 2 ^ 31) × (length (canonical_all members) < 2 ^ 64)
-          × HaveCanonical (depth + 1) members
+      × HaveCanonical (depth + 1) members
 
   pub HaveCanonical : ℕ → Elements → Type 0
   HaveCanonical depth Nil = Unit {0}

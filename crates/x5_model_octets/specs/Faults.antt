@@ -1,7 +1,7 @@
 -- The first fault of octets that are read as an element, and its place. Places count from the first
 -- octet of the input. Reading goes octet by octet and looks into every constructed element.
-use Rattle.std.specs.Prelude.{◌≡◌, ℕ, ◌+◌, ◌-◌, ◌<◌, ◌==◌, ◌&&◌, Bool, true, false, if◌then◌else◌, nat_lt, nat_le, List,
-    [], ◌∷◌, ◌++◌, length, take, drop}
+use Rattle.std.specs.Prelude.{◌≡◌, ℕ, ◌+◌, ◌-◌, ◌<◌, ◌==◌, ◌&&◌, Bool, true, false, if◌then◌else◌, nat_lt, nat_le, List}
+use Rattle.std.specs.Prelude.{[], ◌∷◌, ◌++◌, length, take, drop}
 use Rattle.std.specs.declared.option.Option.{Option}
 use Rattle.std.specs.declared.option.Option.TheVariants.{None, Some}
 use Rattle.std.specs.declared.result.Result.{Result}
@@ -73,7 +73,7 @@ after_length limit input i place (Err Short) = Err (end_fault limit input)
 after_length limit input i place (Err Malformed) = Err (BadLength place)
 after_length limit input i place (Ok found) =
     let head : Head =
-        record { identifier = i; extent = found.0; content = length (seen limit input) - length found.1 } in
+    record { identifier = i; extent = found.0; content = length (seen limit input) - length found.1 } in
     if may_extend limit head then Ok head else Err (BadLength place)
 
 abbrev pub after_identifier : Option ℕ → List ℕ → ℕ → Result (Identifier × List ℕ) Stop → Result Head Fault

@@ -25,8 +25,16 @@ pub record Counts : Type 0 where
   pub refreshed : ℕ
 
 abbrev pub no_counts : Counts
-no_counts = record { requests = 0; entries = 0; subs = 0; errors = 0; referrals = 0; unexplored = 0; accepted = 0;
-    refreshed = 0 }
+no_counts = record {
+  requests = 0;
+  entries = 0;
+  subs = 0;
+  errors = 0;
+  referrals = 0;
+  unexplored = 0;
+  accepted = 0;
+  refreshed = 0;
+}
 
 abbrev pub both : Counts → Counts → Counts
 both a b =

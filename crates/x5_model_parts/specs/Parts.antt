@@ -15,8 +15,8 @@ use Rattle.x5_model_tree.specs.Masters.{agent_at, master_of}
 use Rattle.x5_model_tree.specs.Ask.{in_subset}
 use Rattle.x5_model_run.specs.Journal.{Line, is_done, is_wide}
 use Rattle.x5_model_run.specs.Holdings.{Held, Holdings, may_copy}
-use Rattle.x5_model_run.specs.Needs.{subset_of, begins_at, evaluated, answers_root, part_needs, resolution_needs,
-    copied_needs}
+use Rattle.x5_model_run.specs.Needs.{subset_of, begins_at, evaluated, answers_root, part_needs, resolution_needs}
+use Rattle.x5_model_run.specs.Needs.{copied_needs}
 use Rattle.x5_model_run.specs.History.{Point, knowledge_at, tree_at, tree_of_moment, as_of, holdings_at}
 use Rattle.x5_model_run.specs.Chain.{IsCarried}
 use Rattle.x5_model_run.specs.Covers.{covered_roots, covers, are_apart, touched}
@@ -98,7 +98,7 @@ abbrev pub ScopeIsCovered : Type 0
 ScopeIsCovered = (p : Point) (l : Line) (sender : Option ℕ) (r : Reference) (m : Chained) (a : ℕ) (q : Key) →
     BeginsHere p l → In r (rest_needs p l) → In a r.agents
     → IsCarried sender l r m → In q (looks_into p a m) ↔ (In q (looks_into p l.receiver l.message)
-        × (covers (knowledge_at p) r q ≡ true))
+    × (covers (knowledge_at p) r q ≡ true))
 
 -- Where no copies may be used, it begins where it comes, so the same holds of it there; else, where it begins.
 abbrev pub PartsBegin : Type 0
@@ -110,14 +110,14 @@ abbrev pub PartsGoOn : Type 0
 PartsGoOn = (p : Point) (l k : Line) (sender : Option ℕ) (r : Reference) → BeginsHere p l → In r (rest_needs p l) →
     IsCarried sender l r k.message
     → is_some (agent_at (knowledge_at p) k.receiver) ≡ true → begins_here (holdings_at p k.receiver) k.message ≡ true →
-        BeginsHere p k
+    BeginsHere p k
 
 -- What that needs covers no more than the reference does, so what is left out of a part is left out of that part alone.
 abbrev pub NeedsAreNested : Type 0
 NeedsAreNested = (p : Point) (l k : Line) (sender : Option ℕ) (r u : Reference) (b : Key) → BeginsHere p l →
     In r (rest_needs p l) → In k.receiver r.agents
     → IsCarried sender l r k.message → BeginsHere p k → In u (rest_needs p k) →
-        In b (covered_roots (knowledge_at p) u) → covers (knowledge_at p) r b ≡ true
+    In b (covered_roots (knowledge_at p) u) → covers (knowledge_at p) r b ≡ true
 
 -- whether a list or search asks for an entry, by its name
 abbrev pub asks_for : Chained → Key → Bool
@@ -135,6 +135,6 @@ abbrev pub SameIsPassedOn : Type 0
 SameIsPassedOn =
     (p : Point) (l : Line) (sender : Option ℕ) (r : Reference) (m : Chained) (a : ℕ) → IsSound p → fits l.message ≡ true
     → In r (resolution_needs (holdings_at p l.receiver) l.message
-        ++ copied_needs (holdings_at p l.receiver) l.message) → In a r.agents → IsCarried sender l r m
+    ++ copied_needs (holdings_at p l.receiver) l.message) → In a r.agents → IsCarried sender l r m
     → (m.request ≡ l.message.request) × ((looks_into p a m ≡ looks_into p l.receiver l.message)
-        × ((e : Key) → asks_for m e ≡ asks_for l.message e))
+    × ((e : Key) → asks_for m e ≡ asks_for l.message e))

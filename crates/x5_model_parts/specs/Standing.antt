@@ -8,8 +8,8 @@ use Rattle.x5_model_tree.specs.Tree.{keys_of, part}
 use Rattle.x5_model_tree.specs.Masters.{pins}
 use Rattle.x5_model_tree.specs.Consistent.{IsConsistent}
 use Rattle.x5_model_tree.specs.Described.{IsDescribed}
-use Rattle.x5_model_run.specs.History.{Deed, Nothing, Outs, Loses, Accepts, Refreshes, Splits, Unsplits, Did, Point,
-    tree_at, tree_of_moment, as_of, knowledge_at}
+use Rattle.x5_model_run.specs.History.{Deed, Nothing, Outs, Loses, Accepts, Refreshes, Splits, Unsplits, Did, Point}
+use Rattle.x5_model_run.specs.History.{tree_at, tree_of_moment, as_of, knowledge_at}
 use Rattle.x5_model_theory.specs.Knowledge.{Knowledge}
 use Rattle.x5_model_theory.specs.Coherent.{Coherent}
 use Rattle.x5_model_theory.specs.Described.{knowledge_of}

@@ -10,8 +10,8 @@ use Rattle.x5_model_run.specs.Journal.{Journal}
 use Rattle.x5_model_run.specs.Chain.{Scene, IsCarried}
 use Rattle.x5_model_run.specs.Right.{heard_whole}
 use Rattle.x5_model_serve.specs.Answering.{is_service}
-use Rattle.x5_model_serve.specs.Serving.{Hand, line_for, Unheard, Hears, Act, Serves, Follows, Sends, Tries, Takes,
-    Spreads, Casts, Gathers, Probes, Updates, Does, is_final}
+use Rattle.x5_model_serve.specs.Serving.{Hand, line_for, Unheard, Hears, Act, Serves, Follows, Sends, Tries, Takes}
+use Rattle.x5_model_serve.specs.Serving.{Spreads, Casts, Gathers, Probes, Updates, Does, is_final}
 
 -- What is carried for the message by the reference is no update.
 abbrev pub CarriesNone : Option ℕ → Hand → Reference → Type 0

@@ -23,7 +23,7 @@ NoPart =
 abbrev pub PartUnheard : Type 0
 PartUnheard =
     (p : Point) (s : Scene) (most : ℕ) (from : Option ℕ) (o : Hand) (i j l : Journal) (rs : List Reference)
-        (a b : Answer)
+    (a b : Answer)
     (r : Reference)
     → Ground p s
     → Does s most (Gathers from o rs a (Whole b)) i j → GathersRight p s most from o rs a (Whole b) i j
@@ -34,7 +34,7 @@ PartUnheard =
 abbrev pub PartUnavailable : Type 0
 PartUnavailable =
     (p : Point) (s : Scene) (most : ℕ) (from : Option ℕ) (o : Hand) (i j l : Journal) (rs : List Reference)
-        (a b : Answer)
+    (a b : Answer)
     (r u : Reference)
     → Ground p s
     → Does s most (Gathers from o rs a (Whole b)) i j → GathersRight p s most from o rs a (Whole b) i j
@@ -46,7 +46,7 @@ PartUnavailable =
 abbrev pub PartAnswered : Type 0
 PartAnswered =
     (p : Point) (s : Scene) (most : ℕ) (from : Option ℕ) (o : Hand) (i j l : Journal) (rs : List Reference)
-        (a b : Answer)
+    (a b : Answer)
     (r : Reference) (c : Answer)
     → Ground p s
     → Does s most (Gathers from o rs a (Whole b)) i j → GathersRight p s most from o rs a (Whole b) i j

@@ -26,7 +26,7 @@ may_accept s lines a l =
     (l.receiver == a)
     && (arrives l.fate
     && (carries_update s l && (not (is_unable (s.holdings a) l.message)
-        && not (some_line (lacks_probe s l.number) lines))))
+    && not (some_line (lacks_probe s l.number) lines))))
 
 abbrev pub accepting : Scene → List Line → ℕ → Option Line
 accepting s lines a = find (may_accept s lines a) (reverse lines)

@@ -1,7 +1,7 @@
 -- What an unexplored reference, a referral or `unavailable` rests on: agents that this request could not hear or might
 -- not ask (X.518, section 10.9: continuation references; X.511, section 12.8: service errors).
-use Rattle.std.specs.Prelude.{◌≡◌, ℕ, ◌+◌, Bool, true, false, not, ◌&&◌, ◌||◌, ◌==◌, if◌then◌else◌, IsTrue, List, [],
-    ◌∷◌}
+use Rattle.std.specs.Prelude.{◌≡◌, ℕ, ◌+◌, Bool, true, false, not, ◌&&◌, ◌||◌, ◌==◌, if◌then◌else◌, IsTrue, List, []}
+use Rattle.std.specs.Prelude.{◌∷◌}
 use Rattle.std.specs.List.{list_any, list_all, filter, Contains}
 use Rattle.std.specs.Cmp.Lexicographic.{pointwise}
 use Rattle.x5_model.specs.Words.{has, is_empty}

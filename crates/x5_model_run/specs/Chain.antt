@@ -1,7 +1,7 @@
 -- Each message of a request has its cause (X.518, section 10 and sections 18 to 20: chaining, referrals and
 -- multi-chaining). A journal has the newest line first.
-use Rattle.std.specs.Prelude.{◌≡◌, ℕ, zero, suc, ◌+◌, ◌-◌, ◌<◌, Bool, true, false, not, ◌&&◌, ◌||◌, ◌==◌, if◌then◌else◌,
-    IsTrue, List, [], ◌∷◌, ◌++◌, length, slice_index, take, ⊤}
+use Rattle.std.specs.Prelude.{◌≡◌, ℕ, zero, suc, ◌+◌, ◌-◌, ◌<◌, Bool, true, false, not, ◌&&◌, ◌||◌, ◌==◌, if◌then◌else◌}
+use Rattle.std.specs.Prelude.{IsTrue, List, [], ◌∷◌, ◌++◌, length, slice_index, take, ⊤}
 use Rattle.std.specs.List.{list_any, list_all, Contains}
 use Rattle.std.specs.Cmp.Lexicographic.{pointwise}
 use Rattle.std.specs.declared.option.Option.{Option}
@@ -9,15 +9,15 @@ use Rattle.std.specs.declared.option.Option.TheVariants.{None, Some}
 use Rattle.x5_model.specs.Words.{has, in_option, first_of}
 use Rattle.x5_model.specs.Keys.{Key}
 use Rattle.x5_model.specs.Values.{Name, key_of}
-use Rattle.x5_model.specs.Requests.{Subset, Base, OneLevel, WholeSubtree, Only, Body, Read, Compare, ListBelow, Search,
-    AddEntry, RemoveEntry, ModifyEntry, ModifyDn, Request}
+use Rattle.x5_model.specs.Requests.{Subset, Base, OneLevel, WholeSubtree, Only, Body, Read, Compare, ListBelow, Search}
+use Rattle.x5_model.specs.Requests.{AddEntry, RemoveEntry, ModifyEntry, ModifyDn, Request}
 use Rattle.x5_model.specs.References.{Start, Reference, Subordinate, Own, Chained}
 use Rattle.x5_model_tree.specs.World.{Network}
 use Rattle.x5_model_tree.specs.Ask.{is_update}
 use Rattle.x5_model_run.specs.Network.{Fate, arrives, is_unheard, is_sent, refuses, fate_of}
-use Rattle.x5_model_run.specs.Journal.{Line, depth, operation_of, same_sender, same_progress, same_name,
-    same_spelled_rdn, same_message, is_done, is_wide, same_kind, item_of, settled, siblings, some_line, opened_by,
-    leads_up}
+use Rattle.x5_model_run.specs.Journal.{Line, depth, operation_of, same_sender, same_progress, same_name}
+use Rattle.x5_model_run.specs.Journal.{same_spelled_rdn, same_message, is_done, is_wide, same_kind, item_of, settled}
+use Rattle.x5_model_run.specs.Journal.{siblings, some_line, opened_by, leads_up}
 use Rattle.x5_model_run.specs.Holdings.{Holdings, masters_pin, copy_at}
 use Rattle.x5_model_run.specs.Needs.{target_of, falls_short, needs}
 use Rattle.x5_model_run.specs.History.{Point, network_at, sent_before, holdings_at}
@@ -38,8 +38,14 @@ opening r = record { target = target_of r.body; progress = Start; kind = Own; ex
 
 -- over consistent knowledge, a request of a user who doesn't follow
 abbrev pub scene_at : Point → ℕ → Request → Scene
-scene_at p first r = record { holdings = holdings_at p; network = network_at p; sent = sent_before p.past;
-    first = first; message = opening r; follows = false }
+scene_at p first r = record {
+  holdings = holdings_at p;
+  network = network_at p;
+  sent = sent_before p.past;
+  first = first;
+  message = opening r;
+  follows = false;
+}
 
 abbrev pub is_prohibited : Scene → Bool
 is_prohibited s = s.message.request.controls.nochain
@@ -74,8 +80,10 @@ part_body wide base (ModifyDn name rdn drops) = ModifyDn name rdn drops
 -- a part of a list or search has no size limit, and chainingProhibited only where the user asks for it
 abbrev pub part_request : Bool → Bool → Name → Request → Request
 part_request by_user wide base r =
-    record { controls = record { nocopy = r.controls.nocopy; nochain = by_user && r.controls.nochain; size = None };
-        body = part_body wide base r.body }
+    record {
+      controls = record { nocopy = r.controls.nocopy; nochain = by_user && r.controls.nochain; size = None };
+      body = part_body wide base r.body;
+    }
 
 -- by a reference to a pin, or to the parts below an entry
 abbrev pub asks_part : Reference → Bool
@@ -144,7 +152,7 @@ is_broken_off s e l before =
 abbrev pub is_broken_line : Scene → List Line → Line → Bool
 is_broken_line s lines e =
     is_sent e.fate && (not (masters_pin (s.holdings e.receiver) (key_of e.message.target))
-        && some_line (is_broken_off s e) lines)
+    && some_line (is_broken_off s e) lines)
 
 abbrev pub is_broken : Scene → List Line → ℕ → Reference → ℕ → Bool
 is_broken s lines number r a =
@@ -154,7 +162,7 @@ is_broken s lines number r a =
 abbrev pub is_in_vain : Scene → List Line → Line → Reference → ℕ → Bool
 is_in_vain s lines o r a =
     is_asked is_unheard lines o.number r a || (is_probe o.message.request.body r.target
-        && is_broken s lines o.number r a)
+    && is_broken s lines o.number r a)
 
 -- An agent of a reference was passed: it was asked in vain or, by a nonSpecific reference in name resolution, holds
 -- nothing of what is looked for.

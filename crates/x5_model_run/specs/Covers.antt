@@ -9,8 +9,8 @@ use Rattle.x5_model.specs.Words.{has, in_option, some_and}
 use Rattle.x5_model.specs.Keys.{Key, same_key, is_prefix, is_child}
 use Rattle.x5_model.specs.Values.{Name, key_of}
 use Rattle.x5_model.specs.Entries.{Named}
-use Rattle.x5_model.specs.Requests.{Subset, OneLevel, Body, Read, Compare, ListBelow, Search, AddEntry, RemoveEntry,
-    ModifyEntry, ModifyDn, Request}
+use Rattle.x5_model.specs.Requests.{Subset, OneLevel, Body, Read, Compare, ListBelow, Search, AddEntry, RemoveEntry}
+use Rattle.x5_model.specs.Requests.{ModifyEntry, ModifyDn, Request}
 use Rattle.x5_model.specs.References.{Reference, Chained}
 use Rattle.x5_model.specs.Answers.{Source}
 use Rattle.x5_model_tree.specs.World.{World}
@@ -26,7 +26,7 @@ use Rattle.x5_model_run.specs.History.{Point, tree_at, tree_of_moment}
 abbrev pub is_below_wide : Reference → Mastered → Bool
 is_below_wide r m =
     is_child (key_of r.target) (pin_of m) && (has ◌==◌ r.agents m.master
-        && not (is_excluded r.exclusions m.context.prefix))
+    && not (is_excluded r.exclusions m.context.prefix))
 
 abbrev pub covered_roots : World → Reference → List Key
 covered_roots w r =
@@ -66,7 +66,7 @@ reached_below w t to m subset = filter inside t.pins
     roots : List Key
     roots =
         map pin_of (filter (λ c. (c.master == to)
-            && (is_child (key_of m.target) (pin_of c) && not (is_excluded m.exclusions c.context.prefix))) (mastered w))
+        && (is_child (key_of m.target) (pin_of c) && not (is_excluded m.exclusions c.context.prefix))) (mastered w))
 
     inside : Key → Bool
     inside p = in_subset subset (key_of m.target) p && list_any (λ root. is_prefix root p) roots
@@ -124,5 +124,5 @@ abbrev pub told : (Key → Bool) → Tree → Chained → Told
 told copies t m =
     if is_done m.progress
     then (if is_wide m.kind then answer_below copies t m.request m.request.body
-        else answer_at_pin copies t m.request m.request.body)
+    else answer_at_pin copies t m.request m.request.body)
     else ask_marked copies t m.request

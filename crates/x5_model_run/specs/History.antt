@@ -173,8 +173,12 @@ abbrev pub own_context : Tree → Agent → Context → Held
 own_context t a c = by (part t (key_of c.prefix))
   where
     by : List Named → Held
-    by entries = record { prefix = c.prefix; entries = entries; subordinate = references_below entries a.subordinate;
-        nssrs = c.nssrs }
+    by entries = record {
+      prefix = c.prefix;
+      entries = entries;
+      subordinate = references_below entries a.subordinate;
+      nssrs = c.nssrs;
+    }
 
 -- What a supplier sends of a context: its entries, its NSSRs and its subordinate references. A pin that its master
 -- masters too is sent once, as a reference to the master alone.
@@ -183,7 +187,7 @@ sent_references w m entries =
     map (λ d. record { pin = d.context.prefix; access = record { master = m.master; shadows = [] } })
     (filter (λ d. (d.master == m.master) && is_there entries (parent (pin_of d))) (mastered w))
     ++ in_option [] (λ a. filter (λ k. not (masters w m.master (key_of k.pin)))
-        (references_below entries a.subordinate)) (agent_at w m.master)
+    (references_below entries a.subordinate)) (agent_at w m.master)
 
 abbrev pub mastered_at : World → Key → Option Mastered
 mastered_at w pin = find (λ m. same_key (pin_of m) pin) (mastered w)
@@ -196,8 +200,12 @@ copy_as_of p g (Some m) = by (part (tree_of_moment p m) (key_of g.context))
     by : List Named → Held
     by entries =
         in_option (record { prefix = g.context; entries = entries; subordinate = []; nssrs = [] })
-        (λ c. record { prefix = g.context; entries = entries; subordinate = sent_references (knowledge_at p) c entries;
-            nssrs = c.context.nssrs }) (mastered_at (knowledge_at p) (key_of g.context))
+        (λ c. record {
+          prefix = g.context;
+          entries = entries;
+          subordinate = sent_references (knowledge_at p) c entries;
+          nssrs = c.context.nssrs;
+        }) (mastered_at (knowledge_at p) (key_of g.context))
 
 abbrev pub copy_by : Point → Agreement → Copy
 copy_by p g = record { held = copy_as_of p g (as_of p g.number); stamp = as_of p g.number; supplier = g.supplier }

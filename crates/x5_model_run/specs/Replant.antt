@@ -71,7 +71,7 @@ back_references w v = if v.from == v.to then [] else in_option [] back (agent_at
     back a =
         map (λ c. record { pin = c.prefix; access = record { master = v.from; shadows = [] } })
         (filter (λ c. is_moved v (parent (key_of c.prefix))
-            && not (is_named (moved_references w v) (key_of c.prefix))) a.contexts)
+        && not (is_named (moved_references w v) (key_of c.prefix))) a.contexts)
 
 -- one agent of the world changed
 abbrev pub with_agent : ℕ → (Agent → Agent) → World → World
@@ -80,13 +80,17 @@ with_agent a change w = record w { agents = map (λ x. if x.0 == a then change x
 -- what is moved leaves its agent
 abbrev pub context_without : Move → Context → Context
 context_without v c =
-    record c { entries = filter (λ e. not (is_moved v (key_at e))) c.entries;
-        nssrs = filter (λ n. not (is_moved v (key_of n.at))) c.nssrs }
+    record c {
+      entries = filter (λ e. not (is_moved v (key_at e))) c.entries;
+      nssrs = filter (λ n. not (is_moved v (key_of n.at))) c.nssrs;
+    }
 
 abbrev pub leaves : Move → Agent → Agent
 leaves v a =
-    record a { contexts = map (context_without v) a.contexts;
-        subordinate = filter (λ k. not (is_moved v (parent (key_of k.pin)))) a.subordinate }
+    record a {
+      contexts = map (context_without v) a.contexts;
+      subordinate = filter (λ k. not (is_moved v (parent (key_of k.pin)))) a.subordinate;
+    }
 
 -- after a split the new master has a context more, its last, and the old one knows it by a reference
 abbrev pub split_move : Tree → World → Key → ℕ → Option Move
@@ -99,8 +103,10 @@ split_by w name v = with_agent v.to joins (with_agent v.from knows (with_agent v
   where
     knows : Agent → Agent
     knows a =
-        record a { subordinate = a.subordinate ++ when (not (v.from == v.to))
-            (record { pin = name; access = record { master = v.to; shadows = [] } }) }
+        record a {
+          subordinate = a.subordinate ++ when (not (v.from == v.to))
+              (record { pin = name; access = record { master = v.to; shadows = [] } });
+        }
 
     joins : Agent → Agent
     joins a = record a {
@@ -125,8 +131,10 @@ masters_beside w a name = in_option false (λ x. list_any (λ c. same_key (paren
 
 abbrev pub forgets : Key → Agent → Agent
 forgets name a =
-    record a { subordinate = filter (λ k. not (same_key (key_of k.pin) name)) a.subordinate;
-        cross = filter (λ k. not (same_key (key_of k.pin) name)) a.cross }
+    record a {
+      subordinate = filter (λ k. not (same_key (key_of k.pin) name)) a.subordinate;
+      cross = filter (λ k. not (same_key (key_of k.pin) name)) a.cross;
+    }
 
 abbrev pub unsplit_by : Tree → World → Key → Move → World
 unsplit_by t w name v = forgotten (with_agent v.to joins (with_agent v.from drops w))
@@ -139,15 +147,18 @@ unsplit_by t w name v = forgotten (with_agent v.to joins (with_agent v.from drop
     left nssrs =
         if masters_beside w v.from name then nssrs
         else filter (λ n. not (is_empty n.agents))
-            (map (λ n. if same_key (key_of n.at) (parent name) then nssr_without v.from n else n) nssrs)
+        (map (λ n. if same_key (key_of n.at) (parent name) then nssr_without v.from n else n) nssrs)
 
     is_above : Context → Bool
     is_above c = in_option false (λ pin. same_key (key_of c.prefix) pin) (longest t.pins (parent name))
 
     joins : Agent → Agent
     joins a = record a {
-      contexts = map (λ c. if is_above c then record c { entries = c.entries ++ v.moved; nssrs = left c.nssrs
-          ++ nssrs_along w v } else c) a.contexts;
+      contexts = map (λ c. if is_above c then record c {
+        entries = c.entries ++ v.moved;
+        nssrs = left c.nssrs
+            ++ nssrs_along w v;
+      } else c) a.contexts;
       subordinate = a.subordinate ++ references_along w v ++ back_references w v;
     }
 

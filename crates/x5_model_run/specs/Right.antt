@@ -1,6 +1,6 @@
 -- A right answer to a request over consistent knowledge (X.511, sections 9 to 12; X.518, sections 18 to 20).
-use Rattle.std.specs.Prelude.{◌≡◌, ℕ, ◌+◌, ◌-◌, Bool, true, false, not, ◌&&◌, ◌||◌, ◌==◌, nat_le, if◌then◌else◌, IsTrue,
-    List, [], length, map}
+use Rattle.std.specs.Prelude.{◌≡◌, ℕ, ◌+◌, ◌-◌, Bool, true, false, not, ◌&&◌, ◌||◌, ◌==◌, nat_le, if◌then◌else◌, IsTrue}
+use Rattle.std.specs.Prelude.{List, [], length, map}
 use Rattle.std.specs.List.{list_any, list_all, filter, AllByRecursion}
 use Rattle.std.specs.Option.{is_some}
 use Rattle.std.specs.Result.{is_ok}
@@ -12,8 +12,8 @@ use Rattle.x5_model.specs.Values.{Name, key_of}
 use Rattle.x5_model.specs.Entries.{Named}
 use Rattle.x5_model.specs.Requests.{Request}
 use Rattle.x5_model.specs.References.{Next, Reference}
-use Rattle.x5_model.specs.Answers.{Source, Answer, Changed, DirError, UpdateProblem, ServiceProblem, Reply, Answered,
-    Failed, Referred}
+use Rattle.x5_model.specs.Answers.{Source, Answer, Changed, DirError, UpdateProblem, ServiceProblem, Reply, Answered}
+use Rattle.x5_model.specs.Answers.{Failed, Referred}
 use Rattle.x5_model.specs.Statics.{fault_of}
 use Rattle.x5_model.specs.Problems.{entry_already_exists, unavailable}
 use Rattle.x5_model_tree.specs.World.{World}
@@ -22,8 +22,8 @@ use Rattle.x5_model_tree.specs.Masters.{master_of, is_consumer, agent_at, is_fir
 use Rattle.x5_model_tree.specs.Ask.{Refuses, rest_of, sources_of, unexplored_of, is_update}
 use Rattle.x5_model_tree.specs.Apply.{apply}
 use Rattle.x5_model_run.specs.Network.{Fate, Lost, NoReply, Sent}
-use Rattle.x5_model_run.specs.Journal.{Line, Journal, depth, same_progress, same_name, is_done, is_reached, settled,
-    some_line}
+use Rattle.x5_model_run.specs.Journal.{Line, Journal, depth, same_progress, same_name, is_done, is_reached, settled}
+use Rattle.x5_model_run.specs.Journal.{some_line}
 use Rattle.x5_model_run.specs.Holdings.{Held, Holdings, may_copy, known_pins, held_at, copy_at}
 use Rattle.x5_model_run.specs.Needs.{others, nssr_at, new_name, ends_here}
 use Rattle.x5_model_run.specs.History.{Point, knowledge_at, tree_at, as_of}
@@ -45,7 +45,7 @@ abbrev pub is_accepted_right : Point → Scene → List Line → ℕ → Bool
 is_accepted_right p s lines a =
     is_update s.message.request.body
     && (is_reached lines a && (is_master_at p (key_of s.message.target) a
-        && is_ok (apply (tree_at p) s.message.request)))
+    && is_ok (apply (tree_at p) s.message.request)))
 
 pub record Accepts (p : Point) (s : Scene) (j : Journal) : Type 0 where
   pub one : IsTrue (nat_le (length j.accepted) 1)
@@ -75,7 +75,7 @@ accepts_none q j = length j.accepted == q.stood
 abbrev pub is_copy_source : Point → Source → ℕ → Bool
 is_copy_source p x m =
     list_any (λ g. is_consumer x.agent (key_of x.context) g && some_and (λ at. at == m) (as_of p g.number))
-        (knowledge_at p).agreements
+    (knowledge_at p).agreements
 
 abbrev pub is_holder : Point → Asked → Source → Option ℕ → Bool
 is_holder p q x None = some_and (λ a. a == x.agent) (master_of (knowledge_at p) (key_of x.context))
@@ -104,7 +104,7 @@ same_keys xs ys = list_all (has same_key ys) xs && list_all (has same_key xs) ys
 abbrev pub uncovered : Point → Asked → List Reference → List Key
 uncovered p q unexplored =
     filter (λ pin. not (is_covered (knowledge_at p) unexplored pin))
-        (touched (knowledge_at p) (tree_at p) q.to q.message)
+    (touched (knowledge_at p) (tree_at p) q.to q.message)
 
 -- the object or base was found, by an agent that was heard; what came with a completed name was found before
 abbrev pub is_found : Scene → Asked → List Line → Bool
@@ -155,7 +155,7 @@ nssr_agents p s e = in_option [] (nssr_at_master p s (key_of e.name)) (master_at
 abbrev pub hears_below : Asked → List Line → ℕ → ℕ → Bool
 hears_below q lines k a =
     hears_by (λ l. (l.receiver == a) && (same_progress l.message.progress (Next k)
-        && is_for q.message.target l)) q lines
+    && is_for q.message.target l)) q lines
 
 abbrev pub hears_nssr : Point → Scene → Asked → List Line → Option Named → Bool
 hears_nssr p s q lines None = true

@@ -1,8 +1,8 @@
 -- How far a message has come. Over consistent knowledge each item of a trace is at a lower stage than the next, so no
 -- trace is long and no message goes round (X.518, section 17: request validation detects loops). And how many messages
 -- a request may take.
-use Rattle.std.specs.Prelude.{ℕ, zero, suc, ◌+◌, ◌*◌, Bool, ◌&&◌, ◌||◌, ◌==◌, nat_lt, if◌then◌else◌, List, [], ◌∷◌,
-    length, take}
+use Rattle.std.specs.Prelude.{ℕ, zero, suc, ◌+◌, ◌*◌, Bool, ◌&&◌, ◌||◌, ◌==◌, nat_lt, if◌then◌else◌, List, [], ◌∷◌}
+use Rattle.std.specs.Prelude.{length, take}
 use Rattle.std.specs.List.{filter, flat_map}
 use Rattle.x5_model.specs.Words.{has, in_option}
 use Rattle.x5_model.specs.Keys.{Key}
@@ -37,8 +37,12 @@ stage_of w i = by i.progress
     by Start = record { phase = 0; size = 0; mark = 0; distance = steps_up 16 w i.agent }
     by (Next k) =
         record { phase = 1; size = k; mark = 0; distance = steps_to_master 4 w (take k (key_of i.target)) i.agent }
-    by Done = record { phase = 2; size = length i.target; mark = if i.wide then 1 else 0;
-        distance = steps_to_master 4 w (key_of i.target) i.agent }
+    by Done = record {
+      phase = 2;
+      size = length i.target;
+      mark = if i.wide then 1 else 0;
+      distance = steps_to_master 4 w (key_of i.target) i.agent;
+    }
 
 -- the first is the lower
 abbrev pub is_lower : Stage → Stage → Bool

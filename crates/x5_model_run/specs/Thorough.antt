@@ -31,7 +31,7 @@ sender_follows s l = is_sent l.fate && (not (is_user l.sender) || s.follows)
 abbrev pub is_sent_by : List Line → Line → Option ℕ → Reference → Bool
 is_sent_by lines l sender r =
     in_option true (λ a. some_line (λ e before. asks_by r a e
-        && (same_sender e.sender sender && opened_by l.number before e)) lines) (first_of r.agents)
+    && (same_sender e.sender sender && opened_by l.number before e)) lines) (first_of r.agents)
 
 abbrev pub is_taken : Scene → List Line → Line → Reference → Bool
 is_taken s lines l r =

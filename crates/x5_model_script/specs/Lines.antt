@@ -1,7 +1,7 @@
 -- The lines of a script and what they ask for, or the first fault from the left of one that asks for nothing
 -- (docs/FORMATS.md, script).
-use Rattle.std.specs.Prelude.{ℕ, Bool, true, false, ◌||◌, ◌==◌, nat_lt, if◌then◌else◌, List, [], ◌∷◌, ◌++◌, length,
-    codes, Option, Some, None, option_and_then, Result, Ok, Err, nat_eq}
+use Rattle.std.specs.Prelude.{ℕ, Bool, true, false, ◌||◌, ◌==◌, nat_lt, if◌then◌else◌, List, [], ◌∷◌, ◌++◌, length}
+use Rattle.std.specs.Prelude.{codes, Option, Some, None, option_and_then, Result, Ok, Err, nat_eq}
 use Rattle.std.specs.List.{starts_with}
 use Rattle.x5_model.specs.Words.{is_empty, same_octets, first_of}
 use Rattle.x5_model.specs.Values.{Text, Name, Rdn, TypeRef, Value}
@@ -10,8 +10,8 @@ use Rattle.x5_model.specs.Assertions.{assertion_of, offered}
 use Rattle.x5_model.specs.Requests as ask
 use Rattle.x5_model_run.specs.Network as network
 use Rattle.x5_model_run.specs.Run as run
-use Rattle.x5_model_script.specs.Words.{Fault, Long, BadWord, BadName, BadFilter, BadHex, ◌>>=◌, or_fault, Word, Left,
-    words_of, sound, passed, next, peeked, skipped, ended}
+use Rattle.x5_model_script.specs.Words.{Fault, Long, BadWord, BadName, BadFilter, BadHex, ◌>>=◌, or_fault, Word, Left}
+use Rattle.x5_model_script.specs.Words.{words_of, sound, passed, next, peeked, skipped, ended}
 use Rattle.x5_model_script.specs.Texts as texts
 
 -- What a line asks for: what runs are made of, or octets handed to an agent by the protocol between agents, or by that

@@ -1,7 +1,7 @@
 -- A script: what each of its lines asks for, or its first line that is refused (docs/FORMATS.md, script). The grammar
 -- is this project's own.
-use Rattle.std.specs.Prelude.{ℕ, ◌+◌, Bool, false, not, ◌&&◌, ◌==◌, nat_lt, if◌then◌else◌, List, [], ◌∷◌, Result, Ok,
-    Err}
+use Rattle.std.specs.Prelude.{ℕ, ◌+◌, Bool, false, not, ◌&&◌, ◌==◌, nat_lt, if◌then◌else◌, List, [], ◌∷◌, Result, Ok}
+use Rattle.std.specs.Prelude.{Err}
 use Rattle.std.specs.List.{slice_split}
 use Rattle.x5_model.specs.Values.{Text}
 use Rattle.x5_model_run.specs.Run.{Blank, Asks, Changes, Drops, Updates}

@@ -41,7 +41,7 @@ StarRunIsRun =
 abbrev pub StarPrintsRun : Type 0
 StarPrintsRun =
     (w : World) → IsDescribed w → IsStar w → (moment : ℕ → Text) (commands : List Command) (blocks : List Block)
-        (past : List Did)
+    (past : List Did)
     → IsStarRun w commands blocks past
     → PrintsRun RightAndWhole w moment commands (codes "knowledge consistent\n"
-        ++ blocks_text (names_of w moment) 1 commands blocks)
+    ++ blocks_text (names_of w moment) 1 commands blocks)

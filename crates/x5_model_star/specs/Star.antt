@@ -34,21 +34,21 @@ abbrev pub is_placed : World → Mastered → Bool
 is_placed w m =
     if is_first m then length (pin_of m) == 1
     else is_there (first_entries w) (parent (pin_of m))
-        && not (list_any (λ e. is_prefix (pin_of m) (key_at e)) (first_entries w))
+    && not (list_any (λ e. is_prefix (pin_of m) (key_at e)) (first_entries w))
 
 -- a reference to another agent's prefix, with its master and without shadows
 abbrev pub leads_to_other : World → Specific → Bool
 leads_to_other w k =
     is_empty k.access.shadows
     && list_any (λ m. not (is_first m) && ((m.master == k.access.master) && same_key (pin_of m) (key_of k.pin)))
-        (mastered w)
+    (mastered w)
 
 -- the first agent has such references, to each other prefix; the others have none
 abbrev pub is_knowing : World → ℕ × Agent → Bool
 is_knowing w a =
     if a.0 == 0
     then list_all (leads_to_other w) a.1.subordinate
-        && list_all (λ m. is_first m || refers_to a.1 (pin_of m)) (mastered w)
+    && list_all (λ m. is_first m || refers_to a.1 (pin_of m)) (mastered w)
     else is_empty a.1.subordinate
 
 -- nothing is down, cut, refusing or lost

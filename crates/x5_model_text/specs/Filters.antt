@@ -1,8 +1,8 @@
 -- Filters as text: a filter in brackets, its sign before its members (the form of RFC 1558), for the filters of X.511,
 -- section 7.8. Each reading takes what it reads off the front of a text; a fault is the place of the first octet that
 -- can't stand there.
-use Rattle.std.specs.Prelude.{ℕ, zero, suc, ◌+◌, ◌-◌, Bool, not, if◌then◌else◌, ◌==◌, nat_lt, List, [], ◌∷◌, ◌++◌,
-    length, min, Option, None, Some, Result, Ok, Err, codes}
+use Rattle.std.specs.Prelude.{ℕ, zero, suc, ◌+◌, ◌-◌, Bool, not, if◌then◌else◌, ◌==◌, nat_lt, List, [], ◌∷◌, ◌++◌}
+use Rattle.std.specs.Prelude.{length, min, Option, None, Some, Result, Ok, Err, codes}
 use Rattle.std.specs.Option.{option_map}
 use Rattle.std.specs.List.{list_any, position, position_or_len, before_first, after_first, slice_split}
 use Rattle.x5_model.specs.Values.{Text, TypeRef, Value}
@@ -10,8 +10,9 @@ use Rattle.x5_model.specs.Types.{Kind, TextKind}
 use Rattle.x5_model.specs.Words.{in_option, same_octets}
 use Rattle.x5_model.specs.Normal.{ValueFault}
 use Rattle.x5_model.specs.Assertions.{assertion_of, substring_item_of}
-use Rattle.x5_model.specs.Filters.{Assertion, PiecePlace, Initial, Any, Last, Piece, Item, Equality, Substrings,
-    GreaterOrEqual, LessOrEqual, Present, Approximate, Filter, Is, And, Or, Not, Filters, Nil, More}
+use Rattle.x5_model.specs.Filters.{Assertion, PiecePlace, Initial, Any, Last, Piece, Item, Equality, Substrings}
+use Rattle.x5_model.specs.Filters.{GreaterOrEqual, LessOrEqual, Present, Approximate, Filter, Is, And, Or, Not, Filters}
+use Rattle.x5_model.specs.Filters.{Nil, More}
 use Rattle.x5_model_text.specs.TypeText.{type_of_text}
 use Rattle.x5_model_text.specs.ValueText.{resolved}
 use Rattle.x5_model_text.specs.NameText.{equals, kind_of_type, value_of_resolved}

@@ -1,12 +1,12 @@
 -- What texts can give: the types, names and values that reading answers.
-use Rattle.std.specs.Prelude.{◌≡◌, ℕ, ◌<◌, Bool, true, false, ◌&&◌, ◌||◌, ◌==◌, not, List, [], ◌∷◌, length, None,
-    is_some, is_ok}
+use Rattle.std.specs.Prelude.{◌≡◌, ℕ, ◌<◌, Bool, true, false, ◌&&◌, ◌||◌, ◌==◌, not, List, [], ◌∷◌, length, None}
+use Rattle.std.specs.Prelude.{is_some, is_ok}
 use Rattle.std.specs.List.{AllByRecursion, list_all, list_any}
 use Rattle.std.specs.Str.{is_utf8}
-use Rattle.x5_model.specs.Values.{Text, TypeRef, Known, Unknown, NameValue, Value, TextValue, OctetsValue, OidValue,
-    NameOf}
-use Rattle.x5_model.specs.Types.{is_known, Kind, TextKind, PrintableKind, CountryKind, NumericKind, TelephoneKind,
-    OidKind, NameKind, OctetsKind}
+use Rattle.x5_model.specs.Values.{Text, TypeRef, Known, Unknown, NameValue, Value, TextValue, OctetsValue, OidValue}
+use Rattle.x5_model.specs.Values.{NameOf}
+use Rattle.x5_model.specs.Types.{is_known, Kind, TextKind, PrintableKind, CountryKind, NumericKind, TelephoneKind}
+use Rattle.x5_model.specs.Types.{OidKind, NameKind, OctetsKind}
 use Rattle.x5_model.specs.Normal.{is_oid, is_name, name_over, value_over}
 use Rattle.x5_model_text.specs.TypeText.{known_below, oid_of_text}
 use Rattle.x5_model_text.specs.ValueText.{backslash, is_escaped, octets_of_text}

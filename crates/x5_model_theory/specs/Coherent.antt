@@ -6,8 +6,8 @@ use Rattle.x5_model_tree.specs.World.{World}
 use Rattle.x5_model_tree.specs.Consistent.{IsConsistent}
 use Rattle.x5_model_tree.specs.Described.{IsDescribed}
 use Rattle.x5_model_theory.specs.Described.{knowledge_of}
-use Rattle.x5_model_theory.specs.Knowledge.{Knowledge, Area, Spot, Pointer, Supply, IsEntry, IsMastered, IsConsumed,
-    IsReferred}
+use Rattle.x5_model_theory.specs.Knowledge.{Knowledge, Area, Spot, Pointer, Supply, IsEntry, IsMastered, IsConsumed}
+use Rattle.x5_model_theory.specs.Knowledge.{IsReferred}
 
 -- within so many hops the chain of superiors ends at a first-level agent (X.518, section 9)
 pub data Climbs (k : Knowledge) : ℕ → ℕ → Type 0 where
@@ -46,7 +46,7 @@ pub record Coherent (k : Knowledge) : Type 0 where
   -- a subordinate one names a child of an entry that the agent masters, or of the root at a first-level agent
   pub subordinate_placed : (r : Pointer) → In r k.subordinate
       → ((c : Area) × In c k.areas × (c.master ≡ r.owner) × In (parent r.pin) c.entries)
-          ⊎ ((length r.pin ≡ 1) × (k.superior r.owner ≡ None))
+      ⊎ ((length r.pin ≡ 1) × (k.superior r.owner ≡ None))
   -- the shadow agents of a reference are distinct consumers of that context
   pub subordinate_shadows : (r : Pointer) → In r k.subordinate → Once r.shadows
       × ((a : ℕ) → In a r.shadows → IsConsumed k a r.pin)
@@ -55,7 +55,7 @@ pub record Coherent (k : Knowledge) : Type 0 where
   -- reference, or its master stands in the parent's NSSR
   pub known_below : (c d : Area) → In c k.areas → In d k.areas → In (parent d.prefix) c.entries
       → (d.master ≡ c.master) ⊎ (IsReferred k c.master d.prefix
-          ⊎ ((n : Spot) × In n c.nssrs × (n.at ≡ parent d.prefix) × In d.master n.agents))
+      ⊎ ((n : Spot) × In n c.nssrs × (n.at ≡ parent d.prefix) × In d.master n.agents))
   -- each agent of an NSSR stands there once, isn't the context's master, and masters a pin just below
   pub nssr_once : (c : Area) (n : Spot) → In c k.areas → In n c.nssrs → Once n.agents
   pub nssr_others : (c : Area) (n : Spot) → In c k.areas → In n c.nssrs → In c.master n.agents → ⊥

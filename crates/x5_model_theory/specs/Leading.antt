@@ -1,7 +1,7 @@
 -- Each reference that knowledge makes an agent need leads on (X.518, sections 18 and 19): its agents can go on from
 -- there, and a message that follows it is nearer than all before.
-use Rattle.std.specs.Prelude.{List, ◌≡◌, ℕ, true, Option, Some, ◌⊎◌, false, [], ◌∷◌, ◌++◌, ◌+◌, ◌<◌, ◌≤◌, length,
-    if◌then◌else◌}
+use Rattle.std.specs.Prelude.{List, ◌≡◌, ℕ, true, Option, Some, ◌⊎◌, false, [], ◌∷◌, ◌++◌, ◌+◌, ◌<◌, ◌≤◌, length}
+use Rattle.std.specs.Prelude.{if◌then◌else◌}
 use Rattle.std.specs.Option.{is_some}
 use Rattle.x5_model.specs.Keys.{Key}
 use Rattle.x5_model.specs.Values.{Name, key_of}
@@ -15,8 +15,8 @@ use Rattle.x5_model_tree.specs.Described.{IsDescribed}
 use Rattle.x5_model_run.specs.History.{Point, knowledge_at, holdings_at}
 use Rattle.x5_model_run.specs.Journal.{Line, is_done, item_of, is_wide, same_item}
 use Rattle.x5_model_run.specs.Chain.{Scene, scene_at, IsCarried, opening, asks_part, AllLicensed}
-use Rattle.x5_model_run.specs.Needs.{target_of, new_name, subset_of, resolution_needs, part_needs, copied_needs,
-    passing_needs, due_probes, needs}
+use Rattle.x5_model_run.specs.Needs.{target_of, new_name, subset_of, resolution_needs, part_needs, copied_needs}
+use Rattle.x5_model_run.specs.Needs.{passing_needs, due_probes, needs}
 use Rattle.x5_model_run.specs.Placed.{fits, is_brought, Placed}
 use Rattle.x5_model_run.specs.Stage.{Stage, stage_of, is_lower}
 
@@ -144,7 +144,7 @@ abbrev pub JournalsArePlaced : Type 0
 JournalsArePlaced = (p : Point) (s : Scene) (lines : List Line) (l : Line) → IsSound p → s.holdings ≡ holdings_at p
     → Placed p s.message s.first → IsGoing (knowledge_at p) (with_own s.first s.message)
     → AllLicensed s lines → In l lines → Placed p l.message l.receiver
-        × IsGoing (knowledge_at p) (with_own l.receiver l.message)
+    × IsGoing (knowledge_at p) (with_own l.receiver l.message)
 
 abbrev pub OpeningIsPlaced : Type 0
 OpeningIsPlaced = (p : Point) (first : ℕ) (r : Request) → Placed p (opening r) first
@@ -167,4 +167,4 @@ abbrev pub NoJournalIsLong : Type 0
 NoJournalIsLong =
     (p : Point) (first : ℕ) (r : Request) (lines : List Line) (l : Line) → IsSound p → length (target_of r.body) ≤ 16
     → ((name : Name) → new_name r.body ≡ Some name → length name ≤ 16) → AllLicensed (scene_at p first r) lines →
-        In l lines → length l.message.trace ≤ 96
+    In l lines → length l.message.trace ≤ 96

@@ -6,8 +6,8 @@ use Rattle.x5_model.specs.Requests.{Subset, Base, OneLevel, WholeSubtree}
 use Rattle.x5_model.specs.Members.{In}
 use Rattle.x5_model_theory.specs.Knowledge.{Knowledge, Area, Spot}
 use Rattle.x5_model_theory.specs.Coherent.{Coherent}
-use Rattle.x5_model_theory.specs.Scopes.{with_root, root_of, InSubset, Look, IsTreated, NeedsSpecific, NeedsNonSpecific,
-    InSpecific, InNonSpecific, IsTouched, MayLook}
+use Rattle.x5_model_theory.specs.Scopes.{with_root, root_of, InSubset, Look, IsTreated, NeedsSpecific, NeedsNonSpecific}
+use Rattle.x5_model_theory.specs.Scopes.{InSpecific, InNonSpecific, IsTouched, MayLook}
 
 -- the agent holds what it masters
 abbrev pub HoldsItsOwn : Knowledge → ℕ → (Key → Bool) → Type 0
@@ -20,8 +20,14 @@ from_base k agent holds c subset base =
 
 -- from the root, at a first-level agent
 abbrev pub from_root : Knowledge → ℕ → (Key → Bool) → Subset → Look
-from_root k agent holds subset = record { knowledge = with_root agent k; agent = agent; holds = holds;
-    starts = root_of agent ∷ []; subset = subset; base = [] }
+from_root k agent holds subset = record {
+  knowledge = with_root agent k;
+  agent = agent;
+  holds = holds;
+  starts = root_of agent ∷ [];
+  subset = subset;
+  base = [];
+}
 
 -- from pins just below an entry with an NSSR
 abbrev pub from_pins : Knowledge → ℕ → (Key → Bool) → List Area → Subset → Key → Look
@@ -42,7 +48,7 @@ abbrev pub PinsMayLook : Type 0
 PinsMayLook = (k : Knowledge) (agent : ℕ) (holds : Key → Bool) (pins : List Area) (subset : Subset) (at : Key) →
     Coherent k → HoldsItsOwn k agent holds
     → ((r : Area) → In r pins → In r k.areas × (parent r.prefix ≡ at)) →
-        MayLook (from_pins k agent holds pins subset at)
+    MayLook (from_pins k agent holds pins subset at)
 
 -- each entry of the subset below a start is of a context that is looked into
 abbrev pub EntriesAreTouched : Type 0

@@ -18,7 +18,7 @@ pub record Laid (k : Knowledge) : Type 0 where
   pub one_nssr : (c : Area) (n m : Spot) → In c k.areas → In n c.nssrs → In m c.nssrs → n.at ≡ m.at → n ≡ m
   pub known_below : (c d : Area) → In c k.areas → In d k.areas → 0 < length d.prefix → In (parent d.prefix) c.entries
       → (d.master ≡ c.master) ⊎ (IsReferred k c.master d.prefix
-          ⊎ ((n : Spot) × In n c.nssrs × (n.at ≡ parent d.prefix) × In d.master n.agents))
+      ⊎ ((n : Spot) × In n c.nssrs × (n.at ≡ parent d.prefix) × In d.master n.agents))
 
 -- the root as a context of a first-level agent, whose subordinate references of one RDN belong to it
 abbrev pub root_of : ℕ → Area
@@ -121,13 +121,13 @@ pub record MayLook (l : Look) : Type 0 where
 abbrev pub AllAreTaken : Type 0
 AllAreTaken = (l : Look) (q : Area) → MayLook l → In q l.knowledge.areas → IsTouched l q
     → IsEvaluated l q ⊎ (((p : Area) × NeedsSpecific l p × InSpecific l p q)
-        ⊎ ((n : Spot) × (a : ℕ) × NeedsNonSpecific l n a × InNonSpecific l n a q))
+    ⊎ ((n : Spot) × (a : ℕ) × NeedsNonSpecific l n a × InNonSpecific l n a q))
 
 -- and no others are
 abbrev pub NoMoreAreTaken : Type 0
 NoMoreAreTaken = (l : Look) (q : Area) → MayLook l → In q l.knowledge.areas
     → IsEvaluated l q ⊎ (((p : Area) × NeedsSpecific l p × InSpecific l p q)
-        ⊎ ((n : Spot) × (a : ℕ) × NeedsNonSpecific l n a × InNonSpecific l n a q))
+    ⊎ ((n : Spot) × (a : ℕ) × NeedsNonSpecific l n a × InNonSpecific l n a q))
     → IsTouched l q
 
 -- what is evaluated on the spot is in no scope

@@ -15,11 +15,11 @@ use Rattle.x5_model.specs.Attributes.{is_present}
 use Rattle.x5_model.specs.Filters.{Assertion, Equality, Filter}
 use Rattle.x5_model.specs.Truth.{is_true, item_truth, selects_entry}
 use Rattle.x5_model.specs.Selections.{shown, selection_fault}
-use Rattle.x5_model.specs.Requests.{Subset, Base, OneLevel, WholeSubtree, Selection, Body, Read, Compare, ListBelow,
-    Search, AddEntry, RemoveEntry, ModifyEntry, ModifyDn, Request}
+use Rattle.x5_model.specs.Requests.{Subset, Base, OneLevel, WholeSubtree, Selection, Body, Read, Compare, ListBelow}
+use Rattle.x5_model.specs.Requests.{Search, AddEntry, RemoveEntry, ModifyEntry, ModifyDn, Request}
 use Rattle.x5_model.specs.References.{Reference}
-use Rattle.x5_model.specs.Answers.{EntryInfo, Sub, Source, DirError, NoSuchObject, AttributeProblem, Answer, EntryFound,
-    Matched, Listed, Found, Changed}
+use Rattle.x5_model.specs.Answers.{EntryInfo, Sub, Source, DirError, NoSuchObject, AttributeProblem, Answer, EntryFound}
+use Rattle.x5_model.specs.Answers.{Matched, Listed, Found, Changed}
 use Rattle.x5_model.specs.Statics.{fault_of}
 use Rattle.x5_model.specs.Problems.{no_such_attribute_or_value}
 use Rattle.x5_model_tree.specs.Tree.{Tree, key_at, entry_at, is_there_or_root, matched}
@@ -139,10 +139,10 @@ ask_body copies t request (Read name selection) = at_object t name (read copies 
 ask_body copies t request (Compare name a) = at_object t name (compare copies a)
 ask_body copies t request (ListBelow name) =
     if is_there_or_root t.entries (key_of name) then limited_list copies request.controls.size (just_below t name)
-        else absent t name
+    else absent t name
 ask_body copies t request (Search base subset f selection) =
     if is_there_or_root t.entries (key_of base) then limited_found copies request.controls.size selection
-        (searched t base subset f) else absent t base
+    (searched t base subset f) else absent t base
 ask_body copies t request (AddEntry name attributes) = updated (apply t request)
 ask_body copies t request (RemoveEntry name) = updated (apply t request)
 ask_body copies t request (ModifyEntry name changes) = updated (apply t request)

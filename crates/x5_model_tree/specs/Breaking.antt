@@ -7,11 +7,12 @@ use Rattle.x5_model.specs.Values.{key_of, name_above}
 use Rattle.x5_model.specs.Entries.{Named}
 use Rattle.x5_model_tree.specs.World.{Specific, Nssr, Context, Agent, Agreement, World}
 use Rattle.x5_model_tree.specs.Masters.{Mastered, pin_of, numbered, mastered}
-use Rattle.x5_model_tree.specs.Consistent.{AgentPrinted, NamePrinted, AgreementPrinted, Inconsistency, breach,
-    FileReference, specific_of, references, name_of_nssr}
-use Rattle.x5_model_tree.specs.Conditions.{Consumes, OneMaster, ParentThere, ParentsThere, NotLonger, NoLongerPin,
-    ReferenceRight, ReferencesRight, ShadowsOf, ShadowsConsume, KnowsBelow, KnownBelow, MemberMasters, MembersOf,
-    MembersMaster, KnowsTop, TopKnown, SuperiorsEndOf, SuperiorsEnd, AgreementSupplies}
+use Rattle.x5_model_tree.specs.Consistent.{AgentPrinted, NamePrinted, AgreementPrinted, Inconsistency, breach}
+use Rattle.x5_model_tree.specs.Consistent.{FileReference, specific_of, references, name_of_nssr}
+use Rattle.x5_model_tree.specs.Conditions.{Consumes, OneMaster, ParentThere, ParentsThere, NotLonger, NoLongerPin}
+use Rattle.x5_model_tree.specs.Conditions.{ReferenceRight, ReferencesRight, ShadowsOf, ShadowsConsume, KnowsBelow}
+use Rattle.x5_model_tree.specs.Conditions.{KnownBelow, MemberMasters, MembersOf, MembersMaster, KnowsTop, TopKnown}
+use Rattle.x5_model_tree.specs.Conditions.{SuperiorsEndOf, SuperiorsEnd, AgreementSupplies}
 
 abbrev pub Each : {A : Type 0} → List A → (A → Type 0) → Type 0
 Each {A} xs Holds = (x : A) → In x xs → Holds x
@@ -47,7 +48,7 @@ abbrev pub First2 : World → Inconsistency → Type 0
 First2 w b =
     FirstOf (ParentThere w)
     (λ m. ¬ (ParentThere w m) × (b ≡ breach 2 (NamePrinted m.context.prefix)
-        (NamePrinted (name_above m.context.prefix))))
+    (NamePrinted (name_above m.context.prefix))))
     (mastered w)
 
 -- 3. The first context that has an entry with a longer pin, the first such entry of it, and the first such pin: the
@@ -114,7 +115,7 @@ abbrev pub First9 : World → Inconsistency → Type 0
 First9 w b =
     FirstOf (SuperiorsEndOf w)
     (λ a. ¬ (SuperiorsEndOf w a) × ((s : ℕ) × (a.1.superior ≡ Some s)
-        × (b ≡ breach 9 (AgentPrinted a.0) (AgentPrinted s))))
+    × (b ≡ breach 9 (AgentPrinted a.0) (AgentPrinted s))))
     (numbered w)
 
 -- 10. The first agreement that is false: its number, and its context.

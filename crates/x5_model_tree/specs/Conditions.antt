@@ -10,8 +10,8 @@ use Rattle.x5_model.specs.Values.{key_of}
 use Rattle.x5_model.specs.Entries.{Named}
 use Rattle.x5_model_tree.specs.World.{Specific, Nssr, Context, Agent, Agreement, World}
 use Rattle.x5_model_tree.specs.Tree.{key_at}
-use Rattle.x5_model_tree.specs.Masters.{Mastered, pin_of, numbered, mastered, pins, master_of, is_consumer, superior_of,
-    supplier_of, all_entries}
+use Rattle.x5_model_tree.specs.Masters.{Mastered, pin_of, numbered, mastered, pins, master_of, is_consumer, superior_of}
+use Rattle.x5_model_tree.specs.Masters.{supplier_of, all_entries}
 use Rattle.x5_model_tree.specs.Consistent.{FileReference, ToBelow, ToAnywhere, specific_of}
 
 -- a is the master of a context with this pin; a consumes it by some agreement
@@ -54,7 +54,7 @@ NotLonger m e p = IsPrefix (pin_of p) (key_at e) → length (pin_of p) ≤ lengt
 abbrev pub NoLongerPin : World → Type 0
 NoLongerPin w =
     (m : Mastered) → In m (mastered w) → (e : Named) → In e m.context.entries → (p : Mastered) → In p (mastered w) →
-        NotLonger m e p
+    NotLonger m e p
 
 -- 4. Each subordinate or cross reference names a pin and its master; a subordinate one names a child of an entry that
 -- the agent masters, or of the root at a first-level agent.
@@ -64,7 +64,7 @@ NamesMaster w k = Masters w k.access.master (key_of k.pin)
 abbrev pub ChildOfOwn : Agent → Key → Type 0
 ChildOfOwn a pin =
     ((a.superior ≡ None) × (length pin ≡ 1)) ⊎ ((c : Context) × In c a.contexts
-        × ((e : Named) × In e c.entries × IsChild (key_at e) pin))
+    × ((e : Named) × In e c.entries × IsChild (key_at e) pin))
 
 abbrev pub ReferenceRight : World → Agent → FileReference → Type 0
 ReferenceRight w a (ToBelow k) = NamesMaster w k × ChildOfOwn a (key_of k.pin)
@@ -74,7 +74,7 @@ abbrev pub ReferencesRight : World → Type 0
 ReferencesRight w =
     (a : ℕ × Agent) → In a (numbered w)
     → ((k : Specific) → In k a.1.subordinate → NamesMaster w k × ChildOfOwn a.1 (key_of k.pin))
-        × ((k : Specific) → In k a.1.cross → NamesMaster w k)
+    × ((k : Specific) → In k a.1.cross → NamesMaster w k)
 
 -- 5. The shadow agents of a reference are distinct consumers of that context.
 abbrev pub ShadowsOf : World → Specific → Type 0
@@ -97,7 +97,7 @@ KnowsBelow w a c p =
 abbrev pub KnownBelow : World → Type 0
 KnownBelow w =
     (a : ℕ × Agent) → In a (numbered w) → (c : Context) → In c a.1.contexts → (p : Mastered) → In p (mastered w) →
-        KnowsBelow w a c p
+    KnowsBelow w a c p
 
 -- 7. Each agent of an NSSR stands there once, isn't the context's master, and masters a pin just below the NSSR's
 -- entry.
@@ -147,7 +147,7 @@ abbrev pub AgreementSupplies : World → Agreement → Type 0
 AgreementSupplies w g =
     ¬ (Masters w g.consumer (key_of g.context))
     × ((length (filter (is_consumer g.consumer (key_of g.context)) w.agreements) ≡ 1)
-        × SuppliedWithin w (key_of g.context) 4 (Some g.supplier))
+    × SuppliedWithin w (key_of g.context) 4 (Some g.supplier))
 
 abbrev pub AgreementsSupply : World → Type 0
 AgreementsSupply w = (g : Agreement) → In g w.agreements → AgreementSupplies w g

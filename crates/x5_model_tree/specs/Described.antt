@@ -1,8 +1,8 @@
 -- What every world that was read from a file meets (docs/FORMATS.md, world file), whether its knowledge is consistent
 -- or not: what can be said of agents, contexts, entries and references one by one, and the limits. The ten conditions
 -- say the rest. Agents' names, limits, agreements' numbers and the network are this project's own.
-use Rattle.std.specs.Prelude.{ℕ, ◌+◌, Bool, true, false, not, ◌&&◌, ◌||◌, ◌==◌, nat_lt, nat_le, IsTrue, List, [], ◌∷◌,
-    ◌++◌, length, map, codes}
+use Rattle.std.specs.Prelude.{ℕ, ◌+◌, Bool, true, false, not, ◌&&◌, ◌||◌, ◌==◌, nat_lt, nat_le, IsTrue, List, [], ◌∷◌}
+use Rattle.std.specs.Prelude.{◌++◌, length, map, codes}
 use Rattle.std.specs.Cmp.Lexicographic.{pointwise}
 use Rattle.std.specs.Char.{is_ascii_alphabetic, is_ascii_alphanumeric}
 use Rattle.std.specs.List.{list_all, list_any, find, filter, flat_map}
@@ -57,7 +57,7 @@ is_stored_context c =
 abbrev pub is_stored_agent : Agent → Bool
 is_stored_agent a =
     list_all is_stored_context a.contexts && (list_all (λ k. is_stored k.pin) a.subordinate
-        && list_all (λ k. is_stored k.pin) a.cross)
+    && list_all (λ k. is_stored k.pin) a.cross)
 
 abbrev pub is_stored_world : World → Bool
 is_stored_world w = list_all is_stored_agent w.agents && list_all (λ g. is_stored g.context) w.agreements
@@ -89,14 +89,14 @@ is_entry_name n = not (is_empty n)
 abbrev pub is_kept : Named → Bool
 is_kept e =
     is_entry_name e.name && (is_ordered e.entry && (has_rdn e.entry (last_rdn e.name)
-        && is_empty (entry_refusals e.entry)))
+    && is_empty (entry_refusals e.entry)))
 
 -- the parent of each later entry stands before it, and the name above is spelled as the parent's; no key stands twice
 abbrev pub is_grown : List Named → List Named → Bool
 is_grown before [] = true
 is_grown before (e ∷ more) =
     list_any (λ f. same_spelling f.name (name_above e.name)) before
-        && (not (is_there before (key_at e)) && is_grown (e ∷ before) more)
+    && (not (is_there before (key_at e)) && is_grown (e ∷ before) more)
 
 -- the first entry is the context prefix's
 abbrev pub is_rooted : Context → List Named → Bool
@@ -128,7 +128,7 @@ abbrev pub is_reference : World → Specific → Bool
 is_reference w r =
     is_entry_name r.pin
     && (nat_lt r.access.master (length w.agents) && (are_agents w r.access.shadows
-        && nat_le (length r.access.shadows) most_shadows))
+    && nat_le (length r.access.shadows) most_shadows))
 
 abbrev pub are_references : World → List Specific → Bool
 are_references w rs = list_all (is_reference w) rs && distinct same_key (map (λ r. key_of r.pin) rs)
@@ -144,7 +144,7 @@ are_listed a =
 abbrev pub is_agent : World → Agent → Bool
 is_agent w a =
     is_agent_name a.name && (list_all (is_context w) a.contexts
-        && (are_references w a.subordinate && are_references w a.cross))
+    && (are_references w a.subordinate && are_references w a.cross))
 
 abbrev pub has_superior : World → Agent → Bool
 has_superior w a = not (some_and (λ s. not (nat_lt s (length w.agents))) a.superior)
@@ -156,7 +156,7 @@ is_number n = nat_lt 0 n && nat_le n 1000000
 abbrev pub is_agreement : World → Agreement → Bool
 is_agreement w g =
     is_number g.number && (is_entry_name g.context
-        && (nat_lt g.supplier (length w.agents) && nat_lt g.consumer (length w.agents)))
+    && (nat_lt g.supplier (length w.agents) && nat_lt g.consumer (length w.agents)))
 
 -- ---- limits of the world
 
@@ -221,9 +221,9 @@ has_network w =
     (are_agents w w.network.down && distinct ◌==◌ w.network.down)
     && ((are_agents w w.network.refusing && distinct ◌==◌ w.network.refusing)
     && ((list_all (is_pair w) w.network.cut && (distinct same_pair w.network.cut
-        && nat_le (length w.network.cut) most_cut))
+    && nat_le (length w.network.cut) most_cut))
     && (are_numbers most_lost_messages w.network.lost_messages
-        && are_numbers most_lost_replies w.network.lost_replies)))
+    && are_numbers most_lost_replies w.network.lost_replies)))
 
 pub record IsDescribed (w : World) : Type 0 where
   pub agents_there : IsTrue (not (is_empty w.agents))

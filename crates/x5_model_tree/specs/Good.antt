@@ -35,7 +35,7 @@ pub record Good (w : World) : Type 0 where
   pub known_below : (m p : Mastered) (a : Agent) → In m (mastered w) → In p (mastered w) →
       In (m.master, a) (numbered w) → In m.context a.contexts → Has m.context.entries (parent (pin_of p))
       → (p.master ≡ m.master) ⊎ (Refers a (pin_of p)
-          ⊎ ((n : Nssr) × In n m.context.nssrs × ((key_of n.at ≡ parent (pin_of p)) × In p.master n.agents)))
+      ⊎ ((n : Nssr) × In n m.context.nssrs × ((key_of n.at ≡ parent (pin_of p)) × In p.master n.agents)))
   pub top_known : (place : ℕ) (a : Agent) (p : Mastered) → In (place, a) (numbered w) → In p (mastered w) → a.superior
       ≡ None → length (pin_of p) ≡ 1 → (p.master ≡ place) ⊎ Refers a (pin_of p)
   pub names_master : (place : ℕ) (a : Agent) (k : Specific) → In (place, a) (numbered w) → In k a.subordinate

@@ -33,7 +33,7 @@ pub record Reached (w : World) (c : Mastered) (a : Agent) (name : Key) (at : Nam
 abbrev pub NoneLonger : World → Mastered → Key → Named → Type 0
 NoneLonger w c name at =
     (n : Nssr) → In n c.context.nssrs → key_of n.at ≡ key_at at → (d : Mastered) → In d (mastered w) →
-        In d.master n.agents → IsPrefix (pin_of d) name → length (pin_of d) ≤ length (key_at at)
+    In d.master n.agents → IsPrefix (pin_of d) name → length (pin_of d) ≤ length (key_at at)
 
 -- the agent masters no context whose pin is a prefix of the name, and has no subordinate reference to one
 pub record KnowsNone (w : World) (place : ℕ) (a : Agent) (name : Key) : Type 0 where
@@ -45,4 +45,4 @@ pub record KnowsNone (w : World) (place : ℕ) (a : Agent) (name : Key) : Type 0
 abbrev pub NoLower : World → Key → ℕ → Type 0
 NoLower w name n =
     (d : Mastered) → In d (mastered w) → (e : Named) → In e d.context.entries → IsPrefix (key_at e) name →
-        length (key_at e) ≤ n
+    length (key_at e) ≤ n

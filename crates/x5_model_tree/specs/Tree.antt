@@ -1,7 +1,7 @@
 -- The one tree (X.501, section 7: the directory information tree): entries with their names, in the order of their
 -- keys, and the pins, which are the prefixes of naming contexts.
-use Rattle.std.specs.Prelude.{ℕ, zero, suc, Bool, true, false, not, ◌&&◌, ◌||◌, nat_lt, if◌then◌else◌, IsTrue, List, [],
-    ◌∷◌, length, map, take}
+use Rattle.std.specs.Prelude.{ℕ, zero, suc, Bool, true, false, not, ◌&&◌, ◌||◌, nat_lt, if◌then◌else◌, IsTrue, List, []}
+use Rattle.std.specs.Prelude.{◌∷◌, length, map, take}
 use Rattle.std.specs.List.{find, filter, list_all, list_any}
 use Rattle.std.specs.declared.option.Option.{Option}
 use Rattle.std.specs.declared.option.Option.TheVariants.{None, Some}

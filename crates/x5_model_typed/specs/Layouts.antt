@@ -5,21 +5,25 @@ use Rattle.std.specs.declared.option.Option.{Option}
 use Rattle.std.specs.declared.option.Option.TheVariants.{None, Some}
 use Rattle.x5_model.specs.Normal.{is_printable}
 use Rattle.x5_model_typed.specs.Nodes.{Node, Vacant, Flag, Number, Chosen, Many, Nil, whole, row}
-use Rattle.x5_model_typed.specs.Named.{Named, Operation, Read, Compare, ListBelow, Search, AddEntry, RemoveEntry,
-    ModifyEntry, ModifyDn, DapRequest, DapAnswer, DspRequest, DspAnswer, DispMessage, Argument, Chained, DapResult,
-    DspResult, DispResult, Outcome, AnyNumber, NumberBelow, Enumeration, Boolean, Null, AnyOid, Value, Part, AgentName,
-    Time, Options, RefType, Name, Rdn, Rdns, Pair, Attribute, Attributes, Values, TypeList, Selection, Controls,
-    Assertion, Changes, Change, Filter, Filters, Item, Substrings, Parts, PlacedPart, Chaining, Progress, Trace,
-    TraceItem, Agents, Agent, Reference, References, Source, Sources, EntryInfo, EntryInfos, Sub, Subs, Qualifier,
-    AttributeError, NameError, ServiceError, UpdateError, ShadowError, Agreement, ShadowArgument, UpdateArgument,
-    Refresh, Total, Entries, Entry, Knowns, Known, NonSpecifics, NonSpecific, WorldAgents, WorldAgent, WorldAgentName,
-    Steps, Step, Renamed}
-use Rattle.x5_model_typed.specs.Forms.{Leaf, Component, Primitive, Joined, JoinedBits, Explicit, Sequence, Set, Members,
-    Never, Alternative, Layout, universal, choice, ruled, plain, at, or, code}
-use Rattle.x5_model_typed.specs.Leaves.{boolean, null, number, any_number, from_to, one_of, oid, any_oid, short_oid,
-    octet_string, text_where, text_of, is_numeric, is_seven_bit, universal_string, is_agent_name, options, options_node}
-use Rattle.x5_model_typed.specs.Rules.{name_rule, rdn_rule, pair_rule, some_members, controls_rule, text_rule,
-    parts_rule, progress_rule, trace_rule, entry_rule, known_rule, masters_rule}
+use Rattle.x5_model_typed.specs.Named.{Named, Operation, Read, Compare, ListBelow, Search, AddEntry, RemoveEntry}
+use Rattle.x5_model_typed.specs.Named.{ModifyEntry, ModifyDn, DapRequest, DapAnswer, DspRequest, DspAnswer, DispMessage}
+use Rattle.x5_model_typed.specs.Named.{Argument, Chained, DapResult, DspResult, DispResult, Outcome, AnyNumber}
+use Rattle.x5_model_typed.specs.Named.{NumberBelow, Enumeration, Boolean, Null, AnyOid, Value, Part, AgentName, Time}
+use Rattle.x5_model_typed.specs.Named.{Options, RefType, Name, Rdn, Rdns, Pair, Attribute, Attributes, Values, TypeList}
+use Rattle.x5_model_typed.specs.Named.{Selection, Controls, Assertion, Changes, Change, Filter, Filters, Item}
+use Rattle.x5_model_typed.specs.Named.{Substrings, Parts, PlacedPart, Chaining, Progress, Trace, TraceItem, Agents}
+use Rattle.x5_model_typed.specs.Named.{Agent, Reference, References, Source, Sources, EntryInfo, EntryInfos, Sub, Subs}
+use Rattle.x5_model_typed.specs.Named.{Qualifier, AttributeError, NameError, ServiceError, UpdateError, ShadowError}
+use Rattle.x5_model_typed.specs.Named.{Agreement, ShadowArgument, UpdateArgument, Refresh, Total, Entries, Entry}
+use Rattle.x5_model_typed.specs.Named.{Knowns, Known, NonSpecifics, NonSpecific, WorldAgents, WorldAgent}
+use Rattle.x5_model_typed.specs.Named.{WorldAgentName, Steps, Step, Renamed}
+use Rattle.x5_model_typed.specs.Forms.{Leaf, Component, Primitive, Joined, JoinedBits, Explicit, Sequence, Set, Members}
+use Rattle.x5_model_typed.specs.Forms.{Never, Alternative, Layout, universal, choice, ruled, plain, at, or, code}
+use Rattle.x5_model_typed.specs.Leaves.{boolean, null, number, any_number, from_to, one_of, oid, any_oid, short_oid}
+use Rattle.x5_model_typed.specs.Leaves.{octet_string, text_where, text_of, is_numeric, is_seven_bit, universal_string}
+use Rattle.x5_model_typed.specs.Leaves.{is_agent_name, options, options_node}
+use Rattle.x5_model_typed.specs.Rules.{name_rule, rdn_rule, pair_rule, some_members, controls_rule, text_rule}
+use Rattle.x5_model_typed.specs.Rules.{parts_rule, progress_rule, trace_rule, entry_rule, known_rule, masters_rule}
 
 -- What shadow messages are read and written with: the moments that times are, and the world's agents.
 pub record Surroundings : Type 0 where
@@ -65,7 +69,7 @@ named_by rows (negsuc n) = None
 abbrev pub operation_codes : (Operation → Named) → List (ℕ × Named)
 operation_codes of =
     (1, of Read) ∷ (2, of Compare) ∷ (4, of ListBelow) ∷ (5, of Search) ∷ (6, of AddEntry) ∷ (7, of RemoveEntry)
-        ∷ (8, of ModifyEntry) ∷ (9, of ModifyDn) ∷ []
+    ∷ (8, of ModifyEntry) ∷ (9, of ModifyDn) ∷ []
 
 abbrev pub dap_errors : List (ℕ × Named)
 dap_errors = (1, AttributeError) ∷ (2, NameError) ∷ (3, ServiceError) ∷ (4, Reference) ∷ (8, UpdateError) ∷ []
@@ -138,7 +142,7 @@ outcome update = universal 5 (Primitive null)
 abbrev pub filter : ℕ → List Alternative
 filter levels = if levels == 0 then choice 0 Never ∷ choice 1 Never ∷ choice 2 Never ∷ choice 3 Never ∷ []
     else choice 0 (Explicit Item) ∷ choice 1 (Explicit (Filters (levels - 1)))
-        ∷ choice 2 (Explicit (Filters (levels - 1))) ∷ choice 3 (Explicit (Filter (levels - 1))) ∷ []
+    ∷ choice 2 (Explicit (Filters (levels - 1))) ∷ choice 3 (Explicit (Filter (levels - 1))) ∷ []
 
 abbrev pub printable : Alternative
 printable = universal 19 (Joined (text_where (text_of is_printable)))

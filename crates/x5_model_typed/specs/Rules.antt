@@ -1,6 +1,6 @@
 -- What values of types have to be as wholes, and as what they are kept.
-use Rattle.std.specs.Prelude.{ℕ, pos, Bool, true, false, not, ◌&&◌, ◌||◌, ◌==◌, nat_lt, nat_le, List, [], ◌∷◌, length,
-    map}
+use Rattle.std.specs.Prelude.{ℕ, pos, Bool, true, false, not, ◌&&◌, ◌||◌, ◌==◌, nat_lt, nat_le, List, [], ◌∷◌, length}
+use Rattle.std.specs.Prelude.{map}
 use Rattle.std.specs.List.{list_all}
 use Rattle.std.specs.declared.option.Option.{Option}
 use Rattle.std.specs.declared.option.Option.TheVariants.{None, Some}
@@ -12,8 +12,8 @@ use Rattle.x5_model.specs.Normal as normal
 use Rattle.x5_model.specs.Normal.{is_of_kind, normal_form, written_key}
 use Rattle.x5_model_text.specs.TypeText.{known_below}
 use Rattle.x5_model_typed.specs.Nodes as nodes
-use Rattle.x5_model_typed.specs.Nodes.{Node, Nodes, Vacant, Flag, Number, Oid, Bits, Octets, Chosen, Many, list, row,
-    parts, is_vacant}
+use Rattle.x5_model_typed.specs.Nodes.{Node, Nodes, Vacant, Flag, Number, Oid, Bits, Octets, Chosen, Many, list, row}
+use Rattle.x5_model_typed.specs.Nodes.{parts, is_vacant}
 use Rattle.x5_model_typed.specs.Leaves.{where_so}
 
 abbrev pub where_test : (Node → Bool) → Node → Option Node
@@ -76,7 +76,7 @@ same_type p q = (pair_in p).0 == (pair_in q).0
 abbrev pub rdn_rule : Node → Option Node
 rdn_rule r =
     where_so (nat_lt 0 (length (parts r)) && nat_le (length (parts r)) normal.most_pairs
-        && distinct same_type (parts r))
+    && distinct same_type (parts r))
     (Many (row (sorted pair_below (parts r))))
 
 abbrev pub name_rule : Node → Option Node
@@ -145,7 +145,7 @@ same_item a b = by (parts a) (parts b)
     by : List Node → List Node → Bool
     by (agent ∷ target ∷ progress ∷ wide ∷ []) (agent' ∷ target' ∷ progress' ∷ wide' ∷ []) =
         nodes.same agent agent' && same_key (written_key (name_in target)) (written_key (name_in target'))
-            && nodes.same progress progress' && nodes.same wide wide'
+        && nodes.same progress progress' && nodes.same wide wide'
     by a b = false
 
 abbrev pub most_items : ℕ
@@ -213,7 +213,7 @@ entry_rule e = by (parts e)
     by : List Node → Option Node
     by (name ∷ from_entry ∷ attributes ∷ []) =
         where_so (is_true from_entry && list_all is_stored (parts attributes)
-            && distinct same_attribute (parts attributes))
+        && distinct same_attribute (parts attributes))
         (Many (row (name ∷ from_entry ∷ Many (row (sorted attribute_below (map in_order (parts attributes)))) ∷ [])))
     by other = None
 

@@ -5,9 +5,9 @@ use Rattle.std.specs.declared.option.Option.TheVariants.{Some}
 use Rattle.x5_model_typed.specs.Trees.{Tree, Trees, Leaf, Branch, Bare, Row, Lies, class_of, tag_of}
 use Rattle.x5_model_typed.specs.Nodes.{Node, Nodes, Number, Many, Nil, More}
 use Rattle.x5_model_typed.specs.Named.{Named}
-use Rattle.x5_model_typed.specs.Forms.{Presence, Required, Default, Code, Component, Content, Primitive, Joined,
-    JoinedBits, Explicit, Sequence, Set, Members, Never, Alternative, Layout, by_tag, plain, alternatives, is_component,
-    universal}
+use Rattle.x5_model_typed.specs.Forms.{Presence, Required, Default, Code, Component, Content, Primitive, Joined}
+use Rattle.x5_model_typed.specs.Forms.{JoinedBits, Explicit, Sequence, Set, Members, Never, Alternative, Layout, by_tag}
+use Rattle.x5_model_typed.specs.Forms.{plain, alternatives, is_component, universal}
 use Rattle.x5_model_typed.specs.Judged.{leaf_node, bits_of_content, marked}
 
 -- A string's octets: its content, or those of its segments (X.690, 8.7.3).
@@ -20,7 +20,7 @@ abbrev mutual
   SegmentsOf Bare octets = octets ≡ []
   SegmentsOf (Row t ts) octets =
       (class_of t ≡ 0) × (tag_of t ≡ 4) × (first : List ℕ) × (rest : List ℕ) × OctetsOf t first × SegmentsOf ts rest
-          × (octets ≡ first ++ rest)
+      × (octets ≡ first ++ rest)
 
 -- A bit string's bits; each segment but the last is whole octets (8.6.4).
 abbrev mutual
@@ -33,7 +33,7 @@ abbrev mutual
   BitSegmentsOf (Row t Bare) bits = (class_of t ≡ 0) × (tag_of t ≡ 3) × BitsOf t bits
   BitSegmentsOf (Row t (Row u ts)) bits =
       (class_of t ≡ 0) × (tag_of t ≡ 3) × (first : List Bool) × (rest : List Bool) × BitsOf t first
-          × (length first % 8 ≡ 0) × BitSegmentsOf (Row u ts) rest × (bits ≡ first ++ rest)
+      × (length first % 8 ≡ 0) × BitSegmentsOf (Row u ts) rest × (bits ≡ first ++ rest)
 
 -- One member, wherever it stands among others.
 pub data Among (t : Tree) : Trees → Trees → Type 0 where
@@ -93,7 +93,7 @@ mutual
     over : InOrder layout [] Bare Nil
     next : {c : Component} {cs rest : List Component} {t : Tree} {ts : Trees} {n : Node} {ns : Nodes}
         → is_component layout (class_of t) (tag_of t) c ≡ true → IsOf layout (alternatives layout c) t n →
-            Goes cs n c.presence rest → InOrder layout rest ts ns
+        Goes cs n c.presence rest → InOrder layout rest ts ns
         → InOrder layout (c ∷ cs) (Row t ts) (More n ns)
     passed : {c : Component} {cs : List Component} {ts : Trees} {ns : Nodes} (d : Node)
         → c.presence ≡ Default d → IsPassed layout c ts → InOrder layout cs ts ns
@@ -104,7 +104,7 @@ mutual
     complete : InAnyOrder layout [] Bare Nil
     given : {c : Component} {cs : List Component} {t : Tree} {ts rest : Trees} {n : Node} {ns : Nodes}
         → Among t ts rest → is_component layout (class_of t) (tag_of t) c ≡ true → IsMissing layout c rest →
-            IsOf layout (alternatives layout c) t n → InAnyOrder layout cs rest ns
+        IsOf layout (alternatives layout c) t n → InAnyOrder layout cs rest ns
         → InAnyOrder layout (c ∷ cs) ts (More n ns)
     missing : {c : Component} {cs : List Component} {ts : Trees} {ns : Nodes} (d : Node)
         → c.presence ≡ Default d → IsMissing layout c ts → InAnyOrder layout cs ts ns

@@ -16,4 +16,4 @@ IsJudged = (layout : Layout) (types : List Alternative) (t : Tree) (n : Node) �
 abbrev pub JudgedDecides : Type 0
 JudgedDecides = (layout : Layout) (types : List Alternative) (t : Tree)
     → ((n : Node) × (judged layout types t ≡ Ok n) × IsOf layout types t n)
-        ⊎ ((b : Breach) × (judged layout types t ≡ Err b) × ((n : Node) → ¬ (IsOf layout types t n)))
+    ⊎ ((b : Breach) × (judged layout types t ≡ Err b) × ((n : Node) → ¬ (IsOf layout types t n)))

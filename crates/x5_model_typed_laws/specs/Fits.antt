@@ -5,8 +5,8 @@ use Rattle.std.specs.declared.option.Option.TheVariants.{None, Some}
 use Rattle.x5_model.specs.Words.{distinct}
 use Rattle.x5_model_typed.specs.Nodes.{Node, Nodes, Chosen, Many, Nil, More}
 use Rattle.x5_model_typed.specs.Named.{Named}
-use Rattle.x5_model_typed.specs.Forms.{Default, Component, Content, Explicit, Sequence, Set, Members, Alternative,
-    Layout, has_tag, may_be_tagged, alternatives}
+use Rattle.x5_model_typed.specs.Forms.{Default, Component, Content, Explicit, Sequence, Set, Members, Alternative}
+use Rattle.x5_model_typed.specs.Forms.{Layout, has_tag, may_be_tagged, alternatives}
 use Rattle.x5_model_typed.specs.Judged.{leaf_node, may_be_missing}
 use Rattle.x5_model_typed.specs.Typed.{Goes}
 use Rattle.x5_model_typed.specs.Layouts.{Surroundings}

@@ -57,14 +57,14 @@ AcceptsAlone =
 abbrev pub ProbesNewName : Type 0
 ProbesNewName = (p : Point) (o : ℕ) (m : Chained) (r : Reference) → In r (probes p o m)
     → (name : Name) × (new_name m.request.body ≡ Some name) × (key_of r.target ≡ key_of name)
-        × (length r.target ≡ length name)
+    × (length r.target ≡ length name)
 
 -- 3. What it accepts, and no agent that a probe is due at masters a context with the new name as its prefix, the whole
 -- tree accepts.
 abbrev pub AcceptsProbed : Type 0
 AcceptsProbed = (p : Point) (o : ℕ) (m : Chained) (mine : List Named) → IsJudge p o m → judged p o m ≡ Ok mine
     → ((r : Reference) (a : ℕ) → In r (probes p o m) → In a r.agents → masters (knowledge_at p) a (key_of r.target)
-        ≡ false)
+    ≡ false)
     → (t : Tree) × (apply (tree_at p) m.request ≡ Ok t)
 
 -- An agent that is unable to proceed with the probe holds nothing that goes as far, and so masters no such context.
@@ -78,19 +78,19 @@ abbrev pub RefusesProbed : Type 0
 RefusesProbed =
     (p : Point) (o a : ℕ) (m : Chained) (r : Reference) → IsJudge p o m → In r (probes p o m) → In a r.agents
     → holds (knowledge_at p) a (key_of r.target) ≡ true → apply (tree_at p) m.request
-        ≡ Err (UpdateProblem entry_already_exists)
+    ≡ Err (UpdateProblem entry_already_exists)
 
 -- So it is where a probe's answer tells of the one tree: that the new name is no entry of it, or is one.
 abbrev pub AcceptsAbsent : Type 0
 AcceptsAbsent = (p : Point) (o : ℕ) (m : Chained) (mine : List Named) → IsJudge p o m → judged p o m ≡ Ok mine
     → ((name : Name) → new_name m.request.body ≡ Some name → is_there (tree_at p).entries (key_of name) ≡ false) →
-        (t : Tree) × (apply (tree_at p) m.request ≡ Ok t)
+    (t : Tree) × (apply (tree_at p) m.request ≡ Ok t)
 
 abbrev pub RefusesPresent : Type 0
 RefusesPresent = (p : Point) (o : ℕ) (m : Chained) (mine : List Named) (name : Name) → IsJudge p o m → judged p o m
     ≡ Ok mine → new_name m.request.body ≡ Some name
     → is_there (tree_at p).entries (key_of name) ≡ true → apply (tree_at p) m.request
-        ≡ Err (UpdateProblem entry_already_exists)
+    ≡ Err (UpdateProblem entry_already_exists)
 
 -- 5. What the master then has is what its contexts have of the tree afterwards.
 abbrev pub JudgedAfter : Type 0
@@ -108,7 +108,7 @@ HoldsItsContexts = (p : Point) (o : ℕ) (a : Agent) → Stands p → In (o, a) 
 abbrev pub OwnGroundHeld : Type 0
 OwnGroundHeld = (p : Point) (o : ℕ) (a : Agent) (r : Request) → Stands p → In (o, a) (numbered (world_at p))
     → own_ground (map key_of (known_pins r (holdings_at p o))) (held_contexts [] a.contexts)
-        ≡ ground_at r (holdings_at p o)
+    ≡ ground_at r (holdings_at p o)
 
 -- In which order its entries stand is nothing to what is refused, accepted and had afterwards.
 abbrev pub in_order : Ground → Ground

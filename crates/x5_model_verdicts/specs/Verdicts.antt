@@ -16,10 +16,10 @@ use Rattle.x5_model_run.specs.History.{Point}
 use Rattle.x5_model_run.specs.Chain.{Scene}
 use Rattle.x5_model_run.specs.Placed.{RightReply}
 use Rattle.x5_model_serve.specs.Answering.{is_service, of_these, is_unavailable}
-use Rattle.x5_model_serve.specs.Serving.{Hand, Heard, Sends, Hears, Does, Probes, with_accepted, holds_now, judged,
-    is_spent}
-use Rattle.x5_model_serve.specs.Claims.{Setting, Accepted, Keeps, NotedSoFar, TakenRight, AtMaster, is_settled_line,
-    serving_of}
+use Rattle.x5_model_serve.specs.Serving.{Hand, Heard, Sends, Hears, Does, Probes, with_accepted, holds_now, judged}
+use Rattle.x5_model_serve.specs.Serving.{is_spent}
+use Rattle.x5_model_serve.specs.Claims.{Setting, Accepted, Keeps, NotedSoFar, TakenRight, AtMaster, is_settled_line}
+use Rattle.x5_model_serve.specs.Claims.{serving_of}
 
 -- Nothing was accepted before.
 abbrev pub NoneAccepted : Type 0

@@ -1,6 +1,6 @@
 -- The agents that a world file describes, with their references. `names` are those of all agents.
-use Rattle.std.specs.Prelude.{ℕ, ◌+◌, Bool, true, false, not, if◌then◌else◌, List, [], ◌∷◌, ◌++◌, map, Option, Some,
-    None, Ok, Err, option_and_then, codes}
+use Rattle.std.specs.Prelude.{ℕ, ◌+◌, Bool, true, false, not, if◌then◌else◌, List, [], ◌∷◌, ◌++◌, map, Option, Some}
+use Rattle.std.specs.Prelude.{None, Ok, Err, option_and_then, codes}
 use Rattle.serde_json.specs.Data.{Data, Items, no_items, item}
 use Rattle.serde_json.specs.Events.{items_len}
 use Rattle.serde_json.specs.Find.{get, as_str}
@@ -10,8 +10,8 @@ use Rattle.x5_model.specs.Values.{Text, key_of}
 use Rattle.x5_model_tree.specs.Described.{is_agent_name, most_contexts, most_references, most_shadows}
 use Rattle.x5_model_tree.specs.World.{Specific, Context, Agent}
 use Rattle.x5_know.specs.Names.{has_name, with_name}
-use Rattle.x5_model_world.specs.Reading.{Read, ◌>>=◌, BadName, RepeatedAgent, at, nth, needed, if_fit, if_few,
-    members_at, text_at, list_if_any, entry_name_at, only}
+use Rattle.x5_model_world.specs.Reading.{Read, ◌>>=◌, BadName, RepeatedAgent, at, nth, needed, if_fit, if_few}
+use Rattle.x5_model_world.specs.Reading.{members_at, text_at, list_if_any, entry_name_at, only}
 use Rattle.x5_model_world.specs.ContextText.{Counts, has_key, agent_of, agent_in, agents_behind, contexts_behind}
 
 -- ---- references of both kinds, in the order of their list
@@ -58,8 +58,10 @@ reference_behind names path before d = do
   few ← if_few (at path (codes "shadows")) most_shadows (items_len texts) texts
   shadows ← agents_behind names (at path (codes "shadows")) 0 [] few
   only path reference_members members
-      (with_reference before cross (record { pin = pin;
-          access = record { master = agent_of names master; shadows = shadows } }))
+      (with_reference before cross (record {
+        pin = pin;
+        access = record { master = agent_of names master; shadows = shadows };
+      }))
 
 abbrev pub references_behind : List Text → Text → ℕ → References → Items → Read References
 references_behind names path i before no_items = Ok before
@@ -83,8 +85,14 @@ agent_members = codes "name" ∷ codes "superior" ∷ codes "contexts" ∷ codes
 
 abbrev pub agent_with : Text → Option ℕ → List Context → References → Agent
 agent_with name superior contexts r =
-    record { name = name; superior = superior; contexts = contexts; subordinate = r.subordinate; cross = r.cross;
-        crosses = r.crosses }
+    record {
+      name = name;
+      superior = superior;
+      contexts = contexts;
+      subordinate = r.subordinate;
+      cross = r.cross;
+      crosses = r.crosses;
+    }
 
 abbrev pub with_contexts : Counts → ℕ → Counts
 with_contexts counts n = record { contexts = n; entries = counts.entries; nssr_agents = counts.nssr_agents }
@@ -114,8 +122,10 @@ agent_behind names path before d = do
   few_refs ← if_few (at path (codes "refs")) most_references (items_len list) list
   references ← references_behind names (at path (codes "refs")) 0 no_references few_refs
   only path agent_members members
-      (record { agents = before.agents ++ agent_with name superior found.contexts references ∷ [];
-          counts = found.counts })
+      (record {
+        agents = before.agents ++ agent_with name superior found.contexts references ∷ [];
+        counts = found.counts;
+      })
 
 abbrev pub all_behind : List Text → Text → ℕ → Agents → Items → Read Agents
 all_behind names path i before no_items = Ok before

@@ -1,7 +1,7 @@
 -- The naming contexts that a world file describes, with their entries and non-specific references. `names` are those of
 -- all agents.
-use Rattle.std.specs.Prelude.{ℕ, ◌+◌, Bool, not, ◌&&◌, if◌then◌else◌, List, [], ◌∷◌, ◌++◌, map, length, Option, Some,
-    None, Ok, option_map, codes}
+use Rattle.std.specs.Prelude.{ℕ, ◌+◌, Bool, not, ◌&&◌, if◌then◌else◌, List, [], ◌∷◌, ◌++◌, map, length, Option, Some}
+use Rattle.std.specs.Prelude.{None, Ok, option_map, codes}
 use Rattle.std.specs.List.{find, position, list_any}
 use Rattle.serde_json.specs.Data.{Data, Items, no_items, item}
 use Rattle.serde_json.specs.Events.{items_len}
@@ -13,8 +13,8 @@ use Rattle.x5_model.specs.Entries.{Named}
 use Rattle.x5_model_tree.specs.Described.{most_entries, most_nssr_agents}
 use Rattle.x5_model_tree.specs.Tree.{key_at}
 use Rattle.x5_model_tree.specs.World.{Nssr, Context}
-use Rattle.x5_model_world.specs.Reading.{Read, ◌>>=◌, at, nth, needed, if_fit, if_few, members_at, list_at, list_if_any,
-    some_at, name_at, entry_name_at, only}
+use Rattle.x5_model_world.specs.Reading.{Read, ◌>>=◌, at, nth, needed, if_fit, if_few, members_at, list_at, list_if_any}
+use Rattle.x5_model_world.specs.Reading.{some_at, name_at, entry_name_at, only}
 use Rattle.x5_model_world.specs.EntryTexts.{given_behind, entry_given}
 
 -- how much of the world's limits was used so far: contexts, entries, and agents of non-specific references

@@ -1,6 +1,6 @@
 -- The entry that texts `T=value` give.
-use Rattle.std.specs.Prelude.{ℕ, ◌+◌, Bool, ◌&&◌, ◌==◌, if◌then◌else◌, List, [], ◌∷◌, ◌++◌, Option, Some, None,
-    option_and_then, Result, Ok, Err}
+use Rattle.std.specs.Prelude.{ℕ, ◌+◌, Bool, ◌&&◌, ◌==◌, if◌then◌else◌, List, [], ◌∷◌, ◌++◌, Option, Some, None}
+use Rattle.std.specs.Prelude.{option_and_then, Result, Ok, Err}
 use Rattle.std.specs.List.{list_any, before_first, after_first}
 use Rattle.std.specs.Option.{is_none}
 use Rattle.serde_json.specs.Data.{Data, Items, no_items, item}
@@ -32,7 +32,7 @@ abbrev pub given_by : Text → Text → Read Given
 given_by path t =
     if list_any is_equals t
     then (needed path (type_of_text (before_first is_equals t)) >>= λ kind. if_value path kind
-        (value_of_text kind (after_first is_equals t)))
+    (value_of_text kind (after_first is_equals t)))
     else Err (BadShape path)
 
 abbrev pub given_in : Text → Data → Read Given

@@ -53,7 +53,7 @@ abbrev pub unknown_in_agent : List Text → Text → Data → Option Text
 unknown_in_agent names path d =
     first_of_two (unknown_at names path (codes "superior") d)
     (first_of_two (first_at (unknown_in_context names) path (codes "contexts") d)
-        (first_at (unknown_in_reference names) path (codes "refs") d))
+    (first_at (unknown_in_reference names) path (codes "refs") d))
 
 abbrev pub unknown_in_agreement : List Text → Text → Data → Option Text
 unknown_in_agreement names path d =
@@ -68,11 +68,11 @@ unknown_in_network names None = None
 unknown_in_network names (Some d) =
     first_of_two (first_at (unknown_text names) (codes "/network") (codes "down") d)
     (first_of_two (first_at (unknown_text names) (codes "/network") (codes "refuse") d)
-        (first_at (unknown_in_pair names) (codes "/network") (codes "cut") d))
+    (first_at (unknown_in_pair names) (codes "/network") (codes "cut") d))
 
 -- the first of the world; the whole file's path is the empty text
 abbrev pub unknown_in_world : List Text → Data → Option Text
 unknown_in_world names d =
     first_of_two (first_at (unknown_in_agent names) (codes "") (codes "agents") d)
     (first_of_two (first_at (unknown_in_agreement names) (codes "") (codes "agreements") d)
-        (unknown_in_network names (get (codes "network") d)))
+    (unknown_in_network names (get (codes "network") d)))

@@ -1,6 +1,6 @@
 -- The network that a world file of format 2 describes. `names` are those of all agents.
-use Rattle.std.specs.Prelude.{ℕ, ◌+◌, Bool, not, ◌&&◌, ◌||◌, ◌==◌, List, [], ◌∷◌, ◌++◌, map, Option, Some, None, Ok,
-    option_and_then, codes}
+use Rattle.std.specs.Prelude.{ℕ, ◌+◌, Bool, not, ◌&&◌, ◌||◌, ◌==◌, List, [], ◌∷◌, ◌++◌, map, Option, Some, None, Ok}
+use Rattle.std.specs.Prelude.{option_and_then, codes}
 use Rattle.std.specs.List.{list_any}
 use Rattle.serde_json.specs.Data.{Data, Items, no_items, item}
 use Rattle.serde_json.specs.Events.{items_len}
@@ -9,8 +9,8 @@ use Rattle.x5_model.specs.Words.{same_octets}
 use Rattle.x5_model.specs.Values.{Text}
 use Rattle.x5_model_tree.specs.Described.{most_cut, most_lost_messages, most_lost_replies}
 use Rattle.x5_model_tree.specs.World.{Network}
-use Rattle.x5_model_world.specs.Reading.{Read, ◌>>=◌, at, nth, needed, if_fit, if_few, members_at, list_if_any,
-    number_of, only}
+use Rattle.x5_model_world.specs.Reading.{Read, ◌>>=◌, at, nth, needed, if_fit, if_few, members_at, list_if_any}
+use Rattle.x5_model_world.specs.Reading.{number_of, only}
 use Rattle.x5_model_world.specs.ContextText.{agent_of}
 
 -- ---- agents, each once
@@ -57,7 +57,7 @@ pair_of (item c (item d (item e ds))) = None
 abbrev pub pair_behind : Text → List Texts → Data → Read Texts
 pair_behind path before d =
     needed path (option_and_then pair_of (as_array d)) >>= λ p. if_fit path (not (same_octets p.0 p.1)
-        && not (has_pair before p.0 p.1)) p
+    && not (has_pair before p.0 p.1)) p
 
 abbrev pub pairs_behind : Text → ℕ → List Texts → Items → Read (List Texts)
 pairs_behind path i before no_items = Ok before

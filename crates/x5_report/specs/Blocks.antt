@@ -26,7 +26,7 @@ block_text start line j (Answered reply) =
 block_text start line j (Plain reply) = print.number_line line ++ spelled.plain_reply_text start reply
 block_text start line j (Refreshed number f heard) =
     concat (print.number_line line ∷ flat_map spelled.shadow_text j.lines ∷ spelled.refreshed_text start number f heard
-        ∷ [])
+    ∷ [])
 block_text start line j NotConsistent =
     concat (print.number_line line ∷ flat_map spelled.shadow_text j.lines ∷ codes "error shadow inconsistent\n" ∷ [])
 
@@ -55,13 +55,13 @@ abbrev pub IsBlock : print.Names → List (List ℕ) → ℕ → Journal → Lin
 IsBlock printing names line j Set text = (command : run.Command) → text ≡ print.block_text printing line command run.Set
 IsBlock printing names line j (Answered reply) text =
     (command : run.Command) (m : model.Journal) → IsJournal names j m → text
-        ≡ print.block_text printing line command (run.Replies m (reply_view names reply))
+    ≡ print.block_text printing line command (run.Replies m (reply_view names reply))
 IsBlock printing names line j (Plain reply) text = text ≡ plain_block_text printing line (reply_view names reply)
 IsBlock printing names line j (Refreshed number f heard) text =
     (command : run.Command) (b : refresh.RefreshBlock) → print.number_of command ≡ number → b.lines
-        ≡ shadows_view names j.lines → b.outcome ≡ refreshed_view heard number f →
+    ≡ shadows_view names j.lines → b.outcome ≡ refreshed_view heard number f →
     text ≡ print.block_text printing line command (run.Refreshing b)
 IsBlock printing names line j NotConsistent text =
     (command : run.Command) (b : refresh.RefreshBlock) → b.lines ≡ shadows_view names j.lines → b.outcome
-        ≡ refresh.NotConsistent →
+    ≡ refresh.NotConsistent →
     text ≡ print.block_text printing line command (run.Refreshing b)

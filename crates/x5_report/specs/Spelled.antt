@@ -1,7 +1,7 @@
 -- What is printed of journals and replies, each agent by the text that its name is there. `Blocks` says that
 -- this is what the definitions print by the places of agents.
-use Rattle.std.specs.Prelude.{ℕ, Bool, true, false, not, ◌&&◌, ◌||◌, ◌==◌, if◌then◌else◌, List, [], ◌∷◌, ◌++◌, length,
-    map, codes}
+use Rattle.std.specs.Prelude.{ℕ, Bool, true, false, not, ◌&&◌, ◌||◌, ◌==◌, if◌then◌else◌, List, [], ◌∷◌, ◌++◌, length}
+use Rattle.std.specs.Prelude.{map, codes}
 use Rattle.std.specs.List.{concat, flat_map, join_with_byte}
 use Rattle.std.specs.Fmt.{decimal}
 use Rattle.std.specs.declared.option.Option.{Option}
@@ -53,16 +53,16 @@ sender_text (Some agent) = agent
 abbrev pub printed_message : print.Names → journal.Printed → Text
 printed_message names p =
     concat (codes "msg " ∷ print.sender_text names p.sender ∷ codes " " ∷ names.agent p.receiver ∷ codes " "
-        ∷ print.operation_word p.operation ∷ codes " " ∷ print.progress_text p.progress ∷ codes " t=" ∷ decimal p.depth
-        ∷ codes " " ∷ text_of_name p.target ∷ codes " " ∷ print.fate_word p.fate ∷ codes "\n" ∷ [])
+    ∷ print.operation_word p.operation ∷ codes " " ∷ print.progress_text p.progress ∷ codes " t=" ∷ decimal p.depth
+    ∷ codes " " ∷ text_of_name p.target ∷ codes " " ∷ print.fate_word p.fate ∷ codes "\n" ∷ [])
 
 -- a message of a request; other lines aren't some
 abbrev pub message_text : Line → Text
 message_text (Msg from to operation progress t target fate) =
     concat (codes "msg " ∷ sender_text from ∷ codes " " ∷ to ∷ codes " " ∷ print.operation_word operation ∷ codes " "
-        ∷ print.progress_text (progress_view progress) ∷ [])
+    ∷ print.progress_text (progress_view progress) ∷ [])
     ++ concat (codes " t=" ∷ decimal t ∷ codes " " ∷ text_of_name target ∷ codes " " ∷ print.fate_word (fate_view fate)
-        ∷ codes "\n" ∷ [])
+    ∷ codes "\n" ∷ [])
 message_text (Dis from to operation agreement fate) = []
 message_text (Raw to dsp count fate) = []
 
@@ -71,7 +71,7 @@ abbrev pub shadow_text : Line → Text
 shadow_text (Msg from to operation progress t target fate) = []
 shadow_text (Dis from to operation agreement fate) =
     concat (codes "dis " ∷ from ∷ codes " " ∷ to ∷ codes " " ∷ shadow_word operation ∷ codes " " ∷ decimal agreement
-        ∷ codes " " ∷ print.fate_word (fate_view fate) ∷ codes "\n" ∷ [])
+    ∷ codes " " ∷ print.fate_word (fate_view fate) ∷ codes "\n" ∷ [])
 shadow_text (Raw to dsp count fate) = []
 
 abbrev pub accepted_text : List ℕ → Text
@@ -91,13 +91,13 @@ agents_text agents = join_with_byte print.comma (map access_text agents)
 abbrev pub reference_text : Reference → Text
 reference_text r =
     concat (print.kind_word (kind_view r.kind) ∷ codes " " ∷ text_of_name r.target ∷ codes " "
-        ∷ print.progress_text (progress_view r.progress) ∷ codes " " ∷ agents_text r.agents
-        ∷ print.exclusions_text r.exclusions ∷ print.mark r.tried (codes "tried") ∷ [])
+    ∷ print.progress_text (progress_view r.progress) ∷ codes " " ∷ agents_text r.agents
+    ∷ print.exclusions_text r.exclusions ∷ print.mark r.tried (codes "tried") ∷ [])
 
 abbrev pub item_text : TraceItem → Text
 item_text i =
     concat (codes " " ∷ i.agent ∷ codes " " ∷ print.progress_text (progress_view i.progress) ∷ codes " "
-        ∷ text_of_name i.target ∷ print.mark i.wide (codes "nonSpecific") ∷ [])
+    ∷ text_of_name i.target ∷ print.mark i.wide (codes "nonSpecific") ∷ [])
 
 -- ---- answers
 
@@ -128,7 +128,7 @@ held_at start (Some m) = moment_text start m
 abbrev pub source_text : Start → Source → Text
 source_text start s =
     concat (codes "source " ∷ text_of_name s.context ∷ codes " " ∷ s.agent ∷ codes " " ∷ held_at start s.moment
-        ∷ codes "\n" ∷ [])
+    ∷ codes "\n" ∷ [])
 
 abbrev pub source_below : Source → Source → Bool
 source_below a b = key_below (key_of a.context) (key_of b.context)
@@ -145,7 +145,7 @@ abbrev pub agent_below : Reference → Reference → Bool
 agent_below a b =
     (not (is_wide (kind_view a.kind)) && is_wide (kind_view b.kind))
     || ((not (is_wide (kind_view a.kind)) || is_wide (kind_view b.kind))
-        && octets_below (first_agent a.agents) (first_agent b.agents))
+    && octets_below (first_agent a.agents) (first_agent b.agents))
 
 abbrev pub reference_below : Reference → Reference → Bool
 reference_below a b =
@@ -167,10 +167,10 @@ answer_text start (answers.Entry entry source) = entry_text entry ++ source_text
 answer_text start (answers.Match matched copy source) = print.match_line matched copy ++ source_text start source
 answer_text start (answers.Listed subs sources outcome) =
     concat (print.count_line (codes "listed") (length subs) ∷ flat_map (λ s. print.sub_line (sub_view s)) subs
-        ∷ outcome_text start sources outcome ∷ [])
+    ∷ outcome_text start sources outcome ∷ [])
 answer_text start (answers.Found entries sources outcome) =
     concat (print.count_line (codes "found") (length entries) ∷ flat_map entry_text entries
-        ∷ outcome_text start sources outcome ∷ [])
+    ∷ outcome_text start sources outcome ∷ [])
 answer_text start answers.Changed = codes "changed\n"
 
 abbrev pub reference_after : Option Reference → Text
@@ -185,11 +185,11 @@ abbrev pub error_text : DirError → Text
 error_text (errors.Name matched) = concat (codes "error name noSuchObject " ∷ text_of_name matched ∷ codes "\n" ∷ [])
 error_text (errors.Attribute problem kind) =
     concat (codes "error attribute " ∷ print.attribute_problem problem ∷ codes " " ∷ text_of_type (type_view kind)
-        ∷ codes "\n" ∷ [])
+    ∷ codes "\n" ∷ [])
 error_text (errors.Update problem) = concat (codes "error update " ∷ print.update_problem problem ∷ codes "\n" ∷ [])
 error_text (errors.Service problem reference item) =
     concat (codes "error service " ∷ print.service_problem problem ∷ reference_after reference ∷ item_after item
-        ∷ codes "\n" ∷ [])
+    ∷ codes "\n" ∷ [])
 
 abbrev pub referral_text : Reference → Text
 referral_text r = concat (codes "referral " ∷ reference_text r ∷ codes "\n" ∷ [])
@@ -203,13 +203,13 @@ reply_text start (Refer reference) = referral_text reference
 abbrev pub plain_listed : Start → List Sub → Outcome → Text
 plain_listed start subs outcome =
     concat (print.count_line (codes "listed") (length subs)
-        ∷ flat_map (λ s. print.sub_line (plain_sub (sub_view s))) subs
+    ∷ flat_map (λ s. print.sub_line (plain_sub (sub_view s))) subs
     ∷ outcome_text start [] outcome ∷ [])
 
 abbrev pub plain_found : Start → List EntryInfo → Outcome → Text
 plain_found start entries outcome =
     concat (print.count_line (codes "found") (length entries) ∷ flat_map plain_entry_text entries
-        ∷ outcome_text start [] outcome ∷ [])
+    ∷ outcome_text start [] outcome ∷ [])
 
 abbrev pub plain_answer_text : Start → Answer → Text
 plain_answer_text start (answers.Entry entry source) = plain_entry_text entry
@@ -228,8 +228,8 @@ plain_reply_text start (Refer reference) = reply_text start (Refer reference)
 abbrev pub done_text : Start → ℕ → Bool → ℕ → ℕ → Bool → Text
 done_text start number total stamp count heard =
     concat (codes "refreshed " ∷ decimal number ∷ codes " " ∷ print.extent_word total count ∷ codes " "
-        ∷ moment_text start stamp ∷ codes " " ∷ decimal count ∷ print.mark (not heard) (codes "unacknowledged")
-        ∷ codes "\n" ∷ [])
+    ∷ moment_text start stamp ∷ codes " " ∷ decimal count ∷ print.mark (not heard) (codes "unacknowledged")
+    ∷ codes "\n" ∷ [])
 
 abbrev pub held_text : Start → Option ℕ → Text
 held_text start None = codes "-"
@@ -238,7 +238,7 @@ held_text start (Some m) = moment_text start m
 abbrev pub problem_text : Start → ℕ → Option ℕ → Option ℕ → Text
 problem_text start problem held given =
     if problem == 5 then concat (codes "error shadow missedPrevious " ∷ held_text start held ∷ codes " "
-        ∷ held_text start given ∷ codes "\n" ∷ [])
+    ∷ held_text start given ∷ codes "\n" ∷ [])
     else concat (codes "error shadow " ∷ print.shadow_problem problem ∷ codes "\n" ∷ [])
 
 abbrev pub refreshed_text : Start → ℕ → Refreshed → Bool → Text

@@ -6,8 +6,8 @@ use Rattle.std.specs.declared.option.Option.{Option}
 use Rattle.x5_model.specs.Words.{in_option, same_octets}
 use Rattle.x5_model.specs.Values.{Text}
 use Rattle.x5_model_run.specs.Refresh as refresh
-use Rattle.x5_model_run.specs.Refresh.{ShadowOperation, RequestShadowUpdate, UpdateShadow, CoordinateShadowUpdate,
-    ShadowLine, RefreshOutcome}
+use Rattle.x5_model_run.specs.Refresh.{ShadowOperation, RequestShadowUpdate, UpdateShadow, CoordinateShadowUpdate}
+use Rattle.x5_model_run.specs.Refresh.{ShadowLine, RefreshOutcome}
 use Rattle.x5_model_output.specs.Output.{Names, shadow_operation}
 use Rattle.x5_ops.specs.AgentNames.{agent_of}
 use Rattle.x5_ops.specs.JournalViews.{fate_view}

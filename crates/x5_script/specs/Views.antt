@@ -15,8 +15,8 @@ use Rattle.x5_syntax.specs.declared.values.Value.{Value}
 use Rattle.x5_script.specs.declared.command.Command.{Command}
 use Rattle.x5_script.specs.declared.command.Command.TheVariants as commands
 use Rattle.x5_script.specs.declared.command.ScriptFault.{ScriptFault}
-use Rattle.x5_script.specs.declared.command.ScriptFault.TheVariants.{BadWord, BadName, BadFilter, BadHex, LineTooLong,
-    NoMemory}
+use Rattle.x5_script.specs.declared.command.ScriptFault.TheVariants.{BadWord, BadName, BadFilter, BadHex, LineTooLong}
+use Rattle.x5_script.specs.declared.command.ScriptFault.TheVariants.{NoMemory}
 use Rattle.x5_script.specs.declared.script.ScriptRefusal.{ScriptRefusal}
 use Rattle.x5_script.specs.declared.script.ScriptRefusal.TheVariants as refusals
 use Rattle.x5_script.specs.declared.script.ScriptRefusal.TheVariants.{Line}

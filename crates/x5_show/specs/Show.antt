@@ -1,13 +1,13 @@
 -- What `show` prints for a file's octets.
-use Rattle.std.specs.Prelude.{◌≡◌, ℕ, zero, suc, ◌+◌, ◌<◌, ◌==◌, if◌then◌else◌, List, [], ◌∷◌, ◌++◌, length,
-    string_bytes}
+use Rattle.std.specs.Prelude.{◌≡◌, ℕ, zero, suc, ◌+◌, ◌<◌, ◌==◌, if◌then◌else◌, List, [], ◌∷◌, ◌++◌, length}
+use Rattle.std.specs.Prelude.{string_bytes}
 use Rattle.std.specs.Fmt.{decimal}
 use Rattle.std.specs.List.{concat}
 use lib.Chars.{codes}
 use Rattle.hex.specs.Hex.{encode_lower}
 use Rattle.x5_model_octets.specs.Elements.{Element, Elements, Primitive, Constructed, Nil, More, Spells, SpellsAll}
-use Rattle.x5_model_octets.specs.Faults.{Fault, Truncated, BadLength, BadTag, BadContent, TooDeep, FirstFault,
-    outermost}
+use Rattle.x5_model_octets.specs.Faults.{Fault, Truncated, BadLength, BadTag, BadContent, TooDeep, FirstFault}
+use Rattle.x5_model_octets.specs.Faults.{outermost}
 use Rattle.x5_ber.specs.Reading.{Stands}
 use Rattle.x5_ber.specs.Found.{Frames}
 use Rattle.x5_show.specs.declared.Shown.{Shown}
@@ -70,15 +70,15 @@ abbrev mutual
   Lines level at (Primitive class tag content) octets text = text ≡ line level at class tag (codes "prim") content
   Lines level at (Constructed class tag members) octets text =
       (header : List ℕ) × (content : List ℕ) × (tail : List ℕ) × (more : List ℕ)
-          × (octets ≡ header ++ (content ++ tail)) × Frames class tag (length content) header tail
+      × (octets ≡ header ++ (content ++ tail)) × Frames class tag (length content) header tail
       × LinesAll (level + 1) (at + length header) members content more
-          × (text ≡ line level at class tag (codes "cons") [] ++ more)
+      × (text ≡ line level at class tag (codes "cons") [] ++ more)
 
   pub LinesAll : ℕ → ℕ → Elements → List ℕ → List ℕ → Type 0
   LinesAll level at Nil octets text = (octets ≡ []) × (text ≡ [])
   LinesAll level at (More e es) octets text =
       (first : List ℕ) × (rest : List ℕ) × (one : List ℕ) × (more : List ℕ) × Spells 1 e first
-          × (octets ≡ first ++ rest)
+      × (octets ≡ first ++ rest)
       × Lines level at e first one × LinesAll level (at + length first) es rest more × (text ≡ one ++ more)
 
 -- The text for octets that are values: the lines of their elements.

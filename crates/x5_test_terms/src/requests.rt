@@ -3,8 +3,8 @@
 use std::alloc::Global;
 use std::test::Fail;
 use x5_ops::{
-    Attribute, AttributeList, Body, Change, ChangeFault, ChangeList,
-    Controls, DirError, Entry, Listed, Name, Rdn, Request, ValueList, change, fault_of,
+    Attribute, AttributeList, Body, Change, ChangeFault, ChangeList, Controls, DirError, Entry,
+    Listed, Name, Rdn, Request, ValueList, change, fault_of,
 };
 use x5_syntax::{TypeId, TypeRef, Value};
 

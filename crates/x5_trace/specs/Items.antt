@@ -17,7 +17,7 @@ abbrev pub same_named : TraceItem → TraceItem → Bool
 same_named a b =
     same_octets a.agent b.agent
     && (same_name a.target b.target && (same_progress (progress_view a.progress) (progress_view b.progress)
-        && same_kind a.wide b.wide))
+    && same_kind a.wide b.wide))
 
 -- an agent of the world has this name
 abbrev pub IsNamed : List (List ℕ) → List ℕ → Type 0

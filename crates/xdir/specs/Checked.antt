@@ -11,8 +11,8 @@ use Rattle.x5_port.specs.Outside as outside
 use Rattle.xdir.specs.Outcomes.{most_octets, Wrote, Broke, IsReadable, OfContent}
 use Rattle.xdir.specs.Run.{RefusesFile}
 use Rattle.xdir.specs.declared.top.Status.{Status}
-use Rattle.xdir.specs.declared.top.Status.TheVariants.{Done, Refused, Usage, ReadFault, WriteFault, NoMemory,
-    Inconsistent, TooLong}
+use Rattle.xdir.specs.declared.top.Status.TheVariants.{Done, Refused, Usage, ReadFault, WriteFault, NoMemory}
+use Rattle.xdir.specs.declared.top.Status.TheVariants.{Inconsistent, TooLong}
 
 -- the line on a world's knowledge, in which no moment stands: that it is consistent, or the first of the ten conditions
 -- that fails, with its two values

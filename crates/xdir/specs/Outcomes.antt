@@ -3,8 +3,8 @@
 use Rattle.std.specs.Prelude.{◌≡◌, ℕ, ◌≤◌, ◌⊎◌, List, length, Option, Some, None, IsSomeAnd, ⊤}
 use Rattle.x5_port.specs.Outside.{File, content_of, IsContent, Rose, with_octets, TookPrefix}
 use Rattle.xdir.specs.declared.top.Status.{Status}
-use Rattle.xdir.specs.declared.top.Status.TheVariants.{Done, Refused, Usage, ReadFault, WriteFault, NoMemory,
-    Inconsistent, TooLong}
+use Rattle.xdir.specs.declared.top.Status.TheVariants.{Done, Refused, Usage, ReadFault, WriteFault, NoMemory}
+use Rattle.xdir.specs.declared.top.Status.TheVariants.{Inconsistent, TooLong}
 
 -- the most octets of a file
 abbrev pub most_octets : ℕ

@@ -32,7 +32,7 @@ are_seats from agents = list_all is_seat (enumerate_from from agents)
 abbrev pub is_idle : Network → Bool
 is_idle n =
     is_empty n.down && (is_empty n.refusing && (is_empty n.cut
-        && (is_empty n.lost_messages && is_empty n.lost_replies)))
+    && (is_empty n.lost_messages && is_empty n.lost_replies)))
 
 abbrev pub is_shaped : World → Bool
 is_shaped w = are_seats 0 w.agents && (is_empty w.agreements && is_idle w.network)

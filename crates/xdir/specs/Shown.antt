@@ -4,8 +4,8 @@ use Rattle.x5_port.specs.Outside.{File, Rose, TookPrefix}
 use Rattle.x5_show.specs.Show.{ShowsValues, ShowsFault}
 use Rattle.xdir.specs.Outcomes.{Wrote, OfContent}
 use Rattle.xdir.specs.declared.top.Status.{Status}
-use Rattle.xdir.specs.declared.top.Status.TheVariants.{Done, Refused, Usage, ReadFault, WriteFault, NoMemory,
-    Inconsistent, TooLong}
+use Rattle.xdir.specs.declared.top.Status.TheVariants.{Done, Refused, Usage, ReadFault, WriteFault, NoMemory}
+use Rattle.xdir.specs.declared.top.Status.TheVariants.{Inconsistent, TooLong}
 
 -- what is shown of these octets is no fault or one, of which a first part was written
 pub record BrokeShown (octets : List ℕ) (old new : Option (List ℕ)) : Type 0 where

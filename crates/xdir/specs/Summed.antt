@@ -13,8 +13,8 @@ use Rattle.xdir.specs.Outcomes.{Wrote, Broke}
 use Rattle.xdir.specs.Run.{AsksFor, IsOutput, Runs, RefusesScript, Refuses}
 use Rattle.xdir.specs.Steps.{IsNotYet, OfScript, RefusesOver}
 use Rattle.xdir.specs.declared.top.Status.{Status}
-use Rattle.xdir.specs.declared.top.Status.TheVariants.{Done, Refused, Usage, ReadFault, WriteFault, NoMemory,
-    Inconsistent, TooLong}
+use Rattle.xdir.specs.declared.top.Status.TheVariants.{Done, Refused, Usage, ReadFault, WriteFault, NoMemory}
+use Rattle.xdir.specs.declared.top.Status.TheVariants.{Inconsistent, TooLong}
 
 -- The text is the summary of a run of these commands over the world of this file: the line on knowledge, and the counts
 -- of the blocks that the run's output has.
@@ -82,7 +82,7 @@ abbrev pub SumsScriptFile : Status → Option (List outside.File) → List ℕ �
     ℕ → ℕ → Type 0
 SumsScriptFile status told name f old new before after =
     EndsAtOnce (OfScript told name (IsScriptSummary f))
-        (OfScript told name (RefusesScript f.world)) status old new before after
+    (OfScript told name (RefusesScript f.world)) status old new before after
 
 -- over this world, star or not
 abbrev pub SumsOver : Status → Option (List outside.File) → List ℕ → File → Option (List ℕ) → Option (List ℕ) → ℕ → ℕ →

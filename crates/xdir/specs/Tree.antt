@@ -30,8 +30,8 @@ use Rattle.xdir.specs.Run.{names_in, lost_in, AsksFor, RefusesFile}
 use Rattle.xdir.specs.Steps.{OfScript}
 use Rattle.xdir.specs.Text.{refused_line_text}
 use Rattle.xdir.specs.declared.top.Status.{Status}
-use Rattle.xdir.specs.declared.top.Status.TheVariants.{Done, Refused, Usage, ReadFault, WriteFault, NoMemory,
-    Inconsistent, TooLong}
+use Rattle.xdir.specs.declared.top.Status.TheVariants.{Done, Refused, Usage, ReadFault, WriteFault, NoMemory}
+use Rattle.xdir.specs.declared.top.Status.TheVariants.{Inconsistent, TooLong}
 
 -- What a line asks for, as a command of the one tree. Octets that are handed to an agent are no request to it: like
 -- every line that is none they print `set`, as an agent that comes up does.
@@ -125,7 +125,7 @@ abbrev pub WritesTree : Status → Option (List outside.File) → FileNames → 
     Type 0
 WritesTree status told names old new before after =
     EndsTree (Tells told names) (TellsSoFar told names) (TellsNone told names)
-        (RefusesEither told names) status old new before after
+    (RefusesEither told names) status old new before after
 
 -- the world file is there, isn't too long, and describes a world
 pub record TakesFirst (told : Option (List outside.File)) (name : List ℕ) : Type 0 where
@@ -183,7 +183,7 @@ OfLines f P script text = (asked : List Asked) × AsksFor f.world script asked �
 abbrev pub TellsScript : Status → File → List ℕ → Option (List ℕ) → Option (List ℕ) → ℕ → ℕ → Type 0
 TellsScript status f script old new before after =
     EndsTree (OfLines f IsTold script) (OfLines f IsToldSoFar script) (OfLines f IsNoTree script)
-        (RefusesALine f.world script)
+    (RefusesALine f.world script)
     status old new before after
 
 -- for the script in a file
