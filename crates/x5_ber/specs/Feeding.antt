@@ -71,10 +71,11 @@ state_of f = state_at f.octets.items f.progress
 -- So many octets of a piece are taken: those up to the value's end, or all, and none is there yet.
 pub data Takes (old piece : List ℕ) (new : State) (n : ℕ) : Type 0 where
   to_end : new ≡ whole (old ++ take n piece) → n ≤ length piece → IsWhole (old ++ take n piece) → Takes old piece new n
-  all : new ≡ reading (old ++ piece) → n ≡ length piece → IsBeginning (old ++ piece) → length (old ++ piece) ≤ longest → Takes old piece new n
+  all : new ≡ reading (old ++ piece) → n ≡ length piece → IsBeginning (old ++ piece) → length (old ++ piece) ≤ longest →
+      Takes old piece new n
 
--- What a piece does to a feeder that wants more octets, and what is answered. The first fault is that of the octets as far as
--- the longest value reaches; where they are all the beginning of a value, and there are more, it is too long.
+-- What a piece does to a feeder that wants more octets, and what is answered. The first fault is that of the octets as
+-- far as the longest value reaches; where they are all the beginning of a value, and there are more, it is too long.
 abbrev pub Reads : List ℕ → List ℕ → State → Result ℕ FeedFault → Type 0
 Reads old piece new (Ok n) = Takes old piece new n
 Reads old piece new (Err (Ber fault)) = (new ≡ failed (Ber fault)) × IsBreach (take longest (old ++ piece)) fault

@@ -17,9 +17,11 @@ pub data Frames (class tag n : ℕ) (header tail : List ℕ) : Type 0 where
 -- The element is of that class, form and tag, with that content between header and tail.
 abbrev pub Describes : Element → Tlv → List ℕ → List ℕ → List ℕ → Type 0
 Describes (Primitive class tag octets) tlv header content tail =
-    (tlv.class ≡ class) × (tlv.constructed ≡ false) × (tlv.tag ≡ tag) × (content ≡ octets) × IsHeader (identifier false class tag) (Some (length content)) header × (tail ≡ [])
+    (tlv.class ≡ class) × (tlv.constructed ≡ false) × (tlv.tag ≡ tag) × (content ≡ octets)
+    × IsHeader (identifier false class tag) (Some (length content)) header × (tail ≡ [])
 Describes (Constructed class tag members) tlv header content tail =
-    (tlv.class ≡ class) × (tlv.constructed ≡ true) × (tlv.tag ≡ tag) × SpellsAll 2 members content × Frames class tag (length content) header tail
+    (tlv.class ≡ class) × (tlv.constructed ≡ true) × (tlv.tag ≡ tag) × SpellsAll 2 members content
+    × Frames class tag (length content) header tail
 
 -- An element is spelled from the place to the next one, its content where tlv says.
 pub record IsElementAt (bytes : List ℕ) (at : ℕ) (tlv : Tlv) (next : ℕ) : Type 0 where

@@ -1,11 +1,13 @@
 -- An element that is read in part: the elements that are open around a place, each with its header
 -- and with the members that are whole.
-use Rattle.std.specs.Prelude.{◌≡◌, ℕ, suc, zero, ◌+◌, ◌≤◌, Bool, true, false, List, ◌++◌, length, drop, slice_index_or, ◌==◌}
+use Rattle.std.specs.Prelude.{◌≡◌, ℕ, suc, zero, ◌+◌, ◌≤◌, Bool, true, false, List, ◌++◌, length, drop, slice_index_or}
+use Rattle.std.specs.Prelude.{◌==◌}
 use Rattle.std.specs.declared.option.Option.{Option}
 use Rattle.std.specs.declared.option.Option.TheVariants.{None, Some}
 use Rattle.x5_model_octets.specs.Headers.{IsHeader}
 use Rattle.x5_model_octets.specs.Elements.{Element, Elements, Spells, SpellsAll, deepest}
-use Rattle.x5_model_octets.specs.Faults.{Around, Head, within, limit_within, is_indefinite, may_extend, begins_with_end, outermost, seen}
+use Rattle.x5_model_octets.specs.Faults.{Around, Head, within, limit_within, is_indefinite, may_extend, begins_with_end}
+use Rattle.x5_model_octets.specs.Faults.{outermost, seen}
 use Rattle.x5_ber.specs.declared.reader.Enclosing.{Enclosing}
 
 -- The octets stand at the place of the input.
@@ -56,7 +58,11 @@ bare = record { limit = None; closes = false }
 
 -- What stands around the next element where so many are open.
 abbrev pub around_at : List Enclosing → ℕ → Around
-around_at enclosing depth = let e : Enclosing = slice_index_or enclosing depth bare in record { depth = depth + 1; limit = e.limit; closes = e.closes }
+around_at enclosing depth = let e : Enclosing = slice_index_or enclosing depth bare in record {
+  depth = depth + 1;
+  limit = e.limit;
+  closes = e.closes;
+}
 
 -- What stands around the members of a header's element.
 abbrev pub enclosing_of : Around → Head → Enclosing
@@ -66,7 +72,8 @@ enclosing_of a head = record { limit = limit_within a.limit head; closes = is_in
 abbrev pub AreOpen : List ℕ → List Enclosing → ℕ → ℕ → ℕ → Type 0
 AreOpen input enclosing start zero at = (at ≡ start) × (around_at enclosing 0 ≡ outermost) × (at ≤ length input)
 AreOpen input enclosing start (suc depth) at =
-    (place : ℕ) × AreOpen input enclosing start depth place × Inside input (around_at enclosing depth) place (around_at enclosing (suc depth)) at
+    (place : ℕ) × AreOpen input enclosing start depth place
+    × Inside input (around_at enclosing depth) place (around_at enclosing (suc depth)) at
 
 -- Behind a step: the value is whole, or elements are open.
 abbrev pub IsRead : List ℕ → List Enclosing → ℕ → ℕ → ℕ → Type 0

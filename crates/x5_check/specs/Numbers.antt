@@ -1,5 +1,5 @@
--- Which keys have which numbers in the tables that `check` looks things up in: the keys of what belongs to each member of a
--- list, with the member's number; and what the tables say of a world.
+-- Which keys have which numbers in the tables that `check` looks things up in: the keys of what belongs to each member
+-- of a list, with the member's number; and what the tables say of a world.
 use Rattle.std.specs.Prelude.{ℕ, not, ◌&&◌, ◌==◌, List, [], ◌∷◌, map, slice_get}
 use Rattle.std.specs.List.{list_any, flat_map, enumerate_from}
 use Rattle.x5_model.specs.Words.{some_and, is_empty, when}
@@ -83,4 +83,5 @@ abbrev pub of_agent : ℕ → List Context → List Mastered
 of_agent master contexts = map (λ c. record { master = master; context = c }) contexts
 
 abbrev pub of_agents : ℕ → List Agent → List Mastered
-of_agents place agents = flat_map (λ a. map (λ c. record { master = a.0; context = c }) a.1.contexts) (enumerate_from place agents)
+of_agents place agents =
+    flat_map (λ a. map (λ c. record { master = a.0; context = c }) a.1.contexts) (enumerate_from place agents)

@@ -1,7 +1,8 @@
 -- What the impls of `PartialEq`, `Eq`, `PartialOrd` and `Ord` owe of the order of rows, from the laws of keys.
 use Rattle.std.specs.Prelude.{◌≡◌}
 use Rattle.std.proofs.Common.{rules}
-use Rattle.std.specs.Cmp.{IsTotalOrder, IsPartialEquivalence, IsEquivalence, IsPartialOrder, nat_cmp_total, on_total, then_total, partial_order_from_own_ties}
+use Rattle.std.specs.Cmp.{IsTotalOrder, IsPartialEquivalence, IsEquivalence, IsPartialOrder, nat_cmp_total, on_total}
+use Rattle.std.specs.Cmp.{then_total, partial_order_from_own_ties}
 use Rattle.std.specs.Cmp.Rules.{comparing}
 use Rattle.std.specs.Cmp.Lexicographic.{lists_per, lists_equiv}
 use Rattle.x5_names.specs.KeyOrder.{same_pair_laws, same_pair_equivalence}

@@ -1,4 +1,5 @@
--- Rows of a key and a number, in the order of keys and then of numbers; and the tests that a table of such rows answers.
+-- Rows of a key and a number, in the order of keys and then of numbers; and the tests that a table of such rows
+-- answers.
 use Rattle.std.specs.Prelude.{◌≡◌, ℕ, ◌<◌, ◌≤◌, Bool, true, false, ◌&&◌, ◌==◌, List}
 use Rattle.std.specs.List.{list_any}
 use Rattle.std.specs.Option.{MatchOption}

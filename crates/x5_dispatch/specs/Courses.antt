@@ -1,6 +1,7 @@
 -- The way of a request over the described agents, in the terms of the code's types: who is asked in turn, by which
 -- messages, and who answers. The proofs lead from here to the star of x5_model_star.
-use Rattle.std.specs.Prelude.{◌≡◌, ℕ, ◌-◌, false, ◌||◌, if◌then◌else◌, List, [], ◌∷◌, ◌++◌, length, take, drop, min, slice_get, ⊤}
+use Rattle.std.specs.Prelude.{◌≡◌, ℕ, ◌-◌, false, ◌||◌, if◌then◌else◌, List, [], ◌∷◌, ◌++◌, length, take, drop, min}
+use Rattle.std.specs.Prelude.{slice_get, ⊤}
 use Rattle.std.specs.List.{find}
 use Rattle.std.specs.Option.{option_map, option_and_then, is_some}
 use Rattle.std.specs.declared.option.Option.{Option}
@@ -47,7 +48,8 @@ pub record Below : Type 0 where
 
 abbrev pub way_below : List AgentSpec → AgentSpec → Key → Option Below
 way_below agents a key =
-    option_and_then (λ k. option_map (λ b. record { reference = k; agent = b }) (slice_get agents k.access.master)) (reference_at a key)
+    option_and_then (λ k. option_map (λ b. record { reference = k; agent = b }) (slice_get agents k.access.master))
+    (reference_at a key)
 
 -- the superior of an agent that knows nothing on the way
 abbrev pub way_above : List AgentSpec → AgentSpec → Key → Option AgentSpec
@@ -67,7 +69,8 @@ respelled pin name = take (length pin - 1) pin ++ drop (length pin - 1) name
 
 abbrev pub down_line : AgentSpec → Below → ℕ → Body → Line
 down_line centre step t b =
-    Msg (Some centre.name) step.agent.name (operation_of b) (Proceeding (min (length step.reference.pin) 255)) t (respelled step.reference.pin (name_of b)) Sent
+    Msg (Some centre.name) step.agent.name (operation_of b) (Proceeding (min (length step.reference.pin) 255)) t
+    (respelled step.reference.pin (name_of b)) Sent
 
 -- what a read or compare is told at an entry, or by the lowest entry on the way
 abbrev pub told_at : Body → Named → Told
@@ -77,7 +80,8 @@ told_at other e = Changes
 
 abbrev pub told_by : Body → Option Named → Told
 told_by b None = Refuses (model.NoSuchObject [])
-told_by b (Some e) = if same_key (key_at e) (key_of (name_of b)) then told_at b e else Refuses (model.NoSuchObject e.name)
+told_by b (Some e) =
+    if same_key (key_at e) (key_of (name_of b)) then told_at b e else Refuses (model.NoSuchObject e.name)
 
 abbrev pub lowest_in : Option ContextSpec → Key → Option Named
 lowest_in c key = in_option None (λ x. lowest x.entries key) c
@@ -103,7 +107,9 @@ IsFrom agent (replies.Refer reference) = ⊥
 
 -- what an agent answers from its own entries
 pub record IsOwnReply (a : AgentSpec) (b : Body) (reply : Reply) : Type 0 where
-  pub told : (names : List (List ℕ)) → reply_view names reply ≡ reply_of (source_in names a (covering_at a (key_of (name_of b)))) (told_by b (lowest_in (covering_at a (key_of (name_of b))) (key_of (name_of b))))
+  pub told : (names : List (List ℕ)) → reply_view names reply
+      ≡ reply_of (source_in names a (covering_at a (key_of (name_of b))))
+      (told_by b (lowest_in (covering_at a (key_of (name_of b))) (key_of (name_of b))))
   pub from : IsFrom a.name reply
 
 abbrev pub lines_below : AgentSpec → Option Below → ℕ → Body → List Line
@@ -115,7 +121,8 @@ agent_below centre None = centre
 agent_below centre (Some step) = step.agent
 
 -- from this agent down to the one that answers
-pub record GoesDown (agents : List AgentSpec) (centre : AgentSpec) (b : Body) (t : ℕ) (before : List Line) (reply : Reply) (journal : Journal) : Type 0 where
+pub record GoesDown (agents : List AgentSpec) (centre : AgentSpec) (b : Body) (t : ℕ) (before : List Line)
+    (reply : Reply) (journal : Journal) : Type 0 where
   pub messages : journal.lines ≡ before ++ lines_below centre (way_below agents centre (key_of (name_of b))) t b
   pub accepted : journal.accepted ≡ []
   pub answered : IsOwnReply (agent_below centre (way_below agents centre (key_of (name_of b)))) b reply
@@ -123,17 +130,20 @@ pub record GoesDown (agents : List AgentSpec) (centre : AgentSpec) (b : Body) (t
 -- up to the superior where the agent asked knows nothing on the way, and then down
 abbrev pub GoesUp : List AgentSpec → AgentSpec → Body → Option AgentSpec → Reply → Journal → Type 0
 GoesUp agents asked b None reply journal = GoesDown agents asked b 1 (user_line asked b ∷ []) reply journal
-GoesUp agents asked b (Some above) reply journal = GoesDown agents above b 2 (user_line asked b ∷ up_line asked above b ∷ []) reply journal
+GoesUp agents asked b (Some above) reply journal =
+    GoesDown agents above b 2 (user_line asked b ∷ up_line asked above b ∷ []) reply journal
 
 -- what is refused by itself is refused by the agent asked
-pub record IsRefused (asked : AgentSpec) (b : Body) (x : model.DirError) (reply : Reply) (journal : Journal) : Type 0 where
+pub record IsRefused (asked : AgentSpec) (b : Body) (x : model.DirError) (reply : Reply)
+    (journal : Journal) : Type 0 where
   pub messages : journal.lines ≡ user_line asked b ∷ []
   pub accepted : journal.accepted ≡ []
   pub told : (names : List (List ℕ)) → reply_view names reply ≡ model.Failed x
 
 abbrev pub CourseBy : List AgentSpec → AgentSpec → Body → Option model.DirError → Reply → Journal → Type 0
 CourseBy agents asked b (Some x) reply journal = IsRefused asked b x reply journal
-CourseBy agents asked b None reply journal = GoesUp agents asked b (way_above agents asked (key_of (name_of b))) reply journal
+CourseBy agents asked b None reply journal =
+    GoesUp agents asked b (way_above agents asked (key_of (name_of b))) reply journal
 
 abbrev pub IsCourse : List AgentSpec → AgentSpec → Body → Reply → Journal → Type 0
 IsCourse agents asked b reply journal = CourseBy agents asked b (fault_of b) reply journal

@@ -1,5 +1,6 @@
--- What a read or compare over a star of agents is answered, and which messages it takes, as the user is told it: agents by
--- their names, and the messages in the order in which they were sent (X.518, section 18; X.511, sections 9.1 and 9.2).
+-- What a read or compare over a star of agents is answered, and which messages it takes, as the user is told it: agents
+-- by their names, and the messages in the order in which they were sent (X.518, section 18; X.511, sections 9.1 and
+-- 9.2).
 use Rattle.std.specs.Prelude.{◌≡◌, ℕ, ◌<◌, Bool, nat_le, List, [], ◌∷◌, map, length, reverse, ⊤, slice_get}
 use Rattle.std.specs.List.{list_all}
 use Rattle.std.specs.declared.option.Option.{Option}

@@ -17,20 +17,24 @@ use Rattle.x5_dse.specs.Linked.{Node, Nodes, entries_of, node_key, node_at, node
 abbrev pub entry_below : Node → Rdn → Entry → Named
 entry_below above rdn entry = record { name = above.named.name ++ rdn ∷ []; entry = entry }
 
--- An entry is added whose parent is there, at a node that wasn't there; all others stay at theirs (X.511, section 11.1).
+-- An entry is added whose parent is there, at a node that wasn't there; all others stay at theirs (X.511, section
+-- 11.1).
 pub record Inserted (old : Nodes) (name : Name) (entry : Entry) (id : NodeId) (after : Nodes) : Type 0 where
   pub above : Node
   pub below : node_at old.nodes (parent (key_of name)) ≡ Some above
   pub absent : is_there (entries_of old.nodes) (key_of name) ≡ false
   pub fresh : is_live old.nodes id ≡ false
-  pub nodes : after.nodes ≡ insert_sorted node_below (record { id = id; named = entry_below above (last_rdn name) entry }) old.nodes
-  pub entries : entries_of after.nodes ≡ sorted_entries (entries_of old.nodes ++ entry_below above (last_rdn name) entry ∷ [])
+  pub nodes : after.nodes ≡ insert_sorted node_below
+      (record { id = id; named = entry_below above (last_rdn name) entry }) old.nodes
+  pub entries : entries_of after.nodes ≡ sorted_entries (entries_of old.nodes ++ entry_below above (last_rdn name) entry
+      ∷ [])
   pub spare : after.spare + 1 ≡ old.spare
 
 -- why it isn't, the first reason that applies
 abbrev pub NotInserted : List Node → Key → DseFault → Type 0
 NotInserted nodes key Exists = is_there (entries_of nodes) key ≡ true
-NotInserted nodes key NoParent = (is_there (entries_of nodes) key ≡ false) × (is_there (entries_of nodes) (parent key) ≡ false)
+NotInserted nodes key NoParent =
+    (is_there (entries_of nodes) key ≡ false) × (is_there (entries_of nodes) (parent key) ≡ false)
 NotInserted nodes key NotLeaf = ⊥
 
 -- A leaf is removed; all others stay at theirs (X.511, section 11.2), and its node is spare.
@@ -59,10 +63,12 @@ pub record Replaced (old : Nodes) (id : NodeId) (entry before : Entry) (after : 
   pub there : node_with old.nodes id ≡ Some node
   pub before_is : node.named.entry ≡ before
   pub nodes : after.nodes ≡ map (with_entry id entry) old.nodes
-  pub entries : entries_of after.nodes ≡ replace_at (node_key node) (record { name = node.named.name; entry = entry }) (entries_of old.nodes)
+  pub entries : entries_of after.nodes ≡ replace_at (node_key node) (record { name = node.named.name; entry = entry })
+      (entries_of old.nodes)
   pub spare : after.spare ≡ old.spare
 
--- A node's entry gets another RDN, and so a place among its siblings of its own; what stands below goes with it (X.511, section
+-- A node's entry gets another RDN, and so a place among its siblings of its own; what stands below goes with it (X.511,
+-- section
 -- 11.4). Where only the spelling changes, its key stays.
 abbrev pub new_key : Named → Rdn → Key
 new_key e rdn = key_of (name_above e.name ++ rdn ∷ [])
@@ -72,8 +78,12 @@ is_taken entries e rdn = not (same_key (new_key e rdn) (key_at e)) && is_there e
 
 abbrev pub moved_entry : Named → Rdn → Entry → Named → Named
 moved_entry x rdn entry e =
-    if same_key (key_at e) (key_at x) then record { name = respelled (length (name_above x.name)) rdn e.name; entry = entry }
-    else (if is_prefix (key_at x) (key_at e) then record e { name = respelled (length (name_above x.name)) rdn e.name } else e)
+    if same_key (key_at e) (key_at x) then record {
+      name = respelled (length (name_above x.name)) rdn e.name;
+      entry = entry;
+    }
+    else (if is_prefix (key_at x) (key_at e) then record e { name = respelled (length (name_above x.name)) rdn e.name }
+    else e)
 
 abbrev pub moved : Named → Rdn → Entry → Node → Node
 moved x rdn entry n = record { id = n.id; named = moved_entry x rdn entry n.named }

@@ -1,7 +1,8 @@
--- How the nodes of a tree are kept: in each slot that is used an entry with its own RDN and the node just above, and the
--- numbers of these slots in the order of the nodes above and then of their own RDNs; so what stands just below one node is
--- one run. The prefix's entry is in the first slot.
-use Rattle.std.specs.Prelude.{◌≡◌, ◌↔◌, ℕ, zero, suc, ◌+◌, ◌-◌, ◌<◌, ◌≤◌, Bool, true, false, IsTrue, List, [], ◌∷◌, ◌++◌, length, map, take, remove, slice_index_or}
+-- How the nodes of a tree are kept: in each slot that is used an entry with its own RDN and the node just above, and
+-- the numbers of these slots in the order of the nodes above and then of their own RDNs; so what stands just below one
+-- node is one run. The prefix's entry is in the first slot.
+use Rattle.std.specs.Prelude.{◌≡◌, ◌↔◌, ℕ, zero, suc, ◌+◌, ◌-◌, ◌<◌, ◌≤◌, Bool, true, false, IsTrue, List, [], ◌∷◌}
+use Rattle.std.specs.Prelude.{◌++◌, length, map, take, remove, slice_index_or}
 use Rattle.std.specs.Option.{is_some}
 use Rattle.std.specs.Ordering.{is_lt, ordering_then, nat_cmp}
 use Rattle.std.specs.Vec.{vec_len, vec_capacity}
@@ -63,7 +64,8 @@ abbrev pub name_at : Name → Slots → NodeId → Name
 name_at prefix slots id = prefix ++ path_of slots id
 
 abbrev pub node_of : Name → Slots → NodeId → Node
-node_of prefix slots id = record { id = id; named = record { name = name_at prefix slots id; entry = entry_of slots id } }
+node_of prefix slots id =
+    record { id = id; named = record { name = name_at prefix slots id; entry = entry_of slots id } }
 
 -- the nodes in the order of their keys
 abbrev pub nodes_of : Name → Slots → List NodeId → List Node
@@ -98,11 +100,13 @@ pub record IsStart (spots : List Spot) (node : NodeId) (at : ℕ) : Type 0 where
   pub before : (k : ℕ) (d : Spot) → k < at → (slice_index_or spots k d).0 < node.0
   pub after : (k : ℕ) (d : Spot) → at ≤ k → k < length spots → node.0 ≤ (slice_index_or spots k d).0
 
--- the used slots are the first one and those in order; each but the first is one step below the node above it, which is used
+-- the used slots are the first one and those in order; each but the first is one step below the node above it, which is
+-- used
 pub record IsRow (slots : Slots) (order : List NodeId) : Type 0 where
   pub used : (id : NodeId) → In id (top ∷ order) ↔ (is_used slots id ≡ true)
   pub first : depth_at slots top ≡ 0
-  pub above : (id : NodeId) → In id order → (is_used slots (parent_at slots id) ≡ true) × (depth_at slots id ≡ suc (depth_at slots (parent_at slots id)))
+  pub above : (id : NodeId) → In id order → (is_used slots (parent_at slots id) ≡ true)
+      × (depth_at slots id ≡ suc (depth_at slots (parent_at slots id)))
   pub in_order : IsTrue (ascending spot_below (spots_of slots order))
 
 -- and the free ones are the others
@@ -117,15 +121,18 @@ IsChild slots order spot (Some c) = In c order × (spot_at slots c ≡ spot)
 IsChild slots order spot None = (c : NodeId) → In c order → spot_at slots c ≡ spot → ⊥
 
 -- the lowest node on the way to a key, and how many of the key's RDNs it has
-pub record IsDown (prefix : Name) (slots : Slots) (order : List NodeId) (key : Key) (node : NodeId) (count : ℕ) : Type 0 where
+pub record IsDown (prefix : Name) (slots : Slots) (order : List NodeId) (key : Key) (node : NodeId)
+    (count : ℕ) : Type 0 where
   pub used : is_used slots node ≡ true
   pub on_way : key_of (name_at prefix slots node) ≡ take count key
   pub below : length prefix ≤ count
   pub within : count ≤ length key
-  pub ends : count < length key → (c : NodeId) → In c order → spot_at slots c ≡ (node.0, slice_index_or key count []) → ⊥
+  pub ends : count < length key → (c : NodeId) → In c order → spot_at slots c ≡ (node.0, slice_index_or key count []) →
+      ⊥
 
 -- the node just above a key that isn't there, and the place in order at which the key's node would go
-pub record IsSite (prefix : Name) (slots : Slots) (order : List NodeId) (name : Name) (above : NodeId) (at : ℕ) : Type 0 where
+pub record IsSite (prefix : Name) (slots : Slots) (order : List NodeId) (name : Name) (above : NodeId)
+    (at : ℕ) : Type 0 where
   pub used : is_used slots above ≡ true
   pub is_above : key_of (name_at prefix slots above) ≡ parent (key_of name)
   pub long : 0 < length name

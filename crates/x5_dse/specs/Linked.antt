@@ -1,5 +1,5 @@
--- The entries of one naming context as a list, and what makes such a list (X.501, section 7: the directory information tree).
--- The number of a node, by which an entry is known while it's there, is this project's own.
+-- The entries of one naming context as a list, and what makes such a list (X.501, section 7: the directory information
+-- tree). The number of a node, by which an entry is known while it's there, is this project's own.
 use Rattle.std.specs.Prelude.{◌≡◌, ℕ, ◌≤◌, Bool, true, false, not, ◌&&◌, ◌||◌, ◌==◌, IsTrue, List, length, map, ⊤}
 use Rattle.std.specs.List.{find, filter, list_all, list_any}
 use Rattle.std.specs.declared.option.Option.{Option}
@@ -67,7 +67,8 @@ pub record IsLowest (nodes : List Node) (key : Key) (id : NodeId) : Type 0 where
   pub node : Node
   pub there : node_with nodes id ≡ Some node
   pub is_above : is_prefix (node_key node) key ≡ true
-  pub longest : (other : Node) → In other nodes → is_prefix (node_key other) key ≡ true → length (node_key other) ≤ length (node_key node)
+  pub longest : (other : Node) → In other nodes → is_prefix (node_key other) key ≡ true →
+      length (node_key other) ≤ length (node_key node)
 
 -- the first of the nodes, which holds the prefix of the context
 abbrev pub prefix_of : List Node → Key
@@ -76,9 +77,9 @@ prefix_of nodes = in_option root node_key (first_of nodes)
 abbrev pub is_first : List Node → NodeId → Bool
 is_first nodes id = in_option false (has_id id) (first_of nodes)
 
--- The nodes are linked as the entries of a naming context: there is a first one, its prefix; the keys ascend, so each entry
--- is there once, stands before those below it, and those below one entry stand in the order of their keys; and of each other
--- entry the one just above is there.
+-- The nodes are linked as the entries of a naming context: there is a first one, its prefix; the keys ascend, so each
+-- entry is there once, stands before those below it, and those below one entry stand in the order of their keys; and of
+-- each other entry the one just above is there.
 abbrev pub is_placed : List Node → Node → Bool
 is_placed nodes n = same_key (node_key n) (prefix_of nodes) || is_there (entries_of nodes) (parent (node_key n))
 
@@ -107,7 +108,8 @@ subtree_of nodes id = map id_of (filter (λ n. is_prefix (key_with nodes id) (no
 abbrev pub walk_from : List Node → NodeId → NodeId → List NodeId
 walk_from nodes from at =
     map id_of
-    (filter (λ n. is_prefix (key_with nodes from) (node_key n) && not (key_below (node_key n) (key_with nodes at))) nodes)
+    (filter (λ n. is_prefix (key_with nodes from) (node_key n)
+    && not (key_below (node_key n) (key_with nodes at))) nodes)
 
 -- a walk is at a node that is one of them, or at its end
 pub record IsWithin (nodes : List Node) (from at : NodeId) : Type 0 where

@@ -33,7 +33,8 @@ IsStep prefix slots from node (Some next) = IsNext prefix slots from node next
 
 -- at or below, whatever the prefix
 abbrev pub IsUnder : Slots → NodeId → NodeId → Type 0
-IsUnder slots from node = (prefix : Name) → is_prefix (key_at_node prefix slots from) (key_at_node prefix slots node) ≡ true
+IsUnder slots from node =
+    (prefix : Name) → is_prefix (key_at_node prefix slots from) (key_at_node prefix slots node) ≡ true
 
 -- what stands behind a node stands behind another, and not below that
 abbrev pub IsBehind : Name → Slots → NodeId → NodeId → Type 0

@@ -1,6 +1,8 @@
--- The contexts that an agent holds by numbers: those that it masters by their places, its copies behind them (X.518, section
+-- The contexts that an agent holds by numbers: those that it masters by their places, its copies behind them (X.518,
+-- section
 -- 19.3: evaluation of list and search). The numbers are this project's own.
-use Rattle.std.specs.Prelude.{ℕ, ◌+◌, ◌-◌, nat_lt, Bool, true, not, ◌&&◌, ◌==◌, if◌then◌else◌, List, [], ◌++◌, length, map, slice_get}
+use Rattle.std.specs.Prelude.{ℕ, ◌+◌, ◌-◌, nat_lt, Bool, true, not, ◌&&◌, ◌==◌, if◌then◌else◌, List, [], ◌++◌, length}
+use Rattle.std.specs.Prelude.{map, slice_get}
 use Rattle.std.specs.List.{filter}
 use Rattle.std.specs.Option.{is_some}
 use Rattle.std.specs.declared.option.Option.{Option}

@@ -18,11 +18,13 @@ held_as prefix k = record (held_view k) { prefix = prefix }
 
 -- what a list and a search say of the entry of a node
 abbrev pub sub_shown : List Node → Bool → NodeId → Sub
-sub_shown nodes copy id = in_option (record { rdn = []; copy = copy }) (λ n. sub_of (λ key. copy) n.named) (node_with nodes id)
+sub_shown nodes copy id =
+    in_option (record { rdn = []; copy = copy }) (λ n. sub_of (λ key. copy) n.named) (node_with nodes id)
 
 abbrev pub info_shown : List Node → Bool → Selection → NodeId → EntryInfo
 info_shown nodes copy selection id =
-    in_option (record { name = []; copy = copy; attributes = [] }) (λ n. info_of (λ key. copy) selection n.named) (node_with nodes id)
+    in_option (record { name = []; copy = copy; attributes = [] }) (λ n. info_of (λ key. copy) selection n.named)
+    (node_with nodes id)
 
 abbrev pub AreLive : List Node → List NodeId → Type 0
 AreLive nodes ids = (id : NodeId) → In id ids → is_live nodes id ≡ true

@@ -1,6 +1,7 @@
--- Walks over numbered contexts, depth first: `next` gives those just below one, `rank` grows from one to the next. A context
--- that comes again is passed over, where at least as much below it was looked at before.
-use Rattle.std.specs.Prelude.{◌≡◌, ℕ, zero, suc, ◌<◌, ◌≤◌, Bool, true, false, ◌==◌, ◌⊎◌, if◌then◌else◌, List, [], ◌∷◌, ◌++◌, get_or}
+-- Walks over numbered contexts, depth first: `next` gives those just below one, `rank` grows from one to the next. A
+-- context that comes again is passed over, where at least as much below it was looked at before.
+use Rattle.std.specs.Prelude.{◌≡◌, ℕ, zero, suc, ◌<◌, ◌≤◌, Bool, true, false, ◌==◌, ◌⊎◌, if◌then◌else◌, List, [], ◌∷◌}
+use Rattle.std.specs.Prelude.{◌++◌, get_or}
 use Rattle.std.specs.List.{flat_map}
 use Rattle.x5_model.specs.Words.{has}
 use Rattle.x5_model.specs.Members.{In}
@@ -20,8 +21,8 @@ abbrev pub adds : List ℕ → List ℕ → List ℕ
 adds before [] = before
 adds before (c ∷ cs) = adds (if has ◌==◌ before c then before else before ++ c ∷ []) cs
 
--- the contexts to which a walk came and which it left, in their order, and for each how many levels were looked at, with
--- itself; none where the walk wasn't there
+-- the contexts to which a walk came and which it left, in their order, and for each how many levels were looked at,
+-- with itself; none where the walk wasn't there
 pub record Walked : Type 0 where
   pub entered : List ℕ
   pub left : List ℕ
@@ -33,7 +34,8 @@ pub record IsDone (next : ℕ → List ℕ) (rank : ℕ → ℕ) (v : Walked) (c
   pub left : (d : ℕ) → In d (order next false deep (c ∷ [])) → In d v.left
   pub below : (d : ℕ) → In d (order next false deep (c ∷ [])) → rank c ≤ rank d
 
--- That is so of all that were seen but for the pending ones, of which the walk is still below; and no other is in the lists.
+-- That is so of all that were seen but for the pending ones, of which the walk is still below; and no other is in the
+-- lists.
 pub record IsSound (next : ℕ → List ℕ) (rank : ℕ → ℕ) (pending : List ℕ) (v : Walked) : Type 0 where
   pub known : (c : ℕ) → In c v.entered ⊎ In c v.left → 0 < get_or v.seen c 0
   pub done : (c deep : ℕ) → (In c pending → ⊥) → get_or v.seen c 0 ≡ suc deep → IsDone next rank v c deep

@@ -1,5 +1,6 @@
--- The numbers that are drawn (docs/FORMATS.md, generated files): a linear congruential sequence of 64 bits, of which the high bits are used.
--- Multiplier and increment are those of Knuth's MMIX; that they are used here is this project's own.
+-- The numbers that are drawn (docs/FORMATS.md, generated files): a linear congruential sequence of 64 bits, of which
+-- the high bits are used. Multiplier and increment are those of Knuth's MMIX; that they are used here is this project's
+-- own.
 use Rattle.std.specs.Prelude.{ℕ, zero, suc, ◌+◌, ◌*◌, ◌/◌, ◌%◌, ◌^◌}
 
 -- the number behind another

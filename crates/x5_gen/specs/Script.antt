@@ -1,5 +1,5 @@
--- The script that is made of a number (docs/FORMATS.md, generated files): 2,000 lines, each of four draws that follow those of the world.
--- It is this project's own.
+-- The script that is made of a number (docs/FORMATS.md, generated files): 2,000 lines, each of four draws that follow
+-- those of the world. It is this project's own.
 use Rattle.std.specs.Prelude.{ℕ, zero, suc, ◌+◌, ◌*◌, ◌%◌, ◌==◌, nat_lt, if◌then◌else◌, [], ◌∷◌, ◌++◌, codes}
 use Rattle.std.specs.List.{concat}
 use Rattle.std.specs.Fmt.{decimal}
@@ -14,9 +14,11 @@ lines_count = 2000
 abbrev pub asked : ℕ → ℕ → Text → ℕ → Text
 asked n k above j =
     if nat_lt k 4 then concat (codes " read " ∷ above ∷ codes "/CN=P" ∷ decimal j ∷ codes " attrs=SN\n" ∷ [])
-    else if nat_lt k 6 then concat (codes " search tree " ∷ above ∷ codes " (SN=S" ∷ decimal (j % 100) ∷ codes ") attrs=CN\n" ∷ [])
+    else if nat_lt k 6 then concat (codes " search tree " ∷ above ∷ codes " (SN=S" ∷ decimal (j % 100)
+    ∷ codes ") attrs=CN\n" ∷ [])
     else if nat_lt k 7 then concat (codes " list " ∷ above ∷ codes "/CN=P" ∷ decimal j ∷ codes "\n" ∷ [])
-    else if nat_lt k 8 then concat (codes " modify " ∷ above ∷ codes "/CN=P" ∷ decimal j ∷ codes " put:description=" ∷ decimal n ∷ codes "\n" ∷ [])
+    else if nat_lt k 8 then concat (codes " modify " ∷ above ∷ codes "/CN=P" ∷ decimal j ∷ codes " put:description="
+    ∷ decimal n ∷ codes "\n" ∷ [])
     else concat (codes " nocopy read " ∷ above ∷ codes "/CN=P" ∷ decimal j ∷ codes " attrs=SN\n" ∷ [])
 
 -- a refresh of one of the nine agreements
@@ -31,7 +33,8 @@ line n a k c j =
 -- the line, where the sequence has come to x: an agent, a kind, the agent of the context and a person are drawn
 abbrev pub drawn_line : ℕ → ℕ → Text
 drawn_line n x =
-    line n (below agents_count (after x 1)) (below 10 (after x 2)) (below agents_count (after x 3)) (below people_count (after x 4) + 1)
+    line n (below agents_count (after x 1)) (below 10 (after x 2)) (below agents_count (after x 3))
+    (below people_count (after x 4) + 1)
 
 unfoldable pub lines : ℕ → ℕ → Text
 lines x zero = []

@@ -1,6 +1,8 @@
--- The world that is made of a number (docs/FORMATS.md, generated files): a tree of 40 agents, three below each, each with a context of 500
--- entries, which its superior knows by a subordinate reference or a non-specific one, and nine shadows. It is this project's own.
-use Rattle.std.specs.Prelude.{ℕ, zero, suc, ◌&&◌, ◌+◌, ◌*◌, ◌/◌, ◌%◌, ◌==◌, nat_lt, nat_le, if◌then◌else◌, List, [], ◌∷◌, ◌++◌, map, codes}
+-- The world that is made of a number (docs/FORMATS.md, generated files): a tree of 40 agents, three below each, each
+-- with a context of 500 entries, which its superior knows by a subordinate reference or a non-specific one, and nine
+-- shadows. It is this project's own.
+use Rattle.std.specs.Prelude.{ℕ, zero, suc, ◌&&◌, ◌+◌, ◌*◌, ◌/◌, ◌%◌, ◌==◌, nat_lt, nat_le, if◌then◌else◌, List, []}
+use Rattle.std.specs.Prelude.{◌∷◌, ◌++◌, map, codes}
 use Rattle.std.specs.List.{concat, filter, join_with_byte}
 use Rattle.std.specs.Fmt.{decimal}
 use Rattle.x5_model.specs.Values.{Text}
@@ -30,9 +32,11 @@ units (suc most) (suc i) = units most (i / 3) ++ (codes "/OU=U" ++ decimal (suc 
 unfoldable pub prefix : ℕ → Text
 prefix i = codes "/C=NL" ++ units i i
 
--- the agents just below another, those whose numbers leave this rest by two: less one and divided by three, a number is the other's
+-- the agents just below another, those whose numbers leave this rest by two: less one and divided by three, a number is
+-- the other's
 abbrev pub just_below : ℕ → ℕ → List ℕ
-just_below s rest = filter (λ c. nat_lt c agents_count && (c % 2 == rest)) ((3 * s + 1) ∷ (3 * s + 2) ∷ (3 * s + 3) ∷ [])
+just_below s rest =
+    filter (λ c. nat_lt c agents_count && (c % 2 == rest)) ((3 * s + 1) ∷ (3 * s + 2) ∷ (3 * s + 3) ∷ [])
 
 -- ---- entries
 
@@ -41,7 +45,8 @@ prefix_class zero = codes "2.5.6.2"
 prefix_class (suc i) = codes "2.5.6.5"
 
 abbrev pub prefix_entry : Text → Text → Text
-prefix_entry at class = concat (codes "{\"name\":\"" ∷ at ∷ codes "\",\"attrs\":[\"objectClass=" ∷ class ∷ codes "\"]}" ∷ [])
+prefix_entry at class =
+    concat (codes "{\"name\":\"" ∷ at ∷ codes "\",\"attrs\":[\"objectClass=" ∷ class ∷ codes "\"]}" ∷ [])
 
 -- the entry of person j, with a surname of this number
 abbrev pub person : Text → ℕ → ℕ → Text
@@ -68,11 +73,13 @@ member_of before (x ∷ xs) behind = concat (before ∷ listed (x ∷ xs) ∷ be
 
 -- the non-specific reference at the prefix lists the agents of even numbers just below
 abbrev pub nssr : Text → ℕ → Text
-nssr at i = member_of (concat (codes ",\"nssr\":[{\"at\":\"" ∷ at ∷ codes "\",\"agents\":[" ∷ [])) (map agent_name (just_below i 0)) (codes "]}]")
+nssr at i = member_of (concat (codes ",\"nssr\":[{\"at\":\"" ∷ at ∷ codes "\",\"agents\":[" ∷ []))
+    (map agent_name (just_below i 0)) (codes "]}]")
 
 -- agents 1 to 9 have a shadow
 abbrev pub shadow : ℕ → Text
-shadow c = if nat_le c agreements_count then concat (codes ",\"shadows\":[\"A" ∷ decimal (c + 30) ∷ codes "\"]" ∷ []) else []
+shadow c =
+    if nat_le c agreements_count then concat (codes ",\"shadows\":[\"A" ∷ decimal (c + 30) ∷ codes "\"]" ∷ []) else []
 
 unfoldable pub reference : ℕ → Text
 reference c = concat (codes "{\"kind\":\"subordinate\",\"name\":\"" ∷ prefix c ∷ codes "\",\"master\":\"A" ∷ decimal c ∷ codes "\"" ∷ shadow c ∷ codes "}" ∷ [])
@@ -93,7 +100,8 @@ context_head at = concat (codes ",\"contexts\":[{\"prefix\":\"" ∷ at ∷ codes
 -- the context with a prefix that an agent masters, where the sequence has come to x
 abbrev pub context : Text → ℕ → ℕ → Text
 context at i x =
-    concat (context_head at ∷ prefix_entry at (prefix_class i) ∷ people at x people_count ∷ codes "]" ∷ nssr at i ∷ codes "}]" ∷ [])
+    concat (context_head at ∷ prefix_entry at (prefix_class i) ∷ people at x people_count ∷ codes "]" ∷ nssr at i
+    ∷ codes "}]" ∷ [])
 
 abbrev pub agent_head : ℕ → Text
 agent_head i = concat (codes "{\"name\":\"A" ∷ decimal i ∷ codes "\"" ∷ [])
@@ -113,7 +121,8 @@ agents x zero = []
 agents x (suc i) = agents x i ++ (comma i ++ agent i (after x (people_count * i)))
 
 abbrev pub agreement : ℕ → Text
-agreement i = concat (codes "{\"id\":" ∷ decimal i ∷ codes ",\"supplier\":\"A" ∷ decimal i ∷ codes "\",\"consumer\":\"A" ∷ decimal (i + 30) ∷ codes "\",\"context\":\"" ∷ prefix i ∷ codes "\"}" ∷ [])
+agreement i = concat (codes "{\"id\":" ∷ decimal i
+    ∷ codes ",\"supplier\":\"A" ∷ decimal i ∷ codes "\",\"consumer\":\"A" ∷ decimal (i + 30) ∷ codes "\",\"context\":\"" ∷ prefix i ∷ codes "\"}" ∷ [])
 
 unfoldable pub agreements : ℕ → Text
 agreements zero = []
@@ -122,4 +131,5 @@ agreements (suc i) = agreements i ++ (comma i ++ agreement (suc i))
 -- the world file
 abbrev pub world_text : ℕ → Text
 world_text seed =
-    concat (codes "{\"format\":1,\"start\":\"19930101000000Z\",\"agents\":[" ∷ agents seed agents_count ∷ codes "],\"agreements\":[" ∷ agreements agreements_count ∷ codes "]}\n" ∷ [])
+    concat (codes "{\"format\":1,\"start\":\"19930101000000Z\",\"agents\":[" ∷ agents seed agents_count
+    ∷ codes "],\"agreements\":[" ∷ agreements agreements_count ∷ codes "]}\n" ∷ [])

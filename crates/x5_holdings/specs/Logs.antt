@@ -1,5 +1,5 @@
--- The changes of a context that its holder keeps, since a base moment (X.525, section 9: incremental refreshes bring the
--- changes since the last one). That a holder keeps the last 256 is this project's own.
+-- The changes of a context that its holder keeps, since a base moment (X.525, section 9: incremental refreshes bring
+-- the changes since the last one). That a holder keeps the last 256 is this project's own.
 use Rattle.std.specs.Prelude.{◌≡◌, ℕ, ◌-◌, nat_lt, if◌then◌else◌, List, [], ◌∷◌, ◌++◌, length, drop}
 use Rattle.x5_model.specs.Words.{first_of, in_option}
 use Rattle.x5_holdings.specs.declared.log.Logged.{Logged}

@@ -1,4 +1,5 @@
--- Changes of the entries of a context that are ready to be made: each can't fail and takes no memory (X.511, section 11).
+-- Changes of the entries of a context that are ready to be made: each can't fail and takes no memory (X.511, section
+-- 11).
 use Rattle.std.specs.Prelude.{◌≡◌, ◌<◌, ◌≤◌, ℕ, true, false, IsTrue, List, length}
 use Rattle.std.specs.declared.option.Option.TheVariants.{Some}
 use Rattle.x5_model.specs.Keys.{KeyPair, parent}
@@ -33,7 +34,8 @@ pub record CanAdd (c : Kept) (name : Name) (entry : Entry) (room : List KeyPair)
 pub record CanRemove (c : Kept) (id : NodeId) : Type 0 where
   pub live : IsTrue (is_live c.nodes.nodes id)
   pub other : is_first c.nodes.nodes id ≡ false
-  pub leaf : (n : Node) → node_with c.nodes.nodes id ≡ Some n → has_below (entries_of c.nodes.nodes) (node_key n) ≡ false
+  pub leaf : (n : Node) → node_with c.nodes.nodes id ≡ Some n → has_below (entries_of c.nodes.nodes) (node_key n)
+      ≡ false
 
 pub record CanReplace (c : Kept) (id : NodeId) (entry : Entry) (room : List KeyPair) : Type 0 where
   pub live : IsTrue (is_live c.nodes.nodes id)

@@ -1,4 +1,5 @@
--- One of the contexts that an agent masters changes, by its place among them; nothing else of what the agent holds does.
+-- One of the contexts that an agent masters changes, by its place among them; nothing else of what the agent holds
+-- does.
 use Rattle.std.specs.Prelude.{◌≡◌, ℕ, slice_get, slice_set}
 use Rattle.std.specs.declared.option.Option.TheVariants.{Some}
 use Rattle.x5_holdings.specs.State.{Kept, State}

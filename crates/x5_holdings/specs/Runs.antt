@@ -1,5 +1,5 @@
--- The members of a list whose names stand at or below a name, each with its place: in the order of their keys, and those
--- of one key in that of the list. Of them those with so many RDNs.
+-- The members of a list whose names stand at or below a name, each with its place: in the order of their keys, and
+-- those of one key in that of the list. Of them those with so many RDNs.
 use Rattle.std.specs.Prelude.{ℕ, Bool, ◌==◌, List, length, map}
 use Rattle.std.specs.List.{filter}
 use Rattle.x5_model.specs.Keys.{Key, is_prefix}

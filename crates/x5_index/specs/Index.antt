@@ -1,5 +1,5 @@
--- What an index of entries by their values has, as contracts see it. The index is this project's own; when a value is equal
--- to another is X.501's (section 8: matching rules), by their normal forms.
+-- What an index of entries by their values has, as contracts see it. The index is this project's own; when a value is
+-- equal to another is X.501's (section 8: matching rules), by their normal forms.
 use Rattle.std.specs.Prelude.{◌≡◌, ◌≢◌, ◌↔◌, ℕ, Bool, true, false, ◌==◌, List, map}
 use Rattle.std.specs.List.{flat_map, list_any}
 use Rattle.std.specs.Ordering.{is_lt, nat_cmp, ordering_then}
@@ -14,7 +14,8 @@ pub record Posting : Type 0 where
   pub term : KeyPair
   pub node : ℕ
 
--- what contracts see: one posting for each value of each entry that is there, and how many more can be put without memory
+-- what contracts see: one posting for each value of each entry that is there, and how many more can be put without
+-- memory
 pub record Index : Type 0 where
   pub postings : List Posting
   pub spare : ℕ
@@ -37,10 +38,11 @@ terms_of e = flat_map terms_in e.attributes
 abbrev pub is_there : List Posting → ℕ → Bool
 is_there postings node = list_any (λ p. p.node == node) postings
 
--- The node is there with this entry: its postings are of exactly the values that the entry has. So an entry is known up to
--- the spelling of its values, on which equality doesn't look; and a node that isn't there is as one without values.
+-- The node is there with this entry: its postings are of exactly the values that the entry has. So an entry is known up
+-- to the spelling of its values, on which equality doesn't look; and a node that isn't there is as one without values.
 pub record IsEntryAt (postings : List Posting) (node : ℕ) (entry : Entry) : Type 0 where
-  pub exact : (kind : ℕ) (normal : List ℕ) → In (record { term = (kind, normal); node = node }) postings ↔ (has_value entry kind normal ≡ true)
+  pub exact : (kind : ℕ) (normal : List ℕ) → In (record { term = (kind, normal); node = node }) postings ↔
+      (has_value entry kind normal ≡ true)
 
 -- all other nodes stay
 pub record OthersStay (old : List Posting) (node : ℕ) (after : List Posting) : Type 0 where

@@ -1,5 +1,5 @@
--- Which nodes an index gives for a filter (X.511, section 7.8). That a filter is looked up by its first equality item is this
--- project's own.
+-- Which nodes an index gives for a filter (X.511, section 7.8). That a filter is looked up by its first equality item
+-- is this project's own.
 use Rattle.std.specs.Prelude.{◌≡◌, ◌↔◌, ℕ, true, List}
 use Rattle.std.specs.declared.option.Option.{Option}
 use Rattle.std.specs.declared.option.Option.TheVariants.{None, Some}
@@ -42,8 +42,10 @@ looked_up other = None
 pub record AreCandidates (postings : List Posting) (filter : Filter) (nodes : List ℕ) : Type 0 where
   pub asserted : Assertion
   pub first : looked_up filter ≡ Some asserted
-  pub exact : (node : ℕ) (entry : Entry) → IsEntryAt postings node entry → In node nodes ↔ (is_true (item_truth (Equality asserted) entry) ≡ true)
-  pub complete : (node : ℕ) (entry : Entry) → IsEntryAt postings node entry → selects_entry filter entry ≡ true → In node nodes
+  pub exact : (node : ℕ) (entry : Entry) → IsEntryAt postings node entry →
+      In node nodes ↔ (is_true (item_truth (Equality asserted) entry) ≡ true)
+  pub complete : (node : ℕ) (entry : Entry) → IsEntryAt postings node entry → selects_entry filter entry ≡ true →
+      In node nodes
   pub once : Once nodes
 
 -- there are candidates exactly where the filter gives an equality item

@@ -1,6 +1,7 @@
 -- Moments: whole seconds after the start of the world, and how they are printed, as dates and times of the Gregorian
 -- calendar (X.680, section 46: GeneralizedTime, whole seconds in UTC).
-use Rattle.std.specs.Prelude.{ℕ, zero, suc, ◌+◌, ◌/◌, ◌%◌, ℤ, pos, ◌+ℤ◌, unsigned_abs, nat_lt, if◌then◌else◌, [], ◌∷◌, codes}
+use Rattle.std.specs.Prelude.{ℕ, zero, suc, ◌+◌, ◌/◌, ◌%◌, ℤ, pos, ◌+ℤ◌, unsigned_abs, nat_lt, if◌then◌else◌, [], ◌∷◌}
+use Rattle.std.specs.Prelude.{codes}
 use Rattle.std.specs.List.{concat}
 use Rattle.std.specs.Fmt.{decimal}
 use Rattle.jiff_core.specs.declared.civil.date.Date.{Date}
@@ -43,12 +44,14 @@ abbrev pub two_digits : ℕ → Text
 two_digits n = concat (decimal (n / 10 % 10) ∷ decimal (n % 10) ∷ [])
 
 abbrev pub four_digits : ℕ → Text
-four_digits n = concat (decimal (n / 1000 % 10) ∷ decimal (n / 100 % 10) ∷ decimal (n / 10 % 10) ∷ decimal (n % 10) ∷ [])
+four_digits n =
+    concat (decimal (n / 1000 % 10) ∷ decimal (n / 100 % 10) ∷ decimal (n / 10 % 10) ∷ decimal (n % 10) ∷ [])
 
 -- `YYYYMMDDHHMMSSZ`
 abbrev pub stamp_text : Day → ℕ → Text
 stamp_text d second =
-    concat (four_digits (unsigned_abs d.year) ∷ two_digits d.month ∷ two_digits d.day ∷ two_digits (second / 3600) ∷ two_digits (second / 60 % 60) ∷ two_digits (second % 60) ∷ codes "Z" ∷ [])
+    concat (four_digits (unsigned_abs d.year) ∷ two_digits d.month ∷ two_digits d.day ∷ two_digits (second / 3600)
+    ∷ two_digits (second / 60 % 60) ∷ two_digits (second % 60) ∷ codes "Z" ∷ [])
 
 -- the text of a moment
 abbrev pub moment_text : Start → ℕ → Text

@@ -12,7 +12,8 @@ use Rattle.x5_model_world.specs.Mentioned.{first_of_two, first_at, unknown_text,
 use Rattle.x5_model_world.specs.NetworkText.{pairs_behind, pair_of_agents, numbers_behind}
 use Rattle.x5_model_world.specs.Reading.{Read, ◌>>=◌, needed, if_few, text_at, some_at, list_if_any, only}
 use Rattle.x5_model_world.specs.StartText.{two, year_of, is_day, is_time, start_of}
-use Rattle.x5_model_world.specs.WorldFile.{File, agreements_behind, with_copies, network_of, world_members, world_in, if_known}
+use Rattle.x5_model_world.specs.WorldFile.{File, agreements_behind, with_copies, network_of, world_members, world_in}
+use Rattle.x5_model_world.specs.WorldFile.{if_known}
 
 -- ---- the start
 

@@ -6,7 +6,8 @@ use Rattle.x5_model.specs.Values.{Text}
 use Rattle.x5_model_world.specs.Reading as model
 use Rattle.x5_model_world.specs.WorldFile.{File, Describes, IsNoJson}
 use Rattle.x5_world_members.specs.declared.fault.LoadFault.{LoadFault}
-use Rattle.x5_world_members.specs.declared.fault.LoadFault.TheVariants.{NotJson, BadShape, BadName, OverLimit, RepeatedAgent, UnknownAgent, NoMemory}
+use Rattle.x5_world_members.specs.declared.fault.LoadFault.TheVariants.{NotJson, BadShape, BadName, OverLimit}
+use Rattle.x5_world_members.specs.declared.fault.LoadFault.TheVariants.{RepeatedAgent, UnknownAgent, NoMemory}
 
 -- the world that is described, with its start
 abbrev pub file_view : Described → File

@@ -4,7 +4,8 @@ use Rattle.x5_model.specs.Filters as model
 use Rattle.x5_syntax.specs.TypeView.{type_view}
 use Rattle.x5_match.specs.declared.filter.Item.{Item}
 use Rattle.x5_match.specs.declared.filter.Item.TheVariants as items
-use Rattle.x5_match.specs.declared.filter.Filter.{Filter, Item as ItemFilter, And', Or', Not', Row_of-Filter, end_of-Filter, more_of-Filter}
+use Rattle.x5_match.specs.declared.filter.Filter.{Filter, Item as ItemFilter, And', Or', Not', Row_of-Filter}
+use Rattle.x5_match.specs.declared.filter.Filter.{end_of-Filter, more_of-Filter}
 
 abbrev pub item_view : Item → model.Item
 item_view (items.Equality a) = model.Equality a

@@ -1,4 +1,5 @@
--- The order in which members of an answer stand: by their keys (X.501, section 9: names; the order is this project's own).
+-- The order in which members of an answer stand: by their keys (X.501, section 9: names; the order is this project's
+-- own).
 use Rattle.std.specs.Prelude.{◌≡◌, false, ⊤, Bool, List, [], ◌∷◌}
 use Rattle.x5_model.specs.Members.{In}
 use Rattle.x5_model.specs.Keys.{Key, key_below}

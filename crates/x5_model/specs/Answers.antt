@@ -20,14 +20,15 @@ pub record Sub : Type 0 where
   pub rdn : Rdn
   pub copy : Bool
 
--- a naming context that an answer was computed from, its agent, and the moment of the copy; none at a master. Sources are
--- this project's own.
+-- a naming context that an answer was computed from, its agent, and the moment of the copy; none at a master. Sources
+-- are this project's own.
 pub record Source : Type 0 where
   pub context : Name
   pub agent : ℕ
   pub moment : Option ℕ
 
--- whether a size limit cut the answer, and the parts that nobody looked into (X.511, section 10.1.3: partial outcome qualifier)
+-- whether a size limit cut the answer, and the parts that nobody looked into (X.511, section 10.1.3: partial outcome
+-- qualifier)
 pub record Outcome : Type 0 where
   pub limited : Bool
   pub unexplored : List Reference
@@ -39,8 +40,8 @@ pub data Answer : Type 0 where
   Found : List EntryInfo → List Source → Outcome → Answer
   Changed : Answer
 
--- problems by their numbers: of attributes, of updates and of the service (X.511, section 12). What a problem of the service
--- tells beside its number is this project's own.
+-- problems by their numbers: of attributes, of updates and of the service (X.511, section 12). What a problem of the
+-- service tells beside its number is this project's own.
 pub data DirError : Type 0 where
   NoSuchObject : Name → DirError
   AttributeProblem : ℕ → TypeRef → DirError

@@ -5,7 +5,8 @@ use Rattle.std.specs.List.{list_any, list_all, filter, filter_map, find}
 use Rattle.std.specs.declared.option.Option.{Option}
 use Rattle.std.specs.declared.option.Option.TheVariants.{None, Some}
 use Rattle.std.specs.Option.{is_some}
-use Rattle.x5_model.specs.Words.{is_empty, first_of, ascending, insert_sorted, sorted, in_option, same_octets, octets_below}
+use Rattle.x5_model.specs.Words.{is_empty, first_of, ascending, insert_sorted, sorted, in_option, same_octets}
+use Rattle.x5_model.specs.Words.{octets_below}
 use Rattle.x5_model.specs.Values.{TypeRef, Known, Unknown, TextValue, StoredValue, Offered, Pair, Rdn}
 use Rattle.x5_model.specs.Types.{is_single}
 use Rattle.x5_model.specs.Entries.{Stored, Entry}
@@ -21,7 +22,8 @@ kind_below a b = nat_lt a.kind b.kind
 -- every entry that is kept is so
 abbrev pub is_ordered : Entry → Bool
 is_ordered e =
-    ascending kind_below e.attributes && list_all (λ a. not (is_empty a.values) && ascending value_below a.values) e.attributes
+    ascending kind_below e.attributes && list_all (λ a. not (is_empty a.values)
+    && ascending value_below a.values) e.attributes
 
 abbrev pub attribute_at : Entry → ℕ → Option Stored
 attribute_at e kind = find (λ a. a.kind == kind) e.attributes
@@ -45,7 +47,10 @@ entry_with kind values e = with_values (filter (λ a. not (a.kind == kind)) e.at
   where
     with_values : List Stored → Entry
     with_values others =
-        record { attributes = if is_empty values then others else insert_sorted kind_below (record { kind = kind; values = values }) others }
+        record {
+          attributes = if is_empty values then others
+              else insert_sorted kind_below (record { kind = kind; values = values }) others;
+        }
 
 -- one value more, and one value less
 abbrev pub put_value : ℕ → StoredValue → Entry → Entry
@@ -74,7 +79,8 @@ with_rdn (p ∷ ps) e = with_rdn ps (if has_pair e p then e else put_value p.kin
 abbrev pub without_rdn : Rdn → Rdn → Entry → Entry
 without_rdn [] kept e = e
 without_rdn (p ∷ ps) kept e =
-    without_rdn ps kept (if list_any (λ q. (q.kind == p.kind) && same_octets q.normal p.normal) kept then e else drop_value p.kind p.normal e)
+    without_rdn ps kept (if list_any (λ q. (q.kind == p.kind) && same_octets q.normal p.normal) kept then e
+    else drop_value p.kind p.normal e)
 
 -- the lowest single-valued type that has more than one value
 abbrev pub doubled : Entry → Option ℕ

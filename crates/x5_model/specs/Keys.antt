@@ -52,7 +52,8 @@ is_child above a = (length a == (length above + 1)) && is_prefix above a
 abbrev pub is_below : Key → Key → Bool
 is_below above a = nat_lt (length above) (length a) && is_prefix above a
 
--- the order, which is this project's own: RDN by RDN and a prefix first; RDNs pair by pair, by type number and then by the octets
+-- the order, which is this project's own: RDN by RDN and a prefix first; RDNs pair by pair, by type number and then by
+-- the octets
 abbrev pub pair_cmp : KeyPair → KeyPair → Ordering
 pair_cmp a b = ordering_then (nat_cmp a.0 b.0) (slice_cmp nat_cmp a.1 b.1)
 

@@ -1,13 +1,18 @@
--- Which values are of a kind, and their normal forms, by which they are compared (X.520: matching rules; X.501, section 8:
--- matching rules). That equal values have one normal form, and what it looks like as octets, is this project's own. Texts are octets of UTF-8; an octet below U+0080 stands for the character of its number.
-use Rattle.std.specs.Prelude.{◌≡◌, ℕ, ◌+◌, ◌*◌, ◌^◌, Bool, true, false, ◌&&◌, ◌||◌, not, if◌then◌else◌, ◌==◌, nat_lt, nat_le, List, [], ◌∷◌, ◌++◌, length, map, sum, filter, flat_map, Option, Some, None, Result, Ok, Err, chars, encode_utf8_all, codes}
+-- Which values are of a kind, and their normal forms, by which they are compared (X.520: matching rules; X.501, section
+-- 8: matching rules). That equal values have one normal form, and what it looks like as octets, is this project's own.
+-- Texts are octets of UTF-8; an octet below U+0080 stands for the character of its number.
+use Rattle.std.specs.Prelude.{◌≡◌, ℕ, ◌+◌, ◌*◌, ◌^◌, Bool, true, false, ◌&&◌, ◌||◌, not, if◌then◌else◌, ◌==◌, nat_lt}
+use Rattle.std.specs.Prelude.{nat_le, List, [], ◌∷◌, ◌++◌, length, map, sum, filter, flat_map, Option, Some, None}
+use Rattle.std.specs.Prelude.{Result, Ok, Err, chars, encode_utf8_all, codes}
 use Rattle.std.specs.List.{list_all, list_any}
 use Rattle.std.specs.Int.{to_be_bytes, w32}
 use Rattle.std.specs.Char.{is_ascii_alphabetic, is_ascii_alphanumeric, is_ascii_digit}
 use Rattle.caseless.specs.Caseless.{default_case_fold}
 use Rattle.x5_model.specs.Keys.{KeyPair, KeyRdn, Key}
-use Rattle.x5_model.specs.Values.{Text, Value, TextValue, OctetsValue, OidValue, NameOf, NameValue, Pair, Rdn, Name, written_pair, written}
-use Rattle.x5_model.specs.Types.{Kind, TextKind, PrintableKind, CountryKind, NumericKind, TelephoneKind, OidKind, NameKind, OctetsKind, kind_of, may_name}
+use Rattle.x5_model.specs.Values.{Text, Value, TextValue, OctetsValue, OidValue, NameOf, NameValue, Pair, Rdn, Name}
+use Rattle.x5_model.specs.Values.{written_pair, written}
+use Rattle.x5_model.specs.Types.{Kind, TextKind, PrintableKind, CountryKind, NumericKind, TelephoneKind, OidKind}
+use Rattle.x5_model.specs.Types.{NameKind, OctetsKind, kind_of, may_name}
 
 -- ---- limits, which are this project's own: octets of a value, RDNs of a name, pairs of an RDN
 
@@ -79,7 +84,8 @@ drops_space_before last (b ∷ bs) = is_space b
 -- each run of spaces is one space, and at the value's end none
 abbrev pub single_spaced : Bool → Text → Text
 single_spaced last [] = []
-single_spaced last (b ∷ bs) = if is_space b && drops_space_before last bs then single_spaced last bs else b ∷ single_spaced last bs
+single_spaced last (b ∷ bs) =
+    if is_space b && drops_space_before last bs then single_spaced last bs else b ∷ single_spaced last bs
 
 -- `first` says that the text begins the value, `last` that it ends it
 abbrev pub spaced : Bool → Bool → Text → Text
@@ -88,7 +94,8 @@ spaced first last t = single_spaced last (if first then without_leading t else t
 abbrev pub is_dialled : ℕ → Bool
 is_dialled b = not (is_space b || (b == 45))
 
--- the normal form of a part of a text (X.520: caseIgnoreMatch, numericStringMatch, telephoneNumberMatch and their substrings)
+-- the normal form of a part of a text (X.520: caseIgnoreMatch, numericStringMatch, telephoneNumberMatch and their
+-- substrings)
 abbrev pub part_normal : Kind → Bool → Bool → Text → List ℕ
 part_normal TextKind first last t = spaced first last (folded t)
 part_normal PrintableKind first last t = spaced first last (folded t)
@@ -104,7 +111,8 @@ text_normal k t = part_normal k true true t
 
 -- ---- object identifiers (X.660)
 
--- two arcs or more, each below 2^32 (this project's limit); the first below 3, and below 40 the second where the first is below 2
+-- two arcs or more, each below 2^32 (this project's limit); the first below 3, and below 40 the second where the first
+-- is below 2
 abbrev pub is_oid : List ℕ → Bool
 is_oid [] = false
 is_oid (a ∷ []) = false
@@ -112,7 +120,8 @@ is_oid (a ∷ b ∷ arcs) = nat_lt a 3 && (nat_lt 1 a || nat_lt b 40) && list_al
 
 -- how many octets a subidentifier takes (X.690, section 8.19: seven bits an octet)
 abbrev pub subidentifier_len : ℕ → ℕ
-subidentifier_len n = if nat_lt n (2 ^ 7) then 1 else if nat_lt n (2 ^ 14) then 2 else if nat_lt n (2 ^ 21) then 3 else if nat_lt n (2 ^ 28) then 4 else 5
+subidentifier_len n = if nat_lt n (2 ^ 7) then 1 else if nat_lt n (2 ^ 14) then 2 else if nat_lt n (2 ^ 21) then 3
+    else if nat_lt n (2 ^ 28) then 4 else 5
 
 -- the two first arcs are one subidentifier
 abbrev pub oid_content_len : List ℕ → ℕ
@@ -154,7 +163,8 @@ over most n = if nat_lt most n then Some most else None
 -- the first limit that the pairs pass, with `before` pairs before them; so of RDNs
 abbrev pub rdn_over : ℕ → List (ℕ × Text) → Option ℕ
 rdn_over before [] = None
-rdn_over before (p ∷ r) = first_of (over most_pairs (before + 1)) (first_of (over most_octets (length p.1)) (rdn_over (before + 1) r))
+rdn_over before (p ∷ r) =
+    first_of (over most_pairs (before + 1)) (first_of (over most_octets (length p.1)) (rdn_over (before + 1) r))
 
 abbrev pub name_over : ℕ → NameValue → Option ℕ
 name_over before [] = None
@@ -215,7 +225,8 @@ normal_of k v = if is_of_kind k v then within (value_over v) (normal_form k v) e
 
 -- the normal form of a part of a value, for kinds that have substrings
 abbrev pub part_normal_of : Kind → Bool → Bool → Value → Result (List ℕ) ValueFault
-part_normal_of k first last (TextValue t) = if is_part_of_kind k t then within (over most_octets (length t)) (part_normal k first last t) else Err WrongSyntax
+part_normal_of k first last (TextValue t) =
+    if is_part_of_kind k t then within (over most_octets (length t)) (part_normal k first last t) else Err WrongSyntax
 part_normal_of k first last v = Err WrongSyntax
 
 -- ---- names with their normal forms

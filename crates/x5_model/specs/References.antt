@@ -9,7 +9,8 @@ pub data Progress : Type 0 where
   Next : ℕ → Progress
   Done : Progress
 
--- kinds of knowledge references (X.501: knowledge; X.518, section 10: reference type); `Own` is the one by which a user asks an agent
+-- kinds of knowledge references (X.501: knowledge; X.518, section 10: reference type); `Own` is the one by which a user
+-- asks an agent
 pub data RefType : Type 0 where
   Superior : RefType
   Subordinate : RefType
@@ -27,8 +28,8 @@ pub record Reference : Type 0 where
   pub exclusions : List Rdn
   pub tried : Bool
 
--- an item of trace information (X.518, section 10.6): `wide`, which is this project's own, marks a message that was asked by
--- a nonSpecific reference
+-- an item of trace information (X.518, section 10.6): `wide`, which is this project's own, marks a message that was
+-- asked by a nonSpecific reference
 pub record TraceItem : Type 0 where
   pub agent : ℕ
   pub target : Name

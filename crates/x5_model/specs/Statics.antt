@@ -10,9 +10,12 @@ use Rattle.x5_model.specs.Values.{TypeRef, Known, Unknown, Offered, Name, last_r
 use Rattle.x5_model.specs.Types.{is_known}
 use Rattle.x5_model.specs.Entries.{Entry}
 use Rattle.x5_model.specs.Attributes.{is_present, doubled, added_entry}
-use Rattle.x5_model.specs.Requests.{Attribute, Change, AddAttribute, RemoveAttribute, AddValues, RemoveValues, Body, Read, Compare, ListBelow, Search, AddEntry, RemoveEntry, ModifyEntry, ModifyDn}
+use Rattle.x5_model.specs.Requests.{Attribute, Change, AddAttribute, RemoveAttribute, AddValues, RemoveValues, Body}
+use Rattle.x5_model.specs.Requests.{Read, Compare, ListBelow, Search, AddEntry, RemoveEntry, ModifyEntry, ModifyDn}
 use Rattle.x5_model.specs.Answers.{DirError, NoSuchObject, AttributeProblem, UpdateProblem}
-use Rattle.x5_model.specs.Problems.{invalid_attribute_syntax, undefined_attribute_type, constraint_violation, attribute_or_value_already_exists, naming_violation, object_class_violation, object_class_modification_prohibited}
+use Rattle.x5_model.specs.Problems.{invalid_attribute_syntax, undefined_attribute_type, constraint_violation}
+use Rattle.x5_model.specs.Problems.{attribute_or_value_already_exists, naming_violation, object_class_violation}
+use Rattle.x5_model.specs.Problems.{object_class_modification_prohibited}
 
 -- 1 and 2. An entry isn't added with fewer than two RDNs, and the root is no entry.
 abbrev pub root_refusals : Name → List DirError
@@ -94,7 +97,8 @@ repeat_refusals (Search base subset filter selection) = []
 repeat_refusals (AddEntry name attributes) = attribute_repeats [] attributes
 repeat_refusals (RemoveEntry name) = []
 repeat_refusals (ModifyEntry name changes) =
-    flat_map change_repeats changes ++ when (list_any names_class changes) (UpdateProblem object_class_modification_prohibited)
+    flat_map change_repeats changes ++ when (list_any names_class changes)
+    (UpdateProblem object_class_modification_prohibited)
 repeat_refusals (ModifyDn name rdn drops) = []
 
 -- 4. The entry that an addEntry would store has one value at most of a single-valued type, and an objectClass.
@@ -114,7 +118,8 @@ added_refusals (ModifyEntry name changes) = []
 added_refusals (ModifyDn name rdn drops) = []
 
 abbrev pub static_refusals : Body → List DirError
-static_refusals body = name_refusals body ++ flat_map value_refusals (given body) ++ repeat_refusals body ++ added_refusals body
+static_refusals body =
+    name_refusals body ++ flat_map value_refusals (given body) ++ repeat_refusals body ++ added_refusals body
 
 -- the first that counts
 abbrev pub fault_of : Body → Option DirError

@@ -10,7 +10,8 @@ use Rattle.x5_model.specs.Values.{TypeRef, Known, Unknown}
 use Rattle.x5_model.specs.Types.{kind_of, has_order, has_substrings}
 use Rattle.x5_model.specs.Entries.{Entry}
 use Rattle.x5_model.specs.Attributes.{values_at, is_present}
-use Rattle.x5_model.specs.Filters.{Parts, Item, Equality, Substrings, GreaterOrEqual, LessOrEqual, Present, Approximate, Filter, Is, And, Or, Not, Filters, Nil, More}
+use Rattle.x5_model.specs.Filters.{Parts, Item, Equality, Substrings, GreaterOrEqual, LessOrEqual, Present, Approximate}
+use Rattle.x5_model.specs.Filters.{Filter, Is, And, Or, Not, Filters, Nil, More}
 
 pub data Truth : Type 0 where
   False : Truth
@@ -50,7 +51,8 @@ is_true False = false
 -- the parts stand in the text in this order without overlap, and the last part ends it
 abbrev pub ends_so : Option (List ℕ) → List ℕ → Bool
 ends_so None text = true
-ends_so (Some part) text = nat_le (length part) (length text) && same_octets (drop (length text - length part) text) part
+ends_so (Some part) text =
+    nat_le (length part) (length text) && same_octets (drop (length text - length part) text) part
 
 abbrev pub in_order : List (List ℕ) → Option (List ℕ) → List ℕ → Bool
 in_order [] last text = ends_so last text

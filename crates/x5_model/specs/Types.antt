@@ -1,6 +1,6 @@
--- The attribute types that agents know: object identifiers 2.5.4 and a number, after X.520, X.501 and X.509. The choice of
--- types, their keywords and kinds, which of them may name and which have one value, is this project's own (docs/FORMATS.md,
--- attribute types).
+-- The attribute types that agents know: object identifiers 2.5.4 and a number, after X.520, X.501 and X.509. The choice
+-- of types, their keywords and kinds, which of them may name and which have one value, is this project's own
+-- (docs/FORMATS.md, attribute types).
 use Rattle.std.specs.Prelude.{ℕ, Bool, true, false, not, ◌&&◌, ◌==◌, List, [], ◌∷◌}
 use Rattle.std.specs.List.{find}
 use Rattle.std.specs.declared.option.Option.{Option}
@@ -19,7 +19,8 @@ pub data Kind : Type 0 where
   NameKind : Kind
   OctetsKind : Kind
 
--- a type: its number, its keyword, what its values are, whether it may stand in an RDN, and whether it has one value at most
+-- a type: its number, its keyword, what its values are, whether it may stand in an RDN, and whether it has one value at
+-- most
 pub record Row : Type 0 where
   pub number : ℕ
   pub keyword : Text
@@ -66,7 +67,8 @@ in_row x f (Some r) = f r
 abbrev pub is_known : ℕ → Bool
 is_known number = in_row false (λ r. true) (row_of number)
 
--- A type goes by its number where the table has it: then its number alone stands for it, and its object identifier doesn't.
+-- A type goes by its number where the table has it: then its number alone stands for it, and its object identifier
+-- doesn't.
 abbrev pub in_table : List ℕ → Bool
 in_table (a ∷ b ∷ c ∷ number ∷ []) = (a == 2) && ((b == 5) && ((c == 4) && is_known number))
 in_table arcs = false

@@ -58,7 +58,8 @@ abbrev pub when : {X : Type 0} → Bool → X → List X
 when true x = x ∷ []
 when false x = []
 
--- the members that come a second time, by their keys, or aren't fit, as what is told of them; `before` has the keys so far
+-- the members that come a second time, by their keys, or aren't fit, as what is told of them; `before` has the keys so
+-- far
 abbrev pub unfit : {A K X : Type 0} → (K → K → Bool) → (A → K) → (A → Bool) → (A → X) → List K → List A → List X
 unfit same key fit told before [] = []
 unfit same key fit told before (x ∷ xs) =

@@ -19,7 +19,9 @@ use Rattle.x5_model_run.specs.Right.{master_at}
 use Rattle.x5_model_run.specs.Placed.{Placed}
 use Rattle.x5_model_serve.specs.Finding.{Here, Onward, find, IsLooked}
 use Rattle.x5_model_serve.specs.Answering.{rest_of_parts, to_follow}
-use Rattle.x5_model_serve.specs.Serving.{Hand, hand, line_for, Heard, Unheard, Hears, IsRequest, Act, Serves, Follows, Sends, Tries, Takes, Spreads, Casts, Gathers, Probes, Updates, Does, begins_parts, is_final}
+use Rattle.x5_model_serve.specs.Serving.{Hand, hand, line_for, Heard, Unheard, Hears, IsRequest, Act, Serves, Follows}
+use Rattle.x5_model_serve.specs.Serving.{Sends, Tries, Takes, Spreads, Casts, Gathers, Probes, Updates, Does}
+use Rattle.x5_model_serve.specs.Serving.{begins_parts, is_final}
 use Rattle.x5_model_serve.specs.Claims.{Setting}
 use Rattle.x5_model_bounds.specs.Costs.{total, serving_cost, whole_cost, Costs}
 

@@ -14,7 +14,8 @@ use Rattle.x5_model_run.specs.Journal.{Line, Journal, is_done, is_wide}
 use Rattle.x5_model_run.specs.Holdings.{Held, Copy}
 use Rattle.x5_model_run.specs.Chain.{Scene}
 use Rattle.x5_model_serve.specs.Answering.{is_service, to_follow, reply_in_own, reply_in_copy}
-use Rattle.x5_model_serve.specs.Serving.{with_line, Heard, Unheard, Hears, Gathered, Whole, Broken, Act, Serves, Follows, Sends, Tries, Takes, Spreads, Casts, Gathers, Probes, Updates, Does}
+use Rattle.x5_model_serve.specs.Serving.{with_line, Heard, Unheard, Hears, Gathered, Whole, Broken, Act, Serves}
+use Rattle.x5_model_serve.specs.Serving.{Follows, Sends, Tries, Takes, Spreads, Casts, Gathers, Probes, Updates, Does}
 
 abbrev pub IsUnable : Reply → Type 0
 IsUnable reply = is_service unable_to_proceed reply ≡ true

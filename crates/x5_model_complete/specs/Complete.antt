@@ -7,7 +7,8 @@ use Rattle.x5_model.specs.Words.{has}
 use Rattle.x5_model.specs.Values.{Name}
 use Rattle.x5_model.specs.Requests.{Request}
 use Rattle.x5_model.specs.Answers.{Answer, Changed, DirError, Reply, Answered, Failed}
-use Rattle.x5_model.specs.Problems.{unavailable, unable_to_proceed, invalid_reference, administrative_limit_exceeded, loop_detected}
+use Rattle.x5_model.specs.Problems.{unavailable, unable_to_proceed, invalid_reference, administrative_limit_exceeded}
+use Rattle.x5_model.specs.Problems.{loop_detected}
 use Rattle.x5_model_tree.specs.World.{Network, World}
 use Rattle.x5_model_tree.specs.Ask.{Changes, Refuses, unexplored_of, is_update, ask}
 use Rattle.x5_model_tree.specs.Consistent.{IsConsistent}

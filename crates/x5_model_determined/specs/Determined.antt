@@ -5,7 +5,8 @@ use Rattle.std.specs.Prelude.{◌≡◌, ℕ, List}
 use Rattle.x5_model.specs.Answers.{Reply}
 use Rattle.x5_model_run.specs.Journal.{Journal}
 use Rattle.x5_model_run.specs.Chain.{Scene}
-use Rattle.x5_model_serve.specs.Serving.{Heard, Gathered, Act, Serves, Follows, Sends, Tries, Takes, Spreads, Casts, Gathers, Probes, Updates, Does, IsRequest}
+use Rattle.x5_model_serve.specs.Serving.{Heard, Gathered, Act, Serves, Follows, Sends, Tries, Takes, Spreads, Casts}
+use Rattle.x5_model_serve.specs.Serving.{Gathers, Probes, Updates, Does, IsRequest}
 
 -- The same thing done from the same journal comes to the same: the reply to a message; what is made of a reply; what is
 -- heard of an agent, or by a reference; who of an NSSR, or of a probe's agents, wasn't heard; what is gathered; and the

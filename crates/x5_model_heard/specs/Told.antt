@@ -5,7 +5,8 @@ use Rattle.std.specs.List.{list_all}
 use Rattle.std.specs.declared.option.Option.{Option}
 use Rattle.std.specs.declared.option.Option.TheVariants.{None, Some}
 use Rattle.x5_model.specs.References.{Reference}
-use Rattle.x5_model.specs.Answers.{DirError, NoSuchObject, AttributeProblem, UpdateProblem, ServiceProblem, Reply, Answered, Failed, Referred}
+use Rattle.x5_model.specs.Answers.{DirError, NoSuchObject, AttributeProblem, UpdateProblem, ServiceProblem, Reply}
+use Rattle.x5_model.specs.Answers.{Answered, Failed, Referred}
 use Rattle.x5_model.specs.Problems.{unavailable}
 use Rattle.x5_model_tree.specs.Ask.{unexplored_of}
 use Rattle.x5_model_run.specs.Journal.{Journal}
@@ -13,7 +14,9 @@ use Rattle.x5_model_run.specs.Needs.{due_probes}
 use Rattle.x5_model_run.specs.Chain.{Scene}
 use Rattle.x5_model_serve.specs.Finding.{Onward}
 use Rattle.x5_model_serve.specs.Answering.{is_service, is_unavailable}
-use Rattle.x5_model_serve.specs.Serving.{Hand, Heard, Unheard, Hears, Gathered, Whole, Broken, Act, Serves, Follows, Sends, Tries, Takes, Spreads, Casts, Gathers, Probes, Updates, Does, holds_now, found_at, parts_refs}
+use Rattle.x5_model_serve.specs.Serving.{Hand, Heard, Unheard, Hears, Gathered, Whole, Broken, Act, Serves, Follows}
+use Rattle.x5_model_serve.specs.Serving.{Sends, Tries, Takes, Spreads, Casts, Gathers, Probes, Updates, Does, holds_now}
+use Rattle.x5_model_serve.specs.Serving.{found_at, parts_refs}
 
 -- agents of a world that has so many
 abbrev pub are_agents : ℕ → List ℕ → Bool

@@ -5,7 +5,8 @@ use Rattle.x5_model.specs.Words.{is_empty}
 use Rattle.x5_model_tree.specs.World.{World}
 use Rattle.x5_model_tree.specs.Described.{IsDescribed}
 use Rattle.x5_model_tree.specs.Consistent.{IsConsistent}
-use Rattle.x5_model_run.specs.History.{Deed, Nothing, Outs, Loses, Accepts, Refreshes, Splits, Unsplits, Did, Point, holdings_at}
+use Rattle.x5_model_run.specs.History.{Deed, Nothing, Outs, Loses, Accepts, Refreshes, Splits, Unsplits, Did, Point}
+use Rattle.x5_model_run.specs.History.{holdings_at}
 use Rattle.x5_model_held.specs.Beginning.{holdings_described}
 
 abbrev pub HeldAsDescribed : Type 0

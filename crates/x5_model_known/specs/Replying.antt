@@ -5,7 +5,8 @@ use Rattle.std.specs.List.{list_all}
 use Rattle.std.specs.declared.option.Option.{Option}
 use Rattle.std.specs.declared.option.Option.TheVariants.{None, Some}
 use Rattle.x5_model.specs.References.{TraceItem}
-use Rattle.x5_model.specs.Answers.{Source, Answer, EntryFound, Matched, Listed, Found, Changed, DirError, NoSuchObject, AttributeProblem, UpdateProblem, ServiceProblem, Reply, Answered, Failed, Referred}
+use Rattle.x5_model.specs.Answers.{Source, Answer, EntryFound, Matched, Listed, Found, Changed, DirError, NoSuchObject}
+use Rattle.x5_model.specs.Answers.{AttributeProblem, UpdateProblem, ServiceProblem, Reply, Answered, Failed, Referred}
 use Rattle.x5_model_run.specs.Journal.{Journal}
 use Rattle.x5_model_run.specs.Chain.{Scene}
 use Rattle.x5_model_serve.specs.Serving.{IsRequest}

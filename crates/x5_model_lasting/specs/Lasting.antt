@@ -83,8 +83,8 @@ TellerStays =
     → Grows i j → is_told p s q i.lines x ≡ true → is_told p s q j.lines x ≡ true
 
 -- ---- replies
--- Replies that say nothing of acceptance once a reply was lost, or never: `unavailable`, or that the receiver is unable to
--- proceed or at a limit.
+-- Replies that say nothing of acceptance once a reply was lost, or never: `unavailable`, or that the receiver is unable
+-- to proceed or at a limit.
 abbrev pub IsSilent : Reply → Journal → Type 0
 IsSilent reply j =
     ((is_service unavailable reply ≡ true) × (heard_whole j.lines ≡ false))

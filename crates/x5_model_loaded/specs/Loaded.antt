@@ -25,7 +25,8 @@ NamesAreShort = (d : Data) (f : File) → file_of d ≡ Ok f → (e : Named) →
 -- Its agents are those whose names the file gives, in their order: an agent's place in the world is its place in the
 -- file.
 abbrev pub PlacesAreTheFiles : Type 0
-PlacesAreTheFiles = (d : Data) (f : File) → file_of d ≡ Ok f → names_behind [] (items_at (codes "agents") d) ≡ map (λ a. a.name) f.world.agents
+PlacesAreTheFiles = (d : Data) (f : File) → file_of d ≡ Ok f → names_behind [] (items_at (codes "agents") d)
+    ≡ map (λ a. a.name) f.world.agents
 
 -- Format 1 has no network: nothing is down, cut, refusing or lost.
 abbrev pub FirstFormatIsQuiet : Type 0
@@ -34,7 +35,8 @@ FirstFormatIsQuiet = (d : Data) (f : File) → file_of d ≡ Ok f → format_of 
 -- Octets describe one thing at most: one file, or one first breach. Octets in UTF-8 either are no JSON or describe
 -- something, never both.
 abbrev pub OneReading : Type 0
-OneReading = (octets : List ℕ) (found other : Read File) → Describes octets found → Describes octets other → found ≡ other
+OneReading =
+    (octets : List ℕ) (found other : Read File) → Describes octets found → Describes octets other → found ≡ other
 
 abbrev pub SomeReading : Type 0
 SomeReading = (octets : List ℕ) → IsNoJson octets ⊎ ((found : Read File) × Describes octets found)

@@ -2,7 +2,9 @@
 use Rattle.std.specs.Prelude.{ℕ, ◌==◌, if◌then◌else◌, List, [], ◌∷◌, map}
 use Rattle.x5_model.specs.Values.{Unknown, TextValue}
 use Rattle.x5_model.specs.Assertions.{substring_item_of}
-use Rattle.x5_model.specs.Filters.{PiecePlace, Initial, Any, Last, Piece, SubstringItem, Item, Equality, Substrings, GreaterOrEqual, LessOrEqual, Present, Approximate, Filter, Filters, Is, And, Or, Not, Nil, More}
+use Rattle.x5_model.specs.Filters.{PiecePlace, Initial, Any, Last, Piece, SubstringItem, Item, Equality, Substrings}
+use Rattle.x5_model.specs.Filters.{GreaterOrEqual, LessOrEqual, Present, Approximate, Filter, Filters, Is, And, Or, Not}
+use Rattle.x5_model.specs.Filters.{Nil, More}
 use Rattle.x5_model_typed.specs.Nodes as nodes
 use Rattle.x5_model_typed.specs.Nodes.{Node, Nodes, Chosen, Many, parts}
 use Rattle.x5_model_typed.specs.Rules.{value_in}

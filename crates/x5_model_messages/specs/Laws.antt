@@ -1,13 +1,17 @@
--- What is written says what it's written of: types and names; and whole requests, where types are of the table exactly if they go by
--- number, and the normal forms are those of what is spelled.
+-- What is written says what it's written of: types and names; and whole requests, where types are of the table exactly
+-- if they go by number, and the normal forms are those of what is spelled.
 use Rattle.std.specs.Prelude.{◌≡◌, ℕ, Bool, true, List, [], ◌∷◌, map}
 use Rattle.std.specs.List.{list_all}
-use Rattle.x5_model.specs.Values.{TypeRef, Value, TextValue, OctetsValue, OidValue, NameOf, NameValue, Rdn, Name, written, written_pair}
+use Rattle.x5_model.specs.Values.{TypeRef, Value, TextValue, OctetsValue, OidValue, NameOf, NameValue, Rdn, Name}
+use Rattle.x5_model.specs.Values.{written, written_pair}
 use Rattle.x5_model.specs.Types.{is_known, is_type}
 use Rattle.x5_model.specs.Normal.{stored, stored_rdn}
 use Rattle.x5_model.specs.Assertions.{offered, normal_for, parts_for}
-use Rattle.x5_model.specs.Filters.{Assertion, SubstringItem, Item, Equality, Substrings, GreaterOrEqual, LessOrEqual, Present, Approximate, Filter, Filters, Is, And, Or, Not, Nil, More}
-use Rattle.x5_model.specs.Requests.{Selection, All, Only, Attribute, Change, AddAttribute, RemoveAttribute, AddValues, RemoveValues, Body, Read, Compare, ListBelow, Search, AddEntry, RemoveEntry, ModifyEntry, ModifyDn, Request}
+use Rattle.x5_model.specs.Filters.{Assertion, SubstringItem, Item, Equality, Substrings, GreaterOrEqual, LessOrEqual}
+use Rattle.x5_model.specs.Filters.{Present, Approximate, Filter, Filters, Is, And, Or, Not, Nil, More}
+use Rattle.x5_model.specs.Requests.{Selection, All, Only, Attribute, Change, AddAttribute, RemoveAttribute, AddValues}
+use Rattle.x5_model.specs.Requests.{RemoveValues, Body, Read, Compare, ListBelow, Search, AddEntry, RemoveEntry}
+use Rattle.x5_model.specs.Requests.{ModifyEntry, ModifyDn, Request}
 use Rattle.x5_model_messages.specs.Terms.{type_node, type_in, name_node, name_of}
 use Rattle.x5_model_messages.specs.Requests.{request_node, request_in}
 
@@ -37,7 +41,8 @@ is_sayable (OidValue arcs) = true
 is_sayable (NameOf n) = has_known_types n
 
 abbrev pub IsAttribute : Attribute → Type 0
-IsAttribute a = (is_type a.kind ≡ true) × (list_all (λ v. is_sayable v.value) a.values ≡ true) × (a.values ≡ map (λ v. offered a.kind v.value) a.values)
+IsAttribute a = (is_type a.kind ≡ true) × (list_all (λ v. is_sayable v.value) a.values ≡ true)
+    × (a.values ≡ map (λ v. offered a.kind v.value) a.values)
 
 abbrev pub AreAttributes : List Attribute → Type 0
 AreAttributes [] = Unit {0}
@@ -47,7 +52,8 @@ abbrev pub IsAssertion : Assertion → Type 0
 IsAssertion a = (is_type a.kind ≡ true) × (is_sayable a.value ≡ true) × (a.normal ≡ normal_for a.kind a.value)
 
 abbrev pub IsSubstrings : SubstringItem → Type 0
-IsSubstrings s = (is_type s.kind ≡ true) × (list_all (λ p. is_sayable p.value) s.pieces ≡ true) × (s.normal ≡ parts_for s.kind s.pieces)
+IsSubstrings s = (is_type s.kind ≡ true) × (list_all (λ p. is_sayable p.value) s.pieces ≡ true)
+    × (s.normal ≡ parts_for s.kind s.pieces)
 
 abbrev pub IsItem : Item → Type 0
 IsItem (Equality a) = IsAssertion a

@@ -1,17 +1,19 @@
--- Replies as messages carry them, with agents by their names; what is written of one, and what such a node says (X.511, sections 7, 10
--- and 12; X.518, section 10; docs/FORMATS.md, section 4).
+-- Replies as messages carry them, with agents by their names; what is written of one, and what such a node says (X.511,
+-- sections 7, 10 and 12; X.518, section 10; docs/FORMATS.md, section 4).
 use Rattle.std.specs.Prelude.{ℕ, Bool, true, false, not, ◌==◌, if◌then◌else◌, List, [], ◌∷◌, map}
 use Rattle.std.specs.declared.option.Option.{Option}
 use Rattle.std.specs.declared.option.Option.TheVariants.{None, Some}
 use Rattle.x5_model.specs.Words.{in_option}
 use Rattle.x5_model.specs.Values.{Text, TypeRef, Unknown, Value, Rdn, Name}
 use Rattle.x5_model.specs.Answers.{Shown, EntryInfo, Sub}
-use Rattle.x5_model.specs.References.{Progress, Start, Next, Done, RefType, Superior, Subordinate, Cross, NonSpecific, Supplier, Own}
+use Rattle.x5_model.specs.References.{Progress, Start, Next, Done, RefType, Superior, Subordinate, Cross, NonSpecific}
+use Rattle.x5_model.specs.References.{Supplier, Own}
 use Rattle.x5_model_run.specs.Journal.{kind_number}
 use Rattle.x5_model_typed.specs.Nodes as nodes
 use Rattle.x5_model_typed.specs.Nodes.{Node, Vacant, Flag, Chosen, whole, parts}
 use Rattle.x5_model_typed.specs.Rules.{text_in, value_in}
-use Rattle.x5_model_messages.specs.Terms.{node_of, type_node, rdn_node, name_node, value_node, type_in, name_of, rdn_of, flag_in, number_in}
+use Rattle.x5_model_messages.specs.Terms.{node_of, type_node, rdn_node, name_node, value_node, type_in, name_of, rdn_of}
+use Rattle.x5_model_messages.specs.Terms.{flag_in, number_in}
 
 -- ---- with agents by their names; `copy` says that an agent has a copy of the context
 
@@ -70,7 +72,8 @@ access_node a = node_of (nodes.Text a.agent ∷ Flag a.copy ∷ [])
 
 abbrev pub reference_node : Reference → Node
 reference_node r =
-    node_of (name_node r.target ∷ progress_node r.progress ∷ whole (kind_number r.kind) ∷ node_of (map access_node r.agents) ∷ node_of (map rdn_node r.exclusions) ∷ Flag r.tried ∷ [])
+    node_of (name_node r.target ∷ progress_node r.progress ∷ whole (kind_number r.kind)
+    ∷ node_of (map access_node r.agents) ∷ node_of (map rdn_node r.exclusions) ∷ Flag r.tried ∷ [])
 
 abbrev pub item_node : TraceItem → Node
 item_node i = node_of (nodes.Text i.agent ∷ name_node i.target ∷ progress_node i.progress ∷ Flag i.wide ∷ [])
@@ -101,8 +104,10 @@ outcome_node o = node_of (limit_node o.limited ∷ node_of (map reference_node o
 abbrev pub answer_node : Answer → Node
 answer_node (Entry entry source) = node_of (info_node entry ∷ source_node source ∷ [])
 answer_node (Match matched copy source) = node_of (Flag matched ∷ Flag (not copy) ∷ source_node source ∷ [])
-answer_node (Listed subs sources outcome) = node_of (node_of (map sub_node subs) ∷ node_of (map source_node sources) ∷ outcome_node outcome ∷ [])
-answer_node (Found entries sources outcome) = node_of (node_of (map info_node entries) ∷ node_of (map source_node sources) ∷ outcome_node outcome ∷ [])
+answer_node (Listed subs sources outcome) =
+    node_of (node_of (map sub_node subs) ∷ node_of (map source_node sources) ∷ outcome_node outcome ∷ [])
+answer_node (Found entries sources outcome) =
+    node_of (node_of (map info_node entries) ∷ node_of (map source_node sources) ∷ outcome_node outcome ∷ [])
 answer_node Changed = Vacant
 
 abbrev pub reference_or_vacant : Option Reference → Node
@@ -124,7 +129,8 @@ abbrev pub reply_node : ℕ → ℕ → Reply → Node
 reply_node referral id (Answered code answer) = result_node id code (answer_node answer)
 reply_node referral id (AttributeProblem problem type) = error_node id 1 (node_of (whole problem ∷ type_node type ∷ []))
 reply_node referral id (NoSuchObject matched) = error_node id 2 (node_of (whole 1 ∷ name_node matched ∷ []))
-reply_node referral id (ServiceProblem problem reference item) = error_node id 3 (node_of (whole problem ∷ reference_or_vacant reference ∷ item_or_vacant item ∷ []))
+reply_node referral id (ServiceProblem problem reference item) =
+    error_node id 3 (node_of (whole problem ∷ reference_or_vacant reference ∷ item_or_vacant item ∷ []))
 reply_node referral id (UpdateProblem problem) = error_node id 8 (node_of (whole problem ∷ []))
 reply_node referral id (Referred reference) = error_node id referral (reference_node reference)
 
@@ -153,7 +159,8 @@ abbrev pub kind_in : Node → RefType
 kind_in n = by (or_zero (number_in n))
   where
     by : ℕ → RefType
-    by k = if k == 1 then Superior else if k == 2 then Subordinate else if k == 3 then Cross else if k == 4 then NonSpecific else if k == 5 then Supplier else Own
+    by k = if k == 1 then Superior else if k == 2 then Subordinate else if k == 3 then Cross else if k == 4
+        then NonSpecific else if k == 5 then Supplier else Own
 
 abbrev pub access_in : Node → Access
 access_in n = by (parts n)
@@ -180,14 +187,16 @@ abbrev pub item_in : Node → TraceItem
 item_in n = by (parts n)
   where
     by : List Node → TraceItem
-    by (agent ∷ target ∷ progress ∷ wide ∷ []) = record { agent = text_in agent; target = name_of target; progress = progress_in progress; wide = flag_in wide }
+    by (agent ∷ target ∷ progress ∷ wide ∷ []) =
+        record { agent = text_in agent; target = name_of target; progress = progress_in progress; wide = flag_in wide }
     by other = record { agent = []; target = []; progress = Start; wide = false }
 
 abbrev pub source_in : Node → Source
 source_in n = by (parts n)
   where
     by : List Node → Source
-    by (context ∷ agent ∷ moment ∷ []) = record { context = name_of context; agent = text_in agent; moment = number_in moment }
+    by (context ∷ agent ∷ moment ∷ []) =
+        record { context = name_of context; agent = text_in agent; moment = number_in moment }
     by other = record { context = []; agent = []; moment = None }
 
 abbrev pub shown_in : Node → Shown
@@ -201,7 +210,8 @@ abbrev pub info_in : Node → EntryInfo
 info_in n = by (parts n)
   where
     by : List Node → EntryInfo
-    by (name ∷ from_entry ∷ attributes ∷ []) = record { name = name_of name; copy = not (flag_in from_entry); attributes = map shown_in (parts attributes) }
+    by (name ∷ from_entry ∷ attributes ∷ []) =
+        record { name = name_of name; copy = not (flag_in from_entry); attributes = map shown_in (parts attributes) }
     by other = record { name = []; copy = false; attributes = [] }
 
 abbrev pub sub_in : Node → Sub
@@ -219,7 +229,8 @@ abbrev pub outcome_in : Node → Outcome
 outcome_in n = by (parts n)
   where
     by : List Node → Outcome
-    by (limit ∷ unexplored ∷ []) = record { limited = is_limit (number_in limit); unexplored = map reference_in (parts unexplored) }
+    by (limit ∷ unexplored ∷ []) =
+        record { limited = is_limit (number_in limit); unexplored = map reference_in (parts unexplored) }
     by other = record { limited = false; unexplored = [] }
 
 -- the result of an operation by its code: 1 read, 2 compare, 4 list, 5 search, and updates
@@ -248,8 +259,10 @@ error_in code n = by (parts n)
   where
     by : List Node → Reply
     by (problem ∷ []) = UpdateProblem (or_zero (number_in problem))
-    by (problem ∷ a ∷ []) = if code == 1 then AttributeProblem (or_zero (number_in problem)) (type_in a) else NoSuchObject (name_of a)
-    by (problem ∷ reference ∷ item ∷ []) = ServiceProblem (or_zero (number_in problem)) (reference_if reference) (item_if item)
+    by (problem ∷ a ∷ []) =
+        if code == 1 then AttributeProblem (or_zero (number_in problem)) (type_in a) else NoSuchObject (name_of a)
+    by (problem ∷ reference ∷ item ∷ []) =
+        ServiceProblem (or_zero (number_in problem)) (reference_if reference) (item_if item)
     by other = Referred (reference_in n)
 
 -- a message's id and the reply
@@ -257,7 +270,8 @@ abbrev pub reply_in : Node → ℕ × Reply
 reply_in m = by m
   where
     result_of : ℕ → List Node → ℕ × Reply
-    result_of id (code ∷ result ∷ []) = (id, Answered (or_zero (number_in code)) (answer_in (or_zero (number_in code)) result))
+    result_of id (code ∷ result ∷ []) =
+        (id, Answered (or_zero (number_in code)) (answer_in (or_zero (number_in code)) result))
     result_of id other = (id, UpdateProblem 0)
 
     of : List Node → ℕ × Reply

@@ -1,15 +1,18 @@
--- Requests as the nodes of messages, and what such nodes say (X.511, sections 7, 9 to 11; docs/FORMATS.md, section 4). The argument stands
--- by itself, since messages between agents have it within theirs (X.518, section 12).
+-- Requests as the nodes of messages, and what such nodes say (X.511, sections 7, 9 to 11; docs/FORMATS.md, section 4).
+-- The argument stands by itself, since messages between agents have it within theirs (X.518, section 12).
 use Rattle.std.specs.Prelude.{ℕ, false, ◌==◌, if◌then◌else◌, List, [], ◌∷◌, ◌++◌, map}
 use Rattle.std.specs.declared.option.Option.{Option}
 use Rattle.std.specs.declared.option.Option.TheVariants.{None, Some}
 use Rattle.x5_model.specs.Words.{in_option}
-use Rattle.x5_model.specs.Requests.{Subset, Base, OneLevel, WholeSubtree, Selection, All, Only, Controls, Body, Read, Compare, ListBelow, Search, AddEntry, RemoveEntry, ModifyEntry, ModifyDn, Request}
+use Rattle.x5_model.specs.Requests.{Subset, Base, OneLevel, WholeSubtree, Selection, All, Only, Controls, Body, Read}
+use Rattle.x5_model.specs.Requests.{Compare, ListBelow, Search, AddEntry, RemoveEntry, ModifyEntry, ModifyDn, Request}
 use Rattle.x5_model_run.specs.Journal.{operation_of}
 use Rattle.x5_model_typed.specs.Nodes.{Node, Vacant, Flag, Chosen, whole, parts}
 use Rattle.x5_model_typed.specs.Leaves.{options_node}
 use Rattle.x5_model_typed.specs.Judged.{last_node}
-use Rattle.x5_model_messages.specs.Terms.{node_of, type_node, rdn_node, name_node, attribute_node, assertion_node, change_node, type_in, name_of, rdn_of, flag_in, number_in, attribute_in, assertion_in, change_in}
+use Rattle.x5_model_messages.specs.Terms.{node_of, type_node, rdn_node, name_node, attribute_node, assertion_node}
+use Rattle.x5_model_messages.specs.Terms.{change_node, type_in, name_of, rdn_of, flag_in, number_in, attribute_in}
+use Rattle.x5_model_messages.specs.Terms.{assertion_in, change_in}
 use Rattle.x5_model_messages.specs.FilterTerms.{filter_node, filter_in}
 
 -- ---- what is written
@@ -35,7 +38,8 @@ abbrev pub body_nodes : Body → List Node
 body_nodes (Read name selection) = name_node name ∷ selection_node selection ∷ []
 body_nodes (Compare name assertion) = name_node name ∷ assertion_node assertion ∷ []
 body_nodes (ListBelow name) = name_node name ∷ []
-body_nodes (Search base subset filter selection) = name_node base ∷ whole (subset_number subset) ∷ filter_node filter ∷ selection_node selection ∷ []
+body_nodes (Search base subset filter selection) =
+    name_node base ∷ whole (subset_number subset) ∷ filter_node filter ∷ selection_node selection ∷ []
 body_nodes (AddEntry name attributes) = name_node name ∷ node_of (map attribute_node attributes) ∷ []
 body_nodes (RemoveEntry name) = name_node name ∷ []
 body_nodes (ModifyEntry name changes) = name_node name ∷ node_of (map change_node changes) ∷ []
@@ -100,8 +104,10 @@ body_in code ns =
     if code == 1 then three_of (λ name selection. Read (name_of name) (selection_in selection)) ns
     else if code == 2 then three_of (λ name assertion. Compare (name_of name) (assertion_in assertion)) ns
     else if code == 4 then two_of (λ name. ListBelow (name_of name)) ns
-    else if code == 5 then five_of (λ base subset filter selection. Search (name_of base) (subset_in subset) (filter_in filter) (selection_in selection)) ns
-    else if code == 6 then three_of (λ name attributes. AddEntry (name_of name) (map attribute_in (parts attributes))) ns
+    else if code == 5 then five_of (λ base subset filter selection. Search (name_of base) (subset_in subset)
+    (filter_in filter) (selection_in selection)) ns
+    else if code == 6 then three_of (λ name attributes. AddEntry (name_of name)
+    (map attribute_in (parts attributes))) ns
     else if code == 7 then two_of (λ name. RemoveEntry (name_of name)) ns
     else if code == 8 then three_of (λ name changes. ModifyEntry (name_of name) (map change_in (parts changes))) ns
     else four_of (λ name rdn drops. ModifyDn (name_of name) (rdn_of rdn) (flag_in drops)) ns
@@ -115,7 +121,8 @@ abbrev pub request_in : Node → ℕ × Request
 request_in m = by m
   where
     of : List Node → ℕ × Request
-    of (id ∷ code ∷ argument ∷ []) = (in_option 0 (λ k. k) (number_in id), argument_in (in_option 0 (λ k. k) (number_in code)) argument)
+    of (id ∷ code ∷ argument ∷ []) =
+        (in_option 0 (λ k. k) (number_in id), argument_in (in_option 0 (λ k. k) (number_in code)) argument)
     of other = (0, record { controls = record { nocopy = false; nochain = false; size = None }; body = ListBelow [] })
 
     by : Node → ℕ × Request

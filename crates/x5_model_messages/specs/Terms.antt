@@ -1,10 +1,11 @@
--- Names, values and attributes as the nodes of messages, and what such nodes say (X.501, X.511; docs/FORMATS.md, section 4).
--- An object identifier 2.5.4 and a number of the table is a known type.
+-- Names, values and attributes as the nodes of messages, and what such nodes say (X.501, X.511; docs/FORMATS.md,
+-- section 4). An object identifier 2.5.4 and a number of the table is a known type.
 use Rattle.std.specs.Prelude.{ℕ, pos, Bool, false, ◌==◌, if◌then◌else◌, List, [], ◌∷◌, map}
 use Rattle.std.specs.declared.option.Option.{Option}
 use Rattle.std.specs.declared.option.Option.TheVariants.{None, Some}
 use Rattle.x5_model.specs.Values as values
-use Rattle.x5_model.specs.Values.{TypeRef, Known, Unknown, Value, TextValue, OctetsValue, OidValue, NameOf, NameValue, Rdn, Name, written, written_pair}
+use Rattle.x5_model.specs.Values.{TypeRef, Known, Unknown, Value, TextValue, OctetsValue, OidValue, NameOf, NameValue}
+use Rattle.x5_model.specs.Values.{Rdn, Name, written, written_pair}
 use Rattle.x5_model.specs.Normal.{stored, stored_rdn}
 use Rattle.x5_model.specs.Assertions.{offered, assertion_of}
 use Rattle.x5_model.specs.Filters.{Assertion}
@@ -80,7 +81,8 @@ abbrev pub attribute_in : Node → Attribute
 attribute_in a = by (parts a)
   where
     by : List Node → Attribute
-    by (type ∷ vs ∷ []) = record { kind = type_in type; values = map (λ v. offered (type_in type) (value_in v)) (parts vs) }
+    by (type ∷ vs ∷ []) =
+        record { kind = type_in type; values = map (λ v. offered (type_in type) (value_in v)) (parts vs) }
     by other = record { kind = Unknown []; values = [] }
 
 abbrev pub assertion_in : Node → Assertion

@@ -1,5 +1,6 @@
 -- Elements of the Basic Encoding Rules, and the octets that spell them (X.690, clause 8).
-use Rattle.std.specs.Prelude.{◌≡◌, ◌≢◌, ℕ, ◌+◌, ◌/◌, ◌%◌, ◌^◌, ◌<◌, ◌≤◌, ◌==◌, Bool, true, false, if◌then◌else◌, nat_lt, List, [], ◌∷◌, ◌++◌, length}
+use Rattle.std.specs.Prelude.{◌≡◌, ◌≢◌, ℕ, ◌+◌, ◌/◌, ◌%◌, ◌^◌, ◌<◌, ◌≤◌, ◌==◌, Bool, true, false, if◌then◌else◌, nat_lt}
+use Rattle.std.specs.Prelude.{List, [], ◌∷◌, ◌++◌, length}
 use Rattle.std.specs.declared.option.Option.TheVariants.{None, Some}
 use Rattle.std.specs.Int.{to_be_bytes, w64}
 use Rattle.x5_model_octets.specs.Headers.{Identifier, IsHeader, leading}
@@ -33,8 +34,10 @@ pub record SpellsPrimitive (depth class tag : ℕ) (content octets : List ℕ) :
 -- The octets are a constructed element's header and content: with a definite length, or with the
 -- indefinite form and end-of-contents octets (8.1.3.2, 8.1.4, 8.1.5).
 pub data Encloses (class tag : ℕ) (content octets : List ℕ) : Type 0 where
-  definite : (header : List ℕ) → IsHeader (identifier true class tag) (Some (length content)) header → octets ≡ header ++ content → Encloses class tag content octets
-  indefinite : (header : List ℕ) → IsHeader (identifier true class tag) None header → octets ≡ header ++ (content ++ (0 ∷ 0 ∷ [])) → Encloses class tag content octets
+  definite : (header : List ℕ) → IsHeader (identifier true class tag) (Some (length content)) header → octets ≡ header
+      ++ content → Encloses class tag content octets
+  indefinite : (header : List ℕ) → IsHeader (identifier true class tag) None header → octets ≡ header
+      ++ (content ++ (0 ∷ 0 ∷ [])) → Encloses class tag content octets
 
 -- Spells depth e octets: the octets are a spelling of the element, which lies at that depth.
 -- SpellsAll depth es octets: they are spellings of the elements, one after the other.
@@ -54,7 +57,8 @@ abbrev pub group_from : ℕ → ℕ → List ℕ
 group_from tag power = if nat_lt tag power then [] else (128 + tag / power % 128) ∷ []
 
 abbrev pub groups : ℕ → List ℕ
-groups tag = group_from tag (2 ^ 28) ++ (group_from tag (2 ^ 21) ++ (group_from tag (2 ^ 14) ++ (group_from tag (2 ^ 7) ++ (tag % 128 ∷ []))))
+groups tag = group_from tag (2 ^ 28) ++ (group_from tag (2 ^ 21)
+    ++ (group_from tag (2 ^ 14) ++ (group_from tag (2 ^ 7) ++ (tag % 128 ∷ []))))
 
 abbrev pub identifier_octets : Identifier → List ℕ
 identifier_octets i = if nat_lt i.tag 31 then leading i i.tag ∷ [] else leading i 31 ∷ groups i.tag
@@ -88,9 +92,11 @@ abbrev mutual
 abbrev mutual
   pub HasCanonical : ℕ → Element → Type 0
   HasCanonical depth (Primitive class tag content) =
-      (depth ≤ deepest) × (class < 4) × (tag < 2 ^ 31) × (length content < 2 ^ 64) × (class ≡ 0 → tag ≡ 0 → content ≡ [] → ⊥)
+      (depth ≤ deepest) × (class < 4) × (tag < 2 ^ 31) × (length content < 2 ^ 64)
+      × (class ≡ 0 → tag ≡ 0 → content ≡ [] → ⊥)
   HasCanonical depth (Constructed class tag members) =
-      (depth ≤ deepest) × (class < 4) × (tag < 2 ^ 31) × (length (canonical_all members) < 2 ^ 64) × HaveCanonical (depth + 1) members
+      (depth ≤ deepest) × (class < 4) × (tag < 2 ^ 31) × (length (canonical_all members) < 2 ^ 64)
+      × HaveCanonical (depth + 1) members
 
   pub HaveCanonical : ℕ → Elements → Type 0
   HaveCanonical depth Nil = Unit {0}

@@ -1,6 +1,7 @@
 -- The first fault of octets that are read as an element, and its place. Places count from the first
 -- octet of the input. Reading goes octet by octet and looks into every constructed element.
-use Rattle.std.specs.Prelude.{◌≡◌, ℕ, ◌+◌, ◌-◌, ◌<◌, ◌==◌, ◌&&◌, Bool, true, false, if◌then◌else◌, nat_lt, nat_le, List, [], ◌∷◌, ◌++◌, length, take, drop}
+use Rattle.std.specs.Prelude.{◌≡◌, ℕ, ◌+◌, ◌-◌, ◌<◌, ◌==◌, ◌&&◌, Bool, true, false, if◌then◌else◌, nat_lt, nat_le, List}
+use Rattle.std.specs.Prelude.{[], ◌∷◌, ◌++◌, length, take, drop}
 use Rattle.std.specs.declared.option.Option.{Option}
 use Rattle.std.specs.declared.option.Option.TheVariants.{None, Some}
 use Rattle.std.specs.declared.result.Result.{Result}
@@ -71,7 +72,8 @@ abbrev pub after_length : Option ℕ → List ℕ → Identifier → ℕ → Res
 after_length limit input i place (Err Short) = Err (end_fault limit input)
 after_length limit input i place (Err Malformed) = Err (BadLength place)
 after_length limit input i place (Ok found) =
-    let head : Head = record { identifier = i; extent = found.0; content = length (seen limit input) - length found.1 } in
+    let head : Head =
+    record { identifier = i; extent = found.0; content = length (seen limit input) - length found.1 } in
     if may_extend limit head then Ok head else Err (BadLength place)
 
 abbrev pub after_identifier : Option ℕ → List ℕ → ℕ → Result (Identifier × List ℕ) Stop → Result Head Fault
@@ -114,7 +116,8 @@ IsUnfinished head limit input place = by_extent head.extent
 
 -- The octets stand at the place, before the enclosing end.
 abbrev pub StandsAt : Option ℕ → List ℕ → ℕ → List ℕ → Type 0
-StandsAt limit input place octets = drop place (seen limit input) ≡ octets ++ drop (place + length octets) (seen limit input)
+StandsAt limit input place octets =
+    drop place (seen limit input) ≡ octets ++ drop (place + length octets) (seen limit input)
 
 -- A primitive element whose content isn't there whole.
 abbrev pub IsCutOff : Head → List ℕ → Type 0
@@ -129,7 +132,8 @@ IsCutOff head input = by_extent head.extent
 -- behind members that are whole.
 pub data FirstFault (input : List ℕ) : Around → ℕ → Fault → Type 0 where
   in_header : {a : Around} {at : ℕ} {fault : Fault} → head_at a input at ≡ Err fault → FirstFault input a at fault
-  in_octets : {a : Around} {at : ℕ} {head : Head} → head_at a input at ≡ Ok head → head.identifier.constructed ≡ false → IsCutOff head input → FirstFault input a at (Truncated (length input))
+  in_octets : {a : Around} {at : ℕ} {head : Head} → head_at a input at ≡ Ok head → head.identifier.constructed ≡ false →
+      IsCutOff head input → FirstFault input a at (Truncated (length input))
   in_member : {a : Around} {at : ℕ} {fault : Fault} {head : Head} (members : Elements) (octets : List ℕ)
       → head_at a input at ≡ Ok head → head.identifier.constructed ≡ true
       → SpellsAll (a.depth + 1) members octets

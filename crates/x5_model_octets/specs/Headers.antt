@@ -1,6 +1,7 @@
 -- Identifier octets and length octets of the Basic Encoding Rules (X.690, 8.1.2 and 8.1.3).
 -- An octet is a number below 256, and bit 8 is its highest bit, as in X.690.
-use Rattle.std.specs.Prelude.{◌≡◌, ◌≢◌, ℕ, ◌+◌, ◌-◌, ◌*◌, ◌/◌, ◌%◌, ◌^◌, ◌<◌, ◌≤◌, ◌==◌, Bool, if◌then◌else◌, nat_lt, List, [], ◌∷◌, ◌++◌, length, take, drop}
+use Rattle.std.specs.Prelude.{◌≡◌, ◌≢◌, ℕ, ◌+◌, ◌-◌, ◌*◌, ◌/◌, ◌%◌, ◌^◌, ◌<◌, ◌≤◌, ◌==◌, Bool, if◌then◌else◌, nat_lt}
+use Rattle.std.specs.Prelude.{List, [], ◌∷◌, ◌++◌, length, take, drop}
 use Rattle.std.specs.declared.option.Option.{Option}
 use Rattle.std.specs.declared.option.Option.TheVariants.{None, Some}
 use Rattle.std.specs.declared.result.Result.{Result}
@@ -37,7 +38,8 @@ IsUnpadded (g ∷ more) = g ≢ 128
 -- the groups of the tag number behind it (8.1.2.2, 8.1.2.4). Tag numbers are below 2 ^ 31.
 pub data IsIdentifier (i : Identifier) (octets : List ℕ) : Type 0 where
   low : i.class < 4 → i.tag < 31 → octets ≡ leading i i.tag ∷ [] → IsIdentifier i octets
-  high : (groups : List ℕ) → i.class < 4 → 31 ≤ i.tag → i.tag < 2 ^ 31 → IsUnpadded groups → IsGroups 0 groups i.tag → octets ≡ leading i 31 ∷ groups → IsIdentifier i octets
+  high : (groups : List ℕ) → i.class < 4 → 31 ≤ i.tag → i.tag < 2 ^ 31 → IsUnpadded groups → IsGroups 0 groups i.tag →
+      octets ≡ leading i 31 ∷ groups → IsIdentifier i octets
 
 -- The number that octets give, the highest first, behind those that gave the first number.
 abbrev pub big_endian : ℕ → List ℕ → ℕ
@@ -48,7 +50,8 @@ big_endian before (d ∷ digits) = big_endian (before * 256 + d) digits
 -- zero, and the indefinite form, which is None (8.1.3.4 to 8.1.3.6).
 pub data IsLength (n : Option ℕ) (octets : List ℕ) : Type 0 where
   short : (k : ℕ) → k < 128 → n ≡ Some k → octets ≡ k ∷ [] → IsLength n octets
-  long : (digits : List ℕ) → 1 ≤ length digits → length digits ≤ 8 → n ≡ Some (big_endian 0 digits) → octets ≡ (128 + length digits) ∷ digits → IsLength n octets
+  long : (digits : List ℕ) → 1 ≤ length digits → length digits ≤ 8 → n ≡ Some (big_endian 0 digits) → octets
+      ≡ (128 + length digits) ∷ digits → IsLength n octets
   indefinite : n ≡ None → octets ≡ 128 ∷ [] → IsLength n octets
 
 -- Identifier octets and then length octets.
@@ -89,7 +92,8 @@ high_tag_at first (g ∷ rest) = if g == 128 then Err Malformed else with_high_t
 -- Reads identifier octets: what they say, and the octets after them.
 abbrev pub identifier_at : List ℕ → Result (Identifier × List ℕ) Stop
 identifier_at [] = Err Short
-identifier_at (first ∷ rest) = if first % 32 == 31 then high_tag_at first rest else Ok (identifier_of first (first % 32), rest)
+identifier_at (first ∷ rest) =
+    if first % 32 == 31 then high_tag_at first rest else Ok (identifier_of first (first % 32), rest)
 
 -- Reads length octets: the length, or None for the indefinite form, and the octets after them. More
 -- than eight octets are malformed, 0xFF among them.

@@ -1,6 +1,8 @@
--- What a run prints (docs/FORMATS.md, output): a line on knowledge, then for each command a block, which begins with the
--- number of its line in the script. Each line is its pieces joined, and ends with LF. All of it is this project's own.
-use Rattle.std.specs.Prelude.{◌≡◌, ℕ, ◌+◌, Bool, true, false, ◌&&◌, ◌||◌, not, ◌==◌, if◌then◌else◌, List, [], ◌∷◌, ◌++◌, length, map, reverse, codes}
+-- What a run prints (docs/FORMATS.md, output): a line on knowledge, then for each command a block, which begins with
+-- the number of its line in the script. Each line is its pieces joined, and ends with LF. All of it is this project's
+-- own.
+use Rattle.std.specs.Prelude.{◌≡◌, ℕ, ◌+◌, Bool, true, false, ◌&&◌, ◌||◌, not, ◌==◌, if◌then◌else◌, List, [], ◌∷◌, ◌++◌}
+use Rattle.std.specs.Prelude.{length, map, reverse, codes}
 use Rattle.std.specs.List.{concat, find, flat_map, join_with_byte}
 use Rattle.std.specs.Ordering.{is_lt}
 use Rattle.std.specs.Fmt.{decimal}
@@ -9,16 +11,22 @@ use Rattle.std.specs.declared.option.Option.TheVariants.{None, Some}
 use Rattle.x5_model.specs.Words.{in_option, sorted, octets_below}
 use Rattle.x5_model.specs.Keys.{same_key, key_below, rdn_cmp}
 use Rattle.x5_model.specs.Values.{Text, TypeRef, Value, Rdn, key_of, key_of_rdn}
-use Rattle.x5_model.specs.References.{Progress, Start, Next, Done, RefType, Superior, Subordinate, Cross, NonSpecific, Supplier, Own, Reference, TraceItem}
-use Rattle.x5_model.specs.Answers.{Shown, EntryInfo, Sub, Source, Outcome, Answer, EntryFound, Matched, Listed, Found, Changed, DirError, NoSuchObject, AttributeProblem, UpdateProblem, ServiceProblem, Reply, Answered, Failed, Referred}
+use Rattle.x5_model.specs.References.{Progress, Start, Next, Done, RefType, Superior, Subordinate, Cross, NonSpecific}
+use Rattle.x5_model.specs.References.{Supplier, Own, Reference, TraceItem}
+use Rattle.x5_model.specs.Answers.{Shown, EntryInfo, Sub, Source, Outcome, Answer, EntryFound, Matched, Listed, Found}
+use Rattle.x5_model.specs.Answers.{Changed, DirError, NoSuchObject, AttributeProblem, UpdateProblem, ServiceProblem}
+use Rattle.x5_model.specs.Answers.{Reply, Answered, Failed, Referred}
 use Rattle.x5_model_tree.specs.World.{World}
 use Rattle.x5_model_tree.specs.Masters.{agent_at}
-use Rattle.x5_model_tree.specs.Consistent.{Printed, AgentPrinted, NamePrinted, AgreementPrinted, Inconsistency, first_breach}
+use Rattle.x5_model_tree.specs.Consistent.{Printed, AgentPrinted, NamePrinted, AgreementPrinted, Inconsistency}
+use Rattle.x5_model_tree.specs.Consistent.{first_breach}
 use Rattle.x5_model_run.specs.Network.{Fate, Lost, NoReply, Sent}
 use Rattle.x5_model_run.specs.Journal.{Line, Journal, depth, operation_of, is_wide}
 use Rattle.x5_model_run.specs.History.{Refreshed, Did}
 use Rattle.x5_model_run.specs.Refresh as refresh
-use Rattle.x5_model_run.specs.Refresh.{ShadowOperation, RequestShadowUpdate, UpdateShadow, CoordinateShadowUpdate, ShadowLine, RefreshOutcome, Unheard, Problem, Missed, NotConsistent, RefreshBlock}
+use Rattle.x5_model_run.specs.Refresh.{ShadowOperation, RequestShadowUpdate, UpdateShadow, CoordinateShadowUpdate}
+use Rattle.x5_model_run.specs.Refresh.{ShadowLine, RefreshOutcome, Unheard, Problem, Missed, NotConsistent}
+use Rattle.x5_model_run.specs.Refresh.{RefreshBlock}
 use Rattle.x5_model_run.specs.Run.{Command, Updates, Block, Silent, Set, Replies, Refreshing, Judge, IsRun}
 use Rattle.x5_model_text.specs.TypeText.{text_of_type}
 use Rattle.x5_model_text.specs.NameText.{text_of_name, text_of_rdn, text_of_value}
@@ -161,7 +169,8 @@ printed_text names (AgreementPrinted k) = decimal k
 abbrev pub knowledge_line : Names → Option Inconsistency → Text
 knowledge_line names None = codes "knowledge consistent\n"
 knowledge_line names (Some b) =
-    concat (codes "knowledge inconsistent C" ∷ decimal b.condition ∷ codes " " ∷ printed_text names b.first ∷ codes " " ∷ printed_text names b.second ∷ codes "\n" ∷ [])
+    concat (codes "knowledge inconsistent C" ∷ decimal b.condition ∷ codes " " ∷ printed_text names b.first ∷ codes " "
+    ∷ printed_text names b.second ∷ codes "\n" ∷ [])
 
 -- ---- messages
 
@@ -171,7 +180,10 @@ sender_text names (Some a) = names.agent a
 
 abbrev pub message_line : Names → Line → Text
 message_line names l =
-    concat (codes "msg " ∷ sender_text names l.sender ∷ codes " " ∷ names.agent l.receiver ∷ codes " " ∷ operation_word (operation_of l.message.request.body) ∷ codes " " ∷ progress_text l.message.progress ∷ codes " t=" ∷ decimal (depth l) ∷ codes " " ∷ text_of_name l.message.target ∷ codes " " ∷ fate_word l.fate ∷ codes "\n" ∷ [])
+    concat (codes "msg " ∷ sender_text names l.sender ∷ codes " " ∷ names.agent l.receiver ∷ codes " "
+    ∷ operation_word (operation_of l.message.request.body) ∷ codes " " ∷ progress_text l.message.progress
+    ∷ codes " t=" ∷ decimal (depth l) ∷ codes " " ∷ text_of_name l.message.target ∷ codes " " ∷ fate_word l.fate
+    ∷ codes "\n" ∷ [])
 
 abbrev pub accepted_line : Names → ℕ → Text
 accepted_line names a = concat (codes "accepted " ∷ names.agent a ∷ codes "\n" ∷ [])
@@ -195,7 +207,8 @@ exclusions_text (r ∷ rs) = codes " less " ++ join_with_byte comma (map text_of
 
 abbrev pub reference_text : Names → Reference → Text
 reference_text names r =
-    concat (kind_word r.kind ∷ codes " " ∷ text_of_name r.target ∷ codes " " ∷ progress_text r.progress ∷ codes " " ∷ agents_text names r.agents ∷ exclusions_text r.exclusions ∷ mark r.tried (codes "tried") ∷ [])
+    concat (kind_word r.kind ∷ codes " " ∷ text_of_name r.target ∷ codes " " ∷ progress_text r.progress ∷ codes " "
+    ∷ agents_text names r.agents ∷ exclusions_text r.exclusions ∷ mark r.tried (codes "tried") ∷ [])
 
 -- ---- answers
 
@@ -207,7 +220,8 @@ attribute_lines a = flat_map (attribute_line a.kind) a.values
 
 abbrev pub entry_lines : EntryInfo → Text
 entry_lines info =
-    concat (codes "entry " ∷ text_of_name info.name ∷ mark info.copy (codes "copy") ∷ codes "\n" ∷ []) ++ flat_map attribute_lines info.attributes
+    concat (codes "entry " ∷ text_of_name info.name ∷ mark info.copy (codes "copy") ∷ codes "\n" ∷ [])
+    ++ flat_map attribute_lines info.attributes
 
 abbrev pub truth_word : Bool → Text
 truth_word true = codes "true"
@@ -228,7 +242,8 @@ moment_text names (Some m) = names.moment m
 
 abbrev pub source_line : Names → Source → Text
 source_line names s =
-    concat (codes "source " ∷ text_of_name s.context ∷ codes " " ∷ names.agent s.agent ∷ codes " " ∷ moment_text names s.moment ∷ codes "\n" ∷ [])
+    concat (codes "source " ∷ text_of_name s.context ∷ codes " " ∷ names.agent s.agent ∷ codes " "
+    ∷ moment_text names s.moment ∷ codes "\n" ∷ [])
 
 -- sources by their contexts
 abbrev pub source_below : Source → Source → Bool
@@ -261,7 +276,8 @@ limit_line false = []
 
 abbrev pub outcome_lines : Names → List Source → Outcome → Text
 outcome_lines names sources o =
-    concat (source_lines names sources ∷ flat_map (unexplored_line names) (sorted (reference_below names) o.unexplored) ∷ limit_line o.limited ∷ [])
+    concat (source_lines names sources ∷ flat_map (unexplored_line names) (sorted (reference_below names) o.unexplored)
+    ∷ limit_line o.limited ∷ [])
 
 abbrev pub answer_lines : Names → Answer → Text
 answer_lines names (EntryFound info source) = entry_lines info ++ source_line names source
@@ -279,15 +295,18 @@ after_reference names (Some r) = codes " " ++ reference_text names r
 abbrev pub after_item : Names → Option TraceItem → Text
 after_item names None = []
 after_item names (Some i) =
-    concat (codes " " ∷ names.agent i.agent ∷ codes " " ∷ progress_text i.progress ∷ codes " " ∷ text_of_name i.target ∷ mark i.wide (codes "nonSpecific") ∷ [])
+    concat (codes " " ∷ names.agent i.agent ∷ codes " " ∷ progress_text i.progress ∷ codes " " ∷ text_of_name i.target
+    ∷ mark i.wide (codes "nonSpecific") ∷ [])
 
 abbrev pub error_line : Names → DirError → Text
-error_line names (NoSuchObject matched) = concat (codes "error name noSuchObject " ∷ text_of_name matched ∷ codes "\n" ∷ [])
+error_line names (NoSuchObject matched) =
+    concat (codes "error name noSuchObject " ∷ text_of_name matched ∷ codes "\n" ∷ [])
 error_line names (AttributeProblem n kind) =
     concat (codes "error attribute " ∷ attribute_problem n ∷ codes " " ∷ text_of_type kind ∷ codes "\n" ∷ [])
 error_line names (UpdateProblem n) = concat (codes "error update " ∷ update_problem n ∷ codes "\n" ∷ [])
 error_line names (ServiceProblem n reference item) =
-    concat (codes "error service " ∷ service_problem n ∷ after_reference names reference ∷ after_item names item ∷ codes "\n" ∷ [])
+    concat (codes "error service " ∷ service_problem n ∷ after_reference names reference ∷ after_item names item
+    ∷ codes "\n" ∷ [])
 
 abbrev pub reply_lines : Names → Reply → Text
 reply_lines names (Answered a) = answer_lines names a
@@ -298,7 +317,9 @@ reply_lines names (Referred r) = concat (codes "referral " ∷ reference_text na
 
 abbrev pub shadow_line : Names → ShadowLine → Text
 shadow_line names l =
-    concat (codes "dis " ∷ names.agent l.sender ∷ codes " " ∷ names.agent l.receiver ∷ codes " " ∷ shadow_operation l.operation ∷ codes " " ∷ decimal l.agreement ∷ codes " " ∷ fate_word l.fate ∷ codes "\n" ∷ [])
+    concat (codes "dis " ∷ names.agent l.sender ∷ codes " " ∷ names.agent l.receiver ∷ codes " "
+    ∷ shadow_operation l.operation ∷ codes " " ∷ decimal l.agreement ∷ codes " " ∷ fate_word l.fate ∷ codes "\n"
+    ∷ [])
 
 -- an incremental refresh without steps is none; one whose taking wasn't heard of is marked
 abbrev pub extent_word : Bool → ℕ → Text
@@ -307,7 +328,9 @@ extent_word false count = if count == 0 then codes "none" else codes "incrementa
 
 abbrev pub refreshed_line : Names → Refreshed → Text
 refreshed_line names f =
-    concat (codes "refreshed " ∷ decimal f.agreement ∷ codes " " ∷ extent_word f.total f.count ∷ codes " " ∷ names.moment f.stamp ∷ codes " " ∷ decimal f.count ∷ mark (not f.acknowledged) (codes "unacknowledged") ∷ codes "\n" ∷ [])
+    concat (codes "refreshed " ∷ decimal f.agreement ∷ codes " " ∷ extent_word f.total f.count ∷ codes " "
+    ∷ names.moment f.stamp ∷ codes " " ∷ decimal f.count ∷ mark (not f.acknowledged) (codes "unacknowledged")
+    ∷ codes "\n" ∷ [])
 
 abbrev pub held_text : Names → Option ℕ → Text
 held_text names None = codes "-"
@@ -318,7 +341,8 @@ refresh_line names number (refresh.Done f) = refreshed_line names f
 refresh_line names number Unheard = concat (codes "unrefreshed " ∷ decimal number ∷ codes "\n" ∷ [])
 refresh_line names number (Problem n) = concat (codes "error shadow " ∷ shadow_problem n ∷ codes "\n" ∷ [])
 refresh_line names number (Missed held given) =
-    concat (codes "error shadow missedPrevious " ∷ held_text names held ∷ codes " " ∷ held_text names given ∷ codes "\n" ∷ [])
+    concat (codes "error shadow missedPrevious " ∷ held_text names held ∷ codes " " ∷ held_text names given ∷ codes "\n"
+    ∷ [])
 refresh_line names number NotConsistent = codes "error shadow inconsistent\n"
 
 abbrev pub number_of : Command → ℕ
@@ -334,9 +358,11 @@ number_line n = concat (codes "#" ∷ decimal n ∷ codes "\n" ∷ [])
 abbrev pub block_text : Names → ℕ → Command → Block → Text
 block_text names n command Silent = []
 block_text names n command Set = number_line n ++ codes "set\n"
-block_text names n command (Replies j reply) = concat (number_line n ∷ journal_text names j ∷ reply_lines names reply ∷ [])
+block_text names n command (Replies j reply) =
+    concat (number_line n ∷ journal_text names j ∷ reply_lines names reply ∷ [])
 block_text names n command (Refreshing b) =
-    concat (number_line n ∷ flat_map (shadow_line names) b.lines ∷ refresh_line names (number_of command) b.outcome ∷ [])
+    concat (number_line n ∷ flat_map (shadow_line names) b.lines ∷ refresh_line names (number_of command) b.outcome
+    ∷ [])
 
 abbrev pub blocks_text : Names → ℕ → List Command → List Block → Text
 blocks_text names n [] blocks = []
@@ -348,9 +374,11 @@ abbrev pub run_text : World → (ℕ → Text) → List Command → List Block �
 run_text w moment commands blocks =
     knowledge_line (names_of w moment) (first_breach w) ++ blocks_text (names_of w moment) 1 commands blocks
 
--- The headline of a run over a world, by how its blocks are judged: these octets are the line on knowledge and one block for
--- each command, in order, each judged at the point that the blocks before it lead to. Nothing else is printed.
-pub record PrintsRun (judge : Judge) (w : World) (moment : ℕ → Text) (commands : List Command) (octets : Text) : Type 0 where
+-- The headline of a run over a world, by how its blocks are judged: these octets are the line on knowledge and one
+-- block for each command, in order, each judged at the point that the blocks before it lead to. Nothing else is
+-- printed.
+pub record PrintsRun (judge : Judge) (w : World) (moment : ℕ → Text) (commands : List Command)
+    (octets : Text) : Type 0 where
   pub blocks : List Block
   pub past : List Did
   pub runs : IsRun judge w commands blocks past

@@ -1,5 +1,5 @@
--- What a run prints of its blocks where it is asked for a summary (docs/FORMATS.md, output): how many requests there were,
--- and how many lines of each of seven kinds the blocks have. All of it is this project's own.
+-- What a run prints of its blocks where it is asked for a summary (docs/FORMATS.md, output): how many requests there
+-- were, and how many lines of each of seven kinds the blocks have. All of it is this project's own.
 use Rattle.std.specs.Prelude.{◌≡◌, ℕ, ◌+◌, ◌-◌, ◌^◌, List, [], ◌∷◌, ◌++◌, length, codes, min}
 use Rattle.std.specs.List.{concat}
 use Rattle.std.specs.Fmt.{decimal}
@@ -25,7 +25,16 @@ pub record Counts : Type 0 where
   pub refreshed : ℕ
 
 abbrev pub no_counts : Counts
-no_counts = record { requests = 0; entries = 0; subs = 0; errors = 0; referrals = 0; unexplored = 0; accepted = 0; refreshed = 0 }
+no_counts = record {
+  requests = 0;
+  entries = 0;
+  subs = 0;
+  errors = 0;
+  referrals = 0;
+  unexplored = 0;
+  accepted = 0;
+  refreshed = 0;
+}
 
 abbrev pub both : Counts → Counts → Counts
 both a b =

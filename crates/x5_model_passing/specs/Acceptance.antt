@@ -10,7 +10,8 @@ use Rattle.x5_model_run.specs.Journal.{Journal}
 use Rattle.x5_model_run.specs.Chain.{Scene, IsCarried}
 use Rattle.x5_model_run.specs.Right.{heard_whole}
 use Rattle.x5_model_serve.specs.Answering.{is_service}
-use Rattle.x5_model_serve.specs.Serving.{Hand, line_for, Unheard, Hears, Act, Serves, Follows, Sends, Tries, Takes, Spreads, Casts, Gathers, Probes, Updates, Does, is_final}
+use Rattle.x5_model_serve.specs.Serving.{Hand, line_for, Unheard, Hears, Act, Serves, Follows, Sends, Tries, Takes}
+use Rattle.x5_model_serve.specs.Serving.{Spreads, Casts, Gathers, Probes, Updates, Does, is_final}
 
 -- What is carried for the message by the reference is no update.
 abbrev pub CarriesNone : Option ℕ → Hand → Reference → Type 0
@@ -62,7 +63,7 @@ SilentWhereOff (Gathers from o rs a whole) i j = ⊤
 SilentWhereOff (Probes k r agents noted) i j = IsSilent i j
 SilentWhereOff (Updates k reply) i j = is_off reply ≡ true → IsSilent i j
 
--- Where it is answered that somebody wasn't heard, or that nobody could go on, nothing was accepted meanwhile, or a reply
--- was lost. And what a reply leaves unexplored is left by a query.
+-- Where it is answered that somebody wasn't heard, or that nobody could go on, nothing was accepted meanwhile, or a
+-- reply was lost. And what a reply leaves unexplored is left by a query.
 abbrev pub OffIsSilent : Type 0
 OffIsSilent = (s : Scene) (most : ℕ) (x : Act) (i j : Journal) → Does s most x i j → SilentWhereOff x i j

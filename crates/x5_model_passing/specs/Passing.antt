@@ -100,8 +100,9 @@ pub record Meanwhile (p : Point) (s : Scene) (l : Line) (stood : ℕ) (j : Journ
 -- 4. So a right reply is passed back. Beside that it is right and came back, three things are needed. The lines are
 -- licensed: of two lines with one number, what came back to one need not have come back to the other. No nonSpecific
 -- reference brings `unableToProceed`: whoever passed the message on could proceed, so that is no reply of its own. And
--- what is known of acceptances, as the reply is judged by those since k was sent, and l was sent before k: were an update
--- accepted between them by an agent whose reply was lost, a result or an error would be right for k, and not for l.
+-- what is known of acceptances, as the reply is judged by those since k was sent, and l was sent before k: were an
+-- update accepted between them by an agent whose reply was lost, a result or an error would be right for k, and not for
+-- l.
 abbrev pub PassesBack : Type 0
 PassesBack =
     (p : Point) (s : Scene) (most : ℕ) (l k : Line) (from : Option ℕ) (r : Reference) (j : Journal) (stood : ℕ)

@@ -13,7 +13,8 @@ use Rattle.x5_model_run.specs.Placed.{RightReply}
 use Rattle.x5_model_serve.specs.Finding.{Onward, IsLooked, find}
 use Rattle.x5_model_serve.specs.Answering.{is_service, in_vain, of_these, is_unavailable, above_next}
 use Rattle.x5_model_serve.specs.Serving.{Hand, Heard, Hears, Does, Takes, Spreads, Casts, heard_or, is_spent}
-use Rattle.x5_model_serve.specs.Claims.{Setting, IsAgent, AtHand, Keeps, NotedSoFar, TakenRight, IsSpentReply, LiesWithin, serving_of}
+use Rattle.x5_model_serve.specs.Claims.{Setting, IsAgent, AtHand, Keeps, NotedSoFar, TakenRight, IsSpentReply}
+use Rattle.x5_model_serve.specs.Claims.{LiesWithin, serving_of}
 
 -- the name of the message at hand goes on by this reference
 pub record GoesOn (p : Point) (s : Scene) (k : Hand) (r : Reference) (i : Journal) : Type 0 where

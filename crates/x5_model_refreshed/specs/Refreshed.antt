@@ -1,5 +1,5 @@
--- What the line after a refresh finds (X.525, section 7: shadowed information): the consumer's copy is what its supplier had
--- as of the stamp, and all else is as it was.
+-- What the line after a refresh finds (X.525, section 7: shadowed information): the consumer's copy is what its
+-- supplier had as of the stamp, and all else is as it was.
 use Rattle.std.specs.Prelude.{◌≡◌, ◌≢◌, ℕ, ◌≤◌, ◌∷◌, length}
 use Rattle.std.specs.declared.option.Option.TheVariants.{Some}
 use Rattle.x5_model.specs.Values.{key_of}
@@ -21,14 +21,15 @@ OtherStampsStay =
     (p : Point) (f : Refreshed) (sent number : ℕ) → number ≢ f.agreement
     → as_of (after_refresh p f sent) number ≡ as_of p number
 
--- 3. What a master supplies is stamped with the line's moment; the copy then has the entries that the context has in the
--- tree that this line found.
+-- 3. What a master supplies is stamped with the line's moment; the copy then has the entries that the context has in
+-- the tree that this line found.
 abbrev pub MasterIsCopied : Type 0
 MasterIsCopied =
     (p : Point) (f : Refreshed) (sent : ℕ) (g : Agreement) → g.number ≡ f.agreement → f.stamp ≡ moment_of p
     → (copy_by (after_refresh p f sent) g).held.entries ≡ part (tree_at p) (key_of g.context)
 
--- 4. What a consumer supplies is stamped as its own copy is; the copy is then that copy, spelled as the agreement spells it.
+-- 4. What a consumer supplies is stamped as its own copy is; the copy is then that copy, spelled as the agreement
+-- spells it.
 abbrev pub CopyIsCopied : Type 0
 CopyIsCopied =
     (p : Point) (f : Refreshed) (sent m : ℕ) (own g : Agreement) → g.number ≡ f.agreement → f.stamp ≡ m

@@ -22,7 +22,8 @@ NoPart =
 -- nobody is heard by one more
 abbrev pub PartUnheard : Type 0
 PartUnheard =
-    (p : Point) (s : Scene) (most : ℕ) (from : Option ℕ) (o : Hand) (i j l : Journal) (rs : List Reference) (a b : Answer)
+    (p : Point) (s : Scene) (most : ℕ) (from : Option ℕ) (o : Hand) (i j l : Journal) (rs : List Reference)
+    (a b : Answer)
     (r : Reference)
     → Ground p s
     → Does s most (Gathers from o rs a (Whole b)) i j → GathersRight p s most from o rs a (Whole b) i j
@@ -32,7 +33,8 @@ PartUnheard =
 -- who was heard could not hear somebody
 abbrev pub PartUnavailable : Type 0
 PartUnavailable =
-    (p : Point) (s : Scene) (most : ℕ) (from : Option ℕ) (o : Hand) (i j l : Journal) (rs : List Reference) (a b : Answer)
+    (p : Point) (s : Scene) (most : ℕ) (from : Option ℕ) (o : Hand) (i j l : Journal) (rs : List Reference)
+    (a b : Answer)
     (r u : Reference)
     → Ground p s
     → Does s most (Gathers from o rs a (Whole b)) i j → GathersRight p s most from o rs a (Whole b) i j
@@ -43,7 +45,8 @@ PartUnavailable =
 -- its answer is merged into the whole
 abbrev pub PartAnswered : Type 0
 PartAnswered =
-    (p : Point) (s : Scene) (most : ℕ) (from : Option ℕ) (o : Hand) (i j l : Journal) (rs : List Reference) (a b : Answer)
+    (p : Point) (s : Scene) (most : ℕ) (from : Option ℕ) (o : Hand) (i j l : Journal) (rs : List Reference)
+    (a b : Answer)
     (r : Reference) (c : Answer)
     → Ground p s
     → Does s most (Gathers from o rs a (Whole b)) i j → GathersRight p s most from o rs a (Whole b) i j

@@ -1,5 +1,5 @@
--- What one induction over all that is done shows (X.518, sections 17 to 21), from its cases, each a lemma of its own: the
--- claim of whatever is done; and of a request, that it is licensed, right and thorough.
+-- What one induction over all that is done shows (X.518, sections 17 to 21), from its cases, each a lemma of its own:
+-- the claim of whatever is done; and of a request, that it is licensed, right and thorough.
 use Rattle.std.specs.Prelude.{ℕ, ◌≤◌, ◌≡◌, length}
 use Rattle.std.specs.declared.option.Option.TheVariants.{Some}
 use Rattle.x5_model.specs.Requests.{Request}

@@ -11,7 +11,9 @@ use Rattle.x5_model.specs.Answers.{Answer, Reply, Answered, Referred}
 use Rattle.x5_model_run.specs.Network.{Lost, NoReply, Sent}
 use Rattle.x5_model_run.specs.Journal.{is_wide}
 use Rattle.x5_model_serve.specs.Answering.{only_unexplored, to_follow, passed_by, in_vain, is_unavailable}
-use Rattle.x5_model_serve.specs.Serving.{Hand, hand, Heard, Unheard, Hears, Gathered, Serves, Follows, Takes, Casts, Gathers, Does, carried_for, next_line, with_line, is_spent, is_final, gathered_reply, limit_reply, heard_or}
+use Rattle.x5_model_serve.specs.Serving.{Hand, hand, Heard, Unheard, Hears, Gathered, Serves, Follows, Takes, Casts}
+use Rattle.x5_model_serve.specs.Serving.{Gathers, Does, carried_for, next_line, with_line, is_spent, is_final}
+use Rattle.x5_model_serve.specs.Serving.{gathered_reply, limit_reply, heard_or}
 use Rattle.x5_model_right.specs.Claim.{ServesRight, FollowsRight, SendsRight, TakesRight, CastsRight, GathersRight}
 
 -- no message is left
@@ -30,7 +32,8 @@ IsLost =
 -- it is served, and the reply is lost
 abbrev pub Dropped : Type 0
 Dropped =
-    (p : Point) (s : Scene) (most : ℕ) (from : Option ℕ) (o : Hand) (r : Reference) (i j : Journal) (a : ℕ) (reply : Reply)
+    (p : Point) (s : Scene) (most : ℕ) (from : Option ℕ) (o : Hand) (r : Reference) (i j : Journal) (a : ℕ)
+    (reply : Reply)
     → Ground p s → is_spent most i ≡ false → (next_line s i from o r a).fate ≡ NoReply
     → Does s most (Serves (hand a (carried_for from o r)) reply) (with_line (next_line s i from o r a) i) j
     → ServesRight p s most (hand a (carried_for from o r)) reply (with_line (next_line s i from o r a) i) j

@@ -8,7 +8,8 @@ use Rattle.x5_model_run.specs.History.{Point}
 use Rattle.x5_model_run.specs.Chain.{Scene}
 use Rattle.x5_model_right.specs.Kept.{Ground}
 use Rattle.x5_model.specs.Values.{Name}
-use Rattle.x5_model.specs.Answers.{Answer, Changed, DirError, NoSuchObject, ServiceProblem, Reply, Answered, Failed, Referred}
+use Rattle.x5_model.specs.Answers.{Answer, Changed, DirError, NoSuchObject, ServiceProblem, Reply, Answered, Failed}
+use Rattle.x5_model.specs.Answers.{Referred}
 use Rattle.x5_model.specs.Problems.{invalid_reference, loop_detected}
 use Rattle.x5_model.specs.Statics.{fault_of}
 use Rattle.x5_model_tree.specs.Ask.{is_update}
@@ -17,8 +18,12 @@ use Rattle.x5_model_run.specs.Holdings.{Held, Copy}
 use Rattle.x5_model_run.specs.Needs.{subset_of}
 use Rattle.x5_model_run.specs.Placed.{fits}
 use Rattle.x5_model_serve.specs.Finding.{Here, CopyHere, Onward, Nowhere, Stuck}
-use Rattle.x5_model_serve.specs.Answering.{reply_in_own, reply_in_copy, local_part, with_unexplored, in_vain, is_unavailable}
-use Rattle.x5_model_serve.specs.Serving.{Hand, Heard, Gathered, Takes, Casts, Gathers, Updates, Does, Arrives, holds_now, is_idle, is_looped, is_too_long, is_done_here, found_at, asked_by, begins_parts, stuck_problem, parts_refs, at_limit, gathered_reply, limit_reply, heard_or}
+use Rattle.x5_model_serve.specs.Answering.{reply_in_own, reply_in_copy, local_part, with_unexplored, in_vain}
+use Rattle.x5_model_serve.specs.Answering.{is_unavailable}
+use Rattle.x5_model_serve.specs.Serving.{Hand, Heard, Gathered, Takes, Casts, Gathers, Updates, Does, Arrives}
+use Rattle.x5_model_serve.specs.Serving.{holds_now, is_idle, is_looped, is_too_long, is_done_here, found_at, asked_by}
+use Rattle.x5_model_serve.specs.Serving.{begins_parts, stuck_problem, parts_refs, at_limit, gathered_reply, limit_reply}
+use Rattle.x5_model_serve.specs.Serving.{heard_or}
 use Rattle.x5_model_right.specs.Claim.{ServesRight, UpdatesRight, TakesRight, CastsRight, GathersRight}
 
 -- an agent finds its own item in the trace

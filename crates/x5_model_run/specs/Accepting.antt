@@ -19,13 +19,14 @@ abbrev pub lacks_probe : Scene → ℕ → Line → List Line → Bool
 lacks_probe s number l before =
     is_probe_line s l && (is_unheard l.fate && leads_up (λ x. x.number == number) (λ x. true) (depth l - 1) before)
 
--- The accepting line of an agent: the first that brought it the update, for which it is able to proceed, and below which
--- each probe was heard.
+-- The accepting line of an agent: the first that brought it the update, for which it is able to proceed, and below
+-- which each probe was heard.
 abbrev pub may_accept : Scene → List Line → ℕ → Line → Bool
 may_accept s lines a l =
     (l.receiver == a)
     && (arrives l.fate
-    && (carries_update s l && (not (is_unable (s.holdings a) l.message) && not (some_line (lacks_probe s l.number) lines))))
+    && (carries_update s l && (not (is_unable (s.holdings a) l.message)
+    && not (some_line (lacks_probe s l.number) lines))))
 
 abbrev pub accepting : Scene → List Line → ℕ → Option Line
 accepting s lines a = find (may_accept s lines a) (reverse lines)

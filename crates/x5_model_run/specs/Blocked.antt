@@ -1,6 +1,7 @@
--- What an unexplored reference, a referral or `unavailable` rests on: agents that this request could not hear or might not
--- ask (X.518, section 10.9: continuation references; X.511, section 12.8: service errors).
-use Rattle.std.specs.Prelude.{◌≡◌, ℕ, ◌+◌, Bool, true, false, not, ◌&&◌, ◌||◌, ◌==◌, if◌then◌else◌, IsTrue, List, [], ◌∷◌}
+-- What an unexplored reference, a referral or `unavailable` rests on: agents that this request could not hear or might
+-- not ask (X.518, section 10.9: continuation references; X.511, section 12.8: service errors).
+use Rattle.std.specs.Prelude.{◌≡◌, ℕ, ◌+◌, Bool, true, false, not, ◌&&◌, ◌||◌, ◌==◌, if◌then◌else◌, IsTrue, List, []}
+use Rattle.std.specs.Prelude.{◌∷◌}
 use Rattle.std.specs.List.{list_any, list_all, filter, Contains}
 use Rattle.std.specs.Cmp.Lexicographic.{pointwise}
 use Rattle.x5_model.specs.Words.{has, is_empty}
@@ -11,8 +12,8 @@ use Rattle.x5_model_run.specs.Needs.{reference, passing_needs, needs}
 use Rattle.x5_model_run.specs.Chain.{Scene, is_cleared, is_in_vain}
 
 -- A message that an agent serves, from which its answer is judged: the user's, or one that another agent sent, and the
--- number of the line that brought it. In what is said of the serving itself that line counts as having come back: whether
--- the reply arrives isn't known there. `stood` is how many `accepted` lines stood before.
+-- number of the line that brought it. In what is said of the serving itself that line counts as having come back:
+-- whether the reply arrives isn't known there. `stood` is how many `accepted` lines stood before.
 pub record Asked : Type 0 where
   pub to : ℕ
   pub message : Chained
@@ -23,8 +24,8 @@ pub record Asked : Type 0 where
 abbrev pub by_user : Scene → Asked
 by_user s = record { to = s.first; message = s.message; number = s.sent + 1; counts = false; stood = 0 }
 
--- A line came back: it is `sent`, and it brought the message, or the line that brought its owner the message came back. A
--- reply below a lost reply is heard by nobody.
+-- A line came back: it is `sent`, and it brought the message, or the line that brought its owner the message came back.
+-- A reply below a lost reply is heard by nobody.
 abbrev pub is_answered_line : Asked → Line → Bool
 is_answered_line q l = (l.number == q.number) && (q.counts || is_sent l.fate)
 
@@ -77,8 +78,8 @@ others_cleared s lines number r agents =
     not (is_wide r.kind && proceeds r.progress)
     || list_all (is_cleared s lines number r) (filter (λ a. not (has ◌==◌ r.agents a)) agents)
 
--- 3 and 4. Tried: the owner of a line that came back needs it, and what each agent that it lists was asked for that line was
--- asked in vain.
+-- 3 and 4. Tried: the owner of a line that came back needs it, and what each agent that it lists was asked for that
+-- line was asked in vain.
 pub record IsTried (s : Scene) (q : Asked) (lines : List Line) (r : Reference) : Type 0 where
   pub line : Line
   pub full : Reference

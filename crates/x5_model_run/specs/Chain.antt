@@ -1,6 +1,7 @@
 -- Each message of a request has its cause (X.518, section 10 and sections 18 to 20: chaining, referrals and
 -- multi-chaining). A journal has the newest line first.
-use Rattle.std.specs.Prelude.{◌≡◌, ℕ, zero, suc, ◌+◌, ◌-◌, ◌<◌, Bool, true, false, not, ◌&&◌, ◌||◌, ◌==◌, if◌then◌else◌, IsTrue, List, [], ◌∷◌, ◌++◌, length, slice_index, take, ⊤}
+use Rattle.std.specs.Prelude.{◌≡◌, ℕ, zero, suc, ◌+◌, ◌-◌, ◌<◌, Bool, true, false, not, ◌&&◌, ◌||◌, ◌==◌, if◌then◌else◌}
+use Rattle.std.specs.Prelude.{IsTrue, List, [], ◌∷◌, ◌++◌, length, slice_index, take, ⊤}
 use Rattle.std.specs.List.{list_any, list_all, Contains}
 use Rattle.std.specs.Cmp.Lexicographic.{pointwise}
 use Rattle.std.specs.declared.option.Option.{Option}
@@ -8,18 +9,21 @@ use Rattle.std.specs.declared.option.Option.TheVariants.{None, Some}
 use Rattle.x5_model.specs.Words.{has, in_option, first_of}
 use Rattle.x5_model.specs.Keys.{Key}
 use Rattle.x5_model.specs.Values.{Name, key_of}
-use Rattle.x5_model.specs.Requests.{Subset, Base, OneLevel, WholeSubtree, Only, Body, Read, Compare, ListBelow, Search, AddEntry, RemoveEntry, ModifyEntry, ModifyDn, Request}
+use Rattle.x5_model.specs.Requests.{Subset, Base, OneLevel, WholeSubtree, Only, Body, Read, Compare, ListBelow, Search}
+use Rattle.x5_model.specs.Requests.{AddEntry, RemoveEntry, ModifyEntry, ModifyDn, Request}
 use Rattle.x5_model.specs.References.{Start, Reference, Subordinate, Own, Chained}
 use Rattle.x5_model_tree.specs.World.{Network}
 use Rattle.x5_model_tree.specs.Ask.{is_update}
 use Rattle.x5_model_run.specs.Network.{Fate, arrives, is_unheard, is_sent, refuses, fate_of}
-use Rattle.x5_model_run.specs.Journal.{Line, depth, operation_of, same_sender, same_progress, same_name, same_spelled_rdn, same_message, is_done, is_wide, same_kind, item_of, settled, siblings, some_line, opened_by, leads_up}
+use Rattle.x5_model_run.specs.Journal.{Line, depth, operation_of, same_sender, same_progress, same_name}
+use Rattle.x5_model_run.specs.Journal.{same_spelled_rdn, same_message, is_done, is_wide, same_kind, item_of, settled}
+use Rattle.x5_model_run.specs.Journal.{siblings, some_line, opened_by, leads_up}
 use Rattle.x5_model_run.specs.Holdings.{Holdings, masters_pin, copy_at}
 use Rattle.x5_model_run.specs.Needs.{target_of, falls_short, needs}
 use Rattle.x5_model_run.specs.History.{Point, network_at, sent_before, holdings_at}
 
--- What the lines of a request are judged by: what each agent holds, the network, how many messages were sent before, the
--- agent that the user asks, what it is asked, and whether the user follows referrals.
+-- What the lines of a request are judged by: what each agent holds, the network, how many messages were sent before,
+-- the agent that the user asks, what it is asked, and whether the user follows referrals.
 pub record Scene : Type 0 where
   pub holdings : ℕ → Holdings
   pub network : Network
@@ -34,15 +38,23 @@ opening r = record { target = target_of r.body; progress = Start; kind = Own; ex
 
 -- over consistent knowledge, a request of a user who doesn't follow
 abbrev pub scene_at : Point → ℕ → Request → Scene
-scene_at p first r = record { holdings = holdings_at p; network = network_at p; sent = sent_before p.past; first = first; message = opening r; follows = false }
+scene_at p first r = record {
+  holdings = holdings_at p;
+  network = network_at p;
+  sent = sent_before p.past;
+  first = first;
+  message = opening r;
+  follows = false;
+}
 
 abbrev pub is_prohibited : Scene → Bool
 is_prohibited s = s.message.request.controls.nochain
 
--- A probe reads the new name of an update, without attributes, without copies, chained by whom it reaches. It is the one
--- message of an update whose target isn't the update's.
+-- A probe reads the new name of an update, without attributes, without copies, chained by whom it reaches. It is the
+-- one message of an update whose target isn't the update's.
 abbrev pub probe_request : Name → Request
-probe_request name = record { controls = record { nocopy = true; nochain = false; size = None }; body = Read name (Only []) }
+probe_request name =
+    record { controls = record { nocopy = true; nochain = false; size = None }; body = Read name (Only []) }
 
 abbrev pub is_probe : Body → Name → Bool
 is_probe body target = is_update body && not (same_name (target_of body) target)
@@ -68,7 +80,10 @@ part_body wide base (ModifyDn name rdn drops) = ModifyDn name rdn drops
 -- a part of a list or search has no size limit, and chainingProhibited only where the user asks for it
 abbrev pub part_request : Bool → Bool → Name → Request → Request
 part_request by_user wide base r =
-    record { controls = record { nocopy = r.controls.nocopy; nochain = by_user && r.controls.nochain; size = None }; body = part_body wide base r.body }
+    record {
+      controls = record { nocopy = r.controls.nocopy; nochain = by_user && r.controls.nochain; size = None };
+      body = part_body wide base r.body;
+    }
 
 -- by a reference to a pin, or to the parts below an entry
 abbrev pub asks_part : Reference → Bool
@@ -107,22 +122,26 @@ pub record IsCarried (sender : Option ℕ) (opener : Line) (r : Reference) (m : 
 
 -- a line for the message of the line of that number that asks this agent by the reference
 abbrev pub asks_by : Reference → ℕ → Line → Bool
-asks_by r a l = (l.receiver == a) && (same_progress l.message.progress r.progress && same_name l.message.target r.target)
+asks_by r a l =
+    (l.receiver == a) && (same_progress l.message.progress r.progress && same_name l.message.target r.target)
 
 abbrev pub is_asked : (Fate → Bool) → List Line → ℕ → Reference → ℕ → Bool
-is_asked fated lines number r a = some_line (λ l before. fated l.fate && (asks_by r a l && opened_by number before l)) lines
+is_asked fated lines number r a =
+    some_line (λ l before. fated l.fate && (asks_by r a l && opened_by number before l)) lines
 
 -- it was heard, and holds nothing of what is looked for
 abbrev pub is_cleared : Scene → List Line → ℕ → Reference → ℕ → Bool
-is_cleared s lines number r a = is_asked is_sent lines number r a && falls_short (s.holdings a) (key_of r.target) r.progress
+is_cleared s lines number r a =
+    is_asked is_sent lines number r a && falls_short (s.holdings a) (key_of r.target) r.progress
 
 -- the agents further up an agent's chain of suppliers; it has four hops at most
 abbrev pub suppliers_above : ℕ → Scene → Key → ℕ → List ℕ
 suppliers_above zero s pin a = []
-suppliers_above (suc n) s pin a = in_option [] (λ c. c.supplier ∷ suppliers_above n s pin c.supplier) (copy_at (s.holdings a) pin)
+suppliers_above (suc n) s pin a =
+    in_option [] (λ c. c.supplier ∷ suppliers_above n s pin c.supplier) (copy_at (s.holdings a) pin)
 
--- A line of a probe is broken: it is `sent` to a consumer that doesn't master the context of the new name, and a line with
--- that target, below it by lines that all are `sent`, to an agent further up the chain of suppliers isn't heard.
+-- A line of a probe is broken: it is `sent` to a consumer that doesn't master the context of the new name, and a line
+-- with that target, below it by lines that all are `sent`, to an agent further up the chain of suppliers isn't heard.
 abbrev pub is_broken_off : Scene → Line → Line → List Line → Bool
 is_broken_off s e l before =
     is_unheard l.fate
@@ -132,7 +151,8 @@ is_broken_off s e l before =
 
 abbrev pub is_broken_line : Scene → List Line → Line → Bool
 is_broken_line s lines e =
-    is_sent e.fate && (not (masters_pin (s.holdings e.receiver) (key_of e.message.target)) && some_line (is_broken_off s e) lines)
+    is_sent e.fate && (not (masters_pin (s.holdings e.receiver) (key_of e.message.target))
+    && some_line (is_broken_off s e) lines)
 
 abbrev pub is_broken : Scene → List Line → ℕ → Reference → ℕ → Bool
 is_broken s lines number r a =
@@ -141,10 +161,11 @@ is_broken s lines number r a =
 -- what was asked of an agent for the message of a line gave nothing: it wasn't heard, or, in a probe, is broken
 abbrev pub is_in_vain : Scene → List Line → Line → Reference → ℕ → Bool
 is_in_vain s lines o r a =
-    is_asked is_unheard lines o.number r a || (is_probe o.message.request.body r.target && is_broken s lines o.number r a)
+    is_asked is_unheard lines o.number r a || (is_probe o.message.request.body r.target
+    && is_broken s lines o.number r a)
 
--- An agent of a reference was passed: it was asked in vain or, by a nonSpecific reference in name resolution, holds nothing
--- of what is looked for.
+-- An agent of a reference was passed: it was asked in vain or, by a nonSpecific reference in name resolution, holds
+-- nothing of what is looked for.
 abbrev pub is_passed : Scene → List Line → Line → Reference → ℕ → Bool
 is_passed s lines o r a = is_in_vain s lines o r a || (is_wide r.kind && is_cleared s lines o.number r a)
 
@@ -160,7 +181,8 @@ pub record Turn (s : Scene) (before : List Line) (o : Line) (r : Reference) (rec
 abbrev pub may_send : Scene → Line → Option ℕ → Bool
 may_send s o (Some a) =
     (a == o.receiver) || (refuses s.network o.receiver && (same_sender o.sender (Some a) && is_sent o.fate))
-may_send s o None = s.follows && (is_user o.sender && (is_sent o.fate && (refuses s.network o.receiver || is_prohibited s)))
+may_send s o None =
+    s.follows && (is_user o.sender && (is_sent o.fate && (refuses s.network o.receiver || is_prohibited s)))
 
 -- a read in the journal of an update is a probe's
 abbrev pub is_probe_line : Scene → Line → Bool
@@ -199,7 +221,8 @@ is_fresh tried l = not (list_any (same_message l) tried)
 
 pub data Caused (s : Scene) : List Line → Line → Type 0 where
   begins : {l : Line} → IsFirst s l → Caused s [] l
-  later : {before : List Line} {l : Line} (f : Follows s before l) → IsTrue (is_fresh (siblings f.above before) l) → Caused s before l
+  later : {before : List Line} {l : Line} (f : Follows s before l) → IsTrue (is_fresh (siblings f.above before) l) →
+      Caused s before l
 
 pub record Licensed (s : Scene) (before : List Line) (l : Line) : Type 0 where
   pub number_is : l.number ≡ s.sent + length before + 1

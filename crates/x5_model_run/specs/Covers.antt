@@ -9,7 +9,8 @@ use Rattle.x5_model.specs.Words.{has, in_option, some_and}
 use Rattle.x5_model.specs.Keys.{Key, same_key, is_prefix, is_child}
 use Rattle.x5_model.specs.Values.{Name, key_of}
 use Rattle.x5_model.specs.Entries.{Named}
-use Rattle.x5_model.specs.Requests.{Subset, OneLevel, Body, Read, Compare, ListBelow, Search, AddEntry, RemoveEntry, ModifyEntry, ModifyDn, Request}
+use Rattle.x5_model.specs.Requests.{Subset, OneLevel, Body, Read, Compare, ListBelow, Search, AddEntry, RemoveEntry}
+use Rattle.x5_model.specs.Requests.{ModifyEntry, ModifyDn, Request}
 use Rattle.x5_model.specs.References.{Reference, Chained}
 use Rattle.x5_model.specs.Answers.{Source}
 use Rattle.x5_model_tree.specs.World.{World}
@@ -20,11 +21,12 @@ use Rattle.x5_model_run.specs.Journal.{is_done, is_wide}
 use Rattle.x5_model_run.specs.Needs.{by_pin, is_excluded}
 use Rattle.x5_model_run.specs.History.{Point, tree_at, tree_of_moment}
 
--- The names at which the subtrees begin that a reference covers: its target; for a nonSpecific one with progress done those
--- pins just below its target that one of its agents masters and that it doesn't exclude.
+-- The names at which the subtrees begin that a reference covers: its target; for a nonSpecific one with progress done
+-- those pins just below its target that one of its agents masters and that it doesn't exclude.
 abbrev pub is_below_wide : Reference → Mastered → Bool
 is_below_wide r m =
-    is_child (key_of r.target) (pin_of m) && (has ◌==◌ r.agents m.master && not (is_excluded r.exclusions m.context.prefix))
+    is_child (key_of r.target) (pin_of m) && (has ◌==◌ r.agents m.master
+    && not (is_excluded r.exclusions m.context.prefix))
 
 abbrev pub covered_roots : World → Reference → List Key
 covered_roots w r =
@@ -37,8 +39,8 @@ covers w r key = list_any (λ root. is_prefix root key) (covered_roots w r)
 abbrev pub is_covered : World → List Reference → Key → Bool
 is_covered w rs key = list_any (λ r. covers w r key) rs
 
--- Two references cover a common name exactly where one of the names at which a subtree of one begins is at or below one of
--- the other's.
+-- Two references cover a common name exactly where one of the names at which a subtree of one begins is at or below one
+-- of the other's.
 abbrev pub meet : World → Reference → Reference → Bool
 meet w r q = list_any (λ a. list_any (λ b. is_prefix a b || is_prefix b a) (covered_roots w q)) (covered_roots w r)
 
@@ -54,16 +56,17 @@ context_of t key = in_option [] (λ p. p ∷ []) (longest t.pins key)
 abbrev pub pins_below : Tree → Key → Subset → List Key
 pins_below t base subset = filter (λ p. in_subset subset base p && not (has same_key (context_of t base) p)) t.pins
 
--- The contexts that a query touches: the object's; for a list or search the base's, and each whose pin is in the subset.
--- A list that came by a reference to a pin asks for the pin's own RDN and touches its context alone. What came by a
--- nonSpecific reference with a completed name touches the contexts that the receiver masters just below the target and
--- that aren't excluded, and those below them.
+-- The contexts that a query touches: the object's; for a list or search the base's, and each whose pin is in the
+-- subset. A list that came by a reference to a pin asks for the pin's own RDN and touches its context alone. What came
+-- by a nonSpecific reference with a completed name touches the contexts that the receiver masters just below the target
+-- and that aren't excluded, and those below them.
 abbrev pub reached_below : World → Tree → ℕ → Chained → Subset → List Key
 reached_below w t to m subset = filter inside t.pins
   where
     roots : List Key
     roots =
-        map pin_of (filter (λ c. (c.master == to) && (is_child (key_of m.target) (pin_of c) && not (is_excluded m.exclusions c.context.prefix))) (mastered w))
+        map pin_of (filter (λ c. (c.master == to)
+        && (is_child (key_of m.target) (pin_of c) && not (is_excluded m.exclusions c.context.prefix))) (mastered w))
 
     inside : Key → Bool
     inside p = in_subset subset (key_of m.target) p && list_any (λ root. is_prefix root p) roots
@@ -120,5 +123,6 @@ answer_at_pin copies t r other = ask_marked copies t r
 abbrev pub told : (Key → Bool) → Tree → Chained → Told
 told copies t m =
     if is_done m.progress
-    then (if is_wide m.kind then answer_below copies t m.request m.request.body else answer_at_pin copies t m.request m.request.body)
+    then (if is_wide m.kind then answer_below copies t m.request m.request.body
+    else answer_at_pin copies t m.request m.request.body)
     else ask_marked copies t m.request

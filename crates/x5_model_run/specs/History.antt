@@ -34,8 +34,8 @@ pub record Acceptance : Type 0 where
   pub request : Request
 
 -- what a line did, as far as later lines see it. A loss names a message, or the reply to it, by its distance from the
--- last message that was sent before. Agents accept updates, in this order; over consistent knowledge one at most does. An
--- entry was made a pin that an agent masters, or a pin was taken away.
+-- last message that was sent before. Agents accept updates, in this order; over consistent knowledge one at most does.
+-- An entry was made a pin that an agent masters, or a pin was taken away.
 pub data Deed : Type 0 where
   Nothing : Deed
   Outs : Outage → Deed
@@ -81,8 +81,8 @@ network_by w (d ∷ before) = network_after d.deed (sent_before before) (network
 abbrev pub network_at : Point → Network
 network_at p = network_by p.described p.past
 
--- H: the one tree after these lines. An accepted update has changed it, and so have pins that were made or taken away; all
--- else leaves it as it is.
+-- H: the one tree after these lines. An accepted update has changed it, and so have pins that were made or taken away;
+-- all else leaves it as it is.
 abbrev pub tree_with : Tree → Request → Tree
 tree_with t r = or_same (apply t r)
   where
@@ -173,7 +173,12 @@ abbrev pub own_context : Tree → Agent → Context → Held
 own_context t a c = by (part t (key_of c.prefix))
   where
     by : List Named → Held
-    by entries = record { prefix = c.prefix; entries = entries; subordinate = references_below entries a.subordinate; nssrs = c.nssrs }
+    by entries = record {
+      prefix = c.prefix;
+      entries = entries;
+      subordinate = references_below entries a.subordinate;
+      nssrs = c.nssrs;
+    }
 
 -- What a supplier sends of a context: its entries, its NSSRs and its subordinate references. A pin that its master
 -- masters too is sent once, as a reference to the master alone.
@@ -181,7 +186,8 @@ abbrev pub sent_references : World → Mastered → List Named → List Specific
 sent_references w m entries =
     map (λ d. record { pin = d.context.prefix; access = record { master = m.master; shadows = [] } })
     (filter (λ d. (d.master == m.master) && is_there entries (parent (pin_of d))) (mastered w))
-    ++ in_option [] (λ a. filter (λ k. not (masters w m.master (key_of k.pin))) (references_below entries a.subordinate)) (agent_at w m.master)
+    ++ in_option [] (λ a. filter (λ k. not (masters w m.master (key_of k.pin)))
+    (references_below entries a.subordinate)) (agent_at w m.master)
 
 abbrev pub mastered_at : World → Key → Option Mastered
 mastered_at w pin = find (λ m. same_key (pin_of m) pin) (mastered w)
@@ -194,7 +200,12 @@ copy_as_of p g (Some m) = by (part (tree_of_moment p m) (key_of g.context))
     by : List Named → Held
     by entries =
         in_option (record { prefix = g.context; entries = entries; subordinate = []; nssrs = [] })
-        (λ c. record { prefix = g.context; entries = entries; subordinate = sent_references (knowledge_at p) c entries; nssrs = c.context.nssrs }) (mastered_at (knowledge_at p) (key_of g.context))
+        (λ c. record {
+          prefix = g.context;
+          entries = entries;
+          subordinate = sent_references (knowledge_at p) c entries;
+          nssrs = c.context.nssrs;
+        }) (mastered_at (knowledge_at p) (key_of g.context))
 
 abbrev pub copy_by : Point → Agreement → Copy
 copy_by p g = record { held = copy_as_of p g (as_of p g.number); stamp = as_of p g.number; supplier = g.supplier }

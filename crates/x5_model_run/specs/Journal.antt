@@ -1,13 +1,16 @@
 -- The messages of a request. A journal has the newest line first.
-use Rattle.std.specs.Prelude.{ℕ, ◌+◌, ◌-◌, Bool, true, false, ◌&&◌, ◌||◌, ◌==◌, nat_lt, if◌then◌else◌, List, [], ◌∷◌, length}
+use Rattle.std.specs.Prelude.{ℕ, ◌+◌, ◌-◌, Bool, true, false, ◌&&◌, ◌||◌, ◌==◌, nat_lt, if◌then◌else◌, List, [], ◌∷◌}
+use Rattle.std.specs.Prelude.{length}
 use Rattle.std.specs.List.{list_any}
 use Rattle.std.specs.declared.option.Option.{Option}
 use Rattle.std.specs.declared.option.Option.TheVariants.{None, Some}
 use Rattle.x5_model.specs.Words.{some_and, first_of}
 use Rattle.x5_model.specs.Keys.{same_key, same_rdn}
 use Rattle.x5_model.specs.Values.{Rdn, Name, key_of, key_of_rdn}
-use Rattle.x5_model.specs.Requests.{Body, Read, Compare, ListBelow, Search, AddEntry, RemoveEntry, ModifyEntry, ModifyDn}
-use Rattle.x5_model.specs.References.{Progress, Start, Next, Done, RefType, Superior, Subordinate, Cross, NonSpecific, Supplier, Own, TraceItem, Chained}
+use Rattle.x5_model.specs.Requests.{Body, Read, Compare, ListBelow, Search, AddEntry, RemoveEntry, ModifyEntry}
+use Rattle.x5_model.specs.Requests.{ModifyDn}
+use Rattle.x5_model.specs.References.{Progress, Start, Next, Done, RefType, Superior, Subordinate, Cross, NonSpecific}
+use Rattle.x5_model.specs.References.{Supplier, Own, TraceItem, Chained}
 use Rattle.x5_model_run.specs.Network.{Fate, arrives}
 
 -- a message between agents, whole: its number among all messages of the run, counted from 1, its sender, where none is
@@ -106,7 +109,8 @@ item_of agent m = record { agent = agent; target = m.target; progress = m.progre
 
 abbrev pub same_item : TraceItem → TraceItem → Bool
 same_item a b =
-    (a.agent == b.agent) && (same_name a.target b.target && (same_progress a.progress b.progress && same_wide a.wide b.wide))
+    (a.agent == b.agent) && (same_name a.target b.target
+    && (same_progress a.progress b.progress && same_wide a.wide b.wide))
   where
     same_wide : Bool → Bool → Bool
     same_wide true x = x
@@ -116,7 +120,8 @@ same_item a b =
 -- the same is asked of the same agent
 abbrev pub same_message : Line → Line → Bool
 same_message a b =
-    (a.receiver == b.receiver) && (same_progress a.message.progress b.message.progress && same_name a.message.target b.message.target)
+    (a.receiver == b.receiver) && (same_progress a.message.progress b.message.progress
+    && same_name a.message.target b.message.target)
 
 -- the journal from the last line on that isn't deeper than this
 abbrev pub settled : ℕ → List Line → List Line
@@ -127,7 +132,8 @@ settled above (l ∷ before) = if nat_lt above (depth l) then settled above befo
 abbrev pub siblings : ℕ → List Line → List Line
 siblings above [] = []
 siblings above (l ∷ before) =
-    if nat_lt above (depth l) then (if depth l == (above + 1) then l ∷ siblings above before else siblings above before) else []
+    if nat_lt above (depth l) then (if depth l == (above + 1) then l ∷ siblings above before else siblings above before)
+    else []
 
 -- a line and what came before it pass the test, somewhere in the journal
 abbrev pub some_line : (Line → List Line → Bool) → List Line → Bool
@@ -143,10 +149,11 @@ every_line test (l ∷ before) = test l before && every_line test before
 -- whose t is one less, and no line between them is less deep
 abbrev pub opened_by : ℕ → List Line → Line → Bool
 opened_by number before l =
-    nat_lt 0 (depth l) && some_and (λ o. (o.number == number) && ((depth o + 1) == depth l)) (first_of (settled (depth l - 1) before))
+    nat_lt 0 (depth l) && some_and (λ o. (o.number == number) && ((depth o + 1) == depth l))
+    (first_of (settled (depth l - 1) before))
 
--- Up from the last of these lines that isn't deeper than this, to the line that brought its owner the message, and so on:
--- each passes, up to one at which it ends.
+-- Up from the last of these lines that isn't deeper than this, to the line that brought its owner the message, and so
+-- on: each passes, up to one at which it ends.
 abbrev pub leads_up : (Line → Bool) → (Line → Bool) → ℕ → List Line → Bool
 leads_up ends passes above [] = false
 leads_up ends passes above (l ∷ before) =

@@ -1,7 +1,8 @@
 -- The references that an agent needs for a message that it received: what it can't answer from what it holds (X.518,
 -- sections 18 and 19: name resolution and evaluation of operations). A function of its holdings and of the message.
 -- Beside a read or an update an agent needs one reference at most; a list or search may need many.
-use Rattle.std.specs.Prelude.{ℕ, zero, suc, ◌+◌, ◌-◌, Bool, true, false, not, ◌&&◌, ◌==◌, nat_lt, if◌then◌else◌, List, [], ◌∷◌, ◌++◌, length, map, take, drop}
+use Rattle.std.specs.Prelude.{ℕ, zero, suc, ◌+◌, ◌-◌, Bool, true, false, not, ◌&&◌, ◌==◌, nat_lt, if◌then◌else◌, List}
+use Rattle.std.specs.Prelude.{[], ◌∷◌, ◌++◌, length, map, take, drop}
 use Rattle.std.specs.List.{list_any, filter, find, flat_map}
 use Rattle.std.specs.Option.{is_some, is_none}
 use Rattle.std.specs.Result.{is_err}
@@ -12,15 +13,18 @@ use Rattle.x5_model.specs.Words.{has, is_empty, in_option, when, sorted}
 use Rattle.x5_model.specs.Keys.{Key, same_key, is_prefix, is_child, is_root, parent, rdn_cmp}
 use Rattle.x5_model.specs.Values.{Rdn, Name, key_of, key_of_rdn, name_above, last_rdn}
 use Rattle.x5_model.specs.Entries.{Named}
-use Rattle.x5_model.specs.Requests.{Subset, Base, OneLevel, WholeSubtree, Body, Read, Compare, ListBelow, Search, AddEntry, RemoveEntry, ModifyEntry, ModifyDn, Request}
-use Rattle.x5_model.specs.References.{Progress, Start, Next, Done, Reference, RefType, Superior, Subordinate, Cross, NonSpecific, Supplier, Chained}
+use Rattle.x5_model.specs.Requests.{Subset, Base, OneLevel, WholeSubtree, Body, Read, Compare, ListBelow, Search}
+use Rattle.x5_model.specs.Requests.{AddEntry, RemoveEntry, ModifyEntry, ModifyDn, Request}
+use Rattle.x5_model.specs.References.{Progress, Start, Next, Done, Reference, RefType, Superior, Subordinate, Cross}
+use Rattle.x5_model.specs.References.{NonSpecific, Supplier, Chained}
 use Rattle.x5_model.specs.Statics.{fault_of}
 use Rattle.x5_model_tree.specs.World.{Specific, Nssr}
 use Rattle.x5_model_tree.specs.Tree.{tree_of, is_there, entry_at, lowest}
 use Rattle.x5_model_tree.specs.Ask.{Told, Shows, Compares, Lists, Finds, Changes, Refuses, in_subset, ask}
 use Rattle.x5_model_tree.specs.Apply.{apply_over}
 use Rattle.x5_model_run.specs.Journal.{same_name, same_spelled_rdn, is_done, is_wide}
-use Rattle.x5_model_run.specs.Holdings.{Held, Copy, Holdings, ground_at, usable_agents, held_at, copy_at, served, subordinates, known_pin, holds_within, is_first_level, usable_copies}
+use Rattle.x5_model_run.specs.Holdings.{Held, Copy, Holdings, ground_at, usable_agents, held_at, copy_at, served}
+use Rattle.x5_model_run.specs.Holdings.{subordinates, known_pin, holds_within, is_first_level, usable_copies}
 
 -- the target of an addEntry is the new entry's parent, of any other request it's the object or base
 abbrev pub target_of : Body → Name
@@ -54,7 +58,8 @@ resolves_by h target Done = false
 abbrev pub resolves : Holdings → Chained → Bool
 resolves h m = resolves_by h (key_of m.target) m.progress
 
--- The receiver is unable to proceed: it was asked by a nonSpecific reference, and holds nothing on the way that goes as far.
+-- The receiver is unable to proceed: it was asked by a nonSpecific reference, and holds nothing on the way that goes as
+-- far.
 abbrev pub falls_short : Holdings → Key → Progress → Bool
 falls_short h target Start = false
 falls_short h target (Next k) = not (holds_within h target k)
@@ -62,7 +67,8 @@ falls_short h target Done = false
 
 abbrev pub is_unable : Holdings → Chained → Bool
 is_unable h m =
-    nat_lt (length m.trace) 128 && (is_none (fault_of m.request.body) && (is_wide m.kind && falls_short h (key_of m.target) m.progress))
+    nat_lt (length m.trace) 128 && (is_none (fault_of m.request.body)
+    && (is_wide m.kind && falls_short h (key_of m.target) m.progress))
 
 -- 1. No pin on the way is known: the superior.
 abbrev pub to_superior : Name → ℕ → List Reference
@@ -71,8 +77,8 @@ to_superior target s = reference target Start Superior (s ∷ []) ∷ []
 abbrev pub superior_needs : Holdings → Chained → List Reference
 superior_needs h m = in_option [] (to_superior m.target) h.superior
 
--- 2. The longest known pin is mastered here, its lowest entry on the way isn't the name, and an NSSR at that entry lists
--- other agents: these.
+-- 2. The longest known pin is mastered here, its lowest entry on the way isn't the name, and an NSSR at that entry
+-- lists other agents: these.
 abbrev pub nssr_at : List Nssr → Key → Option Nssr
 nssr_at nssrs at = find (λ n. same_key (key_of n.at) at) nssrs
 
@@ -103,7 +109,8 @@ copy_answers h m c =
 
 abbrev pub supplier_needs : Holdings → Chained → Copy → List Reference
 supplier_needs h m c =
-    when (not (copy_answers h m c)) (proceeding (length c.held.prefix) c.held.prefix m.target Supplier (c.supplier ∷ []))
+    when (not (copy_answers h m c)) (proceeding (length c.held.prefix) c.held.prefix m.target Supplier (c.supplier
+    ∷ []))
 
 -- 4. It is known by references alone: a subordinate one before a cross one.
 abbrev pub specific_at : List Specific → Key → Option Specific
@@ -114,7 +121,8 @@ to_specific m kind k = proceeding (length k.pin) k.pin m.target kind (usable_age
 
 abbrev pub specific_needs : Holdings → Chained → Key → List Reference
 specific_needs h m p =
-    in_option (in_option [] (to_specific m Cross) (specific_at h.cross p)) (to_specific m Subordinate) (specific_at (subordinates m.request h) p)
+    in_option (in_option [] (to_specific m Cross) (specific_at h.cross p)) (to_specific m Subordinate)
+    (specific_at (subordinates m.request h) p)
 
 abbrev pub foreign_needs : Holdings → Chained → Key → List Reference
 foreign_needs h m p = in_option (specific_needs h m p) (supplier_needs h m) (copy_at h p)
@@ -128,16 +136,18 @@ pin_needs h m pin = in_option (superior_needs h m) (known_needs h m) pin
 abbrev pub resolution_needs : Holdings → Chained → List Reference
 resolution_needs h m = if resolves h m then pin_needs h m (known_pin m.request h (key_of m.target)) else []
 
--- The resolution ends here: the name is in the mastered context of the longest known pin, or in a copy of it that answers;
--- or it is the root, and a first-level agent knows no pin on the way.
+-- The resolution ends here: the name is in the mastered context of the longest known pin, or in a copy of it that
+-- answers; or it is the root, and a first-level agent knows no pin on the way.
 abbrev pub ends_at_pin : Holdings → Chained → Key → Bool
 ends_at_pin h m p =
-    in_option (in_option false (copy_answers h m) (copy_at h p)) (λ c. is_there c.entries (key_of m.target)) (held_at h.own p)
+    in_option (in_option false (copy_answers h m) (copy_at h p)) (λ c. is_there c.entries (key_of m.target))
+    (held_at h.own p)
 
 abbrev pub ends_here : Holdings → Chained → Bool
 ends_here h m =
     resolves h m
-    && in_option (is_first_level h && is_root (key_of m.target)) (ends_at_pin h m) (known_pin m.request h (key_of m.target))
+    && in_option (is_first_level h && is_root (key_of m.target)) (ends_at_pin h m)
+    (known_pin m.request h (key_of m.target))
 
 -- What a list or search looks at below its base, which is the target. A list looks just below; where it came by a
 -- reference to a pin it asks for that pin's own RDN, and looks at nothing below.
@@ -166,7 +176,8 @@ is_excluded exclusions pin = has same_spelled_rdn exclusions (last_rdn pin)
 abbrev pub found_at_root : Holdings → Chained → Subset → List Held
 found_at_root h m subset =
     if is_first_level h && is_root (key_of m.target)
-    then filter (λ c. (length c.prefix == 1) && in_subset subset (key_of m.target) (key_of c.prefix)) (served m.request h)
+    then filter (λ c. (length c.prefix == 1) && in_subset subset (key_of m.target) (key_of c.prefix))
+    (served m.request h)
     else []
 
 abbrev pub found_in : Holdings → Chained → Key → List Held
@@ -174,11 +185,13 @@ found_in h m p = filter (λ c. same_key (key_of c.prefix) p && is_there c.entrie
 
 abbrev pub found_by_name : Holdings → Chained → Subset → List Held
 found_by_name h m subset =
-    if resolves h m then in_option (found_at_root h m subset) (found_in h m) (known_pin m.request h (key_of m.target)) else []
+    if resolves h m then in_option (found_at_root h m subset) (found_in h m) (known_pin m.request h (key_of m.target))
+    else []
 
 abbrev pub found_below : Holdings → Chained → Subset → List Held
 found_below h m subset =
-    filter (λ c. is_child (key_of m.target) (key_of c.prefix) && (in_subset subset (key_of m.target) (key_of c.prefix) && not (is_excluded m.exclusions c.prefix))) h.own
+    filter (λ c. is_child (key_of m.target) (key_of c.prefix)
+    && (in_subset subset (key_of m.target) (key_of c.prefix) && not (is_excluded m.exclusions c.prefix))) h.own
 
 abbrev pub found_at_pin : Holdings → Chained → List Held
 found_at_pin h m = filter (λ c. same_key (key_of c.prefix) (key_of m.target)) (served m.request h)
@@ -191,32 +204,37 @@ begins_by h m subset Done = if is_wide m.kind then found_below h m subset else f
 abbrev pub begins_at : Holdings → Chained → Subset → List Held
 begins_at h m subset = begins_by h m subset m.progress
 
--- with these contexts, those whose pin is in the subset just below an entry of one, and so on; a name has 16 RDNs at most
+-- with these contexts, those whose pin is in the subset just below an entry of one, and so on; a name has 16 RDNs at
+-- most
 abbrev pub and_below : ℕ → List Held → Key → Subset → List Held → List Held
 and_below zero all base subset level = level
 and_below (suc n) all base subset level =
     if is_empty level then []
-    else level ++ and_below n all base subset (filter (λ c. in_subset subset base (key_of c.prefix) && list_any (λ d. is_there d.entries (parent (key_of c.prefix))) level) all)
+    else level ++ and_below n all base subset (filter (λ c. in_subset subset base (key_of c.prefix)
+    && list_any (λ d. is_there d.entries (parent (key_of c.prefix))) level) all)
 
 -- the contexts that the agent evaluates on the spot
 abbrev pub evaluated : Holdings → Chained → List Held
-evaluated h m = in_option [] (λ subset. and_below 16 (served m.request h) (key_of m.target) subset (begins_at h m subset)) (subset_of m)
+evaluated h m = in_option [] (λ subset. and_below 16 (served m.request h) (key_of m.target) subset
+    (begins_at h m subset)) (subset_of m)
 
 -- the base is the root, and the agent answers it itself
 abbrev pub answers_root : Holdings → Chained → Bool
 answers_root h m =
     is_some (subset_of m)
-    && (is_first_level h && (is_root (key_of m.target) && (resolves h m && is_none (known_pin m.request h (key_of m.target)))))
+    && (is_first_level h && (is_root (key_of m.target)
+    && (resolves h m && is_none (known_pin m.request h (key_of m.target)))))
 
 -- 5. A pin in the subset just below an entry of an evaluated context, or of the root, that isn't evaluated here, and a
 -- subordinate reference to it: that one.
 abbrev pub below_needs : Holdings → Chained → Subset → List Specific → List Reference
 below_needs h m subset ks =
     map (λ k. reference k.pin Done Subordinate (usable_agents m.request k.access))
-    (filter (λ k. in_subset subset (key_of m.target) (key_of k.pin) && is_none (held_at (served m.request h) (key_of k.pin))) ks)
+    (filter (λ k. in_subset subset (key_of m.target) (key_of k.pin)
+    && is_none (held_at (served m.request h) (key_of k.pin))) ks)
 
--- 6. An entry in scope with an NSSR, in an evaluated context: each other agent by itself. Pins just below the entry that
--- are evaluated here or asked for by a subordinate reference are excluded.
+-- 6. An entry in scope with an NSSR, in an evaluated context: each other agent by itself. Pins just below the entry
+-- that are evaluated here or asked for by a subordinate reference are excluded.
 abbrev pub in_scope : Subset → Key → Key → Bool
 in_scope Base base at = false
 in_scope OneLevel base at = same_key base at
@@ -232,16 +250,21 @@ once (r ∷ rs) = r ∷ filter (λ x. not (same_spelled_rdn r x)) (once rs)
 
 abbrev pub treated_below : Holdings → Chained → Held → Key → List Rdn
 treated_below h m c at =
-    sorted rdn_below (once (map last_rdn (filter (λ p. is_child at (key_of p)) (map (λ d. d.prefix) (served m.request h) ++ map (λ k. k.pin) c.subordinate))))
+    sorted rdn_below (once (map last_rdn (filter (λ p. is_child at (key_of p)) (map (λ d. d.prefix) (served m.request h)
+    ++ map (λ k. k.pin) c.subordinate))))
 
 abbrev pub to_each : Holdings → Chained → Subset → Held → Nssr → Named → List Reference
 to_each h m subset c n e =
     if in_scope subset (key_of m.target) (key_of e.name)
-    then map (λ a. record (reference e.name Done NonSpecific (a ∷ [])) { exclusions = treated_below h m c (key_of e.name) }) (others h.me n.agents)
+    then map (λ a. record (reference e.name Done NonSpecific (a ∷ [])) {
+      exclusions = treated_below h m c
+          (key_of e.name);
+    }) (others h.me n.agents)
     else []
 
 abbrev pub wide_needs : Holdings → Chained → Subset → Held → List Reference
-wide_needs h m subset c = flat_map (λ n. in_option [] (to_each h m subset c n) (entry_at c.entries (key_of n.at))) c.nssrs
+wide_needs h m subset c =
+    flat_map (λ n. in_option [] (to_each h m subset c n) (entry_at c.entries (key_of n.at))) c.nssrs
 
 abbrev pub subset_needs : Holdings → Chained → Subset → List Reference
 subset_needs h m subset =
@@ -280,7 +303,8 @@ is_refused_here h r = is_err (apply_over (ground_at r h) r.body)
 
 abbrev pub probe_by : Holdings → Name → Named → Nssr → List Reference
 probe_by h name e n =
-    when (not (is_empty (others h.me n.agents))) (proceeding (length name) e.name name NonSpecific (others h.me n.agents))
+    when (not (is_empty (others h.me n.agents))) (proceeding (length name) e.name name NonSpecific
+    (others h.me n.agents))
 
 abbrev pub probe_from : Holdings → Name → Held → Named → List Reference
 probe_from h name c e = in_option [] (probe_by h name e) (nssr_at c.nssrs (key_of e.name))
@@ -295,7 +319,8 @@ probe_at_master h m name c =
 abbrev pub probe_due : Holdings → Chained → Name → List Reference
 probe_due h m name =
     if resolves h m
-    then in_option [] (λ p. in_option [] (probe_at_master h m name) (held_at h.own p)) (known_pin m.request h (key_of m.target))
+    then in_option [] (λ p. in_option [] (probe_at_master h m name) (held_at h.own p))
+    (known_pin m.request h (key_of m.target))
     else []
 
 abbrev pub probe_needs : Holdings → Chained → List Reference
@@ -303,7 +328,8 @@ probe_needs h m = in_option [] (probe_due h m) (new_name m.request.body)
 
 -- All of these. For what is refused at once, by the request alone, nothing is needed.
 abbrev pub passing_needs : Holdings → Chained → List Reference
-passing_needs h m = if is_some (fault_of m.request.body) then [] else resolution_needs h m ++ part_needs h m ++ copied_needs h m
+passing_needs h m =
+    if is_some (fault_of m.request.body) then [] else resolution_needs h m ++ part_needs h m ++ copied_needs h m
 
 abbrev pub due_probes : Holdings → Chained → List Reference
 due_probes h m = if is_some (fault_of m.request.body) then [] else probe_needs h m

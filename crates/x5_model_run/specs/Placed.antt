@@ -1,5 +1,7 @@
--- A message from agent to agent that knowledge may have brought there, and a right reply to it (X.518, sections 17 to 19).
-use Rattle.std.specs.Prelude.{ℕ, ◌-◌, Bool, true, false, not, ◌&&◌, ◌||◌, ◌==◌, nat_le, IsTrue, List, [], ◌∷◌, length, take}
+-- A message from agent to agent that knowledge may have brought there, and a right reply to it (X.518, sections 17 to
+-- 19).
+use Rattle.std.specs.Prelude.{ℕ, ◌-◌, Bool, true, false, not, ◌&&◌, ◌||◌, ◌==◌, nat_le, IsTrue, List, [], ◌∷◌, length}
+use Rattle.std.specs.Prelude.{take}
 use Rattle.std.specs.List.{list_any, list_all}
 use Rattle.std.specs.declared.option.Option.TheVariants.{None, Some}
 use Rattle.x5_model.specs.Words.{has}
@@ -48,7 +50,8 @@ is_brought p m to = by m.progress (is_wide m.kind)
 -- and it came nearer at every agent of its trace
 pub record Placed (p : Point) (m : Chained) (to : ℕ) : Type 0 where
   pub fit : IsTrue (fits m)
-  pub lower : IsTrue (list_all (λ i. is_lower (stage_of (knowledge_at p) i) (stage_of (knowledge_at p) (item_of to m))) m.trace)
+  pub lower : IsTrue (list_all (λ i. is_lower (stage_of (knowledge_at p) i)
+      (stage_of (knowledge_at p) (item_of to m))) m.trace)
   pub brought : IsTrue (is_brought p m to)
 
 -- the reference by which the receiver was asked
@@ -66,16 +69,21 @@ asked_by q = record {
 abbrev pub is_long : Asked → List Line → Bool
 is_long q lines = (length q.message.trace == 128) || list_any (λ l. depth l == 128) lines
 
--- A right reply to a placed message is a right answer, as if the receiver were the user's agent, with these changes: too
--- long a trace may end it (and, over a network that sends no further message, `spent`, that end); a receiver that is unable
--- to proceed says so, and no other does. What a message asks that came with a completed name is told where an answer is
--- defined; references keep its phase; and where the serving is spoken of, the line that brought the message counts as having come back.
+-- A right reply to a placed message is a right answer, as if the receiver were the user's agent, with these changes:
+-- too long a trace may end it (and, over a network that sends no further message, `spent`, that end); a receiver that
+-- is unable to proceed says so, and no other does. What a message asks that came with a completed name is told where an
+-- answer is defined; references keep its phase; and where the serving is spoken of, the line that brought the message
+-- counts as having come back.
 pub data RightReply (p : Point) (s : Scene) (q : Asked) (j : Journal) (spent : Bool) : Reply → Type 0 where
-  usual : {reply : Reply} → IsTrue (not (is_unable (s.holdings q.to) q.message)) → Right p s q j reply → RightReply p s q j spent reply
-  unable : IsTrue (is_unable (s.holdings q.to) q.message) → RightReply p s q j spent (Failed (ServiceProblem unable_to_proceed (Some (asked_by q)) None))
-  limit : IsTrue (spent || is_long q j.lines) → RightReply p s q j spent (Failed (ServiceProblem administrative_limit_exceeded None None))
+  usual : {reply : Reply} → IsTrue (not (is_unable (s.holdings q.to) q.message)) → Right p s q j reply →
+      RightReply p s q j spent reply
+  unable : IsTrue (is_unable (s.holdings q.to) q.message) →
+      RightReply p s q j spent (Failed (ServiceProblem unable_to_proceed (Some (asked_by q)) None))
+  limit : IsTrue (spent || is_long q j.lines) → RightReply p s q j spent
+      (Failed (ServiceProblem administrative_limit_exceeded None None))
 
--- A raw message that is placed: the journal begins with its line. Where too long a trace ends it, an update may be left.
+-- A raw message that is placed: the journal begins with its line. Where too long a trace ends it, an update may be
+-- left.
 abbrev pub is_limit : Reply → Bool
 is_limit (Failed (ServiceProblem n r i)) = n == administrative_limit_exceeded
 is_limit other = false

@@ -1,6 +1,7 @@
 -- What a refresh does (X.525, sections 9 to 12: shadowing agreements, update strategies and the operations of the
 -- directory information shadowing protocol). Refreshes are over consistent knowledge.
-use Rattle.std.specs.Prelude.{ℕ, ◌+◌, Bool, true, false, not, ◌&&◌, ◌==◌, nat_lt, nat_le, if◌then◌else◌, List, [], ◌∷◌, ◌++◌, length, map, replicate, slice_index}
+use Rattle.std.specs.Prelude.{ℕ, ◌+◌, Bool, true, false, not, ◌&&◌, ◌==◌, nat_lt, nat_le, if◌then◌else◌, List, [], ◌∷◌}
+use Rattle.std.specs.Prelude.{◌++◌, length, map, replicate, slice_index}
 use Rattle.std.specs.List.{filter, find}
 use Rattle.std.specs.Option.{is_some}
 use Rattle.std.specs.declared.option.Option.{Option}
@@ -14,7 +15,8 @@ use Rattle.x5_model_tree.specs.Masters.{masters, is_consumer, pins}
 use Rattle.x5_model_tree.specs.Consistent.{first_breach}
 use Rattle.x5_model_run.specs.Network.{Fate, is_unheard, is_lost, is_sent, fate_of}
 use Rattle.x5_model_run.specs.Needs.{target_of}
-use Rattle.x5_model_run.specs.History.{Acceptance, Refreshed, Deed, Accepts, Did, Point, moment_of, sent_before, network_at, knowledge_at, tree_of_moment, refreshes_of, as_of, acked}
+use Rattle.x5_model_run.specs.History.{Acceptance, Refreshed, Deed, Accepts, Did, Point, moment_of, sent_before}
+use Rattle.x5_model_run.specs.History.{network_at, knowledge_at, tree_of_moment, refreshes_of, as_of, acked}
 
 -- a message of a refresh, between supplier and consumer
 pub data ShadowOperation : Type 0 where
@@ -54,8 +56,8 @@ pub record RefreshBlock : Type 0 where
   pub lines : List ShadowLine
   pub outcome : RefreshOutcome
 
--- Changes that a holder of a context knows since an origin, by their moments, the newest first. For the master these are
--- all accepted updates in the context, since moment 0.
+-- Changes that a holder of a context knows since an origin, by their moments, the newest first. For the master these
+-- are all accepted updates in the context, since moment 0.
 pub record Changes : Type 0 where
   pub origin : ℕ
   pub moments : List ℕ
@@ -86,8 +88,12 @@ consumed_by w a pin = find (is_consumer a pin) w.agreements
 
 abbrev pub changes_at : Point → ℕ → Key → Changes
 changes_at p a pin =
-    if masters (knowledge_at p) a pin then record { origin = 0; moments = updates_in (pins (knowledge_at p)) p.past pin }
-    else in_option (record { origin = 0; moments = [] }) (λ g. steps_since (refreshes_of p.past g.number)) (consumed_by (knowledge_at p) a pin)
+    if masters (knowledge_at p) a pin then record {
+      origin = 0;
+      moments = updates_in (pins (knowledge_at p)) p.past pin;
+    }
+    else in_option (record { origin = 0; moments = [] }) (λ g. steps_since (refreshes_of p.past g.number))
+    (consumed_by (knowledge_at p) a pin)
 
 -- What is kept of them: the last 256. Before the base nothing is known.
 abbrev pub base_of : Changes → ℕ
@@ -102,8 +108,8 @@ supplied p g =
     if masters (knowledge_at p) g.supplier (key_of g.context) then Some (moment_of p)
     else in_option None (λ own. as_of p own.number) (consumed_by (knowledge_at p) g.supplier (key_of g.context))
 
--- the moment from which the supplier goes on: in a pull the consumer tells its own, in a push the supplier takes the last
--- that was acknowledged
+-- the moment from which the supplier goes on: in a pull the consumer tells its own, in a push the supplier takes the
+-- last that was acknowledged
 abbrev pub peer_moment : Point → Bool → Agreement → Option ℕ
 peer_moment p push g = if push then acked p g.number else as_of p g.number
 
@@ -126,9 +132,29 @@ count_of p false g (Some m) stamp = later_than m (changes_at p g.supplier (key_o
 
 -- the messages, with their fates
 abbrev pub shadow_line : Point → Agreement → ℕ → ShadowOperation → ShadowLine
-shadow_line p g place UpdateShadow = record { sender = g.supplier; receiver = g.consumer; operation = UpdateShadow; agreement = g.number; fate = fate_of (network_at p) (sent_before p.past + place) (Some g.supplier) g.consumer }
-shadow_line p g place CoordinateShadowUpdate = record { sender = g.supplier; receiver = g.consumer; operation = CoordinateShadowUpdate; agreement = g.number; fate = fate_of (network_at p) (sent_before p.past + place) (Some g.supplier) g.consumer }
-shadow_line p g place RequestShadowUpdate = record { sender = g.consumer; receiver = g.supplier; operation = RequestShadowUpdate; agreement = g.number; fate = fate_of (network_at p) (sent_before p.past + place) (Some g.consumer) g.supplier }
+shadow_line p g place UpdateShadow = record {
+  sender = g.supplier;
+  receiver = g.consumer;
+  operation = UpdateShadow;
+  agreement = g.number;
+  fate = fate_of (network_at p) (sent_before p.past + place) (Some g.supplier) g.consumer;
+}
+shadow_line p g place CoordinateShadowUpdate = record {
+  sender = g.supplier;
+  receiver = g.consumer;
+  operation = CoordinateShadowUpdate;
+  agreement = g.number;
+  fate =
+      fate_of (network_at p) (sent_before p.past + place) (Some g.supplier) g.consumer;
+}
+shadow_line p g place RequestShadowUpdate = record {
+  sender = g.consumer;
+  receiver = g.supplier;
+  operation = RequestShadowUpdate;
+  agreement = g.number;
+  fate =
+      fate_of (network_at p) (sent_before p.past + place) (Some g.consumer) g.supplier;
+}
 
 abbrev pub ended : List ShadowLine → RefreshOutcome → RefreshBlock
 ended lines outcome = record { lines = lines; outcome = outcome }
@@ -142,21 +168,29 @@ updates_with first last f =
 
 abbrev pub refresh_with : Point → Bool → Bool → Agreement → ℕ → Refreshed
 refresh_with p push total g stamp =
-    record { agreement = g.number; total = total; stamp = stamp; count = count_of p total g (peer_moment p push g) stamp; acknowledged = true }
+    record {
+      agreement = g.number;
+      total = total;
+      stamp = stamp;
+      count = count_of p total g (peer_moment p push g) stamp;
+      acknowledged = true;
+    }
 
 -- pull: the consumer asks; then an inactive agreement, then the need of a total refresh, then the refresh
 abbrev pub pull : Point → Bool → Agreement → RefreshBlock
 pull p total g = by (shadow_line p g 1 RequestShadowUpdate) (supplied p g)
   where
     by : ShadowLine → Option ℕ → RefreshBlock
-    by first None = if is_unheard first.fate then ended (first ∷ []) Unheard else ended (first ∷ []) (Problem inactive_agreement)
+    by first None =
+        if is_unheard first.fate then ended (first ∷ []) Unheard else ended (first ∷ []) (Problem inactive_agreement)
     by first (Some stamp) =
         if is_unheard first.fate then ended (first ∷ []) Unheard
-        else (if not total && needs_total p g (peer_moment p false g) then ended (first ∷ []) (Problem full_update_required)
+        else (if not total && needs_total p g (peer_moment p false g)
+        then ended (first ∷ []) (Problem full_update_required)
         else updates_with first (shadow_line p g 2 UpdateShadow) (refresh_with p false total g stamp))
 
--- push: an inactive agreement and the need of a total refresh, before any message; then the consumer is told, and misses
--- what lies between the acknowledged moment and its own; then the refresh
+-- push: an inactive agreement and the need of a total refresh, before any message; then the consumer is told, and
+-- misses what lies between the acknowledged moment and its own; then the refresh
 abbrev pub push : Point → Bool → Agreement → RefreshBlock
 push p total g = by (shadow_line p g 1 CoordinateShadowUpdate) (supplied p g)
   where
@@ -165,7 +199,8 @@ push p total g = by (shadow_line p g 1 CoordinateShadowUpdate) (supplied p g)
     by first (Some stamp) =
         if not total && needs_total p g (peer_moment p true g) then ended [] (Problem full_update_required)
         else (if is_unheard first.fate then ended (first ∷ []) Unheard
-        else (if not total && not (same_moment (acked p g.number) (as_of p g.number)) then ended (first ∷ []) (Missed (as_of p g.number) (acked p g.number))
+        else (if not total && not (same_moment (acked p g.number) (as_of p g.number))
+        then ended (first ∷ []) (Missed (as_of p g.number) (acked p g.number))
         else updates_with first (shadow_line p g 2 UpdateShadow) (refresh_with p true total g stamp)))
 
 -- the block of a refresh line

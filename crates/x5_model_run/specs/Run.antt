@@ -17,8 +17,8 @@ pub data Command : Type 0 where
   Drops : Bool → ℕ → Command
   Updates : ℕ → Bool → Bool → Command
 
--- what a line brings about: nothing that is told; a changed network; the messages and the reply of a request; those of a
--- refresh
+-- what a line brings about: nothing that is told; a changed network; the messages and the reply of a request; those of
+-- a refresh
 pub data Block : Type 0 where
   Silent : Block
   Set : Block
@@ -59,4 +59,6 @@ did_by other block = record { deed = Nothing; sent = 0 }
 -- the lines so far with their blocks, and what they did, the newest first
 pub data IsRun (judge : Judge) (w : World) : List Command → List Block → List Did → Type 0 where
   begin : IsRun judge w [] [] []
-  next : {commands : List Command} {blocks : List Block} {past : List Did} (command : Command) (block : Block) → IsRun judge w commands blocks past → IsBlock judge (record { described = w; past = past }) command block → IsRun judge w (commands ++ command ∷ []) (blocks ++ block ∷ []) (did_by command block ∷ past)
+  next : {commands : List Command} {blocks : List Block} {past : List Did} (command : Command) (block : Block) →
+      IsRun judge w commands blocks past → IsBlock judge (record { described = w; past = past }) command block →
+      IsRun judge w (commands ++ command ∷ []) (blocks ++ block ∷ []) (did_by command block ∷ past)

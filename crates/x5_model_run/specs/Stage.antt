@@ -1,6 +1,8 @@
--- How far a message has come. Over consistent knowledge each item of a trace is at a lower stage than the next, so no trace
--- is long and no message goes round (X.518, section 17: request validation detects loops). And how many messages a request may take.
-use Rattle.std.specs.Prelude.{ℕ, zero, suc, ◌+◌, ◌*◌, Bool, ◌&&◌, ◌||◌, ◌==◌, nat_lt, if◌then◌else◌, List, [], ◌∷◌, length, take}
+-- How far a message has come. Over consistent knowledge each item of a trace is at a lower stage than the next, so no
+-- trace is long and no message goes round (X.518, section 17: request validation detects loops). And how many messages
+-- a request may take.
+use Rattle.std.specs.Prelude.{ℕ, zero, suc, ◌+◌, ◌*◌, Bool, ◌&&◌, ◌||◌, ◌==◌, nat_lt, if◌then◌else◌, List, [], ◌∷◌}
+use Rattle.std.specs.Prelude.{length, take}
 use Rattle.std.specs.List.{filter, flat_map}
 use Rattle.x5_model.specs.Words.{has, in_option}
 use Rattle.x5_model.specs.Keys.{Key}
@@ -10,8 +12,8 @@ use Rattle.x5_model_tree.specs.World.{World}
 use Rattle.x5_model_tree.specs.Masters.{masters, superior_of, supplier_of, mastered}
 use Rattle.x5_model_run.specs.History.{Point, sent_before, network_at, knowledge_at}
 
--- how many steps a chain has: of superiors up to a first-level agent, 16 at most; of suppliers up to the master, four at
--- most; none where the agent doesn't hold the context
+-- how many steps a chain has: of superiors up to a first-level agent, 16 at most; of suppliers up to the master, four
+-- at most; none where the agent doesn't hold the context
 abbrev pub steps_up : ℕ → World → ℕ → ℕ
 steps_up zero w a = 0
 steps_up (suc n) w a = in_option 0 (λ above. steps_up n w above + 1) (superior_of w a)
@@ -33,8 +35,14 @@ stage_of w i = by i.progress
   where
     by : Progress → Stage
     by Start = record { phase = 0; size = 0; mark = 0; distance = steps_up 16 w i.agent }
-    by (Next k) = record { phase = 1; size = k; mark = 0; distance = steps_to_master 4 w (take k (key_of i.target)) i.agent }
-    by Done = record { phase = 2; size = length i.target; mark = if i.wide then 1 else 0; distance = steps_to_master 4 w (key_of i.target) i.agent }
+    by (Next k) =
+        record { phase = 1; size = k; mark = 0; distance = steps_to_master 4 w (take k (key_of i.target)) i.agent }
+    by Done = record {
+      phase = 2;
+      size = length i.target;
+      mark = if i.wide then 1 else 0;
+      distance = steps_to_master 4 w (key_of i.target) i.agent;
+    }
 
 -- the first is the lower
 abbrev pub is_lower : Stage → Stage → Bool

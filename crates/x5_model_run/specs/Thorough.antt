@@ -30,15 +30,16 @@ sender_follows s l = is_sent l.fate && (not (is_user l.sender) || s.follows)
 -- there is a line for the message of this one, from this sender, to the reference's first agent
 abbrev pub is_sent_by : List Line → Line → Option ℕ → Reference → Bool
 is_sent_by lines l sender r =
-    in_option true (λ a. some_line (λ e before. asks_by r a e && (same_sender e.sender sender && opened_by l.number before e)) lines) (first_of r.agents)
+    in_option true (λ a. some_line (λ e before. asks_by r a e
+    && (same_sender e.sender sender && opened_by l.number before e)) lines) (first_of r.agents)
 
 abbrev pub is_taken : Scene → List Line → Line → Reference → Bool
 is_taken s lines l r =
     if sends_itself s l r then is_sent_by lines l (Some l.receiver) r
     else not (sender_follows s l) || is_sent_by lines l l.sender r
 
--- For each message that arrived each reference that its receiver needs is taken; but an agent that has accepted the update
--- answers `changed` at once when it comes again.
+-- For each message that arrived each reference that its receiver needs is taken; but an agent that has accepted the
+-- update answers `changed` at once when it comes again.
 abbrev pub is_served : Scene → Journal → Line → Bool
 is_served s j l =
     not (arrives l.fate) || (is_done_before s j l || list_all (is_taken s j.lines l) (taken_needs s l))

@@ -1,5 +1,7 @@
--- The lines of a script and what they ask for, or the first fault from the left of one that asks for nothing (docs/FORMATS.md, script).
-use Rattle.std.specs.Prelude.{ℕ, Bool, true, false, ◌||◌, ◌==◌, nat_lt, if◌then◌else◌, List, [], ◌∷◌, ◌++◌, length, codes, Option, Some, None, option_and_then, Result, Ok, Err, nat_eq}
+-- The lines of a script and what they ask for, or the first fault from the left of one that asks for nothing
+-- (docs/FORMATS.md, script).
+use Rattle.std.specs.Prelude.{ℕ, Bool, true, false, ◌||◌, ◌==◌, nat_lt, if◌then◌else◌, List, [], ◌∷◌, ◌++◌, length}
+use Rattle.std.specs.Prelude.{codes, Option, Some, None, option_and_then, Result, Ok, Err, nat_eq}
 use Rattle.std.specs.List.{starts_with}
 use Rattle.x5_model.specs.Words.{is_empty, same_octets, first_of}
 use Rattle.x5_model.specs.Values.{Text, Name, Rdn, TypeRef, Value}
@@ -8,10 +10,12 @@ use Rattle.x5_model.specs.Assertions.{assertion_of, offered}
 use Rattle.x5_model.specs.Requests as ask
 use Rattle.x5_model_run.specs.Network as network
 use Rattle.x5_model_run.specs.Run as run
-use Rattle.x5_model_script.specs.Words.{Fault, Long, BadWord, BadName, BadFilter, BadHex, ◌>>=◌, or_fault, Word, Left, words_of, sound, passed, next, peeked, skipped, ended}
+use Rattle.x5_model_script.specs.Words.{Fault, Long, BadWord, BadName, BadFilter, BadHex, ◌>>=◌, or_fault, Word, Left}
+use Rattle.x5_model_script.specs.Words.{words_of, sound, passed, next, peeked, skipped, ended}
 use Rattle.x5_model_script.specs.Texts as texts
 
--- What a line asks for: what runs are made of, or octets handed to an agent by the protocol between agents, or by that of users.
+-- What a line asks for: what runs are made of, or octets handed to an agent by the protocol between agents, or by that
+-- of users.
 pub data Asked : Type 0 where
   Runs : run.Command → Asked
   Delivers : Bool → ℕ → List ℕ → Asked
@@ -138,7 +142,8 @@ move left = do
   rdn ← reading texts.rdn_in BadName object.1
   moved object.0 rdn.0 (skipped (codes "drop") rdn.1)
 
--- the operation that a word names, with its arguments: one that asks (X.511, sections 9 and 10) or one that changes (section 11)
+-- the operation that a word names, with its arguments: one that asks (X.511, sections 9 and 10) or one that changes
+-- (section 11)
 abbrev pub update_by : Word → Left → Result (ask.Body × Left) Fault
 update_by w left =
     if same_octets w.text (codes "add") then add left

@@ -31,4 +31,5 @@ AreNamed names asked = All (λ a. a < length names) (agents_of asked)
 
 -- Whatever a script asks for, the agents that it names have names.
 abbrev pub ScriptsNameAgents : Type 0
-ScriptsNameAgents = (names : List Text) (lost : ℕ) (octets : Text) → IfOk (script_of names lost octets) (All (AreNamed names))
+ScriptsNameAgents =
+    (names : List Text) (lost : ℕ) (octets : Text) → IfOk (script_of names lost octets) (All (AreNamed names))

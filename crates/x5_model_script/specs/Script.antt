@@ -1,6 +1,7 @@
--- A script: what each of its lines asks for, or its first line that is refused (docs/FORMATS.md, script). The grammar is this
--- project's own.
-use Rattle.std.specs.Prelude.{ℕ, ◌+◌, Bool, false, not, ◌&&◌, ◌==◌, nat_lt, if◌then◌else◌, List, [], ◌∷◌, Result, Ok, Err}
+-- A script: what each of its lines asks for, or its first line that is refused (docs/FORMATS.md, script). The grammar
+-- is this project's own.
+use Rattle.std.specs.Prelude.{ℕ, ◌+◌, Bool, false, not, ◌&&◌, ◌==◌, nat_lt, if◌then◌else◌, List, [], ◌∷◌, Result, Ok}
+use Rattle.std.specs.Prelude.{Err}
 use Rattle.std.specs.List.{slice_split}
 use Rattle.x5_model.specs.Values.{Text}
 use Rattle.x5_model_run.specs.Run.{Blank, Asks, Changes, Drops, Updates}
@@ -65,7 +66,7 @@ lines_from names before lost (line ∷ lines) =
     with_others (before + 1) (line_behind names before lost line)
     (lines_from names (before + 1) (lost_behind lost (line_behind names before lost line)) lines)
 
--- what the lines ask for, in their order; or the number of the first that is refused, from 1, and its fault. The world loses so
--- many replies by itself.
+-- what the lines ask for, in their order; or the number of the first that is refused, from 1, and its fault. The world
+-- loses so many replies by itself.
 abbrev pub script_of : List Text → ℕ → Text → Result (List Asked) (ℕ × Fault)
 script_of names lost octets = lines_from names 0 lost (lines_of octets)

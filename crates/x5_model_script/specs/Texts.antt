@@ -1,5 +1,6 @@
 -- What single words of a script spell (docs/FORMATS.md, script).
-use Rattle.std.specs.Prelude.{ℕ, ◌^◌, Bool, true, false, ◌&&◌, ◌==◌, nat_lt, nat_le, if◌then◌else◌, List, [], ◌∷◌, length, drop, map, Option, Some, None, option_map, option_and_then, codes, nat_eq}
+use Rattle.std.specs.Prelude.{ℕ, ◌^◌, Bool, true, false, ◌&&◌, ◌==◌, nat_lt, nat_le, if◌then◌else◌, List, [], ◌∷◌}
+use Rattle.std.specs.Prelude.{length, drop, map, Option, Some, None, option_map, option_and_then, codes, nat_eq}
 use Rattle.std.specs.List.{list_any, list_all, position, slice_split, starts_with, before_first, after_first}
 use Rattle.std.specs.Char.{is_ascii_digit}
 use Rattle.std.specs.Result.{result_ok}
@@ -9,7 +10,8 @@ use Rattle.x5_model.specs.Words.{is_empty, same_octets}
 use Rattle.x5_model.specs.Values.{Text, TypeRef, Value, Name, Rdn}
 use Rattle.x5_model.specs.Assertions.{offered}
 use Rattle.x5_model.specs.Filters.{Filter}
-use Rattle.x5_model.specs.Requests.{Attribute, Change, AddAttribute, RemoveAttribute, AddValues, RemoveValues, Subset, Base, OneLevel, WholeSubtree}
+use Rattle.x5_model.specs.Requests.{Attribute, Change, AddAttribute, RemoveAttribute, AddValues, RemoveValues, Subset}
+use Rattle.x5_model.specs.Requests.{Base, OneLevel, WholeSubtree}
 use Rattle.x5_model_text.specs.TypeText.{type_of_text}
 use Rattle.x5_model_text.specs.NameText.{value_of_text}
 use Rattle.x5_model_text.specs.Filters.{filter_of_text}
@@ -86,7 +88,8 @@ pair_for t kind = option_map (λ v. (kind, v)) (value_in kind t)
 -- `T=value`
 abbrev pub pair_in : Text → Option (TypeRef × Value)
 pair_in t =
-    if list_any is_equals t then option_and_then (pair_for (after_first is_equals t)) (type_of_text (before_first is_equals t)) else None
+    if list_any is_equals t then option_and_then (pair_for (after_first is_equals t))
+    (type_of_text (before_first is_equals t)) else None
 
 -- values with commas between them; a comma of a value itself is escaped
 abbrev pub values_in : TypeRef → Text → Option (List Value)
@@ -101,7 +104,8 @@ attribute_for t kind = option_map (attribute_of kind) (values_in kind t)
 -- `T=v,v`
 abbrev pub attribute_in : Text → Option Attribute
 attribute_in t =
-    if list_any is_equals t then option_and_then (attribute_for (after_first is_equals t)) (type_of_text (before_first is_equals t)) else None
+    if list_any is_equals t then option_and_then (attribute_for (after_first is_equals t))
+    (type_of_text (before_first is_equals t)) else None
 
 -- `new:T=v,v`, `drop:T`, `put:T=v,v` and `cut:T=v,v`
 abbrev pub change_in : Text → Option Change

@@ -1,13 +1,14 @@
 -- The words of a script's line, and their columns (docs/FORMATS.md, script). The grammar is this project's own.
-use Rattle.std.specs.Prelude.{ℕ, ◌+◌, Bool, true, false, ◌==◌, if◌then◌else◌, List, [], ◌∷◌, length, drop, Option, None, Some, option_and_then, Result, Ok, Err}
+use Rattle.std.specs.Prelude.{ℕ, ◌+◌, Bool, true, false, ◌==◌, if◌then◌else◌, List, [], ◌∷◌, length, drop, Option, None}
+use Rattle.std.specs.Prelude.{Some, option_and_then, Result, Ok, Err}
 use Rattle.std.specs.List.{slice_split}
 use Rattle.std.specs.Str.{is_utf8}
 use Rattle.std.specs.Str.Lossy.{utf8_valid_len}
 use Rattle.x5_model.specs.Words.{is_empty, same_octets, first_of, some_and}
 use Rattle.x5_model.specs.Values.{Text}
 
--- Why a line is refused: it's too long; or the word at this column isn't as it should be, is no name, no filter, or no octets in
--- hexadecimal digits. Columns count octets from 1.
+-- Why a line is refused: it's too long; or the word at this column isn't as it should be, is no name, no filter, or no
+-- octets in hexadecimal digits. Columns count octets from 1.
 pub data Fault : Type 0 where
   Long : Fault
   BadWord : ℕ → Fault
@@ -47,7 +48,8 @@ words_of line = record { words = placed 1 (slice_split is_space line); end = len
 
 -- a word that isn't empty and is UTF-8; the first octet that isn't has the column of the fault
 abbrev pub sound : Word → Result Word Fault
-sound w = if is_empty w.text then Err (BadWord w.column) else if is_utf8 w.text then Ok w else Err (BadWord (w.column + utf8_valid_len w.text))
+sound w = if is_empty w.text then Err (BadWord w.column) else if is_utf8 w.text then Ok w
+    else Err (BadWord (w.column + utf8_valid_len w.text))
 
 -- the words behind the next
 abbrev pub passed : Left → Left

@@ -1,5 +1,6 @@
 -- What an agent answers from what it holds, and how the parts of a list or search are joined (X.518, section 19).
-use Rattle.std.specs.Prelude.{ℕ, ◌-◌, Bool, true, false, not, ◌&&◌, ◌||◌, ◌==◌, if◌then◌else◌, List, [], ◌∷◌, ◌++◌, map, take}
+use Rattle.std.specs.Prelude.{ℕ, ◌-◌, Bool, true, false, not, ◌&&◌, ◌||◌, ◌==◌, if◌then◌else◌, List, [], ◌∷◌, ◌++◌, map}
+use Rattle.std.specs.Prelude.{take}
 use Rattle.std.specs.List.{filter, flat_map, list_any}
 use Rattle.std.specs.Option.{is_some}
 use Rattle.std.specs.declared.option.Option.{Option}
@@ -11,10 +12,12 @@ use Rattle.x5_model.specs.Filters.{Filter}
 use Rattle.x5_model.specs.Truth.{selects_entry}
 use Rattle.x5_model.specs.Requests.{Subset, Selection, Body, ListBelow, Search}
 use Rattle.x5_model.specs.References.{Progress, Start, Next, Done, Reference, Chained}
-use Rattle.x5_model.specs.Answers.{EntryInfo, Sub, Source, Outcome, Answer, EntryFound, Matched, Listed, Found, Changed, ServiceProblem, Reply, Answered, Failed}
+use Rattle.x5_model.specs.Answers.{EntryInfo, Sub, Source, Outcome, Answer, EntryFound, Matched, Listed, Found, Changed}
+use Rattle.x5_model.specs.Answers.{ServiceProblem, Reply, Answered, Failed}
 use Rattle.x5_model.specs.Problems.{unavailable}
 use Rattle.x5_model_tree.specs.Tree.{key_at, tree_of}
-use Rattle.x5_model_tree.specs.Ask.{Told, Shows, Compares, Lists, Finds, Changes, Refuses, unexplored_of, limited, is_cut, info_of, sub_of, ask_marked}
+use Rattle.x5_model_tree.specs.Ask.{Told, Shows, Compares, Lists, Finds, Changes, Refuses, unexplored_of, limited}
+use Rattle.x5_model_tree.specs.Ask.{is_cut, info_of, sub_of, ask_marked}
 use Rattle.x5_model_run.specs.Journal.{is_wide}
 use Rattle.x5_model_run.specs.Holdings.{Held, Copy, Holdings, copy_at, masters_pin}
 use Rattle.x5_model_run.specs.Needs.{subset_of, answers_root, below_needs, wide_needs}

@@ -1,6 +1,7 @@
 -- What holds of journals and replies over consistent knowledge while a request is served, and is kept by each thing
 -- that is done: the words in which the lemmas on serving speak. A journal has the newest line first.
-use Rattle.std.specs.Prelude.{◌≡◌, ℕ, map, ◌+◌, ◌≤◌, ◌⊎◌, Bool, true, false, not, ◌&&◌, ◌||◌, ◌==◌, nat_le, IsTrue, List, [], ◌∷◌, ◌++◌, length, ⊤}
+use Rattle.std.specs.Prelude.{◌≡◌, ℕ, map, ◌+◌, ◌≤◌, ◌⊎◌, Bool, true, false, not, ◌&&◌, ◌||◌, ◌==◌, nat_le, IsTrue}
+use Rattle.std.specs.Prelude.{List, [], ◌∷◌, ◌++◌, length, ⊤}
 use Rattle.std.specs.List.{list_all, AllByRecursion}
 use Rattle.std.specs.declared.option.Option.{Option}
 use Rattle.std.specs.declared.option.Option.TheVariants.{None, Some}
@@ -20,11 +21,13 @@ use Rattle.x5_model_run.specs.Journal.{Line, Journal, same_name, same_progress, 
 use Rattle.x5_model_run.specs.Holdings.{Held}
 use Rattle.x5_model_run.specs.Needs.{needs}
 use Rattle.x5_model_run.specs.History.{Point, knowledge_at, tree_at, holdings_at}
-use Rattle.x5_model_run.specs.Chain.{Scene, may_chain, AllLicensed, IsCarried, is_prohibited, is_probe_line, may_send, is_in_vain, is_cleared, is_passed}
+use Rattle.x5_model_run.specs.Chain.{Scene, may_chain, AllLicensed, IsCarried, is_prohibited, is_probe_line, may_send}
+use Rattle.x5_model_run.specs.Chain.{is_in_vain, is_cleared, is_passed}
 use Rattle.x5_model_run.specs.Accepting.{may_accept, accepting, is_probed, is_done_before}
 use Rattle.x5_model_run.specs.Covers.{covered_roots, are_apart, touched, mixed, is_copied, told}
 use Rattle.x5_model_run.specs.Blocked.{Asked, hears_by, IsLost}
-use Rattle.x5_model_run.specs.Right.{is_accepted_right, is_found, is_source, kept_name, source_keys, same_keys, uncovered, is_master_at}
+use Rattle.x5_model_run.specs.Right.{is_accepted_right, is_found, is_source, kept_name, source_keys, same_keys}
+use Rattle.x5_model_run.specs.Right.{uncovered, is_master_at}
 use Rattle.x5_model_run.specs.Placed.{Placed, RightReply}
 use Rattle.x5_model_run.specs.Thorough.{is_served, is_taken, taken_needs, sends_itself}
 use Rattle.x5_model_parts.specs.Parts.{BeginsHere, rest_needs}
@@ -32,7 +35,8 @@ use Rattle.x5_model_parts.specs.Standing as parts
 use Rattle.x5_model_updates.specs.Standing as updates
 use Rattle.x5_model_serve.specs.Finding as finding
 use Rattle.x5_model_serve.specs.Answering.{is_in_order, with_unexplored, limited_answer, in_vain}
-use Rattle.x5_model_serve.specs.Serving.{Hand, line_for, Heard, Unheard, Hears, Gathered, Whole, Broken, Arrives, found_at, is_final, is_spent, limit_reply}
+use Rattle.x5_model_serve.specs.Serving.{Hand, line_for, Heard, Unheard, Hears, Gathered, Whole, Broken, Arrives}
+use Rattle.x5_model_serve.specs.Serving.{found_at, is_final, is_spent, limit_reply}
 
 -- ---- what it all rests on
 -- a place has an agent: whoever has none holds nothing, and finds nothing

@@ -12,7 +12,8 @@ use Rattle.x5_model_tree.specs.Tree.{lowest}
 use Rattle.x5_model_run.specs.Journal.{same_name, is_wide}
 use Rattle.x5_model_run.specs.Holdings.{Held, Copy, Holdings, held_at, copy_at, known_pin, holds_within}
 use Rattle.x5_model_run.specs.Placed.{fits}
-use Rattle.x5_model_run.specs.Needs.{superior_needs, multicast_needs, supplier_needs, copy_answers, specific_needs, copied_needs}
+use Rattle.x5_model_run.specs.Needs.{superior_needs, multicast_needs, supplier_needs, copy_answers, specific_needs}
+use Rattle.x5_model_run.specs.Needs.{copied_needs}
 
 -- here: in a context that it masters; in a copy that answers; the root, at a first-level agent; or among the contexts
 -- below an entry. Elsewhere: by this reference. Nowhere: with the lowest entry on the way. Or it can't go on from the

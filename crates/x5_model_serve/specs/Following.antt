@@ -4,7 +4,9 @@ use Rattle.std.specs.Prelude.{◌≡◌, ℕ, ◌⊎◌, true, [], ⊤}
 use Rattle.x5_model_run.specs.Journal.{Journal}
 use Rattle.x5_model_run.specs.Chain.{Scene}
 use Rattle.x5_model_serve.specs.Answering.{to_follow}
-use Rattle.x5_model_serve.specs.Serving.{Heard, Unheard, Hears, Gathered, Whole, Broken, Act, Serves, Follows, Sends, Tries, Takes, Spreads, Casts, Gathers, Probes, Updates, Does, is_idle, is_final}
+use Rattle.x5_model_serve.specs.Serving.{Heard, Unheard, Hears, Gathered, Whole, Broken, Act, Serves, Follows, Sends}
+use Rattle.x5_model_serve.specs.Serving.{Tries, Takes, Spreads, Casts, Gathers, Probes, Updates, Does, is_idle}
+use Rattle.x5_model_serve.specs.Serving.{is_final}
 
 abbrev pub IsFinalHeard : Heard → Type 0
 IsFinalHeard Unheard = ⊤

@@ -3,7 +3,8 @@
 -- journal j: an agent serves a message; a message is sent; a reply is followed; the agents of a reference are asked
 -- in turn; so are the agents of an NSSR, the references of a list or search, the agents of a probe; an update is
 -- carried out. `most` is how many messages the request may take.
-use Rattle.std.specs.Prelude.{◌≡◌, ℕ, ◌+◌, Bool, true, false, not, ◌&&◌, ◌||◌, ◌==◌, nat_le, List, [], ◌∷◌, ◌++◌, length, if◌then◌else◌}
+use Rattle.std.specs.Prelude.{◌≡◌, ℕ, ◌+◌, Bool, true, false, not, ◌&&◌, ◌||◌, ◌==◌, nat_le, List, [], ◌∷◌, ◌++◌}
+use Rattle.std.specs.Prelude.{length, if◌then◌else◌}
 use Rattle.std.specs.Option.{is_none}
 use Rattle.std.specs.declared.option.Option.{Option}
 use Rattle.std.specs.declared.option.Option.TheVariants.{None, Some}
@@ -12,8 +13,10 @@ use Rattle.x5_model.specs.Words.{has, is_empty}
 use Rattle.x5_model.specs.Values.{Name}
 use Rattle.x5_model.specs.Entries.{Named}
 use Rattle.x5_model.specs.References.{Reference, Chained}
-use Rattle.x5_model.specs.Answers.{Answer, Changed, DirError, NoSuchObject, UpdateProblem, ServiceProblem, Reply, Answered, Failed, Referred}
-use Rattle.x5_model.specs.Problems.{entry_already_exists, unavailable, unable_to_proceed, invalid_reference, administrative_limit_exceeded, loop_detected}
+use Rattle.x5_model.specs.Answers.{Answer, Changed, DirError, NoSuchObject, UpdateProblem, ServiceProblem, Reply}
+use Rattle.x5_model.specs.Answers.{Answered, Failed, Referred}
+use Rattle.x5_model.specs.Problems.{entry_already_exists, unavailable, unable_to_proceed, invalid_reference}
+use Rattle.x5_model.specs.Problems.{administrative_limit_exceeded, loop_detected}
 use Rattle.x5_model.specs.Statics.{fault_of}
 use Rattle.x5_model_tree.specs.Ask.{is_update}
 use Rattle.x5_model_tree.specs.Apply.{Outcome, apply_over}
@@ -26,7 +29,9 @@ use Rattle.x5_model_run.specs.Placed.{fits}
 use Rattle.x5_model_serve.specs.Committed.{committed}
 use Rattle.x5_model_serve.specs.Finding as finding
 use Rattle.x5_model_serve.specs.Finding.{find}
-use Rattle.x5_model_serve.specs.Answering.{reply_in_own, reply_in_copy, local_part, rest_of_parts, merged, with_unexplored, only_unexplored, limited_answer, to_follow, passed_by, is_service, in_vain, of_these, is_unavailable, above_next}
+use Rattle.x5_model_serve.specs.Answering.{reply_in_own, reply_in_copy, local_part, rest_of_parts, merged}
+use Rattle.x5_model_serve.specs.Answering.{with_unexplored, only_unexplored, limited_answer, to_follow, passed_by}
+use Rattle.x5_model_serve.specs.Answering.{is_service, in_vain, of_these, is_unavailable, above_next}
 
 -- a message at the agent that has it: what is done for it doesn't look at its number, its sender or its fate
 pub record Hand : Type 0 where

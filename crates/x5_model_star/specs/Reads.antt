@@ -1,6 +1,7 @@
--- A read or compare over a star of agents: its messages and its answer (X.518, section 18: name resolution by superior and
--- subordinate references; X.511, sections 9.1 and 9.2).
-use Rattle.std.specs.Prelude.{◌≡◌, ℕ, ◌+◌, ◌-◌, ◌<◌, Bool, true, false, if◌then◌else◌, IsTrue, List, [], ◌∷◌, ◌++◌, length, map, take, drop, ⊤}
+-- A read or compare over a star of agents: its messages and its answer (X.518, section 18: name resolution by superior
+-- and subordinate references; X.511, sections 9.1 and 9.2).
+use Rattle.std.specs.Prelude.{◌≡◌, ℕ, ◌+◌, ◌-◌, ◌<◌, Bool, true, false, if◌then◌else◌, IsTrue, List, [], ◌∷◌, ◌++◌}
+use Rattle.std.specs.Prelude.{length, map, take, drop, ⊤}
 use Rattle.std.specs.List.{find}
 use Rattle.std.specs.Option.{is_some}
 use Rattle.std.specs.declared.option.Option.{Option}
@@ -62,17 +63,27 @@ passed_on l to target progress kind = record {
   number = l.number + 1;
   sender = Some l.receiver;
   receiver = to;
-  message = record { target = target; progress = progress; kind = kind; exclusions = []; trace = l.message.trace ++ item_of l.receiver l.message ∷ []; request = l.message.request };
+  message = record {
+    target = target;
+    progress = progress;
+    kind = kind;
+    exclusions = [];
+    trace = l.message.trace
+        ++ item_of l.receiver l.message ∷ [];
+    request = l.message.request;
+  };
   fate = Sent;
 }
 
--- to its superior; by a subordinate reference, where the RDNs above the pin's last are spelled as the reference spells them
+-- to its superior; by a subordinate reference, where the RDNs above the pin's last are spelled as the reference spells
+-- them
 abbrev pub up_line : Line → ℕ → Line
 up_line l superior = passed_on l superior l.message.target Start Superior
 
 abbrev pub down_line : Line → Specific → Line
 down_line l k =
-    passed_on l k.access.master (take (length k.pin - 1) k.pin ++ drop (length k.pin - 1) l.message.target) (Next (length k.pin)) Subordinate
+    passed_on l k.access.master (take (length k.pin - 1) k.pin ++ drop (length k.pin - 1) l.message.target)
+    (Next (length k.pin)) Subordinate
 
 -- a line and, where its receiver has a subordinate reference on the way, the one that it sends: the newest first
 abbrev pub lines_down : Agent → Line → List Line → List Line
@@ -144,4 +155,5 @@ StarReadIsThere =
 -- What is printed of the messages doesn't depend on how many were sent before.
 abbrev pub StarPrintsAlike : Type 0
 StarPrintsAlike =
-    (w : World) (sent to : ℕ) (r : Request) → map printed_line (star_lines w sent to r) ≡ map printed_line (star_lines w 0 to r)
+    (w : World) (sent to : ℕ) (r : Request) → map printed_line (star_lines w sent to r)
+    ≡ map printed_line (star_lines w 0 to r)

@@ -1,5 +1,5 @@
--- A script of reads over a star of agents: each line is a comment or a read, and each read is answered by the messages and
--- from the agent that the star gives.
+-- A script of reads over a star of agents: each line is a comment or a read, and each read is answered by the messages
+-- and from the agent that the star gives.
 use Rattle.std.specs.Prelude.{ℕ, ◌<◌, List, [], ◌∷◌, ◌++◌, length, codes}
 use Rattle.x5_model.specs.Values.{Text}
 use Rattle.x5_model.specs.Requests.{Request}
@@ -19,8 +19,13 @@ use Rattle.x5_model_star.specs.Reads.{IsRead, IsStarRead}
 -- the lines so far with their blocks, and what they did, the newest first
 pub data IsStarRun (w : World) : List Command → List Block → List Did → Type 0 where
   begin : IsStarRun w [] [] []
-  blank : {commands : List Command} {blocks : List Block} {past : List Did} → IsStarRun w commands blocks past → IsStarRun w (commands ++ Blank ∷ []) (blocks ++ Silent ∷ []) (did_by Blank Silent ∷ past)
-  read : {commands : List Command} {blocks : List Block} {past : List Did} (to : ℕ) (r : Request) (j : Journal) (reply : Reply) → IsStarRun w commands blocks past → to < length w.agents → IsRead r → IsStarRead w (sent_before past) to r j reply → IsStarRun w (commands ++ Asks to r ∷ []) (blocks ++ Replies j reply ∷ []) (did_by (Asks to r) (Replies j reply) ∷ past)
+  blank : {commands : List Command} {blocks : List Block} {past : List Did} → IsStarRun w commands blocks past →
+      IsStarRun w (commands ++ Blank ∷ []) (blocks ++ Silent ∷ []) (did_by Blank Silent ∷ past)
+  read : {commands : List Command} {blocks : List Block} {past : List Did} (to : ℕ) (r : Request) (j : Journal)
+      (reply : Reply) → IsStarRun w commands blocks past → to < length w.agents → IsRead r →
+      IsStarRead w (sent_before past) to r j reply →
+      IsStarRun w (commands ++ Asks to r ∷ []) (blocks ++ Replies j reply ∷ []) (did_by (Asks to r) (Replies j reply)
+      ∷ past)
 
 -- a request is answered right, and no message that it needs is left out
 abbrev pub RightAndWhole : Judge
@@ -35,6 +40,8 @@ StarRunIsRun =
 -- and its output is that of a run: the knowledge is consistent, and the blocks follow
 abbrev pub StarPrintsRun : Type 0
 StarPrintsRun =
-    (w : World) → IsDescribed w → IsStar w → (moment : ℕ → Text) (commands : List Command) (blocks : List Block) (past : List Did)
+    (w : World) → IsDescribed w → IsStar w → (moment : ℕ → Text) (commands : List Command) (blocks : List Block)
+    (past : List Did)
     → IsStarRun w commands blocks past
-    → PrintsRun RightAndWhole w moment commands (codes "knowledge consistent\n" ++ blocks_text (names_of w moment) 1 commands blocks)
+    → PrintsRun RightAndWhole w moment commands (codes "knowledge consistent\n"
+    ++ blocks_text (names_of w moment) 1 commands blocks)

@@ -1,6 +1,6 @@
--- A star of agents (X.501, section 22: knowledge references): the first agent masters the one context at the top, and each
--- other agent masters one context just below an entry of it, which the first agent knows by a subordinate reference.
--- A described world has no two subordinate references of one agent to one name, so there is one to each.
+-- A star of agents (X.501, section 22: knowledge references): the first agent masters the one context at the top, and
+-- each other agent masters one context just below an entry of it, which the first agent knows by a subordinate
+-- reference. A described world has no two subordinate references of one agent to one name, so there is one to each.
 use Rattle.std.specs.Prelude.{◌≡◌, ℕ, Bool, not, ◌&&◌, ◌||◌, ◌==◌, if◌then◌else◌, IsTrue, List, [], length}
 use Rattle.std.specs.List.{list_any, list_all, filter, flat_map}
 use Rattle.std.specs.Option.{is_none}
@@ -33,19 +33,22 @@ first_entries w = flat_map (λ m. m.context.entries) (filter is_first (mastered 
 abbrev pub is_placed : World → Mastered → Bool
 is_placed w m =
     if is_first m then length (pin_of m) == 1
-    else is_there (first_entries w) (parent (pin_of m)) && not (list_any (λ e. is_prefix (pin_of m) (key_at e)) (first_entries w))
+    else is_there (first_entries w) (parent (pin_of m))
+    && not (list_any (λ e. is_prefix (pin_of m) (key_at e)) (first_entries w))
 
 -- a reference to another agent's prefix, with its master and without shadows
 abbrev pub leads_to_other : World → Specific → Bool
 leads_to_other w k =
     is_empty k.access.shadows
-    && list_any (λ m. not (is_first m) && ((m.master == k.access.master) && same_key (pin_of m) (key_of k.pin))) (mastered w)
+    && list_any (λ m. not (is_first m) && ((m.master == k.access.master) && same_key (pin_of m) (key_of k.pin)))
+    (mastered w)
 
 -- the first agent has such references, to each other prefix; the others have none
 abbrev pub is_knowing : World → ℕ × Agent → Bool
 is_knowing w a =
     if a.0 == 0
-    then list_all (leads_to_other w) a.1.subordinate && list_all (λ m. is_first m || refers_to a.1 (pin_of m)) (mastered w)
+    then list_all (leads_to_other w) a.1.subordinate
+    && list_all (λ m. is_first m || refers_to a.1 (pin_of m)) (mastered w)
     else is_empty a.1.subordinate
 
 -- nothing is down, cut, refusing or lost

@@ -1,6 +1,8 @@
--- Filters as text: a filter in brackets, its sign before its members (the form of RFC 1558), for the filters of X.511, section 7.8.
--- Each reading takes what it reads off the front of a text; a fault is the place of the first octet that can't stand there.
-use Rattle.std.specs.Prelude.{ℕ, zero, suc, ◌+◌, ◌-◌, Bool, not, if◌then◌else◌, ◌==◌, nat_lt, List, [], ◌∷◌, ◌++◌, length, min, Option, None, Some, Result, Ok, Err, codes}
+-- Filters as text: a filter in brackets, its sign before its members (the form of RFC 1558), for the filters of X.511,
+-- section 7.8. Each reading takes what it reads off the front of a text; a fault is the place of the first octet that
+-- can't stand there.
+use Rattle.std.specs.Prelude.{ℕ, zero, suc, ◌+◌, ◌-◌, Bool, not, if◌then◌else◌, ◌==◌, nat_lt, List, [], ◌∷◌, ◌++◌}
+use Rattle.std.specs.Prelude.{length, min, Option, None, Some, Result, Ok, Err, codes}
 use Rattle.std.specs.Option.{option_map}
 use Rattle.std.specs.List.{list_any, position, position_or_len, before_first, after_first, slice_split}
 use Rattle.x5_model.specs.Values.{Text, TypeRef, Value}
@@ -8,7 +10,9 @@ use Rattle.x5_model.specs.Types.{Kind, TextKind}
 use Rattle.x5_model.specs.Words.{in_option, same_octets}
 use Rattle.x5_model.specs.Normal.{ValueFault}
 use Rattle.x5_model.specs.Assertions.{assertion_of, substring_item_of}
-use Rattle.x5_model.specs.Filters.{Assertion, PiecePlace, Initial, Any, Last, Piece, Item, Equality, Substrings, GreaterOrEqual, LessOrEqual, Present, Approximate, Filter, Is, And, Or, Not, Filters, Nil, More}
+use Rattle.x5_model.specs.Filters.{Assertion, PiecePlace, Initial, Any, Last, Piece, Item, Equality, Substrings}
+use Rattle.x5_model.specs.Filters.{GreaterOrEqual, LessOrEqual, Present, Approximate, Filter, Is, And, Or, Not, Filters}
+use Rattle.x5_model.specs.Filters.{Nil, More}
 use Rattle.x5_model_text.specs.TypeText.{type_of_text}
 use Rattle.x5_model_text.specs.ValueText.{resolved}
 use Rattle.x5_model_text.specs.NameText.{equals, kind_of_type, value_of_resolved}
@@ -137,8 +141,8 @@ before_last c [] = None
 before_last c (b ∷ []) = if b == c then Some [] else None
 before_last c (b ∷ d ∷ t) = option_map (λ front. b ∷ front) (before_last c (d ∷ t))
 
--- an item by what stands before its first `=`, and behind it, each at its place: the left side is a word and > or < or ~, or
--- the word alone
+-- an item by what stands before its first `=`, and behind it, each at its place: the left side is a word and > or < or
+-- ~, or the word alone
 abbrev pub item_of_sides : ℕ → Text → ℕ → Text → Option Text → Option Text → Option Text → Result Item ℕ
 item_of_sides at left place right (Some word) below near = asserted GreaterOrEqual (compared_at at word place right)
 item_of_sides at left place right None (Some word) near = asserted LessOrEqual (compared_at at word place right)
@@ -158,8 +162,8 @@ item_at at t = let cut = position_or_len (λ b. b == equals) t in
     then item_by_sides at (before_first (λ b. b == equals) t) (at + cut + 1) (after_first (λ b. b == equals) t)
     else Err (at + length t)
 
--- ---- filters: each reading gives what it has read and the text behind it; `all` is the length of the whole text, which tells
--- the places
+-- ---- filters: each reading gives what it has read and the text behind it; `all` is the length of the whole text,
+-- which tells the places
 
 abbrev pub Read : Type 0 → Type 0
 Read A = Result (A × Text) ℕ

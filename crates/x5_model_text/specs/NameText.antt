@@ -1,11 +1,15 @@
 -- Names as text: `/` alone for the root, else for each RDN a `/` and its pairs, joined by `+`.
-use Rattle.std.specs.Prelude.{ℕ, ◌+◌, Bool, true, false, ◌&&◌, ◌||◌, not, if◌then◌else◌, ◌==◌, nat_lt, nat_le, List, [], ◌∷◌, ◌++◌, length, map, flat_map, Option, None, Some, Result, Ok, Err}
+use Rattle.std.specs.Prelude.{ℕ, ◌+◌, Bool, true, false, ◌&&◌, ◌||◌, not, if◌then◌else◌, ◌==◌, nat_lt, nat_le, List, []}
+use Rattle.std.specs.Prelude.{◌∷◌, ◌++◌, length, map, flat_map, Option, None, Some, Result, Ok, Err}
 use Rattle.std.specs.List.{list_any, position_or_len, before_first, after_first, slice_split, join_with_byte}
 use Rattle.std.specs.Str.{is_utf8}
 use Rattle.hex.specs.Hex.{encode_lower}
-use Rattle.x5_model.specs.Values.{Text, TypeRef, Known, Unknown, Value, TextValue, OctetsValue, OidValue, NameOf, NameValue, Rdn, Name, written}
-use Rattle.x5_model.specs.Types.{Kind, TextKind, PrintableKind, CountryKind, NumericKind, TelephoneKind, OidKind, NameKind, OctetsKind, kind_of, may_name}
-use Rattle.x5_model.specs.Normal.{most_octets, most_rdns, most_pairs, is_text_of_kind, ValueFault, WrongSyntax, within, name_over, written_rdn}
+use Rattle.x5_model.specs.Values.{Text, TypeRef, Known, Unknown, Value, TextValue, OctetsValue, OidValue, NameOf}
+use Rattle.x5_model.specs.Values.{NameValue, Rdn, Name, written}
+use Rattle.x5_model.specs.Types.{Kind, TextKind, PrintableKind, CountryKind, NumericKind, TelephoneKind, OidKind}
+use Rattle.x5_model.specs.Types.{NameKind, OctetsKind, kind_of, may_name}
+use Rattle.x5_model.specs.Normal.{most_octets, most_rdns, most_pairs, is_text_of_kind, ValueFault, WrongSyntax, within}
+use Rattle.x5_model.specs.Normal.{name_over, written_rdn}
 use Rattle.x5_model_text.specs.TypeText.{keyword_of, type_of_text, text_of_oid}
 use Rattle.x5_model_text.specs.ValueText.{escaped, resolved, bounded, oid_or_text, octets_or_text}
 

@@ -1,5 +1,6 @@
 -- Attribute types and object identifiers as text: keywords in any case of ASCII, or dotted decimals (X.660).
-use Rattle.std.specs.Prelude.{ℕ, ◌^◌, Bool, ◌&&◌, ◌||◌, not, if◌then◌else◌, ◌==◌, nat_lt, List, [], ◌∷◌, length, slice_index, map, Option, None, Some}
+use Rattle.std.specs.Prelude.{ℕ, ◌^◌, Bool, ◌&&◌, ◌||◌, not, if◌then◌else◌, ◌==◌, nat_lt, List, [], ◌∷◌, length}
+use Rattle.std.specs.Prelude.{slice_index, map, Option, None, Some}
 use Rattle.std.specs.List.{find, list_all, slice_split, join_with_byte}
 use Rattle.std.specs.Char.{is_ascii_digit}
 use Rattle.std.specs.Option.{option_map}

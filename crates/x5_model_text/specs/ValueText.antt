@@ -1,5 +1,6 @@
 -- The text of a value: escapes, and what the resolved text stands for by the type's kind.
-use Rattle.std.specs.Prelude.{ℕ, ◌+◌, ◌*◌, ◌/◌, ◌%◌, Bool, ◌||◌, if◌then◌else◌, ◌==◌, nat_lt, List, [], ◌∷◌, ◌++◌, length, flat_map, Option, None, Some, Result, Ok, Err, codes}
+use Rattle.std.specs.Prelude.{ℕ, ◌+◌, ◌*◌, ◌/◌, ◌%◌, Bool, ◌||◌, if◌then◌else◌, ◌==◌, nat_lt, List, [], ◌∷◌, ◌++◌}
+use Rattle.std.specs.Prelude.{length, flat_map, Option, None, Some, Result, Ok, Err, codes}
 use Rattle.std.specs.List.{list_any, position, slice_split}
 use Rattle.std.specs.Option.{option_map}
 use Rattle.std.specs.Result.{result_ok}
@@ -50,7 +51,8 @@ octet_before at (Some octet) (Err place) = Err place
 abbrev pub escape_at : ℕ → Text → Result Text ℕ
 escape_at at [] = Err at
 escape_at at (h ∷ []) = Err at
-escape_at at (h ∷ l ∷ rest) = octet_before at (octet_of (hex_digit_value h) (hex_digit_value l)) (plain_at (at + 3) rest)
+escape_at at (h ∷ l ∷ rest) =
+    octet_before at (octet_of (hex_digit_value h) (hex_digit_value l)) (plain_at (at + 3) rest)
 
 abbrev pub joined : Result Text ℕ → Result Text ℕ → Result Text ℕ
 joined (Err place) rest = Err place

@@ -1,9 +1,12 @@
 -- What texts can give: the types, names and values that reading answers.
-use Rattle.std.specs.Prelude.{◌≡◌, ℕ, ◌<◌, Bool, true, false, ◌&&◌, ◌||◌, ◌==◌, not, List, [], ◌∷◌, length, None, is_some, is_ok}
+use Rattle.std.specs.Prelude.{◌≡◌, ℕ, ◌<◌, Bool, true, false, ◌&&◌, ◌||◌, ◌==◌, not, List, [], ◌∷◌, length, None}
+use Rattle.std.specs.Prelude.{is_some, is_ok}
 use Rattle.std.specs.List.{AllByRecursion, list_all, list_any}
 use Rattle.std.specs.Str.{is_utf8}
-use Rattle.x5_model.specs.Values.{Text, TypeRef, Known, Unknown, NameValue, Value, TextValue, OctetsValue, OidValue, NameOf}
-use Rattle.x5_model.specs.Types.{is_known, Kind, TextKind, PrintableKind, CountryKind, NumericKind, TelephoneKind, OidKind, NameKind, OctetsKind}
+use Rattle.x5_model.specs.Values.{Text, TypeRef, Known, Unknown, NameValue, Value, TextValue, OctetsValue, OidValue}
+use Rattle.x5_model.specs.Values.{NameOf}
+use Rattle.x5_model.specs.Types.{is_known, Kind, TextKind, PrintableKind, CountryKind, NumericKind, TelephoneKind}
+use Rattle.x5_model.specs.Types.{OidKind, NameKind, OctetsKind}
 use Rattle.x5_model.specs.Normal.{is_oid, is_name, name_over, value_over}
 use Rattle.x5_model_text.specs.TypeText.{known_below, oid_of_text}
 use Rattle.x5_model_text.specs.ValueText.{backslash, is_escaped, octets_of_text}
@@ -35,8 +38,8 @@ is_kept CountryKind t = true
 is_kept NumericKind t = true
 is_kept TelephoneKind t = true
 
--- a value that a text can give for a type of the kind, within the limits: octets, an object identifier or a name for the
--- kind that has them, and for each kind a text that isn't empty and can't be read as one of these
+-- a value that a text can give for a type of the kind, within the limits: octets, an object identifier or a name for
+-- the kind that has them, and for each kind a text that isn't empty and can't be read as one of these
 pub record IsGivenText (k : Kind) (t : Text) : Type 0 where
   pub utf8 : is_utf8 t ≡ true
   pub some : 0 < length t

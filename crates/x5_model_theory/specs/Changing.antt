@@ -30,10 +30,12 @@ pub record Removes (k : Knowledge) (f : Area → List Key) (e : Key) : Type 0 wh
   pub once : (d : Area) → In d k.areas → Once (f d)
 
 abbrev pub AddingKeeps : Type 0
-AddingKeeps = (k : Knowledge) (f : Area → List Key) (c : Area) (e : Key) → Coherent k → Adds k f c e → Coherent (with_entries f k)
+AddingKeeps =
+    (k : Knowledge) (f : Area → List Key) (c : Area) (e : Key) → Coherent k → Adds k f c e → Coherent (with_entries f k)
 
 abbrev pub RemovingKeeps : Type 0
-RemovingKeeps = (k : Knowledge) (f : Area → List Key) (e : Key) → Coherent k → Removes k f e → Coherent (with_entries f k)
+RemovingKeeps =
+    (k : Knowledge) (f : Area → List Key) (e : Key) → Coherent k → Removes k f e → Coherent (with_entries f k)
 
 -- the name of an entry and all names below it begin otherwise
 abbrev pub moved : Key → Key → Key → Key
@@ -49,7 +51,8 @@ pub record Renames (k : Knowledge) (f : Area → List Key) (e n : Key) : Type 0 
   pub once : (d : Area) → In d k.areas → Once (f d)
 
 abbrev pub RenamingKeeps : Type 0
-RenamingKeeps = (k : Knowledge) (f : Area → List Key) (e n : Key) → Coherent k → Renames k f e n → Coherent (with_entries f k)
+RenamingKeeps =
+    (k : Knowledge) (f : Area → List Key) (e n : Key) → Coherent k → Renames k f e n → Coherent (with_entries f k)
 
 -- the same entries, maybe in another order
 pub record Reorders (k : Knowledge) (f : Area → List Key) : Type 0 where

@@ -11,7 +11,12 @@ abbrev pub spot_of : Nssr → Spot
 spot_of n = record { at = key_of n.at; agents = n.agents }
 
 abbrev pub area_of : Mastered → Area
-area_of m = record { master = m.master; prefix = pin_of m; entries = keys_of m.context.entries; nssrs = map spot_of m.context.nssrs }
+area_of m = record {
+  master = m.master;
+  prefix = pin_of m;
+  entries = keys_of m.context.entries;
+  nssrs = map spot_of m.context.nssrs;
+}
 
 abbrev pub pointer_of : ℕ → Specific → Pointer
 pointer_of owner r = record { owner = owner; pin = key_of r.pin; master = r.access.master; shadows = r.access.shadows }

@@ -1,6 +1,7 @@
--- What an update makes of the tree, or of what one agent has (X.511, section 11). That an agent judges by the pins that it
--- knows, and the order in which refusals count, is this project's own.
-use Rattle.std.specs.Prelude.{ℕ, ◌+◌, Bool, not, ◌&&◌, ◌||◌, if◌then◌else◌, List, [], ◌∷◌, ◌++◌, length, map, take, drop}
+-- What an update makes of the tree, or of what one agent has (X.511, section 11). That an agent judges by the pins that
+-- it knows, and the order in which refusals count, is this project's own.
+use Rattle.std.specs.Prelude.{ℕ, ◌+◌, Bool, not, ◌&&◌, ◌||◌, if◌then◌else◌, List, [], ◌∷◌, ◌++◌, length, map, take}
+use Rattle.std.specs.Prelude.{drop}
 use Rattle.std.specs.List.{list_any, filter, flat_map}
 use Rattle.std.specs.declared.option.Option.{Option}
 use Rattle.std.specs.declared.option.Option.TheVariants.{None, Some}
@@ -12,7 +13,8 @@ use Rattle.x5_model.specs.Values.{Rdn, Name, key_of, last_rdn, name_above}
 use Rattle.x5_model.specs.Entries.{Entry, Named}
 use Rattle.x5_model.specs.Attributes.{added_entry}
 use Rattle.x5_model.specs.Changes.{Changed, modified, renamed, single_valued}
-use Rattle.x5_model.specs.Requests.{Attribute, Change, Body, Read, Compare, ListBelow, Search, AddEntry, RemoveEntry, ModifyEntry, ModifyDn, Request}
+use Rattle.x5_model.specs.Requests.{Attribute, Change, Body, Read, Compare, ListBelow, Search, AddEntry, RemoveEntry}
+use Rattle.x5_model.specs.Requests.{ModifyEntry, ModifyDn, Request}
 use Rattle.x5_model.specs.Answers.{DirError, NoSuchObject, UpdateProblem}
 use Rattle.x5_model.specs.Statics.{fault_of}
 use Rattle.x5_model.specs.Problems.{entry_already_exists, affects_multiple_dsas, not_allowed_on_non_leaf}
@@ -73,7 +75,8 @@ add g name attributes = at_entry g (parent (key_of name)) put
 
     put : Named → Outcome
     put above =
-        if is_taken g (key_of name) then Err (UpdateProblem entry_already_exists) else Ok (sorted_entries (g.entries ++ new above ∷ []))
+        if is_taken g (key_of name) then Err (UpdateProblem entry_already_exists)
+        else Ok (sorted_entries (g.entries ++ new above ∷ []))
 
 -- removeEntry (X.511, section 11.2): a leaf that is no pin goes
 abbrev pub remove : Ground → Name → Outcome
@@ -109,8 +112,12 @@ rename g name rdn drops = at_entry g (key_of name) move
 
     moved : Entry → Named → Named
     moved new e =
-        if same_key (key_at e) (key_of name) then record { name = respelled (length (name_above name)) rdn e.name; entry = new }
-        else (if is_prefix (key_of name) (key_at e) then record e { name = respelled (length (name_above name)) rdn e.name } else e)
+        if same_key (key_at e) (key_of name) then record {
+          name = respelled (length (name_above name)) rdn e.name;
+          entry = new;
+        }
+        else (if is_prefix (key_of name) (key_at e)
+        then record e { name = respelled (length (name_above name)) rdn e.name } else e)
 
     put : Changed → Outcome
     put (Err x) = Err x

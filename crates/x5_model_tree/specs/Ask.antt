@@ -1,7 +1,8 @@
--- What the one tree answers (X.511, sections 9 to 11; the order of what is listed and found is this project's own). The parts of a real answer that tell where it comes from, its
--- sources and its unexplored references, are no matter of a tree: `rest_of` says what an answer tells beside them.
--- So 'the rest of the answer is what the sources together would answer' reads `rest_of answer ≡ ask_marked copies t request`,
--- where `copies` says for a key whether its part comes from a shadow; for the one tree it's `ask t request`.
+-- What the one tree answers (X.511, sections 9 to 11; the order of what is listed and found is this project's own). The
+-- parts of a real answer that tell where it comes from, its sources and its unexplored references, are no matter of a
+-- tree: `rest_of` says what an answer tells beside them. So 'the rest of the answer is what the sources together would
+-- answer' reads `rest_of answer ≡ ask_marked copies t request`, where `copies` says for a key whether its part comes
+-- from a shadow; for the one tree it's `ask t request`.
 use Rattle.std.specs.Prelude.{ℕ, Bool, true, false, ◌&&◌, nat_lt, if◌then◌else◌, List, [], ◌∷◌, length, map, take}
 use Rattle.std.specs.List.{filter}
 use Rattle.std.specs.declared.option.Option.{Option}
@@ -14,9 +15,11 @@ use Rattle.x5_model.specs.Attributes.{is_present}
 use Rattle.x5_model.specs.Filters.{Assertion, Equality, Filter}
 use Rattle.x5_model.specs.Truth.{is_true, item_truth, selects_entry}
 use Rattle.x5_model.specs.Selections.{shown, selection_fault}
-use Rattle.x5_model.specs.Requests.{Subset, Base, OneLevel, WholeSubtree, Selection, Body, Read, Compare, ListBelow, Search, AddEntry, RemoveEntry, ModifyEntry, ModifyDn, Request}
+use Rattle.x5_model.specs.Requests.{Subset, Base, OneLevel, WholeSubtree, Selection, Body, Read, Compare, ListBelow}
+use Rattle.x5_model.specs.Requests.{Search, AddEntry, RemoveEntry, ModifyEntry, ModifyDn, Request}
 use Rattle.x5_model.specs.References.{Reference}
-use Rattle.x5_model.specs.Answers.{EntryInfo, Sub, Source, DirError, NoSuchObject, AttributeProblem, Answer, EntryFound, Matched, Listed, Found, Changed}
+use Rattle.x5_model.specs.Answers.{EntryInfo, Sub, Source, DirError, NoSuchObject, AttributeProblem, Answer, EntryFound}
+use Rattle.x5_model.specs.Answers.{Matched, Listed, Found, Changed}
 use Rattle.x5_model.specs.Statics.{fault_of}
 use Rattle.x5_model.specs.Problems.{no_such_attribute_or_value}
 use Rattle.x5_model_tree.specs.Tree.{Tree, key_at, entry_at, is_there_or_root, matched}
@@ -116,7 +119,8 @@ abbrev pub limited_list : (Key → Bool) → Option ℕ → List Named → Told
 limited_list copies size found = Lists (limited size (map (sub_of copies) found)) (is_cut size found)
 
 abbrev pub limited_found : (Key → Bool) → Option ℕ → Selection → List Named → Told
-limited_found copies size selection found = Finds (limited size (map (info_of copies selection) found)) (is_cut size found)
+limited_found copies size selection found =
+    Finds (limited size (map (info_of copies selection) found)) (is_cut size found)
 
 abbrev pub at_object : Tree → Name → (Named → Told) → Told
 at_object t name f = by (entry_at t.entries (key_of name))
@@ -134,9 +138,11 @@ abbrev pub ask_body : (Key → Bool) → Tree → Request → Body → Told
 ask_body copies t request (Read name selection) = at_object t name (read copies selection)
 ask_body copies t request (Compare name a) = at_object t name (compare copies a)
 ask_body copies t request (ListBelow name) =
-    if is_there_or_root t.entries (key_of name) then limited_list copies request.controls.size (just_below t name) else absent t name
+    if is_there_or_root t.entries (key_of name) then limited_list copies request.controls.size (just_below t name)
+    else absent t name
 ask_body copies t request (Search base subset f selection) =
-    if is_there_or_root t.entries (key_of base) then limited_found copies request.controls.size selection (searched t base subset f) else absent t base
+    if is_there_or_root t.entries (key_of base) then limited_found copies request.controls.size selection
+    (searched t base subset f) else absent t base
 ask_body copies t request (AddEntry name attributes) = updated (apply t request)
 ask_body copies t request (RemoveEntry name) = updated (apply t request)
 ask_body copies t request (ModifyEntry name changes) = updated (apply t request)

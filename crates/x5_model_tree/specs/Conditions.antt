@@ -10,7 +10,8 @@ use Rattle.x5_model.specs.Values.{key_of}
 use Rattle.x5_model.specs.Entries.{Named}
 use Rattle.x5_model_tree.specs.World.{Specific, Nssr, Context, Agent, Agreement, World}
 use Rattle.x5_model_tree.specs.Tree.{key_at}
-use Rattle.x5_model_tree.specs.Masters.{Mastered, pin_of, numbered, mastered, pins, master_of, is_consumer, superior_of, supplier_of, all_entries}
+use Rattle.x5_model_tree.specs.Masters.{Mastered, pin_of, numbered, mastered, pins, master_of, is_consumer, superior_of}
+use Rattle.x5_model_tree.specs.Masters.{supplier_of, all_entries}
 use Rattle.x5_model_tree.specs.Consistent.{FileReference, ToBelow, ToAnywhere, specific_of}
 
 -- a is the master of a context with this pin; a consumes it by some agreement
@@ -52,7 +53,8 @@ NotLonger m e p = IsPrefix (pin_of p) (key_at e) → length (pin_of p) ≤ lengt
 
 abbrev pub NoLongerPin : World → Type 0
 NoLongerPin w =
-    (m : Mastered) → In m (mastered w) → (e : Named) → In e m.context.entries → (p : Mastered) → In p (mastered w) → NotLonger m e p
+    (m : Mastered) → In m (mastered w) → (e : Named) → In e m.context.entries → (p : Mastered) → In p (mastered w) →
+    NotLonger m e p
 
 -- 4. Each subordinate or cross reference names a pin and its master; a subordinate one names a child of an entry that
 -- the agent masters, or of the root at a first-level agent.
@@ -61,7 +63,8 @@ NamesMaster w k = Masters w k.access.master (key_of k.pin)
 
 abbrev pub ChildOfOwn : Agent → Key → Type 0
 ChildOfOwn a pin =
-    ((a.superior ≡ None) × (length pin ≡ 1)) ⊎ ((c : Context) × In c a.contexts × ((e : Named) × In e c.entries × IsChild (key_at e) pin))
+    ((a.superior ≡ None) × (length pin ≡ 1)) ⊎ ((c : Context) × In c a.contexts
+    × ((e : Named) × In e c.entries × IsChild (key_at e) pin))
 
 abbrev pub ReferenceRight : World → Agent → FileReference → Type 0
 ReferenceRight w a (ToBelow k) = NamesMaster w k × ChildOfOwn a (key_of k.pin)
@@ -70,14 +73,16 @@ ReferenceRight w a (ToAnywhere k) = NamesMaster w k
 abbrev pub ReferencesRight : World → Type 0
 ReferencesRight w =
     (a : ℕ × Agent) → In a (numbered w)
-    → ((k : Specific) → In k a.1.subordinate → NamesMaster w k × ChildOfOwn a.1 (key_of k.pin)) × ((k : Specific) → In k a.1.cross → NamesMaster w k)
+    → ((k : Specific) → In k a.1.subordinate → NamesMaster w k × ChildOfOwn a.1 (key_of k.pin))
+    × ((k : Specific) → In k a.1.cross → NamesMaster w k)
 
 -- 5. The shadow agents of a reference are distinct consumers of that context.
 abbrev pub ShadowsOf : World → Specific → Type 0
 ShadowsOf w k = Once k.access.shadows × ((s : ℕ) → In s k.access.shadows → Consumes w s (key_of k.pin))
 
 abbrev pub ShadowsConsume : World → Type 0
-ShadowsConsume w = (a : ℕ × Agent) → In a (numbered w) → (k : Specific) → In k (a.1.subordinate ++ a.1.cross) → ShadowsOf w k
+ShadowsConsume w =
+    (a : ℕ × Agent) → In a (numbered w) → (k : Specific) → In k (a.1.subordinate ++ a.1.cross) → ShadowsOf w k
 
 -- 6. Each pin whose parent is in a context is, at that context's master, mastered too, known by a subordinate
 -- reference, or its master stands in the parent's NSSR.
@@ -86,13 +91,16 @@ InNssr w c pin =
     (m : ℕ) × (master_of w pin ≡ Some m) × ((n : Nssr) × In n c.nssrs × ((key_of n.at ≡ parent pin) × In m n.agents))
 
 abbrev pub KnowsBelow : World → ℕ × Agent → Context → Mastered → Type 0
-KnowsBelow w a c p = Has c.entries (parent (pin_of p)) → Masters w a.0 (pin_of p) ⊎ (Refers a.1 (pin_of p) ⊎ InNssr w c (pin_of p))
+KnowsBelow w a c p =
+    Has c.entries (parent (pin_of p)) → Masters w a.0 (pin_of p) ⊎ (Refers a.1 (pin_of p) ⊎ InNssr w c (pin_of p))
 
 abbrev pub KnownBelow : World → Type 0
 KnownBelow w =
-    (a : ℕ × Agent) → In a (numbered w) → (c : Context) → In c a.1.contexts → (p : Mastered) → In p (mastered w) → KnowsBelow w a c p
+    (a : ℕ × Agent) → In a (numbered w) → (c : Context) → In c a.1.contexts → (p : Mastered) → In p (mastered w) →
+    KnowsBelow w a c p
 
--- 7. Each agent of an NSSR stands there once, isn't the context's master, and masters a pin just below the NSSR's entry.
+-- 7. Each agent of an NSSR stands there once, isn't the context's master, and masters a pin just below the NSSR's
+-- entry.
 abbrev pub MastersBelow : World → ℕ → Key → Type 0
 MastersBelow w a at = (p : Mastered) × In p (mastered w) × ((p.master ≡ a) × IsChild at (pin_of p))
 
@@ -129,8 +137,8 @@ abbrev pub SuperiorsEnd : World → Type 0
 SuperiorsEnd w = (a : ℕ × Agent) → In a (numbered w) → SuperiorsEndOf w a
 
 -- 10. An agreement's consumer doesn't master the context and consumes it in this agreement alone; its supplier masters
--- it or consumes it; the suppliers' chain ends at the master within 4 hops: fewer than 4 hops from the first supplier on
--- lead to it.
+-- it or consumes it; the suppliers' chain ends at the master within 4 hops: fewer than 4 hops from the first supplier
+-- on lead to it.
 abbrev pub SuppliedWithin : World → Key → ℕ → Option ℕ → Type 0
 SuppliedWithin w pin n a =
     (k : ℕ) × ((k < n) × ((s : ℕ) × ((after (λ b. supplier_of w b pin) k a ≡ Some s) × Masters w s pin)))
@@ -138,7 +146,8 @@ SuppliedWithin w pin n a =
 abbrev pub AgreementSupplies : World → Agreement → Type 0
 AgreementSupplies w g =
     ¬ (Masters w g.consumer (key_of g.context))
-    × ((length (filter (is_consumer g.consumer (key_of g.context)) w.agreements) ≡ 1) × SuppliedWithin w (key_of g.context) 4 (Some g.supplier))
+    × ((length (filter (is_consumer g.consumer (key_of g.context)) w.agreements) ≡ 1)
+    × SuppliedWithin w (key_of g.context) 4 (Some g.supplier))
 
 abbrev pub AgreementsSupply : World → Type 0
 AgreementsSupply w = (g : Agreement) → In g w.agreements → AgreementSupplies w g

@@ -1,7 +1,8 @@
 -- When knowledge is consistent: ten conditions on the lists of a world. They are this project's own, after X.501
--- (knowledge). Each is the list of its breaches in file order, with the two values that are printed; it holds where that
--- list is empty. `Breaking` says in its own words which breach is the first.
-use Rattle.std.specs.Prelude.{◌≡◌, ℕ, zero, suc, Bool, true, false, not, ◌&&◌, ◌||◌, ◌==◌, nat_lt, List, [], ◌∷◌, ◌++◌, length, map}
+-- (knowledge). Each is the list of its breaches in file order, with the two values that are printed; it holds where
+-- that list is empty. `Breaking` says in its own words which breach is the first.
+use Rattle.std.specs.Prelude.{◌≡◌, ℕ, zero, suc, Bool, true, false, not, ◌&&◌, ◌||◌, ◌==◌, nat_lt, List, [], ◌∷◌, ◌++◌}
+use Rattle.std.specs.Prelude.{length, map}
 use Rattle.std.specs.List.{list_any, filter, flat_map}
 use Rattle.std.specs.declared.option.Option.{Option}
 use Rattle.std.specs.declared.option.Option.TheVariants.{None, Some}
@@ -11,7 +12,8 @@ use Rattle.x5_model.specs.Values.{Name, key_of, name_above}
 use Rattle.x5_model.specs.Entries.{Named}
 use Rattle.x5_model_tree.specs.World.{Specific, Nssr, Context, Agent, Agreement, World}
 use Rattle.x5_model_tree.specs.Tree.{key_at, entry_at, is_there, is_there_or_root}
-use Rattle.x5_model_tree.specs.Masters.{Mastered, pin_of, numbered, mastered, master_of, masters, is_consumer, consumes, supplier_of, is_first_level, superior_of, all_entries}
+use Rattle.x5_model_tree.specs.Masters.{Mastered, pin_of, numbered, mastered, master_of, masters, is_consumer, consumes}
+use Rattle.x5_model_tree.specs.Masters.{supplier_of, is_first_level, superior_of, all_entries}
 
 pub data Printed : Type 0 where
   AgentPrinted : ℕ → Printed
@@ -29,17 +31,20 @@ breach n a b = record { condition = n; first = a; second = b }
 -- 1. No prefix is mastered twice: the prefix, the second agent.
 abbrev pub breaches_1 : World → List Inconsistency
 breaches_1 w =
-    unfit same_key pin_of (λ m. true) (λ m. breach 1 (NamePrinted m.context.prefix) (AgentPrinted m.master)) [] (mastered w)
+    unfit same_key pin_of (λ m. true) (λ m. breach 1 (NamePrinted m.context.prefix) (AgentPrinted m.master)) []
+    (mastered w)
 
 -- 2. Each pin's parent is the root or an entry: the pin, the parent.
 abbrev pub breaches_2 : World → List Inconsistency
 breaches_2 w =
-    flat_map (λ m. when (not (is_there_or_root (all_entries w) (parent (pin_of m)))) (breach 2 (NamePrinted m.context.prefix) (NamePrinted (name_above m.context.prefix)))) (mastered w)
+    flat_map (λ m. when (not (is_there_or_root (all_entries w) (parent (pin_of m))))
+    (breach 2 (NamePrinted m.context.prefix) (NamePrinted (name_above m.context.prefix)))) (mastered w)
 
 -- 3. No entry has among its prefixes a pin longer than its own context's prefix: the entry, the pin.
 abbrev pub longer_pin : Mastered → Named → Mastered → List Inconsistency
 longer_pin m e p =
-    when (nat_lt (length (pin_of m)) (length (pin_of p)) && is_prefix (pin_of p) (key_at e)) (breach 3 (NamePrinted e.name) (NamePrinted p.context.prefix))
+    when (nat_lt (length (pin_of m)) (length (pin_of p)) && is_prefix (pin_of p) (key_at e))
+    (breach 3 (NamePrinted e.name) (NamePrinted p.context.prefix))
 
 abbrev pub breaches_3 : World → List Inconsistency
 breaches_3 w = flat_map (λ m. flat_map (λ e. flat_map (longer_pin m e) (mastered w)) m.context.entries) (mastered w)
@@ -71,14 +76,16 @@ names_master w k = masters w k.access.master (key_of k.pin)
 
 abbrev pub child_of_own : Agent → Key → Bool
 child_of_own a pin =
-    (is_first_level a && (length pin == 1)) || list_any (λ c. list_any (λ e. is_child (key_at e) pin) c.entries) a.contexts
+    (is_first_level a && (length pin == 1)) || list_any
+    (λ c. list_any (λ e. is_child (key_at e) pin) c.entries) a.contexts
 
 abbrev pub is_right : World → Agent → FileReference → Bool
 is_right w a (ToBelow k) = names_master w k && child_of_own a (key_of k.pin)
 is_right w a (ToAnywhere k) = names_master w k
 
 abbrev pub false_reference : World → ℕ → Agent → FileReference → List Inconsistency
-false_reference w place a r = when (not (is_right w a r)) (breach 4 (AgentPrinted place) (NamePrinted (specific_of r).pin))
+false_reference w place a r =
+    when (not (is_right w a r)) (breach 4 (AgentPrinted place) (NamePrinted (specific_of r).pin))
 
 abbrev pub breaches_4 : World → List Inconsistency
 breaches_4 w = flat_map (λ a. flat_map (false_reference w a.0 a.1) (references a.1)) (numbered w)
@@ -86,7 +93,8 @@ breaches_4 w = flat_map (λ a. flat_map (false_reference w a.0 a.1) (references 
 -- 5. The shadow agents of a reference are distinct consumers of that context: the reference's name, the shadow agent.
 abbrev pub false_shadows : World → Specific → List Inconsistency
 false_shadows w k =
-    unfit ◌==◌ (λ s. s) (λ s. consumes w s (key_of k.pin)) (λ s. breach 5 (NamePrinted k.pin) (AgentPrinted s)) [] k.access.shadows
+    unfit ◌==◌ (λ s. s) (λ s. consumes w s (key_of k.pin))
+    (λ s. breach 5 (NamePrinted k.pin) (AgentPrinted s)) [] k.access.shadows
 
 abbrev pub breaches_5 : World → List Inconsistency
 breaches_5 w = flat_map (λ a. flat_map (λ r. false_shadows w (specific_of r)) (references a.1)) (numbered w)
@@ -105,10 +113,12 @@ knows w a c place pin =
 
 abbrev pub unknown_below : World → ℕ → Agent → Context → Mastered → List Inconsistency
 unknown_below w place a c p =
-    when (is_there c.entries (parent (pin_of p)) && not (knows w a c place (pin_of p))) (breach 6 (AgentPrinted place) (NamePrinted p.context.prefix))
+    when (is_there c.entries (parent (pin_of p)) && not (knows w a c place (pin_of p)))
+    (breach 6 (AgentPrinted place) (NamePrinted p.context.prefix))
 
 abbrev pub breaches_6 : World → List Inconsistency
-breaches_6 w = flat_map (λ p. flat_map (λ a. flat_map (λ c. unknown_below w a.0 a.1 c p) a.1.contexts) (numbered w)) (mastered w)
+breaches_6 w =
+    flat_map (λ p. flat_map (λ a. flat_map (λ c. unknown_below w a.0 a.1 c p) a.1.contexts) (numbered w)) (mastered w)
 
 -- 7. Each agent of an NSSR stands there once, isn't the context's master, and masters a pin just below the NSSR's
 -- entry: the entry, the agent.
@@ -120,7 +130,8 @@ name_of_nssr c n = in_option n.at (λ e. e.name) (entry_at c.entries (key_of n.a
 
 abbrev pub false_members : World → Mastered → Nssr → List Inconsistency
 false_members w m n =
-    unfit ◌==◌ (λ s. s) (λ s. not (s == m.master) && masters_below w s (key_of n.at)) (λ s. breach 7 (NamePrinted (name_of_nssr m.context n)) (AgentPrinted s)) [] n.agents
+    unfit ◌==◌ (λ s. s) (λ s. not (s == m.master) && masters_below w s (key_of n.at))
+    (λ s. breach 7 (NamePrinted (name_of_nssr m.context n)) (AgentPrinted s)) [] n.agents
 
 abbrev pub breaches_7 : World → List Inconsistency
 breaches_7 w = flat_map (λ m. flat_map (false_members w m) m.context.nssrs) (mastered w)
@@ -128,7 +139,8 @@ breaches_7 w = flat_map (λ m. flat_map (false_members w m) m.context.nssrs) (ma
 -- 8. Each first-level agent masters each pin of one RDN or has a subordinate reference to it: the agent, the pin.
 abbrev pub unknown_top : World → ℕ → Agent → Mastered → List Inconsistency
 unknown_top w place a p =
-    when (is_first_level a && ((length (pin_of p) == 1) && not (masters w place (pin_of p) || refers_to a (pin_of p)))) (breach 8 (AgentPrinted place) (NamePrinted p.context.prefix))
+    when (is_first_level a && ((length (pin_of p) == 1) && not (masters w place (pin_of p) || refers_to a (pin_of p))))
+    (breach 8 (AgentPrinted place) (NamePrinted p.context.prefix))
 
 abbrev pub breaches_8 : World → List Inconsistency
 breaches_8 w = flat_map (λ a. flat_map (unknown_top w a.0 a.1) (mastered w)) (numbered w)
@@ -158,16 +170,19 @@ consumed_once w g = length (filter (is_consumer g.consumer (key_of g.context)) w
 
 abbrev pub is_supplied : World → Agreement → Bool
 is_supplied w g =
-    not (masters w g.consumer (key_of g.context)) && (consumed_once w g && supplied_within w 4 (key_of g.context) (Some g.supplier))
+    not (masters w g.consumer (key_of g.context))
+    && (consumed_once w g && supplied_within w 4 (key_of g.context) (Some g.supplier))
 
 abbrev pub breaches_10 : World → List Inconsistency
 breaches_10 w =
-    flat_map (λ g. when (not (is_supplied w g)) (breach 10 (AgreementPrinted g.number) (NamePrinted g.context))) w.agreements
+    flat_map (λ g. when (not (is_supplied w g)) (breach 10 (AgreementPrinted g.number)
+    (NamePrinted g.context))) w.agreements
 
 -- the lists by condition, and all breaches in this order; `check` tells the first
 abbrev pub by_condition : World → List (List Inconsistency)
 by_condition w =
-    breaches_1 w ∷ breaches_2 w ∷ breaches_3 w ∷ breaches_4 w ∷ breaches_5 w ∷ breaches_6 w ∷ breaches_7 w ∷ breaches_8 w ∷ breaches_9 w ∷ breaches_10 w ∷ []
+    breaches_1 w ∷ breaches_2 w ∷ breaches_3 w ∷ breaches_4 w ∷ breaches_5 w ∷ breaches_6 w ∷ breaches_7 w
+    ∷ breaches_8 w ∷ breaches_9 w ∷ breaches_10 w ∷ []
 
 abbrev pub breaches : World → List Inconsistency
 breaches w = flat_map (λ list. list) (by_condition w)

@@ -1,7 +1,8 @@
--- What every world that was read from a file meets (docs/FORMATS.md, world file), whether its knowledge is consistent or
--- not: what can be said of agents, contexts, entries and references one by one, and the limits. The ten conditions say the
--- rest. Agents' names, limits, agreements' numbers and the network are this project's own.
-use Rattle.std.specs.Prelude.{ℕ, ◌+◌, Bool, true, false, not, ◌&&◌, ◌||◌, ◌==◌, nat_lt, nat_le, IsTrue, List, [], ◌∷◌, ◌++◌, length, map, codes}
+-- What every world that was read from a file meets (docs/FORMATS.md, world file), whether its knowledge is consistent
+-- or not: what can be said of agents, contexts, entries and references one by one, and the limits. The ten conditions
+-- say the rest. Agents' names, limits, agreements' numbers and the network are this project's own.
+use Rattle.std.specs.Prelude.{ℕ, ◌+◌, Bool, true, false, not, ◌&&◌, ◌||◌, ◌==◌, nat_lt, nat_le, IsTrue, List, [], ◌∷◌}
+use Rattle.std.specs.Prelude.{◌++◌, length, map, codes}
 use Rattle.std.specs.Cmp.Lexicographic.{pointwise}
 use Rattle.std.specs.Char.{is_ascii_alphabetic, is_ascii_alphanumeric}
 use Rattle.std.specs.List.{list_all, list_any, find, filter, flat_map}
@@ -29,7 +30,8 @@ same_pair_spelled a b = (a.kind == b.kind) && (same_octets a.text b.text && same
 abbrev pub same_spelling : Name → Name → Bool
 same_spelling a b = pointwise (pointwise same_pair_spelled) a b
 
--- a name of types that may name, in their order, within the limits of names (16 RDNs, four pairs an RDN, 1,024 octets a value)
+-- a name of types that may name, in their order, within the limits of names (16 RDNs, four pairs an RDN, 1,024 octets a
+-- value)
 abbrev pub is_stored : Name → Bool
 is_stored n = same_spelling n (stored (written n)) && (is_name (written n) && is_none (name_over 0 (written n)))
 
@@ -49,11 +51,13 @@ abbrev pub is_stored_entry : Named → Bool
 is_stored_entry e = is_stored e.name && list_all is_stored_attribute e.entry.attributes
 
 abbrev pub is_stored_context : Context → Bool
-is_stored_context c = is_stored c.prefix && (list_all is_stored_entry c.entries && list_all (λ n. is_stored n.at) c.nssrs)
+is_stored_context c =
+    is_stored c.prefix && (list_all is_stored_entry c.entries && list_all (λ n. is_stored n.at) c.nssrs)
 
 abbrev pub is_stored_agent : Agent → Bool
 is_stored_agent a =
-    list_all is_stored_context a.contexts && (list_all (λ k. is_stored k.pin) a.subordinate && list_all (λ k. is_stored k.pin) a.cross)
+    list_all is_stored_context a.contexts && (list_all (λ k. is_stored k.pin) a.subordinate
+    && list_all (λ k. is_stored k.pin) a.cross)
 
 abbrev pub is_stored_world : World → Bool
 is_stored_world w = list_all is_stored_agent w.agents && list_all (λ g. is_stored g.context) w.agreements
@@ -79,17 +83,20 @@ is_agent_name t =
 abbrev pub is_entry_name : Name → Bool
 is_entry_name n = not (is_empty n)
 
--- An entry's attributes are in order, each value once, and among them are the values of its RDN; what an addEntry would be
--- refused for by itself isn't so (X.511, section 11.1): it has an object class, and one value at most of a single-valued type.
+-- An entry's attributes are in order, each value once, and among them are the values of its RDN; what an addEntry would
+-- be refused for by itself isn't so (X.511, section 11.1): it has an object class, and one value at most of a
+-- single-valued type.
 abbrev pub is_kept : Named → Bool
 is_kept e =
-    is_entry_name e.name && (is_ordered e.entry && (has_rdn e.entry (last_rdn e.name) && is_empty (entry_refusals e.entry)))
+    is_entry_name e.name && (is_ordered e.entry && (has_rdn e.entry (last_rdn e.name)
+    && is_empty (entry_refusals e.entry)))
 
 -- the parent of each later entry stands before it, and the name above is spelled as the parent's; no key stands twice
 abbrev pub is_grown : List Named → List Named → Bool
 is_grown before [] = true
 is_grown before (e ∷ more) =
-    list_any (λ f. same_spelling f.name (name_above e.name)) before && (not (is_there before (key_at e)) && is_grown (e ∷ before) more)
+    list_any (λ f. same_spelling f.name (name_above e.name)) before
+    && (not (is_there before (key_at e)) && is_grown (e ∷ before) more)
 
 -- the first entry is the context prefix's
 abbrev pub is_rooted : Context → List Named → Bool
@@ -120,7 +127,8 @@ most_references = 4096
 abbrev pub is_reference : World → Specific → Bool
 is_reference w r =
     is_entry_name r.pin
-    && (nat_lt r.access.master (length w.agents) && (are_agents w r.access.shadows && nat_le (length r.access.shadows) most_shadows))
+    && (nat_lt r.access.master (length w.agents) && (are_agents w r.access.shadows
+    && nat_le (length r.access.shadows) most_shadows))
 
 abbrev pub are_references : World → List Specific → Bool
 are_references w rs = list_all (is_reference w) rs && distinct same_key (map (λ r. key_of r.pin) rs)
@@ -135,7 +143,8 @@ are_listed a =
 
 abbrev pub is_agent : World → Agent → Bool
 is_agent w a =
-    is_agent_name a.name && (list_all (is_context w) a.contexts && (are_references w a.subordinate && are_references w a.cross))
+    is_agent_name a.name && (list_all (is_context w) a.contexts
+    && (are_references w a.subordinate && are_references w a.cross))
 
 abbrev pub has_superior : World → Agent → Bool
 has_superior w a = not (some_and (λ s. not (nat_lt s (length w.agents))) a.superior)
@@ -146,7 +155,8 @@ is_number n = nat_lt 0 n && nat_le n 1000000
 
 abbrev pub is_agreement : World → Agreement → Bool
 is_agreement w g =
-    is_number g.number && (is_entry_name g.context && (nat_lt g.supplier (length w.agents) && nat_lt g.consumer (length w.agents)))
+    is_number g.number && (is_entry_name g.context
+    && (nat_lt g.supplier (length w.agents) && nat_lt g.consumer (length w.agents)))
 
 -- ---- limits of the world
 
@@ -210,8 +220,10 @@ abbrev pub has_network : World → Bool
 has_network w =
     (are_agents w w.network.down && distinct ◌==◌ w.network.down)
     && ((are_agents w w.network.refusing && distinct ◌==◌ w.network.refusing)
-    && ((list_all (is_pair w) w.network.cut && (distinct same_pair w.network.cut && nat_le (length w.network.cut) most_cut))
-    && (are_numbers most_lost_messages w.network.lost_messages && are_numbers most_lost_replies w.network.lost_replies)))
+    && ((list_all (is_pair w) w.network.cut && (distinct same_pair w.network.cut
+    && nat_le (length w.network.cut) most_cut))
+    && (are_numbers most_lost_messages w.network.lost_messages
+    && are_numbers most_lost_replies w.network.lost_replies)))
 
 pub record IsDescribed (w : World) : Type 0 where
   pub agents_there : IsTrue (not (is_empty w.agents))

@@ -73,7 +73,8 @@ superior_of w a = in_option None (λ agent. agent.superior) (agent_at w a)
 abbrev pub held_contexts : List Key → List Context → List Context
 held_contexts before [] = []
 held_contexts before (c ∷ cs) =
-    if has same_key before (key_of c.prefix) then held_contexts before cs else (c ∷ held_contexts (key_of c.prefix ∷ before) cs)
+    if has same_key before (key_of c.prefix) then held_contexts before cs
+    else (c ∷ held_contexts (key_of c.prefix ∷ before) cs)
 
 abbrev pub all_entries : World → List Named
 all_entries w = flat_map (λ m. m.context.entries) (mastered w)

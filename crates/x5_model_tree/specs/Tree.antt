@@ -1,6 +1,7 @@
 -- The one tree (X.501, section 7: the directory information tree): entries with their names, in the order of their
 -- keys, and the pins, which are the prefixes of naming contexts.
-use Rattle.std.specs.Prelude.{ℕ, zero, suc, Bool, true, false, not, ◌&&◌, ◌||◌, nat_lt, if◌then◌else◌, IsTrue, List, [], ◌∷◌, length, map, take}
+use Rattle.std.specs.Prelude.{ℕ, zero, suc, Bool, true, false, not, ◌&&◌, ◌||◌, nat_lt, if◌then◌else◌, IsTrue, List, []}
+use Rattle.std.specs.Prelude.{◌∷◌, length, map, take}
 use Rattle.std.specs.List.{find, filter, list_all, list_any}
 use Rattle.std.specs.declared.option.Option.{Option}
 use Rattle.std.specs.declared.option.Option.TheVariants.{None, Some}
@@ -47,7 +48,8 @@ has_below entries key = list_any (λ e. is_below key (key_at e)) entries
 -- every tree is so: the keys ascend, so no key comes twice; what stands above an entry is there; pins are entries
 pub record IsTree (t : Tree) : Type 0 where
   pub in_order : IsTrue (ascending named_below t.entries)
-  pub above : IsTrue (list_all (λ e. not (is_root (key_at e)) && is_there_or_root t.entries (parent (key_at e))) t.entries)
+  pub above : IsTrue (list_all (λ e. not (is_root (key_at e))
+      && is_there_or_root t.entries (parent (key_at e))) t.entries)
   pub pins_there : IsTrue (list_all (is_there t.entries) t.pins)
   pub ordered : IsTrue (list_all (λ e. is_ordered e.entry) t.entries)
 

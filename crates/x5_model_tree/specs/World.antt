@@ -1,6 +1,7 @@
 -- The world as it is described: agents, the naming contexts that they master, what they know of others, and the
 -- shadowing agreements (X.501: knowledge; X.525: shadowing agreements). An agent is its place in the list.
--- Names of entries are whole: the context prefix as it is spelled for the context, then the RDNs of the entries on the way.
+-- Names of entries are whole: the context prefix as it is spelled for the context, then the RDNs of the entries on the
+-- way.
 use Rattle.std.specs.Prelude.{ℕ, Bool, List}
 use Rattle.std.specs.declared.option.Option.{Option}
 use Rattle.x5_model.specs.Values.{Text, Name}
@@ -27,8 +28,8 @@ pub record Context : Type 0 where
   pub entries : List Named
   pub nssrs : List Nssr
 
--- An agent without a superior is first-level. Its references stand in the file in one list: `crosses` tells of each of them,
--- in their order, whether it's a cross reference.
+-- An agent without a superior is first-level. Its references stand in the file in one list: `crosses` tells of each of
+-- them, in their order, whether it's a cross reference.
 pub record Agent : Type 0 where
   pub name : Text
   pub superior : Option ℕ
@@ -43,7 +44,8 @@ pub record Agreement : Type 0 where
   pub consumer : ℕ
   pub context : Name
 
--- agents that are down or refuse to chain, pairs that are cut, and the numbers of the messages and replies that are lost
+-- agents that are down or refuse to chain, pairs that are cut, and the numbers of the messages and replies that are
+-- lost
 pub record Network : Type 0 where
   pub down : List ℕ
   pub refusing : List ℕ

@@ -5,10 +5,25 @@ use Rattle.std.specs.declared.option.Option.{Option}
 use Rattle.std.specs.declared.option.Option.TheVariants.{None, Some}
 use Rattle.x5_model.specs.Normal.{is_printable}
 use Rattle.x5_model_typed.specs.Nodes.{Node, Vacant, Flag, Number, Chosen, Many, Nil, whole, row}
-use Rattle.x5_model_typed.specs.Named.{Named, Operation, Read, Compare, ListBelow, Search, AddEntry, RemoveEntry, ModifyEntry, ModifyDn, DapRequest, DapAnswer, DspRequest, DspAnswer, DispMessage, Argument, Chained, DapResult, DspResult, DispResult, Outcome, AnyNumber, NumberBelow, Enumeration, Boolean, Null, AnyOid, Value, Part, AgentName, Time, Options, RefType, Name, Rdn, Rdns, Pair, Attribute, Attributes, Values, TypeList, Selection, Controls, Assertion, Changes, Change, Filter, Filters, Item, Substrings, Parts, PlacedPart, Chaining, Progress, Trace, TraceItem, Agents, Agent, Reference, References, Source, Sources, EntryInfo, EntryInfos, Sub, Subs, Qualifier, AttributeError, NameError, ServiceError, UpdateError, ShadowError, Agreement, ShadowArgument, UpdateArgument, Refresh, Total, Entries, Entry, Knowns, Known, NonSpecifics, NonSpecific, WorldAgents, WorldAgent, WorldAgentName, Steps, Step, Renamed}
-use Rattle.x5_model_typed.specs.Forms.{Leaf, Component, Primitive, Joined, JoinedBits, Explicit, Sequence, Set, Members, Never, Alternative, Layout, universal, choice, ruled, plain, at, or, code}
-use Rattle.x5_model_typed.specs.Leaves.{boolean, null, number, any_number, from_to, one_of, oid, any_oid, short_oid, octet_string, text_where, text_of, is_numeric, is_seven_bit, universal_string, is_agent_name, options, options_node}
-use Rattle.x5_model_typed.specs.Rules.{name_rule, rdn_rule, pair_rule, some_members, controls_rule, text_rule, parts_rule, progress_rule, trace_rule, entry_rule, known_rule, masters_rule}
+use Rattle.x5_model_typed.specs.Named.{Named, Operation, Read, Compare, ListBelow, Search, AddEntry, RemoveEntry}
+use Rattle.x5_model_typed.specs.Named.{ModifyEntry, ModifyDn, DapRequest, DapAnswer, DspRequest, DspAnswer, DispMessage}
+use Rattle.x5_model_typed.specs.Named.{Argument, Chained, DapResult, DspResult, DispResult, Outcome, AnyNumber}
+use Rattle.x5_model_typed.specs.Named.{NumberBelow, Enumeration, Boolean, Null, AnyOid, Value, Part, AgentName, Time}
+use Rattle.x5_model_typed.specs.Named.{Options, RefType, Name, Rdn, Rdns, Pair, Attribute, Attributes, Values, TypeList}
+use Rattle.x5_model_typed.specs.Named.{Selection, Controls, Assertion, Changes, Change, Filter, Filters, Item}
+use Rattle.x5_model_typed.specs.Named.{Substrings, Parts, PlacedPart, Chaining, Progress, Trace, TraceItem, Agents}
+use Rattle.x5_model_typed.specs.Named.{Agent, Reference, References, Source, Sources, EntryInfo, EntryInfos, Sub, Subs}
+use Rattle.x5_model_typed.specs.Named.{Qualifier, AttributeError, NameError, ServiceError, UpdateError, ShadowError}
+use Rattle.x5_model_typed.specs.Named.{Agreement, ShadowArgument, UpdateArgument, Refresh, Total, Entries, Entry}
+use Rattle.x5_model_typed.specs.Named.{Knowns, Known, NonSpecifics, NonSpecific, WorldAgents, WorldAgent}
+use Rattle.x5_model_typed.specs.Named.{WorldAgentName, Steps, Step, Renamed}
+use Rattle.x5_model_typed.specs.Forms.{Leaf, Component, Primitive, Joined, JoinedBits, Explicit, Sequence, Set, Members}
+use Rattle.x5_model_typed.specs.Forms.{Never, Alternative, Layout, universal, choice, ruled, plain, at, or, code}
+use Rattle.x5_model_typed.specs.Leaves.{boolean, null, number, any_number, from_to, one_of, oid, any_oid, short_oid}
+use Rattle.x5_model_typed.specs.Leaves.{octet_string, text_where, text_of, is_numeric, is_seven_bit, universal_string}
+use Rattle.x5_model_typed.specs.Leaves.{is_agent_name, options, options_node}
+use Rattle.x5_model_typed.specs.Rules.{name_rule, rdn_rule, pair_rule, some_members, controls_rule, text_rule}
+use Rattle.x5_model_typed.specs.Rules.{parts_rule, progress_rule, trace_rule, entry_rule, known_rule, masters_rule}
 
 -- What shadow messages are read and written with: the moments that times are, and the world's agents.
 pub record Surroundings : Type 0 where
@@ -53,7 +68,8 @@ named_by rows (negsuc n) = None
 
 abbrev pub operation_codes : (Operation → Named) → List (ℕ × Named)
 operation_codes of =
-    (1, of Read) ∷ (2, of Compare) ∷ (4, of ListBelow) ∷ (5, of Search) ∷ (6, of AddEntry) ∷ (7, of RemoveEntry) ∷ (8, of ModifyEntry) ∷ (9, of ModifyDn) ∷ []
+    (1, of Read) ∷ (2, of Compare) ∷ (4, of ListBelow) ∷ (5, of Search) ∷ (6, of AddEntry) ∷ (7, of RemoveEntry)
+    ∷ (8, of ModifyEntry) ∷ (9, of ModifyDn) ∷ []
 
 abbrev pub dap_errors : List (ℕ × Named)
 dap_errors = (1, AttributeError) ∷ (2, NameError) ∷ (3, ServiceError) ∷ (4, Reference) ∷ (8, UpdateError) ∷ []
@@ -108,7 +124,8 @@ abbrev pub argument : Operation → List Component
 argument Read = at 0 Name ∷ or all_attributes (at 1 Selection) ∷ controls ∷ []
 argument Compare = at 0 Name ∷ at 1 Assertion ∷ controls ∷ []
 argument ListBelow = at 0 Name ∷ controls ∷ []
-argument Search = at 0 Name ∷ or (whole 0) (at 1 (NumberBelow 0 2)) ∷ or everything (at 2 (Filter 16)) ∷ or all_attributes (at 4 Selection) ∷ controls ∷ []
+argument Search = at 0 Name ∷ or (whole 0) (at 1 (NumberBelow 0 2)) ∷ or everything (at 2 (Filter 16))
+    ∷ or all_attributes (at 4 Selection) ∷ controls ∷ []
 argument AddEntry = at 0 Name ∷ at 1 Attributes ∷ controls ∷ []
 argument RemoveEntry = at 0 Name ∷ controls ∷ []
 argument ModifyEntry = at 0 Name ∷ at 1 Changes ∷ controls ∷ []
@@ -124,7 +141,8 @@ outcome update = universal 5 (Primitive null)
 -- a filter that is the 17th on its way has no right content
 abbrev pub filter : ℕ → List Alternative
 filter levels = if levels == 0 then choice 0 Never ∷ choice 1 Never ∷ choice 2 Never ∷ choice 3 Never ∷ []
-    else choice 0 (Explicit Item) ∷ choice 1 (Explicit (Filters (levels - 1))) ∷ choice 2 (Explicit (Filters (levels - 1))) ∷ choice 3 (Explicit (Filter (levels - 1))) ∷ []
+    else choice 0 (Explicit Item) ∷ choice 1 (Explicit (Filters (levels - 1)))
+    ∷ choice 2 (Explicit (Filters (levels - 1))) ∷ choice 3 (Explicit (Filter (levels - 1))) ∷ []
 
 abbrev pub printable : Alternative
 printable = universal 19 (Joined (text_where (text_of is_printable)))
@@ -198,10 +216,12 @@ layout w Attributes = is (set_of Attribute)
 layout w Values = is (ruled some_members (set_of Value))
 layout w TypeList = is (set_of AnyOid)
 layout w Selection = is (set (optional (at 1 TypeList) ∷ []))
-layout w Controls = is (ruled controls_rule (set (or (options_node false false) (at 0 Options) ∷ optional (at 1 AnyNumber) ∷ optional (at 2 AnyNumber) ∷ optional (at 3 (NumberBelow 0 4294967295)) ∷ [])))
+layout w Controls = is (ruled controls_rule (set (or (options_node false false) (at 0 Options)
+    ∷ optional (at 1 AnyNumber) ∷ optional (at 2 AnyNumber) ∷ optional (at 3 (NumberBelow 0 4294967295)) ∷ [])))
 layout w Assertion = is (sequence (plain AnyOid ∷ plain Value ∷ []))
 layout w Changes = is (sequence_of Change)
-layout w Change = choice 0 (Explicit Attribute) ∷ choice 1 (Explicit AnyOid) ∷ choice 2 (Explicit Attribute) ∷ choice 3 (Explicit Attribute) ∷ []
+layout w Change = choice 0 (Explicit Attribute) ∷ choice 1 (Explicit AnyOid) ∷ choice 2 (Explicit Attribute)
+    ∷ choice 3 (Explicit Attribute) ∷ []
 layout w (Filter levels) = filter levels
 layout w (Filters levels) = is (set_of (Filter levels))
 layout w Item =
@@ -216,12 +236,15 @@ layout w Substrings = is (sequence (plain AnyOid ∷ plain Parts ∷ []))
 layout w Parts = is (ruled parts_rule (sequence_of PlacedPart))
 layout w PlacedPart = choice 0 (Explicit Part) ∷ choice 1 (Explicit Part) ∷ choice 2 (Explicit Part) ∷ []
 layout w Chaining = is (set (at 0 Name ∷ at 1 Progress ∷ at 2 Trace ∷ at 3 RefType ∷ or_nothing (at 4 Rdns) ∷ []))
-layout w Progress = is (ruled progress_rule (sequence (plain (Enumeration 1 3) ∷ optional (plain (NumberBelow 1 16)) ∷ [])))
+layout w Progress =
+    is (ruled progress_rule (sequence (plain (Enumeration 1 3) ∷ optional (plain (NumberBelow 1 16)) ∷ [])))
 layout w Trace = is (ruled trace_rule (sequence_of TraceItem))
-layout w TraceItem = is (sequence (plain AgentName ∷ plain Name ∷ plain Progress ∷ or (Flag false) (plain Boolean) ∷ []))
+layout w TraceItem =
+    is (sequence (plain AgentName ∷ plain Name ∷ plain Progress ∷ or (Flag false) (plain Boolean) ∷ []))
 layout w Agents = is (sequence_of Agent)
 layout w Agent = is (sequence (plain AgentName ∷ or (Flag false) (plain Boolean) ∷ []))
-layout w Reference = is (set (at 0 Name ∷ at 1 Progress ∷ at 2 RefType ∷ at 3 Agents ∷ or_nothing (at 4 Rdns) ∷ or (Flag false) (at 5 Boolean) ∷ []))
+layout w Reference = is (set (at 0 Name ∷ at 1 Progress ∷ at 2 RefType ∷ at 3 Agents ∷ or_nothing (at 4 Rdns)
+    ∷ or (Flag false) (at 5 Boolean) ∷ []))
 layout w References = is (sequence_of Reference)
 layout w Source = is (sequence (plain Name ∷ plain AgentName ∷ optional (plain (NumberBelow 0 4294967295)) ∷ []))
 layout w Sources = is (sequence_of Source)
@@ -232,7 +255,8 @@ layout w Subs = is (sequence_of Sub)
 layout w Qualifier = is (set (optional (at 0 (NumberBelow 1 1)) ∷ or_nothing (at 1 References) ∷ []))
 layout w AttributeError = is (sequence (plain (NumberBelow 1 6) ∷ plain AnyOid ∷ []))
 layout w NameError = is (sequence (plain (NumberBelow 1 1) ∷ plain Name ∷ []))
-layout w ServiceError = is (sequence (plain (NumberBelow 1 12) ∷ optional (at 0 Reference) ∷ optional (at 1 TraceItem) ∷ []))
+layout w ServiceError =
+    is (sequence (plain (NumberBelow 1 12) ∷ optional (at 0 Reference) ∷ optional (at 1 TraceItem) ∷ []))
 layout w UpdateError = is (sequence (plain (NumberBelow 1 7) ∷ []))
 layout w ShadowError = is (sequence (plain (NumberBelow 1 11) ∷ optional (at 0 Time) ∷ optional (at 1 Time) ∷ []))
 layout w Agreement = is (integer (from_to 0 4294967295))
@@ -250,5 +274,6 @@ layout w WorldAgents = is (sequence_of WorldAgent)
 layout w WorldAgent = is (sequence (plain WorldAgentName ∷ or (Flag false) (plain Boolean) ∷ []))
 layout w WorldAgentName = is (agent_name w.is_agent)
 layout w Steps = is (sequence_of Step)
-layout w Step = choice 0 (Explicit Entry) ∷ choice 1 (Explicit Name) ∷ choice 2 (Explicit Entry) ∷ choice 3 (Explicit Renamed) ∷ []
+layout w Step =
+    choice 0 (Explicit Entry) ∷ choice 1 (Explicit Name) ∷ choice 2 (Explicit Entry) ∷ choice 3 (Explicit Renamed) ∷ []
 layout w Renamed = is (sequence (plain Name ∷ plain Entry ∷ []))

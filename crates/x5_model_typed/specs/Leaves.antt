@@ -1,5 +1,7 @@
 -- Contents of primitive types (X.690, section 8), both ways.
-use Rattle.std.specs.Prelude.{ℕ, ◌+◌, ◌-◌, ◌*◌, ◌%◌, ◌^◌, ℤ, pos, negsuc, Bool, true, false, not, ◌&&◌, ◌||◌, ◌==◌, nat_lt, nat_le, if◌then◌else◌, List, [], ◌∷◌, length, map, flat_map, chars, encode_utf8_all, codes}
+use Rattle.std.specs.Prelude.{ℕ, ◌+◌, ◌-◌, ◌*◌, ◌%◌, ◌^◌, ℤ, pos, negsuc, Bool, true, false, not, ◌&&◌, ◌||◌, ◌==◌}
+use Rattle.std.specs.Prelude.{nat_lt, nat_le, if◌then◌else◌, List, [], ◌∷◌, length, map, flat_map, chars}
+use Rattle.std.specs.Prelude.{encode_utf8_all, codes}
 use Rattle.std.specs.List.{list_all, list_any}
 use Rattle.std.specs.Int.{to_be_bytes, w32, w64}
 use Rattle.std.specs.Char.{is_ascii_alphabetic, is_ascii_alphanumeric, is_ascii_digit}
@@ -145,7 +147,8 @@ short_oid arcs = nat_le (oid_content_len arcs) most_octets
 -- ---- strings
 
 abbrev pub octet_string : Leaf (List ℕ)
-octet_string = record { reads = λ octets. where_so (nat_le (length octets) most_octets) (Octets octets); writes = writes }
+octet_string =
+    record { reads = λ octets. where_so (nat_le (length octets) most_octets) (Octets octets); writes = writes }
   where
     writes : Node → Option (List ℕ)
     writes (Octets octets) = where_so (nat_le (length octets) most_octets) octets
@@ -204,7 +207,8 @@ begins_with_letter (o ∷ os) = is_ascii_alphabetic o
 
 abbrev pub is_agent_name : List ℕ → Bool
 is_agent_name text =
-    begins_with_letter text && list_all may_stand_in_agent text && nat_le (length text) 32 && not (same_octets text (codes "user"))
+    begins_with_letter text && list_all may_stand_in_agent text && nat_le (length text) 32
+    && not (same_octets text (codes "user"))
 
 -- ---- BIT STRING: the service controls' options, of which chainingProhibited is bit 1 and dontUseCopy
 -- bit 3; preferChaining and dontDereferenceAliases, 0 and 4, aren't kept, and no other may be set
@@ -231,7 +235,10 @@ abbrev pub options_node : Bool → Bool → Node
 options_node nocopy nochain = Many (row (Flag nocopy ∷ Flag nochain ∷ []))
 
 abbrev pub options : Leaf (List Bool)
-options = record { reads = λ bits. where_so (may_be_set bits) (options_node (fourth bits) (second bits)); writes = λ n. by (parts n) }
+options = record {
+  reads = λ bits. where_so (may_be_set bits) (options_node (fourth bits) (second bits));
+  writes = λ n. by (parts n);
+}
   where
     by : List Node → Option (List Bool)
     by (Flag true ∷ Flag nochain ∷ []) = Some (false ∷ nochain ∷ false ∷ true ∷ [])

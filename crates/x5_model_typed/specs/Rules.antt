@@ -1,5 +1,6 @@
 -- What values of types have to be as wholes, and as what they are kept.
-use Rattle.std.specs.Prelude.{ℕ, pos, Bool, true, false, not, ◌&&◌, ◌||◌, ◌==◌, nat_lt, nat_le, List, [], ◌∷◌, length, map}
+use Rattle.std.specs.Prelude.{ℕ, pos, Bool, true, false, not, ◌&&◌, ◌||◌, ◌==◌, nat_lt, nat_le, List, [], ◌∷◌, length}
+use Rattle.std.specs.Prelude.{map}
 use Rattle.std.specs.List.{list_all}
 use Rattle.std.specs.declared.option.Option.{Option}
 use Rattle.std.specs.declared.option.Option.TheVariants.{None, Some}
@@ -11,7 +12,8 @@ use Rattle.x5_model.specs.Normal as normal
 use Rattle.x5_model.specs.Normal.{is_of_kind, normal_form, written_key}
 use Rattle.x5_model_text.specs.TypeText.{known_below}
 use Rattle.x5_model_typed.specs.Nodes as nodes
-use Rattle.x5_model_typed.specs.Nodes.{Node, Nodes, Vacant, Flag, Number, Oid, Bits, Octets, Chosen, Many, list, row, parts, is_vacant}
+use Rattle.x5_model_typed.specs.Nodes.{Node, Nodes, Vacant, Flag, Number, Oid, Bits, Octets, Chosen, Many, list, row}
+use Rattle.x5_model_typed.specs.Nodes.{parts, is_vacant}
 use Rattle.x5_model_typed.specs.Leaves.{where_so}
 
 abbrev pub where_test : (Node → Bool) → Node → Option Node
@@ -73,7 +75,8 @@ same_type p q = (pair_in p).0 == (pair_in q).0
 -- one to four pairs of different types, kept in the order of the types
 abbrev pub rdn_rule : Node → Option Node
 rdn_rule r =
-    where_so (nat_lt 0 (length (parts r)) && nat_le (length (parts r)) normal.most_pairs && distinct same_type (parts r))
+    where_so (nat_lt 0 (length (parts r)) && nat_le (length (parts r)) normal.most_pairs
+    && distinct same_type (parts r))
     (Many (row (sorted pair_below (parts r))))
 
 abbrev pub name_rule : Node → Option Node
@@ -131,7 +134,8 @@ abbrev pub progress_rule : Node → Option Node
 progress_rule n = by (parts n)
   where
     by : List Node → Option Node
-    by (phase ∷ next ∷ []) = where_so ((is_proceeding phase && not (is_vacant next)) || (not (is_proceeding phase) && is_vacant next)) n
+    by (phase ∷ next ∷ []) =
+        where_so ((is_proceeding phase && not (is_vacant next)) || (not (is_proceeding phase) && is_vacant next)) n
     by other = None
 
 -- items are the same where the agent, the target's key, the progress and the mark are
@@ -140,7 +144,8 @@ same_item a b = by (parts a) (parts b)
   where
     by : List Node → List Node → Bool
     by (agent ∷ target ∷ progress ∷ wide ∷ []) (agent' ∷ target' ∷ progress' ∷ wide' ∷ []) =
-        nodes.same agent agent' && same_key (written_key (name_in target)) (written_key (name_in target')) && nodes.same progress progress' && nodes.same wide wide'
+        nodes.same agent agent' && same_key (written_key (name_in target)) (written_key (name_in target'))
+        && nodes.same progress progress' && nodes.same wide wide'
     by a b = false
 
 abbrev pub most_items : ℕ
@@ -180,7 +185,8 @@ abbrev pub in_order : Node → Node
 in_order a = by (parts a)
   where
     by : List Node → Node
-    by (type ∷ values ∷ []) = Many (row (type ∷ Many (row (sorted (value_below (type_number type)) (parts values))) ∷ []))
+    by (type ∷ values ∷ []) =
+        Many (row (type ∷ Many (row (sorted (value_below (type_number type)) (parts values))) ∷ []))
     by other = a
 
 abbrev pub attribute_type : Node → ℕ
@@ -206,7 +212,8 @@ entry_rule e = by (parts e)
   where
     by : List Node → Option Node
     by (name ∷ from_entry ∷ attributes ∷ []) =
-        where_so (is_true from_entry && list_all is_stored (parts attributes) && distinct same_attribute (parts attributes))
+        where_so (is_true from_entry && list_all is_stored (parts attributes)
+        && distinct same_attribute (parts attributes))
         (Many (row (name ∷ from_entry ∷ Many (row (sorted attribute_below (map in_order (parts attributes)))) ∷ [])))
     by other = None
 

@@ -15,4 +15,5 @@ IsJudged = (layout : Layout) (types : List Alternative) (t : Tree) (n : Node) �
 -- An element is a value of a type, and judged to be it, or it is none, and judged to have a breach.
 abbrev pub JudgedDecides : Type 0
 JudgedDecides = (layout : Layout) (types : List Alternative) (t : Tree)
-    → ((n : Node) × (judged layout types t ≡ Ok n) × IsOf layout types t n) ⊎ ((b : Breach) × (judged layout types t ≡ Err b) × ((n : Node) → ¬ (IsOf layout types t n)))
+    → ((n : Node) × (judged layout types t ≡ Ok n) × IsOf layout types t n)
+    ⊎ ((b : Breach) × (judged layout types t ≡ Err b) × ((n : Node) → ¬ (IsOf layout types t n)))

@@ -5,7 +5,8 @@ use Rattle.std.specs.declared.option.Option.TheVariants.{None, Some}
 use Rattle.x5_model.specs.Words.{distinct}
 use Rattle.x5_model_typed.specs.Nodes.{Node, Nodes, Chosen, Many, Nil, More}
 use Rattle.x5_model_typed.specs.Named.{Named}
-use Rattle.x5_model_typed.specs.Forms.{Default, Component, Content, Explicit, Sequence, Set, Members, Alternative, Layout, has_tag, may_be_tagged, alternatives}
+use Rattle.x5_model_typed.specs.Forms.{Default, Component, Content, Explicit, Sequence, Set, Members, Alternative}
+use Rattle.x5_model_typed.specs.Forms.{Layout, has_tag, may_be_tagged, alternatives}
 use Rattle.x5_model_typed.specs.Judged.{leaf_node, may_be_missing}
 use Rattle.x5_model_typed.specs.Typed.{Goes}
 use Rattle.x5_model_typed.specs.Layouts.{Surroundings}
@@ -28,7 +29,8 @@ apart_from layout c (b ∷ bs) = are_apart layout b c && (if may_be_missing b th
 
 abbrev pub is_sequence_apart : Layout → List Component → Bool
 is_sequence_apart layout [] = true
-is_sequence_apart layout (c ∷ cs) = (if may_be_missing c then apart_from layout c cs else true) && is_sequence_apart layout cs
+is_sequence_apart layout (c ∷ cs) =
+    (if may_be_missing c then apart_from layout c cs else true) && is_sequence_apart layout cs
 
 abbrev pub is_set_apart : Layout → List Component → Bool
 is_set_apart layout [] = true

@@ -6,7 +6,8 @@ use Rattle.std.specs.declared.option.Option.TheVariants.{Some}
 use Rattle.x5_model_typed.specs.Trees.{Tree, Trees, Leaf, Branch, Bare, Row}
 use Rattle.x5_model_typed.specs.Nodes.{Node, Nodes, Many}
 use Rattle.x5_model_typed.specs.Named.{Named}
-use Rattle.x5_model_typed.specs.Forms.{Presence, Code, Content, Primitive, Joined, JoinedBits, Explicit, Sequence, Set, Members, Never, Alternative, Layout}
+use Rattle.x5_model_typed.specs.Forms.{Presence, Code, Content, Primitive, Joined, JoinedBits, Explicit, Sequence, Set}
+use Rattle.x5_model_typed.specs.Forms.{Members, Never, Alternative, Layout}
 use Rattle.x5_model_typed.specs.Judged.{marked}
 use Rattle.x5_model_typed.specs.Typed.{Spells}
 use Rattle.x5_model_typed.specs.Layouts.{Surroundings, layout}

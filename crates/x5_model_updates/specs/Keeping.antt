@@ -28,7 +28,8 @@ UpdatesKeep = (k : Knowledge) (t u : Tree) (r : Request) → Coherent k → IsTr
 
 -- And entries stay in order: their attributes by type, and the values of each by their normal forms.
 abbrev pub OrderStays : Type 0
-OrderStays = (k : Knowledge) (t u : Tree) (r : Request) → Coherent k → IsTreeOf k t → list_all (λ e. is_ordered e.entry) t.entries ≡ true → apply t r ≡ Ok u
+OrderStays = (k : Knowledge) (t u : Tree) (r : Request) → Coherent k → IsTreeOf k t →
+    list_all (λ e. is_ordered e.entry) t.entries ≡ true → apply t r ≡ Ok u
     → list_all (λ e. is_ordered e.entry) u.entries ≡ true
 
 -- no context was moved
@@ -45,10 +46,13 @@ abbrev pub NoneMoved : List Did → Type 0
 NoneMoved [] = ⊤
 NoneMoved (d ∷ before) = MovesNone d.deed × NoneMoved before
 
--- 2. So it stands at every line that was led to without moving contexts, whatever was accepted, and at every line of a run.
+-- 2. So it stands at every line that was led to without moving contexts, whatever was accepted, and at every line of a
+-- run.
 abbrev pub LinesStand : Type 0
-LinesStand = (w : World) (past : List Did) → IsDescribed w → IsConsistent w → NoneMoved past → Stands (record { described = w; past = past })
+LinesStand = (w : World) (past : List Did) → IsDescribed w → IsConsistent w → NoneMoved past →
+    Stands (record { described = w; past = past })
 
 abbrev pub RunsStand : Judge → Type 0
-RunsStand judge = (w : World) (commands : List Command) (blocks : List Block) (past : List Did) → IsDescribed w → IsConsistent w
+RunsStand judge =
+    (w : World) (commands : List Command) (blocks : List Block) (past : List Did) → IsDescribed w → IsConsistent w
     → IsRun judge w commands blocks past → Stands (record { described = w; past = past })

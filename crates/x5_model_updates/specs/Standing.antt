@@ -1,5 +1,5 @@
--- What a line of a run over consistent knowledge finds: knowledge that still meets its conditions, with the entries of the
--- moment, and the one tree as the union of the masters' parts (X.501, section 22).
+-- What a line of a run over consistent knowledge finds: knowledge that still meets its conditions, with the entries of
+-- the moment, and the one tree as the union of the masters' parts (X.501, section 22).
 use Rattle.std.specs.Prelude.{◌≡◌, true, map}
 use Rattle.std.specs.List.{list_all}
 use Rattle.x5_model.specs.Words.{ascending}
@@ -16,16 +16,16 @@ use Rattle.x5_model_theory.specs.Knowledge.{Knowledge, Area}
 use Rattle.x5_model_theory.specs.Described.{knowledge_of}
 use Rattle.x5_model_theory.specs.Coherent.{Coherent}
 
--- the tree of this knowledge: in order, its pins are the prefixes of the contexts, a context has the keys of its part, and
--- each entry is in the part of some context
+-- the tree of this knowledge: in order, its pins are the prefixes of the contexts, a context has the keys of its part,
+-- and each entry is in the part of some context
 pub record IsTreeOf (k : Knowledge) (t : Tree) : Type 0 where
   pub in_order : ascending named_below t.entries ≡ true
   pub pins : t.pins ≡ map (λ (c : Area). c.prefix) k.areas
   pub parts : (c : Area) → In c k.areas → c.entries ≡ keys_of (part t c.prefix)
   pub parted : (e : Named) → In e t.entries → (c : Area) × In c k.areas × In e (part t c.prefix)
 
--- `knowledge_at` has the contexts and references of the line with the entries of the world file, `world_at` has them with
--- the entries of the moment
+-- `knowledge_at` has the contexts and references of the line with the entries of the world file, `world_at` has them
+-- with the entries of the moment
 pub record Stands (p : Point) : Type 0 where
   pub described : IsDescribed (knowledge_at p)
   pub consistent : IsConsistent (knowledge_at p)

@@ -16,8 +16,10 @@ use Rattle.x5_model_run.specs.History.{Point}
 use Rattle.x5_model_run.specs.Chain.{Scene}
 use Rattle.x5_model_run.specs.Placed.{RightReply}
 use Rattle.x5_model_serve.specs.Answering.{is_service, of_these, is_unavailable}
-use Rattle.x5_model_serve.specs.Serving.{Hand, Heard, Sends, Hears, Does, Probes, with_accepted, holds_now, judged, is_spent}
-use Rattle.x5_model_serve.specs.Claims.{Setting, Accepted, Keeps, NotedSoFar, TakenRight, AtMaster, is_settled_line, serving_of}
+use Rattle.x5_model_serve.specs.Serving.{Hand, Heard, Sends, Hears, Does, Probes, with_accepted, holds_now, judged}
+use Rattle.x5_model_serve.specs.Serving.{is_spent}
+use Rattle.x5_model_serve.specs.Claims.{Setting, Accepted, Keeps, NotedSoFar, TakenRight, AtMaster, is_settled_line}
+use Rattle.x5_model_serve.specs.Claims.{serving_of}
 
 -- Nothing was accepted before.
 abbrev pub NoneAccepted : Type 0
@@ -31,8 +33,8 @@ RefusalIsRight =
     → RightReply p s (serving_of i k at.at_hand.line.number) i spent (Failed x)
 
 -- The line has just come: it is the newest, and each line before it is settled: it may not accept the update, or what
--- it brought was refused, or something was accepted. So it is the accepting line, the first that may accept, if the tree
--- doesn't refuse the update and nothing was accepted before.
+-- it brought was refused, or something was accepted. So it is the accepting line, the first that may accept, if the
+-- tree doesn't refuse the update and nothing was accepted before.
 pub record JustCame (p : Point) (s : Scene) (l : Line) (i : Journal) : Type 0 where
   pub before : List Line
   pub newest : i.lines ≡ l ∷ before

@@ -1,5 +1,7 @@
--- The naming contexts that a world file describes, with their entries and non-specific references. `names` are those of all agents.
-use Rattle.std.specs.Prelude.{ℕ, ◌+◌, Bool, not, ◌&&◌, if◌then◌else◌, List, [], ◌∷◌, ◌++◌, map, length, Option, Some, None, Ok, option_map, codes}
+-- The naming contexts that a world file describes, with their entries and non-specific references. `names` are those of
+-- all agents.
+use Rattle.std.specs.Prelude.{ℕ, ◌+◌, Bool, not, ◌&&◌, if◌then◌else◌, List, [], ◌∷◌, ◌++◌, map, length, Option, Some}
+use Rattle.std.specs.Prelude.{None, Ok, option_map, codes}
 use Rattle.std.specs.List.{find, position, list_any}
 use Rattle.serde_json.specs.Data.{Data, Items, no_items, item}
 use Rattle.serde_json.specs.Events.{items_len}
@@ -11,7 +13,8 @@ use Rattle.x5_model.specs.Entries.{Named}
 use Rattle.x5_model_tree.specs.Described.{most_entries, most_nssr_agents}
 use Rattle.x5_model_tree.specs.Tree.{key_at}
 use Rattle.x5_model_tree.specs.World.{Nssr, Context}
-use Rattle.x5_model_world.specs.Reading.{Read, ◌>>=◌, at, nth, needed, if_fit, if_few, members_at, list_at, list_if_any, some_at, name_at, entry_name_at, only}
+use Rattle.x5_model_world.specs.Reading.{Read, ◌>>=◌, at, nth, needed, if_fit, if_few, members_at, list_at, list_if_any}
+use Rattle.x5_model_world.specs.Reading.{some_at, name_at, entry_name_at, only}
 use Rattle.x5_model_world.specs.EntryTexts.{given_behind, entry_given}
 
 -- how much of the world's limits was used so far: contexts, entries, and agents of non-specific references
@@ -43,8 +46,8 @@ agents_behind names path i before (item d ds) =
 
 -- ---- entries of a context, behind those before them
 
--- An entry's whole name. The first entry has the context prefix, as that is spelled. The parent of any other stands before it; its own
--- last RDN stands below the parent's name.
+-- An entry's whole name. The first entry has the context prefix, as that is spelled. The parent of any other stands
+-- before it; its own last RDN stands below the parent's name.
 abbrev pub below_parent : List Named → Name → Option Name
 below_parent before own =
     option_map (λ above. above.name ++ last_rdn own ∷ []) (find (λ e. same_key (parent (key_of own)) (key_at e)) before)
@@ -73,7 +76,8 @@ entries_behind path i prefix before no_items = Ok before
 entries_behind path i prefix before (item d ds) =
     entry_behind (nth path i) prefix before d >>= λ more. entries_behind path (i + 1) prefix more ds
 
--- ---- non-specific references: each stands at an entry of the context, at which no other one stands, and lists an agent
+-- ---- non-specific references: each stands at an entry of the context, at which no other one stands, and lists an
+-- agent
 
 -- those so far, and how many agents are listed in all that the file has so far
 pub record Nssrs : Type 0 where
@@ -88,7 +92,8 @@ is_place entries before k = has_key (map key_at entries) k && not (has_key (nssr
 
 -- how many agents are listed with those of a list, if they aren't too many
 abbrev pub counted : Text → ℕ → Items → Read ℕ
-counted path listed texts = if_few (at path (codes "agents")) most_nssr_agents (listed + items_len texts) (listed + items_len texts)
+counted path listed texts =
+    if_few (at path (codes "agents")) most_nssr_agents (listed + items_len texts) (listed + items_len texts)
 
 abbrev pub nssr_members : List Text
 nssr_members = codes "at" ∷ codes "agents" ∷ []
@@ -115,7 +120,8 @@ nssrs_behind names path i entries before (item d ds) =
 abbrev pub context_members : List Text
 context_members = codes "prefix" ∷ codes "entries" ∷ codes "nssr" ∷ []
 
--- contexts so far of an agent, and what the file uses of the limits so far; contexts are counted when their list is reached
+-- contexts so far of an agent, and what the file uses of the limits so far; contexts are counted when their list is
+-- reached
 pub record Contexts : Type 0 where
   pub contexts : List Context
   pub counts : Counts
@@ -128,7 +134,8 @@ with_context before prefix entries found used = record {
 
 -- how many entries there are with those of a list, if they aren't too many
 abbrev pub with_entries : Text → ℕ → Items → Read ℕ
-with_entries path used items = if_few (at path (codes "entries")) most_entries (used + items_len items) (used + items_len items)
+with_entries path used items =
+    if_few (at path (codes "entries")) most_entries (used + items_len items) (used + items_len items)
 
 -- one more
 abbrev pub context_behind : List Text → Text → Contexts → Data → Read Contexts
@@ -139,7 +146,8 @@ context_behind names path before d = do
   used ← with_entries path before.counts.entries items
   entries ← entries_behind (at path (codes "entries")) 0 prefix [] items
   list ← list_if_any path (codes "nssr") d
-  found ← nssrs_behind names (at path (codes "nssr")) 0 entries (record { nssrs = []; listed = before.counts.nssr_agents }) list
+  found ← nssrs_behind names (at path (codes "nssr")) 0 entries
+      (record { nssrs = []; listed = before.counts.nssr_agents }) list
   only path context_members members (with_context before prefix entries found used)
 
 abbrev pub contexts_behind : List Text → Text → ℕ → Contexts → Items → Read Contexts

@@ -1,5 +1,6 @@
 -- The entry that texts `T=value` give.
-use Rattle.std.specs.Prelude.{ℕ, ◌+◌, Bool, ◌&&◌, ◌==◌, if◌then◌else◌, List, [], ◌∷◌, ◌++◌, Option, Some, None, option_and_then, Result, Ok, Err}
+use Rattle.std.specs.Prelude.{ℕ, ◌+◌, Bool, ◌&&◌, ◌==◌, if◌then◌else◌, List, [], ◌∷◌, ◌++◌, Option, Some, None}
+use Rattle.std.specs.Prelude.{option_and_then, Result, Ok, Err}
 use Rattle.std.specs.List.{list_any, before_first, after_first}
 use Rattle.std.specs.Option.{is_none}
 use Rattle.serde_json.specs.Data.{Data, Items, no_items, item}
@@ -30,7 +31,8 @@ if_value path kind (Err (TooLong most)) = Err (OverLimit path most)
 abbrev pub given_by : Text → Text → Read Given
 given_by path t =
     if list_any is_equals t
-    then (needed path (type_of_text (before_first is_equals t)) >>= λ kind. if_value path kind (value_of_text kind (after_first is_equals t)))
+    then (needed path (type_of_text (before_first is_equals t)) >>= λ kind. if_value path kind
+    (value_of_text kind (after_first is_equals t)))
     else Err (BadShape path)
 
 abbrev pub given_in : Text → Data → Read Given
@@ -42,13 +44,14 @@ given_behind path i before no_items = Ok before
 given_behind path i before (item d ds) =
     given_in (nth path i) d >>= λ g. given_behind path (i + 1) (before ++ g ∷ []) ds
 
--- ---- The entry with these values: each type is known, each value is of its kind, and none is given twice. The values of its RDN are
--- added where they lack. Then it has an object class, and one value at most of a single-valued type (X.501, section 8; X.511,
--- section 11.1).
+-- ---- The entry with these values: each type is known, each value is of its kind, and none is given twice. The values
+-- of its RDN are added where they lack. Then it has an object class, and one value at most of a single-valued type
+-- (X.501, section 8; X.511, section 11.1).
 
 abbrev pub with_normal : ℕ → Value → Entry → Option (List ℕ) → Option Entry
 with_normal kind v e None = None
-with_normal kind v e (Some n) = if has_value e kind n then None else Some (put_value kind (record { value = v; normal = n }) e)
+with_normal kind v e (Some n) =
+    if has_value e kind n then None else Some (put_value kind (record { value = v; normal = n }) e)
 
 abbrev pub with_value : Entry → TypeRef → Value → Option Entry
 with_value e (Known kind) v = with_normal kind v e (normal_for (Known kind) v)

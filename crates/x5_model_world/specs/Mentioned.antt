@@ -1,5 +1,5 @@
--- The first name, in the order of the file, that refers to an agent and is no agent's. It counts once all else is as it must be; so what
--- isn't of the right type is passed over here.
+-- The first name, in the order of the file, that refers to an agent and is no agent's. It counts once all else is as it
+-- must be; so what isn't of the right type is passed over here.
 use Rattle.std.specs.Prelude.{ℕ, ◌+◌, if◌then◌else◌, List, Option, Some, None, option_and_then, codes}
 use Rattle.serde_json.specs.Data.{Data, Items, no_items, item}
 use Rattle.serde_json.specs.Find.{get, as_str, as_array}
@@ -52,10 +52,12 @@ unknown_in_reference names path d =
 abbrev pub unknown_in_agent : List Text → Text → Data → Option Text
 unknown_in_agent names path d =
     first_of_two (unknown_at names path (codes "superior") d)
-    (first_of_two (first_at (unknown_in_context names) path (codes "contexts") d) (first_at (unknown_in_reference names) path (codes "refs") d))
+    (first_of_two (first_at (unknown_in_context names) path (codes "contexts") d)
+    (first_at (unknown_in_reference names) path (codes "refs") d))
 
 abbrev pub unknown_in_agreement : List Text → Text → Data → Option Text
-unknown_in_agreement names path d = first_of_two (unknown_at names path (codes "supplier") d) (unknown_at names path (codes "consumer") d)
+unknown_in_agreement names path d =
+    first_of_two (unknown_at names path (codes "supplier") d) (unknown_at names path (codes "consumer") d)
 
 -- the two agents of a pair stand at the places 0 and 1
 abbrev pub unknown_in_pair : List Text → Text → Data → Option Text
@@ -65,10 +67,12 @@ abbrev pub unknown_in_network : List Text → Option Data → Option Text
 unknown_in_network names None = None
 unknown_in_network names (Some d) =
     first_of_two (first_at (unknown_text names) (codes "/network") (codes "down") d)
-    (first_of_two (first_at (unknown_text names) (codes "/network") (codes "refuse") d) (first_at (unknown_in_pair names) (codes "/network") (codes "cut") d))
+    (first_of_two (first_at (unknown_text names) (codes "/network") (codes "refuse") d)
+    (first_at (unknown_in_pair names) (codes "/network") (codes "cut") d))
 
 -- the first of the world; the whole file's path is the empty text
 abbrev pub unknown_in_world : List Text → Data → Option Text
 unknown_in_world names d =
     first_of_two (first_at (unknown_in_agent names) (codes "") (codes "agents") d)
-    (first_of_two (first_at (unknown_in_agreement names) (codes "") (codes "agreements") d) (unknown_in_network names (get (codes "network") d)))
+    (first_of_two (first_at (unknown_in_agreement names) (codes "") (codes "agreements") d)
+    (unknown_in_network names (get (codes "network") d)))

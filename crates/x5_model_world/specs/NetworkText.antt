@@ -1,5 +1,6 @@
 -- The network that a world file of format 2 describes. `names` are those of all agents.
-use Rattle.std.specs.Prelude.{ℕ, ◌+◌, Bool, not, ◌&&◌, ◌||◌, ◌==◌, List, [], ◌∷◌, ◌++◌, map, Option, Some, None, Ok, option_and_then, codes}
+use Rattle.std.specs.Prelude.{ℕ, ◌+◌, Bool, not, ◌&&◌, ◌||◌, ◌==◌, List, [], ◌∷◌, ◌++◌, map, Option, Some, None, Ok}
+use Rattle.std.specs.Prelude.{option_and_then, codes}
 use Rattle.std.specs.List.{list_any}
 use Rattle.serde_json.specs.Data.{Data, Items, no_items, item}
 use Rattle.serde_json.specs.Events.{items_len}
@@ -8,7 +9,8 @@ use Rattle.x5_model.specs.Words.{same_octets}
 use Rattle.x5_model.specs.Values.{Text}
 use Rattle.x5_model_tree.specs.Described.{most_cut, most_lost_messages, most_lost_replies}
 use Rattle.x5_model_tree.specs.World.{Network}
-use Rattle.x5_model_world.specs.Reading.{Read, ◌>>=◌, at, nth, needed, if_fit, if_few, members_at, list_if_any, number_of, only}
+use Rattle.x5_model_world.specs.Reading.{Read, ◌>>=◌, at, nth, needed, if_fit, if_few, members_at, list_if_any}
+use Rattle.x5_model_world.specs.Reading.{number_of, only}
 use Rattle.x5_model_world.specs.ContextText.{agent_of}
 
 -- ---- agents, each once
@@ -21,7 +23,8 @@ text_behind path before d = needed path (as_str d) >>= λ t. if_fit path (not (h
 
 abbrev pub texts_behind : Text → ℕ → List Text → Items → Read (List Text)
 texts_behind path i before no_items = Ok before
-texts_behind path i before (item d ds) = text_behind (nth path i) before d >>= λ t. texts_behind path (i + 1) (before ++ t ∷ []) ds
+texts_behind path i before (item d ds) =
+    text_behind (nth path i) before d >>= λ t. texts_behind path (i + 1) (before ++ t ∷ []) ds
 
 abbrev pub agents_at : List Text → Text → Data → Read (List ℕ)
 agents_at names name d = do
@@ -53,11 +56,13 @@ pair_of (item c (item d (item e ds))) = None
 
 abbrev pub pair_behind : Text → List Texts → Data → Read Texts
 pair_behind path before d =
-    needed path (option_and_then pair_of (as_array d)) >>= λ p. if_fit path (not (same_octets p.0 p.1) && not (has_pair before p.0 p.1)) p
+    needed path (option_and_then pair_of (as_array d)) >>= λ p. if_fit path (not (same_octets p.0 p.1)
+    && not (has_pair before p.0 p.1)) p
 
 abbrev pub pairs_behind : Text → ℕ → List Texts → Items → Read (List Texts)
 pairs_behind path i before no_items = Ok before
-pairs_behind path i before (item d ds) = pair_behind (nth path i) before d >>= λ p. pairs_behind path (i + 1) (before ++ p ∷ []) ds
+pairs_behind path i before (item d ds) =
+    pair_behind (nth path i) before d >>= λ p. pairs_behind path (i + 1) (before ++ p ∷ []) ds
 
 abbrev pub pair_of_agents : List Text → Texts → ℕ × ℕ
 pair_of_agents names p = (agent_of names p.0, agent_of names p.1)
@@ -76,7 +81,8 @@ number_behind path before d = needed path (number_of d) >>= λ n. if_fit path (n
 
 abbrev pub numbers_behind : Text → ℕ → List ℕ → Items → Read (List ℕ)
 numbers_behind path i before no_items = Ok before
-numbers_behind path i before (item d ds) = number_behind (nth path i) before d >>= λ n. numbers_behind path (i + 1) (before ++ n ∷ []) ds
+numbers_behind path i before (item d ds) =
+    number_behind (nth path i) before d >>= λ n. numbers_behind path (i + 1) (before ++ n ∷ []) ds
 
 abbrev pub numbers_at : ℕ → Text → Data → Read (List ℕ)
 numbers_at most name d = do

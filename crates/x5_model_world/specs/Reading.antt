@@ -1,5 +1,6 @@
 -- What is read of a value of JSON (RFC 8259), member by member, or the first breach with its path.
-use Rattle.std.specs.Prelude.{ℕ, Bool, not, ◌==◌, nat_le, nat_lt, if◌then◌else◌, List, [], ◌∷◌, Option, Some, None, option_and_then, Result, Ok, Err, codes}
+use Rattle.std.specs.Prelude.{ℕ, Bool, not, ◌==◌, nat_le, nat_lt, if◌then◌else◌, List, [], ◌∷◌, Option, Some, None}
+use Rattle.std.specs.Prelude.{option_and_then, Result, Ok, Err, codes}
 use Rattle.std.specs.List.{concat, flat_map}
 use Rattle.std.specs.Fmt.{decimal}
 use Rattle.std.specs.Str.{chars}
@@ -13,8 +14,8 @@ use Rattle.x5_model.specs.Normal.{stored}
 use Rattle.x5_model_text.specs.NameText.{NameFault, name_of_text}
 use Rattle.x5_model_tree.specs.Described.{is_number}
 
--- What can be wrong, each with its path: something isn't as it must be; a text is no name; a list or a value passes this limit;
--- a second agent has a name; a name is no agent's.
+-- What can be wrong, each with its path: something isn't as it must be; a text is no name; a list or a value passes
+-- this limit; a second agent has a name; a name is no agent's.
 pub data Breach : Type 0 where
   BadShape : Text → Breach
   BadName : Text → Breach

@@ -1,5 +1,7 @@
--- The start of the world: a true date and time of the years 1900 to 9000, as `YYYYMMDDHHMMSSZ` (X.680, section 46: GeneralizedTime).
-use Rattle.std.specs.Prelude.{ℕ, ◌+◌, ◌*◌, ◌-◌, Bool, ◌&&◌, ◌==◌, nat_le, nat_lt, if◌then◌else◌, pos, length, take, slice_index, Option, Some, None}
+-- The start of the world: a true date and time of the years 1900 to 9000, as `YYYYMMDDHHMMSSZ` (X.680, section 46:
+-- GeneralizedTime).
+use Rattle.std.specs.Prelude.{ℕ, ◌+◌, ◌*◌, ◌-◌, Bool, ◌&&◌, ◌==◌, nat_le, nat_lt, if◌then◌else◌, pos, length, take}
+use Rattle.std.specs.Prelude.{slice_index, Option, Some, None}
 use Rattle.std.specs.Char.{is_ascii_digit}
 use Rattle.std.specs.List.{list_all}
 use Rattle.jiff_core.specs.Calendar.{days_in_month}
@@ -21,7 +23,8 @@ abbrev pub year_of : Text → ℕ
 year_of t = two t 0 * 100 + two t 2
 
 abbrev pub is_day : ℕ → ℕ → ℕ → Bool
-is_day year month day = nat_le 1 month && (nat_le month 12 && (nat_le 1 day && nat_le day (days_in_month (pos year) month)))
+is_day year month day =
+    nat_le 1 month && (nat_le month 12 && (nat_le 1 day && nat_le day (days_in_month (pos year) month)))
 
 abbrev pub is_time : ℕ → ℕ → ℕ → Bool
 is_time hour minute second = nat_lt hour 24 && (nat_lt minute 60 && nat_lt second 60)

@@ -1,6 +1,8 @@
--- What a world file describes, or the first thing that is wrong in it, with its path (docs/FORMATS.md, world file). Members are tried in
--- the order of the format, and lists by position. The format is this project's own; the file is a value of JSON (RFC 8259).
-use Rattle.std.specs.Prelude.{◌≡◌, ℕ, ◌+◌, Bool, true, false, not, ◌==◌, if◌then◌else◌, List, [], ◌∷◌, ◌++◌, length, Option, Some, None, Ok, Err, option_and_then, codes}
+-- What a world file describes, or the first thing that is wrong in it, with its path (docs/FORMATS.md, world file).
+-- Members are tried in the order of the format, and lists by position. The format is this project's own; the file is a
+-- value of JSON (RFC 8259).
+use Rattle.std.specs.Prelude.{◌≡◌, ℕ, ◌+◌, Bool, true, false, not, ◌==◌, if◌then◌else◌, List, [], ◌∷◌, ◌++◌, length}
+use Rattle.std.specs.Prelude.{Option, Some, None, Ok, Err, option_and_then, codes}
 use Rattle.std.specs.List.{find, flat_map, list_any}
 use Rattle.std.specs.Str.{IsUtf8}
 use Rattle.serde_json.specs.Data.{Data, Items, no_items, item}
@@ -12,7 +14,8 @@ use Rattle.x5_model.specs.Keys.{same_key}
 use Rattle.x5_model.specs.Values.{Text, key_of}
 use Rattle.x5_model_tree.specs.Described.{most_agents, most_agreements, most_with_copies}
 use Rattle.x5_model_tree.specs.World.{Context, Agreement, Network, World}
-use Rattle.x5_model_world.specs.Reading.{Read, ◌>>=◌, UnknownAgent, at, nth, needed, if_fit, if_few, members_at, text_at, some_at, list_if_any, number_at, entry_name_at, only}
+use Rattle.x5_model_world.specs.Reading.{Read, ◌>>=◌, UnknownAgent, at, nth, needed, if_fit, if_few, members_at}
+use Rattle.x5_model_world.specs.Reading.{text_at, some_at, list_if_any, number_at, entry_name_at, only}
 use Rattle.x5_model_world.specs.ContextText.{Counts, agent_of}
 use Rattle.x5_model_world.specs.AgentText.{all_behind, names_behind}
 use Rattle.x5_model_world.specs.NetworkText.{quiet, network_if_any}
@@ -34,7 +37,12 @@ agreement_in names path before d = do
   consumer ← text_at path (codes "consumer") d
   context ← entry_name_at path (codes "context") d
   only path agreement_members members
-      (record { number = new; supplier = agent_of names supplier; consumer = agent_of names consumer; context = context })
+      (record {
+        number = new;
+        supplier = agent_of names supplier;
+        consumer = agent_of names consumer;
+        context = context;
+      })
 
 abbrev pub agreements_behind : List Text → Text → ℕ → List Agreement → Items → Read (List Agreement)
 agreements_behind names path i before no_items = Ok before
@@ -71,7 +79,8 @@ format_of d = option_and_then if_format (option_and_then as_u64 (option_and_then
 
 abbrev pub world_members : Bool → List Text
 world_members has_network =
-    codes "format" ∷ codes "start" ∷ codes "agents" ∷ codes "agreements" ∷ (if has_network then codes "network" ∷ [] else [])
+    codes "format" ∷ codes "start" ∷ codes "agents" ∷ codes "agreements"
+    ∷ (if has_network then codes "network" ∷ [] else [])
 
 abbrev pub network_of : List Text → Bool → Data → Read Network
 network_of names has_network d = if has_network then network_if_any names (get (codes "network") d) else Ok quiet
@@ -84,7 +93,8 @@ world_in names has_network start items d = do
   list ← list_if_any (codes "") (codes "agreements") d
   few ← if_few (codes "/agreements") most_agreements (items_len list) list
   agreements ← agreements_behind names (codes "/agreements") 0 [] few
-  all ← if_few (codes "/agreements") most_with_copies (with_copies (flat_map (λ a. a.contexts) found.agents) found.counts.entries agreements) agreements
+  all ← if_few (codes "/agreements") most_with_copies
+      (with_copies (flat_map (λ a. a.contexts) found.agents) found.counts.entries agreements) agreements
   network ← network_of names has_network d
   only (codes "") (world_members has_network) members
       (record { start = start; world = record { agents = found.agents; agreements = all; network = network } })

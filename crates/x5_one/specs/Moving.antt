@@ -1,4 +1,5 @@
--- What a modifyDN does to entries in the order of their keys (X.511, section 11.4): where the entry and those below it go.
+-- What a modifyDN does to entries in the order of their keys (X.511, section 11.4): where the entry and those below it
+-- go.
 use Rattle.std.specs.Prelude.{◌≡◌, ℕ, ◌⊎◌, ◌++◌, ◌+◌, ◌<◌, ◌≤◌, List, length, map, set, take, drop, vec_len}
 use Rattle.std.specs.declared.result.Result.{Result}
 use Rattle.std.specs.declared.option.Option.{Option}
@@ -14,7 +15,8 @@ use Rattle.x5_one.specs.declared.renaming.Move.{Move}
 use Rattle.x5_one.specs.Making.{IsStopped}
 use Rattle.x5_one.specs.Places.{IsPlace}
 
--- none: another entry has the new key; else it is the old key, and its place stays, or no entry has it, and it would go there
+-- none: another entry has the new key; else it is the old key, and its place stays, or no entry has it, and it would go
+-- there
 abbrev pub IsNewPlace : List Named → Key → Key → ℕ → Option ℕ → Type 0
 IsNewPlace entries old new at None = (new ≡ old → ⊥) × ((j : ℕ) × IsPlace (keys_of entries) new (Ok j))
 IsNewPlace entries old new at (Some place) =

@@ -36,15 +36,18 @@ outcome_view names o = record { limited = o.limited; unexplored = map (reference
 abbrev pub answer_view : List (List ℕ) → Answer → model.Answer
 answer_view names (answers.Entry entry source) = model.EntryFound (info_view entry) (source_view names source)
 answer_view names (answers.Match matched copy source) = model.Matched matched copy (source_view names source)
-answer_view names (answers.Listed subs sources outcome) = model.Listed (map sub_view subs) (map (source_view names) sources) (outcome_view names outcome)
-answer_view names (answers.Found entries sources outcome) = model.Found (map info_view entries) (map (source_view names) sources) (outcome_view names outcome)
+answer_view names (answers.Listed subs sources outcome) =
+    model.Listed (map sub_view subs) (map (source_view names) sources) (outcome_view names outcome)
+answer_view names (answers.Found entries sources outcome) =
+    model.Found (map info_view entries) (map (source_view names) sources) (outcome_view names outcome)
 answer_view names answers.Changed = model.Changed
 
 abbrev pub error_view : List (List ℕ) → DirError → model.DirError
 error_view names (errors.Name matched) = model.NoSuchObject matched
 error_view names (errors.Attribute problem kind) = model.AttributeProblem problem (type_view kind)
 error_view names (errors.Update problem) = model.UpdateProblem problem
-error_view names (errors.Service problem reference item) = model.ServiceProblem problem (option_map (reference_view names) reference) (option_map (item_view names) item)
+error_view names (errors.Service problem reference item) =
+    model.ServiceProblem problem (option_map (reference_view names) reference) (option_map (item_view names) item)
 
 abbrev pub reply_view : List (List ℕ) → Reply → model.Reply
 reply_view names (Done answer) = model.Answered (answer_view names answer)

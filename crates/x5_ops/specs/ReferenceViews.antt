@@ -40,7 +40,8 @@ kind_of_number n =
     else None
 
 abbrev pub item_view : List (List ℕ) → TraceItem → model.TraceItem
-item_view names i = record { agent = agent_of names i.agent; target = i.target; progress = progress_view i.progress; wide = i.wide }
+item_view names i =
+    record { agent = agent_of names i.agent; target = i.target; progress = progress_view i.progress; wide = i.wide }
 
 -- whether the agent has a copy is no part of the definitions' references: of an access the first is the master
 abbrev pub access_view : List (List ℕ) → AccessPoint → ℕ

@@ -32,7 +32,8 @@ selection_view (Only kinds) = model.Only (map type_view kinds)
 
 -- an attribute that is offered: each value with its normal form for the type, where it has one
 abbrev pub attribute_view : Attribute → model.Attribute
-attribute_view a = record { kind = type_view a.kind; values = map (λ v. offered (type_view a.kind) (value_view v)) a.values }
+attribute_view a =
+    record { kind = type_view a.kind; values = map (λ v. offered (type_view a.kind) (value_view v)) a.values }
 
 abbrev pub change_view : Change → model.Change
 change_view (AddAttribute a) = model.AddAttribute (attribute_view a)
@@ -44,7 +45,8 @@ abbrev pub body_view : Body → model.Body
 body_view (bodies.Read object selection) = model.Read object (selection_view selection)
 body_view (bodies.Compare object kind value) = model.Compare object (assertion_of (type_view kind) (value_view value))
 body_view (bodies.List object) = model.ListBelow object
-body_view (bodies.Search base subset filter selection) = model.Search base (subset_view subset) (filter_view filter) (selection_view selection)
+body_view (bodies.Search base subset filter selection) =
+    model.Search base (subset_view subset) (filter_view filter) (selection_view selection)
 body_view (bodies.Add object attributes) = model.AddEntry object (map attribute_view attributes)
 body_view (bodies.Remove object) = model.RemoveEntry object
 body_view (bodies.Modify object changes) = model.ModifyEntry object (map change_view changes)

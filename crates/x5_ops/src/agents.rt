@@ -1,7 +1,7 @@
 //! Agents, and their names (X.501: DSA models).
 
-ghost use Rattle.std.specs.Prelude.{◌≡◌, ◌<◌, ◌≤◌, [], ◌∷◌, length, slice_get, Some};
-ghost use Rattle.std.specs.List.{list_all, position};
+ghost use Rattle.std.specs.Prelude.{◌≡◌, [], ◌∷◌};
+ghost use Rattle.std.specs.List.{list_all};
 ghost use Rattle.x5_model.specs.Words.{same_octets};
 ghost use Rattle.x5_model_tree.specs.Described.{is_agent_name, begins_with_letter, is_name_octet};
 
@@ -124,69 +124,3 @@ impl Clone for AgentName {
 
 /// Names of agents in their order.
 pub type AgentNameList = Listed<AgentName>;
-
-/// The names of the world's agents, in the order of its file: an `AgentId` is a place here.
-#[derive(Debug, Drop)]
-pub struct AgentNames {
-    names: Vec<AgentName>,
-}
-
-impl Model for AgentNames {
-    ghost use Rattle.std.specs.Prelude.{ℕ, List, ◌≤◌, length};
-
-    ghost Value = { List (List ℕ) };
-
-    ghost view = { λ a. a.names.items };
-
-    ghost invariant = { λ a. length a.names.items ≤ 64 };
-}
-
-/// The place of the name.
-fn place_of_name(names: &[AgentName], name: &AgentName) -> Option<usize>
-    ensures { result ≡ position (λ n. same_octets n name.now) names.now }
-{
-    names.iter().position(|n| n.is_same(name))
-}
-
-impl AgentNames {
-    /// The names of these agents. No memory.
-    pub fn new(names: Vec<AgentName>) -> AgentNames
-        requires { length names.items ≤ 64 }
-        ensures { result ≡ names.items }
-    {
-        AgentNames { names }
-    }
-
-    /// How many agents there are. No memory.
-    pub fn len(&self) -> usize
-        ensures same { result ≡ length self.now }
-        ensures most { result ≤ 64 }
-    {
-        self.names.len()
-    }
-
-    /// The names as a slice. No memory.
-    pub fn as_slice(&self) -> &[AgentName]
-        ensures { result.now ≡ self.now }
-    {
-        self.names.as_slice()
-    }
-
-    /// The name of the agent. No memory.
-    pub fn name(&self, id: AgentId) -> &AgentName
-        requires { id < length self.now }
-        ensures { slice_get self.now id ≡ Some result.now }
-    {
-        &self.names[id.0 as usize]
-    }
-
-    /// The agent of this name, if there is one. No memory.
-    pub fn find(&self, name: &AgentName) -> Option<AgentId>
-        ensures { result ≡ position (λ n. same_octets n name.now) self.now }
-    {
-        match place_of_name(&self.names, name) {
-            Some(place) => Some(AgentId(place as u8)),
-            None => None,
-        }
-    }
-}

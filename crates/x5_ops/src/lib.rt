@@ -14,7 +14,7 @@ mod references;
 mod requests;
 mod statics;
 
-pub use agents::{AgentId, AgentList, AgentName, AgentNameList, AgentNames, MOST_AGENTS};
+pub use agents::{AgentId, AgentList, AgentName, AgentNameList, MOST_AGENTS};
 pub use answers::{
     Answer, DirError, EntryInfo, EntryList, Moment, Outcome, Reply, Source, SourceList, Sub,
     SubList,

@@ -1,5 +1,6 @@
 -- What the files and the sink in memory hold, and which of their calls are to fail.
-use Rattle.std.specs.Prelude.{◌≡◌, ℕ, ◌+◌, ◌==◌, nat_lt, min, Bool, if◌then◌else◌, List, [], map, length, Option, Some, None, Result, Ok, Err, string_bytes, Vec, ⊤}
+use Rattle.std.specs.Prelude.{◌≡◌, ℕ, ◌+◌, ◌==◌, nat_lt, min, Bool, if◌then◌else◌, List, [], map, length, Option, Some}
+use Rattle.std.specs.Prelude.{None, Result, Ok, Err, string_bytes, Vec, ⊤}
 use Rattle.std.specs.List.{list_any}
 use Rattle.std.specs.Option.{option_map}
 use Rattle.x5_port.specs.Outside.{File, content_of, last_count}
@@ -51,7 +52,8 @@ read_in (Some content) limit = if nat_lt limit (length content) then Err TooLong
 -- what the next call is answered
 abbrev pub answer_of : MemoryFiles → List ℕ → ℕ → Result (List ℕ) FileFault
 answer_of files name limit =
-    if is_marked files.schedule.failing.items (next_number files.schedule.calls) then Err Failed else read_in (content_of (files_in files) name) limit
+    if is_marked files.schedule.failing.items (next_number files.schedule.calls) then Err Failed
+    else read_in (content_of (files_in files) name) limit
 
 -- the answer is this one, unless memory ran out
 abbrev pub Answers : {A : Type 0} → Result (Vec ℕ A) FileFault → Result (List ℕ) FileFault → Type 0

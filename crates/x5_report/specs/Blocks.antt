@@ -21,10 +21,12 @@ use Rattle.x5_report.specs.declared.report.LineOutcome.TheVariants.{Set, Answere
 -- the block, each agent by the text that its name is there
 abbrev pub block_text : Start → ℕ → Journal → LineOutcome → Text
 block_text start line j Set = print.number_line line ++ codes "set\n"
-block_text start line j (Answered reply) = concat (print.number_line line ∷ spelled.journal_text j ∷ spelled.reply_text start reply ∷ [])
+block_text start line j (Answered reply) =
+    concat (print.number_line line ∷ spelled.journal_text j ∷ spelled.reply_text start reply ∷ [])
 block_text start line j (Plain reply) = print.number_line line ++ spelled.plain_reply_text start reply
 block_text start line j (Refreshed number f heard) =
-    concat (print.number_line line ∷ flat_map spelled.shadow_text j.lines ∷ spelled.refreshed_text start number f heard ∷ [])
+    concat (print.number_line line ∷ flat_map spelled.shadow_text j.lines ∷ spelled.refreshed_text start number f heard
+    ∷ [])
 block_text start line j NotConsistent =
     concat (print.number_line line ∷ flat_map spelled.shadow_text j.lines ∷ codes "error shadow inconsistent\n" ∷ [])
 
@@ -39,22 +41,27 @@ block_known names j outcome = journal_known names j && outcome_known names outco
 
 -- the journal is that of the definitions: the same messages are printed, and the same agents accepted the update
 abbrev pub IsJournal : List (List ℕ) → Journal → model.Journal → Type 0
-IsJournal names j m = (map model.printed_line (reverse m.lines) ≡ messages_view names j.lines) × (reverse m.accepted ≡ map (agent_of names) j.accepted)
+IsJournal names j m = (map model.printed_line (reverse m.lines) ≡ messages_view names j.lines)
+    × (reverse m.accepted ≡ map (agent_of names) j.accepted)
 
 -- the names of a world's agents
 abbrev pub names_in : World → List (List ℕ)
 names_in w = map (λ a. a.name) w.agents
 
--- The text is that of the block, with these names and moments. Of a request it is so for every journal that the code's stands
--- for, and of a refresh for every block of these messages and this outcome. A plain reply's is that of the one tree.
+-- The text is that of the block, with these names and moments. Of a request it is so for every journal that the code's
+-- stands for, and of a refresh for every block of these messages and this outcome. A plain reply's is that of the one
+-- tree.
 abbrev pub IsBlock : print.Names → List (List ℕ) → ℕ → Journal → LineOutcome → Text → Type 0
 IsBlock printing names line j Set text = (command : run.Command) → text ≡ print.block_text printing line command run.Set
 IsBlock printing names line j (Answered reply) text =
-    (command : run.Command) (m : model.Journal) → IsJournal names j m → text ≡ print.block_text printing line command (run.Replies m (reply_view names reply))
+    (command : run.Command) (m : model.Journal) → IsJournal names j m → text
+    ≡ print.block_text printing line command (run.Replies m (reply_view names reply))
 IsBlock printing names line j (Plain reply) text = text ≡ plain_block_text printing line (reply_view names reply)
 IsBlock printing names line j (Refreshed number f heard) text =
-    (command : run.Command) (b : refresh.RefreshBlock) → print.number_of command ≡ number → b.lines ≡ shadows_view names j.lines → b.outcome ≡ refreshed_view heard number f →
+    (command : run.Command) (b : refresh.RefreshBlock) → print.number_of command ≡ number → b.lines
+    ≡ shadows_view names j.lines → b.outcome ≡ refreshed_view heard number f →
     text ≡ print.block_text printing line command (run.Refreshing b)
 IsBlock printing names line j NotConsistent text =
-    (command : run.Command) (b : refresh.RefreshBlock) → b.lines ≡ shadows_view names j.lines → b.outcome ≡ refresh.NotConsistent →
+    (command : run.Command) (b : refresh.RefreshBlock) → b.lines ≡ shadows_view names j.lines → b.outcome
+    ≡ refresh.NotConsistent →
     text ≡ print.block_text printing line command (run.Refreshing b)

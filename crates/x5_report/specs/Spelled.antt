@@ -1,6 +1,7 @@
 -- What is printed of journals and replies, each agent by the text that its name is there. `Blocks` says that
 -- this is what the definitions print by the places of agents.
-use Rattle.std.specs.Prelude.{ℕ, Bool, true, false, not, ◌&&◌, ◌||◌, ◌==◌, if◌then◌else◌, List, [], ◌∷◌, ◌++◌, length, map, codes}
+use Rattle.std.specs.Prelude.{ℕ, Bool, true, false, not, ◌&&◌, ◌||◌, ◌==◌, if◌then◌else◌, List, [], ◌∷◌, ◌++◌, length}
+use Rattle.std.specs.Prelude.{map, codes}
 use Rattle.std.specs.List.{concat, flat_map, join_with_byte}
 use Rattle.std.specs.Fmt.{decimal}
 use Rattle.std.specs.declared.option.Option.{Option}
@@ -51,13 +52,17 @@ sender_text (Some agent) = agent
 -- what the definitions print of a line of their journals, by what is printed of it
 abbrev pub printed_message : print.Names → journal.Printed → Text
 printed_message names p =
-    concat (codes "msg " ∷ print.sender_text names p.sender ∷ codes " " ∷ names.agent p.receiver ∷ codes " " ∷ print.operation_word p.operation ∷ codes " " ∷ print.progress_text p.progress ∷ codes " t=" ∷ decimal p.depth ∷ codes " " ∷ text_of_name p.target ∷ codes " " ∷ print.fate_word p.fate ∷ codes "\n" ∷ [])
+    concat (codes "msg " ∷ print.sender_text names p.sender ∷ codes " " ∷ names.agent p.receiver ∷ codes " "
+    ∷ print.operation_word p.operation ∷ codes " " ∷ print.progress_text p.progress ∷ codes " t=" ∷ decimal p.depth
+    ∷ codes " " ∷ text_of_name p.target ∷ codes " " ∷ print.fate_word p.fate ∷ codes "\n" ∷ [])
 
 -- a message of a request; other lines aren't some
 abbrev pub message_text : Line → Text
 message_text (Msg from to operation progress t target fate) =
-    concat (codes "msg " ∷ sender_text from ∷ codes " " ∷ to ∷ codes " " ∷ print.operation_word operation ∷ codes " " ∷ print.progress_text (progress_view progress) ∷ [])
-    ++ concat (codes " t=" ∷ decimal t ∷ codes " " ∷ text_of_name target ∷ codes " " ∷ print.fate_word (fate_view fate) ∷ codes "\n" ∷ [])
+    concat (codes "msg " ∷ sender_text from ∷ codes " " ∷ to ∷ codes " " ∷ print.operation_word operation ∷ codes " "
+    ∷ print.progress_text (progress_view progress) ∷ [])
+    ++ concat (codes " t=" ∷ decimal t ∷ codes " " ∷ text_of_name target ∷ codes " " ∷ print.fate_word (fate_view fate)
+    ∷ codes "\n" ∷ [])
 message_text (Dis from to operation agreement fate) = []
 message_text (Raw to dsp count fate) = []
 
@@ -65,7 +70,8 @@ message_text (Raw to dsp count fate) = []
 abbrev pub shadow_text : Line → Text
 shadow_text (Msg from to operation progress t target fate) = []
 shadow_text (Dis from to operation agreement fate) =
-    concat (codes "dis " ∷ from ∷ codes " " ∷ to ∷ codes " " ∷ shadow_word operation ∷ codes " " ∷ decimal agreement ∷ codes " " ∷ print.fate_word (fate_view fate) ∷ codes "\n" ∷ [])
+    concat (codes "dis " ∷ from ∷ codes " " ∷ to ∷ codes " " ∷ shadow_word operation ∷ codes " " ∷ decimal agreement
+    ∷ codes " " ∷ print.fate_word (fate_view fate) ∷ codes "\n" ∷ [])
 shadow_text (Raw to dsp count fate) = []
 
 abbrev pub accepted_text : List ℕ → Text
@@ -84,11 +90,14 @@ agents_text agents = join_with_byte print.comma (map access_text agents)
 
 abbrev pub reference_text : Reference → Text
 reference_text r =
-    concat (print.kind_word (kind_view r.kind) ∷ codes " " ∷ text_of_name r.target ∷ codes " " ∷ print.progress_text (progress_view r.progress) ∷ codes " " ∷ agents_text r.agents ∷ print.exclusions_text r.exclusions ∷ print.mark r.tried (codes "tried") ∷ [])
+    concat (print.kind_word (kind_view r.kind) ∷ codes " " ∷ text_of_name r.target ∷ codes " "
+    ∷ print.progress_text (progress_view r.progress) ∷ codes " " ∷ agents_text r.agents
+    ∷ print.exclusions_text r.exclusions ∷ print.mark r.tried (codes "tried") ∷ [])
 
 abbrev pub item_text : TraceItem → Text
 item_text i =
-    concat (codes " " ∷ i.agent ∷ codes " " ∷ print.progress_text (progress_view i.progress) ∷ codes " " ∷ text_of_name i.target ∷ print.mark i.wide (codes "nonSpecific") ∷ [])
+    concat (codes " " ∷ i.agent ∷ codes " " ∷ print.progress_text (progress_view i.progress) ∷ codes " "
+    ∷ text_of_name i.target ∷ print.mark i.wide (codes "nonSpecific") ∷ [])
 
 -- ---- answers
 
@@ -118,7 +127,8 @@ held_at start (Some m) = moment_text start m
 
 abbrev pub source_text : Start → Source → Text
 source_text start s =
-    concat (codes "source " ∷ text_of_name s.context ∷ codes " " ∷ s.agent ∷ codes " " ∷ held_at start s.moment ∷ codes "\n" ∷ [])
+    concat (codes "source " ∷ text_of_name s.context ∷ codes " " ∷ s.agent ∷ codes " " ∷ held_at start s.moment
+    ∷ codes "\n" ∷ [])
 
 abbrev pub source_below : Source → Source → Bool
 source_below a b = key_below (key_of a.context) (key_of b.context)
@@ -134,7 +144,8 @@ first_agent (a ∷ more) = a.agent
 abbrev pub agent_below : Reference → Reference → Bool
 agent_below a b =
     (not (is_wide (kind_view a.kind)) && is_wide (kind_view b.kind))
-    || ((not (is_wide (kind_view a.kind)) || is_wide (kind_view b.kind)) && octets_below (first_agent a.agents) (first_agent b.agents))
+    || ((not (is_wide (kind_view a.kind)) || is_wide (kind_view b.kind))
+    && octets_below (first_agent a.agents) (first_agent b.agents))
 
 abbrev pub reference_below : Reference → Reference → Bool
 reference_below a b =
@@ -148,15 +159,18 @@ abbrev pub unexplored_texts : List Reference → Text
 unexplored_texts references = flat_map unexplored_text (sorted reference_below references)
 
 abbrev pub outcome_text : Start → List Source → Outcome → Text
-outcome_text start sources o = concat (sources_text start sources ∷ unexplored_texts o.unexplored ∷ print.limit_line o.limited ∷ [])
+outcome_text start sources o =
+    concat (sources_text start sources ∷ unexplored_texts o.unexplored ∷ print.limit_line o.limited ∷ [])
 
 abbrev pub answer_text : Start → Answer → Text
 answer_text start (answers.Entry entry source) = entry_text entry ++ source_text start source
 answer_text start (answers.Match matched copy source) = print.match_line matched copy ++ source_text start source
 answer_text start (answers.Listed subs sources outcome) =
-    concat (print.count_line (codes "listed") (length subs) ∷ flat_map (λ s. print.sub_line (sub_view s)) subs ∷ outcome_text start sources outcome ∷ [])
+    concat (print.count_line (codes "listed") (length subs) ∷ flat_map (λ s. print.sub_line (sub_view s)) subs
+    ∷ outcome_text start sources outcome ∷ [])
 answer_text start (answers.Found entries sources outcome) =
-    concat (print.count_line (codes "found") (length entries) ∷ flat_map entry_text entries ∷ outcome_text start sources outcome ∷ [])
+    concat (print.count_line (codes "found") (length entries) ∷ flat_map entry_text entries
+    ∷ outcome_text start sources outcome ∷ [])
 answer_text start answers.Changed = codes "changed\n"
 
 abbrev pub reference_after : Option Reference → Text
@@ -170,10 +184,12 @@ item_after (Some i) = item_text i
 abbrev pub error_text : DirError → Text
 error_text (errors.Name matched) = concat (codes "error name noSuchObject " ∷ text_of_name matched ∷ codes "\n" ∷ [])
 error_text (errors.Attribute problem kind) =
-    concat (codes "error attribute " ∷ print.attribute_problem problem ∷ codes " " ∷ text_of_type (type_view kind) ∷ codes "\n" ∷ [])
+    concat (codes "error attribute " ∷ print.attribute_problem problem ∷ codes " " ∷ text_of_type (type_view kind)
+    ∷ codes "\n" ∷ [])
 error_text (errors.Update problem) = concat (codes "error update " ∷ print.update_problem problem ∷ codes "\n" ∷ [])
 error_text (errors.Service problem reference item) =
-    concat (codes "error service " ∷ print.service_problem problem ∷ reference_after reference ∷ item_after item ∷ codes "\n" ∷ [])
+    concat (codes "error service " ∷ print.service_problem problem ∷ reference_after reference ∷ item_after item
+    ∷ codes "\n" ∷ [])
 
 abbrev pub referral_text : Reference → Text
 referral_text r = concat (codes "referral " ∷ reference_text r ∷ codes "\n" ∷ [])
@@ -186,12 +202,14 @@ reply_text start (Refer reference) = referral_text reference
 -- on the one tree: without marks of copies and without sources
 abbrev pub plain_listed : Start → List Sub → Outcome → Text
 plain_listed start subs outcome =
-    concat (print.count_line (codes "listed") (length subs) ∷ flat_map (λ s. print.sub_line (plain_sub (sub_view s))) subs
+    concat (print.count_line (codes "listed") (length subs)
+    ∷ flat_map (λ s. print.sub_line (plain_sub (sub_view s))) subs
     ∷ outcome_text start [] outcome ∷ [])
 
 abbrev pub plain_found : Start → List EntryInfo → Outcome → Text
 plain_found start entries outcome =
-    concat (print.count_line (codes "found") (length entries) ∷ flat_map plain_entry_text entries ∷ outcome_text start [] outcome ∷ [])
+    concat (print.count_line (codes "found") (length entries) ∷ flat_map plain_entry_text entries
+    ∷ outcome_text start [] outcome ∷ [])
 
 abbrev pub plain_answer_text : Start → Answer → Text
 plain_answer_text start (answers.Entry entry source) = plain_entry_text entry
@@ -209,7 +227,9 @@ plain_reply_text start (Refer reference) = reply_text start (Refer reference)
 
 abbrev pub done_text : Start → ℕ → Bool → ℕ → ℕ → Bool → Text
 done_text start number total stamp count heard =
-    concat (codes "refreshed " ∷ decimal number ∷ codes " " ∷ print.extent_word total count ∷ codes " " ∷ moment_text start stamp ∷ codes " " ∷ decimal count ∷ print.mark (not heard) (codes "unacknowledged") ∷ codes "\n" ∷ [])
+    concat (codes "refreshed " ∷ decimal number ∷ codes " " ∷ print.extent_word total count ∷ codes " "
+    ∷ moment_text start stamp ∷ codes " " ∷ decimal count ∷ print.mark (not heard) (codes "unacknowledged")
+    ∷ codes "\n" ∷ [])
 
 abbrev pub held_text : Start → Option ℕ → Text
 held_text start None = codes "-"
@@ -217,7 +237,8 @@ held_text start (Some m) = moment_text start m
 
 abbrev pub problem_text : Start → ℕ → Option ℕ → Option ℕ → Text
 problem_text start problem held given =
-    if problem == 5 then concat (codes "error shadow missedPrevious " ∷ held_text start held ∷ codes " " ∷ held_text start given ∷ codes "\n" ∷ [])
+    if problem == 5 then concat (codes "error shadow missedPrevious " ∷ held_text start held ∷ codes " "
+    ∷ held_text start given ∷ codes "\n" ∷ [])
     else concat (codes "error shadow " ∷ print.shadow_problem problem ∷ codes "\n" ∷ [])
 
 abbrev pub refreshed_text : Start → ℕ → Refreshed → Bool → Text

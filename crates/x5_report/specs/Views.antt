@@ -6,7 +6,8 @@ use Rattle.std.specs.declared.option.Option.{Option}
 use Rattle.x5_model.specs.Words.{in_option, same_octets}
 use Rattle.x5_model.specs.Values.{Text}
 use Rattle.x5_model_run.specs.Refresh as refresh
-use Rattle.x5_model_run.specs.Refresh.{ShadowOperation, RequestShadowUpdate, UpdateShadow, CoordinateShadowUpdate, ShadowLine, RefreshOutcome}
+use Rattle.x5_model_run.specs.Refresh.{ShadowOperation, RequestShadowUpdate, UpdateShadow, CoordinateShadowUpdate}
+use Rattle.x5_model_run.specs.Refresh.{ShadowLine, RefreshOutcome}
 use Rattle.x5_model_output.specs.Output.{Names, shadow_operation}
 use Rattle.x5_ops.specs.AgentNames.{agent_of}
 use Rattle.x5_ops.specs.JournalViews.{fate_view}
@@ -58,9 +59,12 @@ problem_view n held given = if n == 5 then refresh.Missed held given else refres
 
 -- what became of the refresh of an agreement; `heard` where the supplier knows that it was taken
 abbrev pub refreshed_view : Bool → ℕ → Refreshed → RefreshOutcome
-refreshed_view heard number (refreshes.Total m n) = refresh.Done (record { agreement = number; total = true; stamp = m; count = n; acknowledged = heard })
-refreshed_view heard number (refreshes.Incremental m n) = refresh.Done (record { agreement = number; total = false; stamp = m; count = n; acknowledged = heard })
-refreshed_view heard number (refreshes.Nothing m) = refresh.Done (record { agreement = number; total = false; stamp = m; count = 0; acknowledged = heard })
+refreshed_view heard number (refreshes.Total m n) =
+    refresh.Done (record { agreement = number; total = true; stamp = m; count = n; acknowledged = heard })
+refreshed_view heard number (refreshes.Incremental m n) =
+    refresh.Done (record { agreement = number; total = false; stamp = m; count = n; acknowledged = heard })
+refreshed_view heard number (refreshes.Nothing m) =
+    refresh.Done (record { agreement = number; total = false; stamp = m; count = 0; acknowledged = heard })
 refreshed_view heard number refreshes.Lost = refresh.Unheard
 refreshed_view heard number (refreshes.Failed problem held given) = problem_view problem held given
 
@@ -77,7 +81,8 @@ abbrev pub is_known : List (List ℕ) → List ℕ → Bool
 is_known names agent = list_any (λ n. same_octets n agent) names
 
 abbrev pub line_known : List (List ℕ) → Line → Bool
-line_known names (Msg from to operation progress t target fate) = in_option true (is_known names) from && is_known names to
+line_known names (Msg from to operation progress t target fate) =
+    in_option true (is_known names) from && is_known names to
 line_known names (Dis from to operation agreement fate) = is_known names from && is_known names to
 line_known names (Raw to dsp count fate) = is_known names to
 
@@ -107,7 +112,8 @@ abbrev pub error_known : List (List ℕ) → DirError → Bool
 error_known names (errors.Name matched) = true
 error_known names (errors.Attribute problem kind) = true
 error_known names (errors.Update problem) = true
-error_known names (errors.Service problem reference item) = in_option true (reference_known names) reference && in_option true (item_known names) item
+error_known names (errors.Service problem reference item) =
+    in_option true (reference_known names) reference && in_option true (item_known names) item
 
 abbrev pub reply_known : List (List ℕ) → Reply → Bool
 reply_known names (Done answer) = answer_known names answer

@@ -22,7 +22,8 @@ item_parts i = node_view i.agent.now ∷ node_view i.target.now ∷ node_view i.
 -- items are the same where the agent, the name's key, the progress and the mark are
 abbrev pub are_same : Item → Name → Item → Name → Bool
 are_same i t j u =
-    same (node_view i.agent.now) (node_view j.agent.now) && same_key (key_of t) (key_of u) && same (node_view i.progress.now) (node_view j.progress.now)
+    same (node_view i.agent.now) (node_view j.agent.now) && same_key (key_of t) (key_of u)
+    && same (node_view i.progress.now) (node_view j.progress.now)
     && same (node_view i.wide.now) (node_view j.wide.now)
 
 -- Three and fewer, or five and more.

@@ -5,7 +5,6 @@
 mod name;
 mod pair;
 mod rule;
-mod same;
 mod trace;
 
 pub use crate::name::name_of;

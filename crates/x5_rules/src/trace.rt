@@ -8,11 +8,10 @@ ghost use Rattle.x5_rules.specs.Items.{are_same, item_parts, target_in, IsNotFou
 ghost use Rattle.x5_types.specs.NodeView.{node_view};
 
 use crate::name::name_of;
-use crate::same::same;
 use std::alloc::Global;
 use x5_memory::NoMemory;
 use x5_names::Name;
-use x5_types::Node;
+use x5_types::{Node, same};
 
 /// Items of a trace at most; this project's limit.
 const MOST_ITEMS: usize = 128;

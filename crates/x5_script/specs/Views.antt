@@ -15,7 +15,8 @@ use Rattle.x5_syntax.specs.declared.values.Value.{Value}
 use Rattle.x5_script.specs.declared.command.Command.{Command}
 use Rattle.x5_script.specs.declared.command.Command.TheVariants as commands
 use Rattle.x5_script.specs.declared.command.ScriptFault.{ScriptFault}
-use Rattle.x5_script.specs.declared.command.ScriptFault.TheVariants.{BadWord, BadName, BadFilter, BadHex, LineTooLong, NoMemory}
+use Rattle.x5_script.specs.declared.command.ScriptFault.TheVariants.{BadWord, BadName, BadFilter, BadHex, LineTooLong}
+use Rattle.x5_script.specs.declared.command.ScriptFault.TheVariants.{NoMemory}
 use Rattle.x5_script.specs.declared.script.ScriptRefusal.{ScriptRefusal}
 use Rattle.x5_script.specs.declared.script.ScriptRefusal.TheVariants as refusals
 use Rattle.x5_script.specs.declared.script.ScriptRefusal.TheVariants.{Line}
@@ -58,7 +59,8 @@ Says view (Ok x) read = read ≡ Ok (view x)
 Says view (Err fault) read = IsFault fault read
 
 -- and these words are left behind it
-abbrev pub Takes : {X Y : Type 0} → (X → Y) → Result X ScriptFault → Words → Result (Y × words.Left) words.Fault → Type 0
+abbrev pub Takes : {X Y : Type 0} → (X → Y) → Result X ScriptFault → Words → Result (Y × words.Left) words.Fault →
+    Type 0
 Takes view (Ok x) after read = read ≡ Ok (view x, left_view after)
 Takes view (Err fault) after read = IsFault fault read
 
@@ -84,7 +86,8 @@ IsLineFault number (BadHex column) read = read ≡ Err (number, words.BadHex col
 IsLineFault number LineTooLong read = read ≡ Err (number, words.Long)
 IsLineFault number NoMemory read = ⊥
 
--- the script's commands, or its first line that is refused, in a world that loses so many replies; want of memory says nothing
+-- the script's commands, or its first line that is refused, in a world that loses so many replies; want of memory says
+-- nothing
 abbrev pub ReadsScript : Result (Vec Command Global) ScriptRefusal → List model.Text → ℕ → model.Text → Type 0
 ReadsScript (Ok commands) names lost octets = script_of names lost octets ≡ Ok (map command_view commands.items)
 ReadsScript (Err (Line number fault)) names lost octets = IsLineFault number fault (script_of names lost octets)

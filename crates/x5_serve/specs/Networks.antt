@@ -16,7 +16,8 @@ use Rattle.x5_model_run.specs.Chain.{Scene}
 use Rattle.x5_model_heard.specs.Kept.{IsOfUser}
 use Rattle.x5_model_serve.specs.Finding as finding
 use Rattle.x5_model_serve.specs.Answering.{reply_in_own, reply_in_copy, local_part}
-use Rattle.x5_model_serve.specs.Serving.{Hand, Act, Does, Arrives, found_at, begins_parts, parts_refs, holds_now, judged, is_spent, line_of, with_line}
+use Rattle.x5_model_serve.specs.Serving.{Hand, Act, Does, Arrives, found_at, begins_parts, parts_refs, holds_now}
+use Rattle.x5_model_serve.specs.Serving.{judged, is_spent, line_of, with_line}
 use Rattle.x5_ops.specs.ReferenceViews.{reference_view, chained_view}
 use Rattle.x5_ops.specs.AnswerViews.{answer_view, error_view, reply_view}
 use Rattle.x5_ops.specs.declared.answers.Answer.{Answer}

@@ -14,7 +14,8 @@ use Rattle.x5_model_run.specs.Needs.{due_probes}
 use Rattle.x5_model_run.specs.Chain.{Scene}
 use Rattle.x5_model_serve.specs.Finding as finding
 use Rattle.x5_model_serve.specs.Answering.{merged, is_service, is_unavailable, in_vain}
-use Rattle.x5_model_serve.specs.Serving.{Hand, Act, Serves, Takes, Casts, Probes, Updates, Does, Arrives, found_at, begins_parts, is_idle, holds_now, judged, parts_refs, heard_or}
+use Rattle.x5_model_serve.specs.Serving.{Hand, Act, Serves, Takes, Casts, Probes, Updates, Does, Arrives, found_at}
+use Rattle.x5_model_serve.specs.Serving.{begins_parts, is_idle, holds_now, judged, parts_refs, heard_or}
 use Rattle.x5_model_serve.specs.Serving as act
 use Rattle.x5_ops.specs.ReferenceViews.{reference_view, access_view}
 use Rattle.x5_ops.specs.AnswerViews.{answer_view, error_view, reply_view}

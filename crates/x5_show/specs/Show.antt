@@ -1,11 +1,13 @@
 -- What `show` prints for a file's octets.
-use Rattle.std.specs.Prelude.{◌≡◌, ℕ, zero, suc, ◌+◌, ◌<◌, ◌==◌, if◌then◌else◌, List, [], ◌∷◌, ◌++◌, length, string_bytes}
+use Rattle.std.specs.Prelude.{◌≡◌, ℕ, zero, suc, ◌+◌, ◌<◌, ◌==◌, if◌then◌else◌, List, [], ◌∷◌, ◌++◌, length}
+use Rattle.std.specs.Prelude.{string_bytes}
 use Rattle.std.specs.Fmt.{decimal}
 use Rattle.std.specs.List.{concat}
 use lib.Chars.{codes}
 use Rattle.hex.specs.Hex.{encode_lower}
 use Rattle.x5_model_octets.specs.Elements.{Element, Elements, Primitive, Constructed, Nil, More, Spells, SpellsAll}
-use Rattle.x5_model_octets.specs.Faults.{Fault, Truncated, BadLength, BadTag, BadContent, TooDeep, FirstFault, outermost}
+use Rattle.x5_model_octets.specs.Faults.{Fault, Truncated, BadLength, BadTag, BadContent, TooDeep, FirstFault}
+use Rattle.x5_model_octets.specs.Faults.{outermost}
 use Rattle.x5_ber.specs.Reading.{Stands}
 use Rattle.x5_ber.specs.Found.{Frames}
 use Rattle.x5_show.specs.declared.Shown.{Shown}
@@ -18,7 +20,8 @@ AreValues bytes = (values : Elements) × SpellsAll 1 values bytes
 -- The first fault from a place on, where a value has to begin: that value's, or behind it the first.
 pub data FaultyFrom (bytes : List ℕ) : ℕ → Fault → Type 0 where
   here : {at : ℕ} {fault : Fault} → at < length bytes → FirstFault bytes outermost at fault → FaultyFrom bytes at fault
-  behind : {at : ℕ} {fault : Fault} (value : Element) (octets : List ℕ) → Spells 1 value octets → Stands bytes at octets → FaultyFrom bytes (at + length octets) fault → FaultyFrom bytes at fault
+  behind : {at : ℕ} {fault : Fault} (value : Element) (octets : List ℕ) → Spells 1 value octets →
+      Stands bytes at octets → FaultyFrom bytes (at + length octets) fault → FaultyFrom bytes at fault
 
 -- The fault's word and place.
 abbrev pub word : Fault → List ℕ
@@ -45,7 +48,8 @@ indent (suc level) = indent level ++ codes "  "
 
 -- U for universal, A for application, C for context-specific, P for private.
 abbrev pub class_letter : ℕ → List ℕ
-class_letter class = if class == 0 then codes "U" else if class == 1 then codes "A" else if class == 2 then codes "C" else codes "P"
+class_letter class =
+    if class == 0 then codes "U" else if class == 1 then codes "A" else if class == 2 then codes "C" else codes "P"
 
 -- Octets in hexadecimal behind a space, if there are any.
 abbrev pub hex_text : List ℕ → List ℕ
@@ -65,13 +69,16 @@ abbrev mutual
   pub Lines : ℕ → ℕ → Element → List ℕ → List ℕ → Type 0
   Lines level at (Primitive class tag content) octets text = text ≡ line level at class tag (codes "prim") content
   Lines level at (Constructed class tag members) octets text =
-      (header : List ℕ) × (content : List ℕ) × (tail : List ℕ) × (more : List ℕ) × (octets ≡ header ++ (content ++ tail)) × Frames class tag (length content) header tail
-      × LinesAll (level + 1) (at + length header) members content more × (text ≡ line level at class tag (codes "cons") [] ++ more)
+      (header : List ℕ) × (content : List ℕ) × (tail : List ℕ) × (more : List ℕ)
+      × (octets ≡ header ++ (content ++ tail)) × Frames class tag (length content) header tail
+      × LinesAll (level + 1) (at + length header) members content more
+      × (text ≡ line level at class tag (codes "cons") [] ++ more)
 
   pub LinesAll : ℕ → ℕ → Elements → List ℕ → List ℕ → Type 0
   LinesAll level at Nil octets text = (octets ≡ []) × (text ≡ [])
   LinesAll level at (More e es) octets text =
-      (first : List ℕ) × (rest : List ℕ) × (one : List ℕ) × (more : List ℕ) × Spells 1 e first × (octets ≡ first ++ rest)
+      (first : List ℕ) × (rest : List ℕ) × (one : List ℕ) × (more : List ℕ) × Spells 1 e first
+      × (octets ≡ first ++ rest)
       × Lines level at e first one × LinesAll level (at + length first) es rest more × (text ≡ one ++ more)
 
 -- The text for octets that are values: the lines of their elements.

@@ -4,7 +4,8 @@ use Rattle.x5_model_text.specs.NameText as model
 use Rattle.x5_syntax.specs.declared.escapes.EscapeFault.{EscapeFault}
 use Rattle.x5_syntax.specs.declared.escapes.EscapeFault.TheVariants as escapes
 use Rattle.x5_syntax.specs.declared.names.NameFault.{NameFault}
-use Rattle.x5_syntax.specs.declared.names.NameFault.TheVariants.{BadSpelling, UnknownType, TooManyRdns, TooManyPairs, RepeatedType, NoMemory}
+use Rattle.x5_syntax.specs.declared.names.NameFault.TheVariants.{BadSpelling, UnknownType, TooManyRdns, TooManyPairs}
+use Rattle.x5_syntax.specs.declared.names.NameFault.TheVariants.{RepeatedType, NoMemory}
 
 abbrev pub name_fault : EscapeFault → NameFault
 name_fault (escapes.Bad place) = BadSpelling place

@@ -8,4 +8,5 @@ abbrev pub IsRow : Option TypeRow → Option model.Row → Type 0
 IsRow None None = ⊤
 IsRow None (Some m) = ⊥
 IsRow (Some r) None = ⊥
-IsRow (Some r) (Some m) = (r.keyword.now ≡ m.keyword) × (kind_view r.kind ≡ m.kind) × (r.names ≡ m.names) × (r.single ≡ m.single)
+IsRow (Some r) (Some m) =
+    (r.keyword.now ≡ m.keyword) × (kind_view r.kind ≡ m.kind) × (r.names ≡ m.names) × (r.single ≡ m.single)

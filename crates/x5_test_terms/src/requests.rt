@@ -3,34 +3,10 @@
 use std::alloc::Global;
 use std::test::Fail;
 use x5_ops::{
-    AgentName, AgentNames, Attribute, AttributeList, Body, Change, ChangeFault, ChangeList,
-    Controls, DirError, Entry, Listed, Name, Rdn, Request, ValueList, change, fault_of,
+    Attribute, AttributeList, Body, Change, ChangeFault, ChangeList, Controls, DirError, Entry,
+    Listed, Name, Rdn, Request, ValueList, change, fault_of,
 };
-use x5_syntax::{Text, TypeId, TypeRef, Value};
-
-fn agent(alloc: Global, text: &str) -> Result<AgentName, Fail> {
-    Ok(AgentName::new(Text::new(alloc, text)?))
-}
-
-fn two_agents(alloc: Global) -> Result<AgentNames, Fail> {
-    let names = vec![in alloc; agent(alloc, "Alpha")?, agent(alloc, "Beta")?]?;
-    Ok(AgentNames::new(names))
-}
-
-/// The place of an agent among the two.
-fn place_of(alloc: Global, text: &str) -> Result<Option<u8>, Fail> {
-    let names = two_agents(alloc)?;
-    Ok(names.find(&agent(alloc, text)?).map(|id| id.0))
-}
-
-#[test]
-fn agents_are_found_by_their_names(rt: HostRuntime) -> Result<(), Fail> {
-    let alloc = rt.alloc();
-    for (text, wanted) in [("Beta", Some(1)), ("Gamma", None)] {
-        assert_eq!(rt; place_of(alloc, text)?, wanted, "{text}");
-    }
-    Ok(())
-}
+use x5_syntax::{TypeId, TypeRef, Value};
 
 fn kind(number: u8) -> Result<TypeRef, Fail> {
     Ok(TypeRef::Known(TypeId::new(number).ok_or("no type")?))

@@ -1,6 +1,6 @@
--- When two items of a trace are the same (X.518, section 10.6: trace information): they name one agent, and what it was asked
--- has the same target, the same progress, and came by the same kind of reference, nonSpecific or not. Messages name agents;
--- whoever stands in the world is its place there.
+-- When two items of a trace are the same (X.518, section 10.6: trace information): they name one agent, and what it was
+-- asked has the same target, the same progress, and came by the same kind of reference, nonSpecific or not. Messages
+-- name agents; whoever stands in the world is its place there.
 use Rattle.std.specs.Prelude.{ℕ, Bool, true, false, ◌&&◌, IsTrue, List}
 use Rattle.std.specs.List.{list_any}
 use Rattle.x5_model.specs.Words.{same_octets}
@@ -16,7 +16,8 @@ same_kind false false = true
 abbrev pub same_named : TraceItem → TraceItem → Bool
 same_named a b =
     same_octets a.agent b.agent
-    && (same_name a.target b.target && (same_progress (progress_view a.progress) (progress_view b.progress) && same_kind a.wide b.wide))
+    && (same_name a.target b.target && (same_progress (progress_view a.progress) (progress_view b.progress)
+    && same_kind a.wide b.wide))
 
 -- an agent of the world has this name
 abbrev pub IsNamed : List (List ℕ) → List ℕ → Type 0

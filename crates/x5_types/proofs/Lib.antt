@@ -5,3 +5,4 @@ mod Magnitudes
 pub mod Nodes
 pub mod TwoParts
 mod Ascii
+mod Sameness

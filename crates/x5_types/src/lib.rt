@@ -10,6 +10,7 @@ mod leaf;
 mod node;
 mod number;
 mod oid;
+mod same;
 mod table;
 mod text;
 
@@ -22,6 +23,7 @@ pub use crate::leaf::{leaf_node, read_leaf};
 pub use crate::node::{Bytes, Characters, Node};
 pub use crate::number::is_among;
 pub use crate::oid::is_short;
+pub use crate::same::same;
 pub use crate::table::{BIT_SEGMENT, SEGMENT, layout};
 pub use crate::text::{is_length, is_numeric, is_printable, is_text};
 pub use x5_memory::NoMemory;

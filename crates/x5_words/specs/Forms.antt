@@ -1,5 +1,6 @@
 -- The words of the command line: which lists of words ask for something, and for what. This project's own.
-use Rattle.std.specs.Prelude.{ℕ, ◌^◌, Bool, true, false, not, ◌&&◌, nat_lt, nat_le, if◌then◌else◌, List, [], ◌∷◌, length, Option, Some, None, option_map, codes, nat_eq}
+use Rattle.std.specs.Prelude.{ℕ, ◌^◌, Bool, true, false, not, ◌&&◌, nat_lt, nat_le, if◌then◌else◌, List, [], ◌∷◌}
+use Rattle.std.specs.Prelude.{length, Option, Some, None, option_map, codes, nat_eq}
 use Rattle.std.specs.List.{starts_with, list_all}
 use Rattle.std.specs.Char.{is_ascii_digit}
 use Rattle.std.specs.Str.{bytes_eq}
@@ -10,8 +11,8 @@ pub record FileNames : Type 0 where
   pub world : List ℕ
   pub script : List ℕ
 
--- What a command line asks for: a run, which prints its blocks or a summary of them; the knowledge line of a world; a script on the one
--- tree; the world and the script of a number, run or printed; the elements in a file.
+-- What a command line asks for: a run, which prints its blocks or a summary of them; the knowledge line of a world; a
+-- script on the one tree; the world and the script of a number, run or printed; the elements in a file.
 pub data Form : Type 0 where
   Run : FileNames → Bool → Form
   Check : List ℕ → Form
@@ -40,7 +41,8 @@ number_in word = if is_numeral word && nat_lt (digits_value 10 word) (2 ^ 32) th
 
 -- two names of files
 abbrev pub files_in : List ℕ → List ℕ → Option FileNames
-files_in world script = if is_file_name world && is_file_name script then Some (record { world = world; script = script }) else None
+files_in world script =
+    if is_file_name world && is_file_name script then Some (record { world = world; script = script }) else None
 
 -- behind `run`: WORLD SCRIPT, with `--summary` before, between or behind them
 abbrev pub run_in : List (List ℕ) → Option Form

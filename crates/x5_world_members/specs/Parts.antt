@@ -10,5 +10,6 @@ use Rattle.x5_model_world.specs.Reading.{Read, ◌>>=◌, at, list_if_any, only}
 abbrev pub with_entries_read : List Text → Text → Contexts → Name → List Named → ℕ → Members → Data → Read Contexts
 with_entries_read names path before prefix entries used members d = do
   list ← list_if_any path (codes "nssr") d
-  found ← nssrs_behind names (at path (codes "nssr")) 0 entries (record { nssrs = []; listed = before.counts.nssr_agents }) list
+  found ← nssrs_behind names (at path (codes "nssr")) 0 entries
+      (record { nssrs = []; listed = before.counts.nssr_agents }) list
   only path context_members members (with_context before prefix entries found used)

@@ -3,7 +3,8 @@ use Rattle.std.specs.Prelude.{◌≡◌, Result, Ok, Err}
 use Rattle.x5_model_world.specs.Reading as model
 use Rattle.x5_model_world.specs.Reading.{Read, Breach}
 use Rattle.x5_world_members.specs.declared.fault.LoadFault.{LoadFault}
-use Rattle.x5_world_members.specs.declared.fault.LoadFault.TheVariants.{NotJson, BadShape, BadName, OverLimit, RepeatedAgent, UnknownAgent, NoMemory}
+use Rattle.x5_world_members.specs.declared.fault.LoadFault.TheVariants.{NotJson, BadShape, BadName, OverLimit}
+use Rattle.x5_world_members.specs.declared.fault.LoadFault.TheVariants.{RepeatedAgent, UnknownAgent, NoMemory}
 
 -- a part has this fault; memory may have run out
 abbrev pub Fails : {X : Type 0} → LoadFault → Read X → Type 0

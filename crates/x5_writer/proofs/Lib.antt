@@ -5,4 +5,3 @@ mod Measures
 mod Members
 mod Numbers
 mod Putting
-mod Sameness

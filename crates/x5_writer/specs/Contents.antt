@@ -7,7 +7,8 @@ use Rattle.x5_model_octets.specs.Elements.{Element, Elements}
 use Rattle.x5_model_typed.specs.Nodes.{Node, Nodes, Flag, Chosen, Many, Nil, More}
 use Rattle.x5_model_typed.specs.Named.{Named}
 use Rattle.x5_model_typed.specs.Forms.{Component, Content, Alternative}
-use Rattle.x5_model_typed.specs.Written.{is_many, leaf_octets, primitive_of, constructed_of, by_content, written, written_components, written_members}
+use Rattle.x5_model_typed.specs.Written.{is_many, leaf_octets, primitive_of, constructed_of, by_content, written}
+use Rattle.x5_model_typed.specs.Written.{written_components, written_members}
 use Rattle.x5_types.specs.FormView.{table}
 
 -- the bits of options, without zeros behind the last that is set

@@ -9,7 +9,6 @@ mod components;
 mod fault;
 mod leaf;
 mod number;
-mod same;
 mod string;
 mod writer;
 

@@ -15,10 +15,9 @@ use crate::choices::{chosen, holding, is_many, marked};
 use crate::components::Left;
 use crate::fault::WriteFault;
 use crate::leaf::{holds, put_content};
-use crate::same::same;
 use std::alloc::Global;
 use x5_memory::NoMemory;
-use x5_types::{Alternative, Component, Content, Named, Node, layout};
+use x5_types::{Alternative, Component, Content, Named, Node, layout, same};
 
 /// Writes the value as the canonical octets of the type (X.690, section 10): definite lengths in the fewest octets,
 /// strings in one piece, components and members in their order, and none that has its default.

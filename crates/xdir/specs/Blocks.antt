@@ -10,7 +10,8 @@ use Rattle.x5_know.specs.Moments.{moment_text}
 use Rattle.x5_model_world.specs.WorldFile.{File}
 use Rattle.x5_port.specs.Outside.{Rose}
 use Rattle.xdir.specs.declared.top.Status.{Status}
-use Rattle.xdir.specs.declared.top.Status.TheVariants.{Done, Refused, Usage, ReadFault, WriteFault, NoMemory, Inconsistent, TooLong}
+use Rattle.xdir.specs.declared.top.Status.TheVariants.{Done, Refused, Usage, ReadFault, WriteFault, NoMemory}
+use Rattle.xdir.specs.declared.top.Status.TheVariants.{Inconsistent, TooLong}
 use Rattle.xdir.specs.Outcomes.{Wrote, Broke}
 
 -- the text is the block of such a read, by the messages and the answer that the star gives after so many messages

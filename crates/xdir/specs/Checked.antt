@@ -1,4 +1,5 @@
--- What `check WORLD` writes: the line on knowledge of the world that the file describes, or of the first thing wrong in it.
+-- What `check WORLD` writes: the line on knowledge of the world that the file describes, or of the first thing wrong in
+-- it.
 use Rattle.std.specs.Prelude.{◌≡◌, ℕ, ◌⊎◌, List, [], Option, Some, Ok, ⊤}
 use Rattle.x5_model.specs.Values.{Text}
 use Rattle.x5_model_output.specs.Output.{names_of, knowledge_line}
@@ -10,10 +11,11 @@ use Rattle.x5_port.specs.Outside as outside
 use Rattle.xdir.specs.Outcomes.{most_octets, Wrote, Broke, IsReadable, OfContent}
 use Rattle.xdir.specs.Run.{RefusesFile}
 use Rattle.xdir.specs.declared.top.Status.{Status}
-use Rattle.xdir.specs.declared.top.Status.TheVariants.{Done, Refused, Usage, ReadFault, WriteFault, NoMemory, Inconsistent, TooLong}
+use Rattle.xdir.specs.declared.top.Status.TheVariants.{Done, Refused, Usage, ReadFault, WriteFault, NoMemory}
+use Rattle.xdir.specs.declared.top.Status.TheVariants.{Inconsistent, TooLong}
 
--- the line on a world's knowledge, in which no moment stands: that it is consistent, or the first of the ten conditions that
--- fails, with its two values
+-- the line on a world's knowledge, in which no moment stands: that it is consistent, or the first of the ten conditions
+-- that fails, with its two values
 abbrev pub knowledge_text : World → Text
 knowledge_text w = knowledge_line (names_of w (λ moment. [])) (first_breach w)
 
@@ -58,7 +60,8 @@ ChecksOctets ReadFault octets old new before after = ⊥
 ChecksOctets TooLong octets old new before after = ⊥
 
 -- what `check` writes, by how it ends: before the file is read nothing is
-abbrev pub WritesChecked : Status → Option (List outside.File) → List ℕ → Option (List ℕ) → Option (List ℕ) → ℕ → ℕ → Type 0
+abbrev pub WritesChecked : Status → Option (List outside.File) → List ℕ → Option (List ℕ) → Option (List ℕ) → ℕ → ℕ →
+    Type 0
 WritesChecked Done told name old new before after =
     OfContent told name (λ octets. ChecksOctets Done octets old new before after)
 WritesChecked Inconsistent told name old new before after =

@@ -12,7 +12,8 @@ use Rattle.x5_model_world.specs.WorldFile.{File}
 -- the block that the star of this file gives of a command, after so many messages
 abbrev pub IsGiven : File → ℕ → Command → Block → Type 0
 IsGiven f sent Blank b = b ≡ Silent
-IsGiven f sent (Asks to r) b = (journal : Journal) × (reply : Reply) × IsStarRead f.world sent to r journal reply × (b ≡ Replies journal reply)
+IsGiven f sent (Asks to r) b =
+    (journal : Journal) × (reply : Reply) × IsStarRead f.world sent to r journal reply × (b ≡ Replies journal reply)
 IsGiven f sent (Changes outage) b = ⊥
 IsGiven f sent (Drops reply number) b = ⊥
 IsGiven f sent (Updates number pushes total) b = ⊥

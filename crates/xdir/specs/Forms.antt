@@ -15,8 +15,10 @@ use Rattle.x5_gen.specs.World as generated
 use Rattle.x5_gen.specs.Script as drawn
 
 -- what is known of the files, by the form of words and how it ends
-abbrev pub ReadsForm : Form → Status → Option (List File) → ℕ → ℕ → Option (List ℕ) → Option (List ℕ) → Option (List ℕ) → Type 0
-ReadsForm (Run names summary) status told before after failed old new = Reads status names told before after failed old new
+abbrev pub ReadsForm : Form → Status → Option (List File) → ℕ → ℕ → Option (List ℕ) → Option (List ℕ) →
+    Option (List ℕ) → Type 0
+ReadsForm (Run names summary) status told before after failed old new =
+    Reads status names told before after failed old new
 ReadsForm (Check name) status told before after failed old new = ReadsChecked status name told before after failed
 ReadsForm (Tree names) status told before after failed old new = ReadsTree status names told before after failed old new
 ReadsForm (GenRun number) status told before after failed old new = after ≡ before
@@ -31,6 +33,8 @@ WritesForm (Run names true) status told old new before after = WritesSummed stat
 WritesForm (Check name) status told old new before after = WritesChecked status told name old new before after
 WritesForm (Tree names) status told old new before after = WritesTree status told names old new before after
 WritesForm (GenRun number) status told old new before after = WritesGenerated status number old new before after
-WritesForm (GenWorld number) status told old new before after = WritesText status (generated.world_text number) old new before after
-WritesForm (GenScript number) status told old new before after = WritesText status (drawn.script_text number) old new before after
+WritesForm (GenWorld number) status told old new before after =
+    WritesText status (generated.world_text number) old new before after
+WritesForm (GenScript number) status told old new before after =
+    WritesText status (drawn.script_text number) old new before after
 WritesForm (Show name) status told old new before after = WritesShown status told name old new before after

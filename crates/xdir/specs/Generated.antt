@@ -20,7 +20,8 @@ made_names = record { world = world_name; script = script_name }
 
 abbrev pub made_files : ℕ → List File
 made_files number =
-    record { name = world_name; content = world_text number } ∷ record { name = script_name; content = script_text number } ∷ []
+    record { name = world_name; content = world_text number }
+    ∷ record { name = script_name; content = script_text number } ∷ []
 
 -- it ends neither as a read fault nor as too long, for nothing is read
 abbrev pub WritesGenerated : Status → ℕ → Option (List ℕ) → Option (List ℕ) → ℕ → ℕ → Type 0

@@ -1,8 +1,10 @@
--- What is read and written, in words that all forms share: a text of some kind was written, whole or in part; a file is there.
+-- What is read and written, in words that all forms share: a text of some kind was written, whole or in part; a file is
+-- there.
 use Rattle.std.specs.Prelude.{◌≡◌, ℕ, ◌≤◌, ◌⊎◌, List, length, Option, Some, None, IsSomeAnd, ⊤}
 use Rattle.x5_port.specs.Outside.{File, content_of, IsContent, Rose, with_octets, TookPrefix}
 use Rattle.xdir.specs.declared.top.Status.{Status}
-use Rattle.xdir.specs.declared.top.Status.TheVariants.{Done, Refused, Usage, ReadFault, WriteFault, NoMemory, Inconsistent, TooLong}
+use Rattle.xdir.specs.declared.top.Status.TheVariants.{Done, Refused, Usage, ReadFault, WriteFault, NoMemory}
+use Rattle.xdir.specs.declared.top.Status.TheVariants.{Inconsistent, TooLong}
 
 -- the most octets of a file
 abbrev pub most_octets : ℕ
@@ -20,12 +22,14 @@ pub record Broke (P : List ℕ → Type 0) (old new : Option (List ℕ)) : Type 
   pub is : P text
   pub part : TookPrefix text old new
 
--- What is written, by how a run ends: the whole output, the line of a refusal, a first part of one of these, or the output of
--- the commands before memory ran out; before both files are read nothing is, but the line of a refused world.
-abbrev pub Ends : (List ℕ → Type 0) → (List ℕ → Type 0) → (List ℕ → Type 0) → Status → Option (List ℕ) → Option (List ℕ) → ℕ → ℕ → Type 0
+-- What is written, by how a run ends: the whole output, the line of a refusal, a first part of one of these, or the
+-- output of the commands before memory ran out; before both files are read nothing is, but the line of a refused world.
+abbrev pub Ends : (List ℕ → Type 0) → (List ℕ → Type 0) → (List ℕ → Type 0) → Status → Option (List ℕ) →
+    Option (List ℕ) → ℕ → ℕ → Type 0
 Ends output first refusal Done old new before after = Wrote output old new
 Ends output first refusal Refused old new before after = Wrote refusal old new
-Ends output first refusal WriteFault old new before after = Rose before after × Broke (λ text. first text ⊎ refusal text) old new
+Ends output first refusal WriteFault old new before after =
+    Rose before after × Broke (λ text. first text ⊎ refusal text) old new
 Ends output first refusal NoMemory old new before after = (new ≡ old) ⊎ Wrote first old new
 Ends output first refusal ReadFault old new before after = new ≡ old
 Ends output first refusal TooLong old new before after = new ≡ old

@@ -1,5 +1,6 @@
 -- What `run WORLD SCRIPT` reads and writes, by how it ends. The headline is `Runs`.
-use Rattle.std.specs.Prelude.{◌≡◌, ℕ, ◌+◌, ◌⊎◌, Bool, true, false, not, ◌&&◌, List, [], ◌++◌, length, map, Option, Some, Ok, Err, ⊤}
+use Rattle.std.specs.Prelude.{◌≡◌, ℕ, ◌+◌, ◌⊎◌, Bool, true, false, not, ◌&&◌, List, [], ◌++◌, length, map, Option, Some}
+use Rattle.std.specs.Prelude.{Ok, Err, ⊤}
 use Rattle.std.specs.List.{position}
 use Rattle.x5_know.specs.Moments.{moment_text}
 use Rattle.x5_model_output.specs.Output.{PrintsRun}
@@ -20,7 +21,8 @@ use Rattle.x5_words.specs.Forms.{FileNames}
 use Rattle.xdir.specs.Outcomes.{most_octets, Wrote, Broke, Ends, IsReadable}
 use Rattle.xdir.specs.Text.{not_json_text, no_star_text, refused_world_text, refused_line_text, not_yet_text}
 use Rattle.xdir.specs.declared.top.Status.{Status}
-use Rattle.xdir.specs.declared.top.Status.TheVariants.{Done, Refused, Usage, ReadFault, WriteFault, NoMemory, Inconsistent, TooLong}
+use Rattle.xdir.specs.declared.top.Status.TheVariants.{Done, Refused, Usage, ReadFault, WriteFault, NoMemory}
+use Rattle.xdir.specs.declared.top.Status.TheVariants.{Inconsistent, TooLong}
 
 -- the names of a world's agents, and how many replies it loses by itself
 abbrev pub names_in : World → List (List ℕ)
@@ -42,14 +44,16 @@ is_other (lines.Runs (Drops reply number)) = true
 is_other (lines.Runs (Updates number pushes total)) = true
 is_other (Delivers dsp to octets) = true
 
--- The text is the output of a run of these commands over the world of this file: the line on knowledge, and for each command one
--- block, in order, which is right and whole at the point that the blocks before it lead to.
+-- The text is the output of a run of these commands over the world of this file: the line on knowledge, and for each
+-- command one block, in order, which is right and whole at the point that the blocks before it lead to.
 abbrev pub IsOutput : File → List Command → List ℕ → Type 0
 IsOutput f commands text = PrintsRun RightAndWhole f.world (moment_text f.start) commands text
 
--- The headline: these octets are the contents of both files, as far as the files tell them; the world file describes this world,
--- the script asks for these commands, and the text is the output of a run of them. The rest of the script is still to come.
-pub record Runs (told : Option (List outside.File)) (names : FileNames) (rest : List Command) (text : List ℕ) : Type 0 where
+-- The headline: these octets are the contents of both files, as far as the files tell them; the world file describes
+-- this world, the script asks for these commands, and the text is the output of a run of them. The rest of the script
+-- is still to come.
+pub record Runs (told : Option (List outside.File)) (names : FileNames) (rest : List Command)
+    (text : List ℕ) : Type 0 where
   pub world : List ℕ
   pub script : List ℕ
   pub world_is : IsContent told names.world world
@@ -84,7 +88,8 @@ pub record RefusesWorld (told : Option (List outside.File)) (name text : List �
   pub world_is : IsContent told name world
   pub refuses : RefusesFile world text ⊎ DescribesNoStar world text
 
--- the script has a line that is refused, or, where it has none, one that asks for what no run does so far; the first is told
+-- the script has a line that is refused, or, where it has none, one that asks for what no run does so far; the first is
+-- told
 pub data RefusesScript (w : World) (script text : List ℕ) : Type 0 where
   faulty_line : (number : ℕ) (fault : Fault) → script_of (names_in w) (lost_in w) script ≡ Err (number, fault)
       → text ≡ refused_line_text number fault → RefusesScript w script text
@@ -106,7 +111,8 @@ abbrev pub Refuses : Option (List outside.File) → FileNames → List ℕ → T
 Refuses told names text = RefusesWorld told names.world text ⊎ RefusesLine told names text
 
 abbrev pub Writes : Status → Option (List outside.File) → FileNames → Option (List ℕ) → Option (List ℕ) → ℕ → ℕ → Type 0
-Writes status told names old new before after = Ends (Runs told names []) (RunsSoFar told names) (Refuses told names) status old new before after
+Writes status told names old new before after =
+    Ends (Runs told names []) (RunsSoFar told names) (Refuses told names) status old new before after
 
 -- the line of a refused world was written, or a first part of it
 abbrev pub StopsAtWorld : Status → Option (List outside.File) → List ℕ → Option (List ℕ) → Option (List ℕ) → Type 0
@@ -123,12 +129,15 @@ pub record TakesWorld (told : Option (List outside.File)) (name : List ℕ) : Ty
   pub described : Describes world (Ok file)
   pub star : IsStar file.world
 
--- What is known of the two files, by how a run ends. The script is read unless the world is refused, whose line is then what
--- was written; so a fault of the script is told only where the world is taken.
-abbrev pub Reads : Status → FileNames → Option (List outside.File) → ℕ → ℕ → Option (List ℕ) → Option (List ℕ) → Option (List ℕ) → Type 0
+-- What is known of the two files, by how a run ends. The script is read unless the world is refused, whose line is then
+-- what was written; so a fault of the script is told only where the world is taken.
+abbrev pub Reads : Status → FileNames → Option (List outside.File) → ℕ → ℕ → Option (List ℕ) → Option (List ℕ) →
+    Option (List ℕ) → Type 0
 Reads Done names told before after failed old new = IsReadable told names.world × IsReadable told names.script
-Reads Refused names told before after failed old new = IsReadable told names.world × (StopsAtWorld Refused told names.world old new ⊎ IsReadable told names.script)
-Reads WriteFault names told before after failed old new = IsReadable told names.world × (StopsAtWorld WriteFault told names.world old new ⊎ IsReadable told names.script)
+Reads Refused names told before after failed old new =
+    IsReadable told names.world × (StopsAtWorld Refused told names.world old new ⊎ IsReadable told names.script)
+Reads WriteFault names told before after failed old new =
+    IsReadable told names.world × (StopsAtWorld WriteFault told names.world old new ⊎ IsReadable told names.script)
 Reads NoMemory names told before after failed old new = ⊤
 Reads ReadFault names told before after failed old new =
     Rose before after × ((failed ≡ Some names.world) ⊎ (failed ≡ Some names.script) × TakesWorld told names.world)

@@ -1,5 +1,5 @@
--- The worlds that `run` takes so far: stars of agents. Where knowledge is consistent, a star is known by what each agent shows by
--- itself: where it stands, its one context, and to whom its references lead (`proofs/Shapes`).
+-- The worlds that `run` takes so far: stars of agents. Where knowledge is consistent, a star is known by what each
+-- agent shows by itself: where it stands, its one context, and to whom its references lead (`proofs/Shapes`).
 use Rattle.std.specs.Prelude.{◌≡◌, ℕ, Bool, not, ◌&&◌, ◌==◌, nat_lt, if◌then◌else◌, IsTrue, List, [], length}
 use Rattle.std.specs.List.{list_all, enumerate_from}
 use Rattle.x5_model.specs.Words.{is_empty}
@@ -22,7 +22,8 @@ abbrev pub refers_so : ℕ → List Specific → Bool
 refers_so place ks = if place == 0 then list_all leads_away ks else is_empty ks
 
 abbrev pub is_seat : ℕ × Agent → Bool
-is_seat a = is_below_first a && (is_simple a.1 && (list_all (has_prefix a.0) a.1.contexts && refers_so a.0 a.1.subordinate))
+is_seat a =
+    is_below_first a && (is_simple a.1 && (list_all (has_prefix a.0) a.1.contexts && refers_so a.0 a.1.subordinate))
 
 abbrev pub are_seats : ℕ → List Agent → Bool
 are_seats from agents = list_all is_seat (enumerate_from from agents)
@@ -30,7 +31,8 @@ are_seats from agents = list_all is_seat (enumerate_from from agents)
 -- nothing is down, cut, refusing or lost
 abbrev pub is_idle : Network → Bool
 is_idle n =
-    is_empty n.down && (is_empty n.refusing && (is_empty n.cut && (is_empty n.lost_messages && is_empty n.lost_replies)))
+    is_empty n.down && (is_empty n.refusing && (is_empty n.cut
+    && (is_empty n.lost_messages && is_empty n.lost_replies)))
 
 abbrev pub is_shaped : World → Bool
 is_shaped w = are_seats 0 w.agents && (is_empty w.agreements && is_idle w.network)

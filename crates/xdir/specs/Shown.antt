@@ -4,7 +4,8 @@ use Rattle.x5_port.specs.Outside.{File, Rose, TookPrefix}
 use Rattle.x5_show.specs.Show.{ShowsValues, ShowsFault}
 use Rattle.xdir.specs.Outcomes.{Wrote, OfContent}
 use Rattle.xdir.specs.declared.top.Status.{Status}
-use Rattle.xdir.specs.declared.top.Status.TheVariants.{Done, Refused, Usage, ReadFault, WriteFault, NoMemory, Inconsistent, TooLong}
+use Rattle.xdir.specs.declared.top.Status.TheVariants.{Done, Refused, Usage, ReadFault, WriteFault, NoMemory}
+use Rattle.xdir.specs.declared.top.Status.TheVariants.{Inconsistent, TooLong}
 
 -- what is shown of these octets is no fault or one, of which a first part was written
 pub record BrokeShown (octets : List ℕ) (old new : Option (List ℕ)) : Type 0 where
@@ -25,9 +26,12 @@ ShowsOctets TooLong octets old new before after = ⊥
 
 -- what `show` writes, by how it ends: before the file is read nothing is
 abbrev pub WritesShown : Status → Option (List File) → List ℕ → Option (List ℕ) → Option (List ℕ) → ℕ → ℕ → Type 0
-WritesShown Done told name old new before after = OfContent told name (λ octets. ShowsOctets Done octets old new before after)
-WritesShown Refused told name old new before after = OfContent told name (λ octets. ShowsOctets Refused octets old new before after)
-WritesShown WriteFault told name old new before after = OfContent told name (λ octets. ShowsOctets WriteFault octets old new before after)
+WritesShown Done told name old new before after =
+    OfContent told name (λ octets. ShowsOctets Done octets old new before after)
+WritesShown Refused told name old new before after =
+    OfContent told name (λ octets. ShowsOctets Refused octets old new before after)
+WritesShown WriteFault told name old new before after =
+    OfContent told name (λ octets. ShowsOctets WriteFault octets old new before after)
 WritesShown NoMemory told name old new before after = new ≡ old
 WritesShown ReadFault told name old new before after = new ≡ old
 WritesShown TooLong told name old new before after = new ≡ old

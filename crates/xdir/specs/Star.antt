@@ -1,4 +1,5 @@
--- The star of agents that a run is over: its agents, as the dispatch takes them, and what they are of the described world.
+-- The star of agents that a run is over: its agents, as the dispatch takes them, and what they are of the described
+-- world.
 use Rattle.std.specs.Prelude.{◌≡◌, ℕ, ◌<◌, IsTrue, Option, None, Some}
 use Rattle.x5_dispatch.specs.Star.{star_world, are_short}
 use Rattle.x5_know.specs.declared.described.Described.{Described}

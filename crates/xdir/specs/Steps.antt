@@ -12,7 +12,8 @@ use Rattle.xdir.specs.Outcomes.{most_octets, Wrote, Broke, Ends, IsReadable}
 use Rattle.xdir.specs.Run.{AsksFor, is_other, IsOutput, RefusesStar, RefusesScript}
 use Rattle.xdir.specs.Text.{not_yet_text}
 use Rattle.xdir.specs.declared.top.Status.{Status}
-use Rattle.xdir.specs.declared.top.Status.TheVariants.{Done, Refused, Usage, ReadFault, WriteFault, NoMemory, Inconsistent, TooLong}
+use Rattle.xdir.specs.declared.top.Status.TheVariants.{Done, Refused, Usage, ReadFault, WriteFault, NoMemory}
+use Rattle.xdir.specs.declared.top.Status.TheVariants.{Inconsistent, TooLong}
 
 -- the output of a run of the first of these commands
 pub record IsFirstOutput (f : File) (commands : List Command) (text : List ℕ) : Type 0 where
@@ -45,7 +46,8 @@ WritesSuchLine Inconsistent P old new before after = ⊥
 
 -- what a run of these commands over the star of this file writes
 abbrev pub WritesRun : Status → File → List Command → Option (List ℕ) → Option (List ℕ) → ℕ → ℕ → Type 0
-WritesRun status f commands old new before after = Ends (IsOutput f commands) (IsFirstOutput f commands) (λ text. ⊥) status old new before after
+WritesRun status f commands old new before after =
+    Ends (IsOutput f commands) (IsFirstOutput f commands) (λ text. ⊥) status old new before after
 
 -- the output of what is asked for, of the first part of it, and the line of what no run does so far
 pub record IsAskedOutput (f : File) (asked : List Asked) (text : List ℕ) : Type 0 where
@@ -82,27 +84,33 @@ pub record IsFirstScriptOutput (f : File) (script text : List ℕ) : Type 0 wher
 -- what a run of this script over this star writes
 abbrev pub WritesScript : Status → File → List ℕ → Option (List ℕ) → Option (List ℕ) → ℕ → ℕ → Type 0
 WritesScript status f script old new before after =
-    Ends (IsScriptOutput f script) (IsFirstScriptOutput f script) (RefusesScript f.world script) status old new before after
+    Ends (IsScriptOutput f script) (IsFirstScriptOutput f script)
+    (RefusesScript f.world script) status old new before after
 
 -- what a run of the script in this file over this star writes
 abbrev pub OfScript : Option (List outside.File) → List ℕ → (List ℕ → List ℕ → Type 0) → List ℕ → Type 0
 OfScript told name P text = (script : List ℕ) × IsContent told name script × P script text
 
-abbrev pub WritesScriptFile : Status → Option (List outside.File) → List ℕ → File → Option (List ℕ) → Option (List ℕ) → ℕ → ℕ → Type 0
+abbrev pub WritesScriptFile : Status → Option (List outside.File) → List ℕ → File → Option (List ℕ) → Option (List ℕ) →
+    ℕ → ℕ → Type 0
 WritesScriptFile status told name f old new before after =
-    Ends (OfScript told name (IsScriptOutput f)) (OfScript told name (IsFirstScriptOutput f)) (OfScript told name (RefusesScript f.world)) status old new before after
+    Ends (OfScript told name (IsScriptOutput f)) (OfScript told name (IsFirstScriptOutput f))
+    (OfScript told name (RefusesScript f.world)) status old new before after
 
 -- the line of a script over a star, or of a world that is none
 abbrev pub RefusesOver : Option (List outside.File) → List ℕ → File → List ℕ → Type 0
 RefusesOver told name f text = RefusesStar f text ⊎ (IsStar f.world × OfScript told name (RefusesScript f.world) text)
 
 -- what a run over this world writes, star or not
-abbrev pub WritesOver : Status → Option (List outside.File) → List ℕ → File → Option (List ℕ) → Option (List ℕ) → ℕ → ℕ → Type 0
+abbrev pub WritesOver : Status → Option (List outside.File) → List ℕ → File → Option (List ℕ) → Option (List ℕ) → ℕ →
+    ℕ → Type 0
 WritesOver status told name f old new before after =
-    Ends (OfScript told name (IsScriptOutput f)) (OfScript told name (IsFirstScriptOutput f)) (RefusesOver told name f) status old new before after
+    Ends (OfScript told name (IsScriptOutput f)) (OfScript told name (IsFirstScriptOutput f))
+    (RefusesOver told name f) status old new before after
 
 -- what is known of the script's file after such a run: it isn't read where the world is no star
-abbrev pub ReadsOver : Status → File → List ℕ → Option (List outside.File) → ℕ → ℕ → Option (List ℕ) → Option (List ℕ) → Option (List ℕ) → Type 0
+abbrev pub ReadsOver : Status → File → List ℕ → Option (List outside.File) → ℕ → ℕ → Option (List ℕ) → Option (List ℕ) →
+    Option (List ℕ) → Type 0
 ReadsOver Done f name told before after failed old new = IsReadable told name
 ReadsOver Refused f name told before after failed old new = Wrote (RefusesStar f) old new ⊎ IsReadable told name
 ReadsOver WriteFault f name told before after failed old new = Broke (RefusesStar f) old new ⊎ IsReadable told name

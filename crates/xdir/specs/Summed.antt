@@ -13,27 +13,31 @@ use Rattle.xdir.specs.Outcomes.{Wrote, Broke}
 use Rattle.xdir.specs.Run.{AsksFor, IsOutput, Runs, RefusesScript, Refuses}
 use Rattle.xdir.specs.Steps.{IsNotYet, OfScript, RefusesOver}
 use Rattle.xdir.specs.declared.top.Status.{Status}
-use Rattle.xdir.specs.declared.top.Status.TheVariants.{Done, Refused, Usage, ReadFault, WriteFault, NoMemory, Inconsistent, TooLong}
+use Rattle.xdir.specs.declared.top.Status.TheVariants.{Done, Refused, Usage, ReadFault, WriteFault, NoMemory}
+use Rattle.xdir.specs.declared.top.Status.TheVariants.{Inconsistent, TooLong}
 
--- The text is the summary of a run of these commands over the world of this file: the line on knowledge, and the counts of the
--- blocks that the run's output has.
+-- The text is the summary of a run of these commands over the world of this file: the line on knowledge, and the counts
+-- of the blocks that the run's output has.
 pub record IsSummary (f : File) (commands : List Command) (text : List ℕ) : Type 0 where
   pub output : List ℕ
   pub prints : IsOutput f commands output
   pub sums_up : text ≡ summary_text f.world (moment_text f.start) prints.blocks
 
--- The headline: some output is that of `run` without `--summary`, of the whole script, and the text is the summary of its blocks.
+-- The headline: some output is that of `run` without `--summary`, of the whole script, and the text is the summary of
+-- its blocks.
 pub record Sums (told : Option (List outside.File)) (names : FileNames) (text : List ℕ) : Type 0 where
   pub output : List ℕ
   pub runs : Runs told names [] output
   pub sums_up : text ≡ summary_text runs.file.world (moment_text runs.file.start) runs.prints.blocks
 
--- What is written, by how such a run ends. Before all commands are run nothing is; then the whole output, the line of a refusal,
--- or a first part of one of these.
-abbrev pub EndsAtOnce : (List ℕ → Type 0) → (List ℕ → Type 0) → Status → Option (List ℕ) → Option (List ℕ) → ℕ → ℕ → Type 0
+-- What is written, by how such a run ends. Before all commands are run nothing is; then the whole output, the line of a
+-- refusal, or a first part of one of these.
+abbrev pub EndsAtOnce : (List ℕ → Type 0) → (List ℕ → Type 0) → Status → Option (List ℕ) → Option (List ℕ) → ℕ → ℕ →
+    Type 0
 EndsAtOnce output refusal Done old new before after = Wrote output old new
 EndsAtOnce output refusal Refused old new before after = Wrote refusal old new
-EndsAtOnce output refusal WriteFault old new before after = Rose before after × Broke (λ text. output text ⊎ refusal text) old new
+EndsAtOnce output refusal WriteFault old new before after =
+    Rose before after × Broke (λ text. output text ⊎ refusal text) old new
 EndsAtOnce output refusal NoMemory old new before after = new ≡ old
 EndsAtOnce output refusal ReadFault old new before after = new ≡ old
 EndsAtOnce output refusal TooLong old new before after = new ≡ old
@@ -41,14 +45,17 @@ EndsAtOnce output refusal Usage old new before after = ⊥
 EndsAtOnce output refusal Inconsistent old new before after = ⊥
 
 -- what `run --summary` writes, by how it ends
-abbrev pub WritesSummed : Status → Option (List outside.File) → FileNames → Option (List ℕ) → Option (List ℕ) → ℕ → ℕ → Type 0
-WritesSummed status told names old new before after = EndsAtOnce (Sums told names) (Refuses told names) status old new before after
+abbrev pub WritesSummed : Status → Option (List outside.File) → FileNames → Option (List ℕ) → Option (List ℕ) → ℕ → ℕ →
+    Type 0
+WritesSummed status told names old new before after =
+    EndsAtOnce (Sums told names) (Refuses told names) status old new before after
 
 -- ---- the steps of such a run, from the described world on
 
 -- what a summary of these commands over the star of this file writes
 abbrev pub SumsRun : Status → File → List Command → Option (List ℕ) → Option (List ℕ) → ℕ → ℕ → Type 0
-SumsRun status f commands old new before after = EndsAtOnce (IsSummary f commands) (λ text. ⊥) status old new before after
+SumsRun status f commands old new before after =
+    EndsAtOnce (IsSummary f commands) (λ text. ⊥) status old new before after
 
 -- of what is asked for
 pub record IsAskedSummary (f : File) (asked : List Asked) (text : List ℕ) : Type 0 where
@@ -57,7 +64,8 @@ pub record IsAskedSummary (f : File) (asked : List Asked) (text : List ℕ) : Ty
   pub sums : IsSummary f commands text
 
 abbrev pub SumsAsked : Status → File → List Asked → Option (List ℕ) → Option (List ℕ) → ℕ → ℕ → Type 0
-SumsAsked status f asked old new before after = EndsAtOnce (IsAskedSummary f asked) (IsNotYet asked) status old new before after
+SumsAsked status f asked old new before after =
+    EndsAtOnce (IsAskedSummary f asked) (IsNotYet asked) status old new before after
 
 -- of the script's commands over this star
 pub record IsScriptSummary (f : File) (script text : List ℕ) : Type 0 where
@@ -70,11 +78,14 @@ SumsScript status f script old new before after =
     EndsAtOnce (IsScriptSummary f script) (RefusesScript f.world script) status old new before after
 
 -- of the script in this file over this star
-abbrev pub SumsScriptFile : Status → Option (List outside.File) → List ℕ → File → Option (List ℕ) → Option (List ℕ) → ℕ → ℕ → Type 0
+abbrev pub SumsScriptFile : Status → Option (List outside.File) → List ℕ → File → Option (List ℕ) → Option (List ℕ) →
+    ℕ → ℕ → Type 0
 SumsScriptFile status told name f old new before after =
-    EndsAtOnce (OfScript told name (IsScriptSummary f)) (OfScript told name (RefusesScript f.world)) status old new before after
+    EndsAtOnce (OfScript told name (IsScriptSummary f))
+    (OfScript told name (RefusesScript f.world)) status old new before after
 
 -- over this world, star or not
-abbrev pub SumsOver : Status → Option (List outside.File) → List ℕ → File → Option (List ℕ) → Option (List ℕ) → ℕ → ℕ → Type 0
+abbrev pub SumsOver : Status → Option (List outside.File) → List ℕ → File → Option (List ℕ) → Option (List ℕ) → ℕ → ℕ →
+    Type 0
 SumsOver status told name f old new before after =
     EndsAtOnce (OfScript told name (IsScriptSummary f)) (RefusesOver told name f) status old new before after

@@ -1,5 +1,5 @@
--- What `tree WORLD SCRIPT` reads and writes, by how it ends: the script's requests, answered without agents on the one tree of the
--- world (X.501, section 7: the directory information tree). The headline is `Tells`.
+-- What `tree WORLD SCRIPT` reads and writes, by how it ends: the script's requests, answered without agents on the one
+-- tree of the world (X.501, section 7: the directory information tree). The headline is `Tells`.
 use Rattle.std.specs.Prelude.{◌≡◌, ℕ, ◌⊎◌, List, ◌++◌, map, Option, Some, Ok, Err, ⊤}
 use Rattle.x5_know.specs.Moments.{moment_text}
 use Rattle.x5_model.specs.Answers.{Source}
@@ -30,10 +30,11 @@ use Rattle.xdir.specs.Run.{names_in, lost_in, AsksFor, RefusesFile}
 use Rattle.xdir.specs.Steps.{OfScript}
 use Rattle.xdir.specs.Text.{refused_line_text}
 use Rattle.xdir.specs.declared.top.Status.{Status}
-use Rattle.xdir.specs.declared.top.Status.TheVariants.{Done, Refused, Usage, ReadFault, WriteFault, NoMemory, Inconsistent, TooLong}
+use Rattle.xdir.specs.declared.top.Status.TheVariants.{Done, Refused, Usage, ReadFault, WriteFault, NoMemory}
+use Rattle.xdir.specs.declared.top.Status.TheVariants.{Inconsistent, TooLong}
 
--- What a line asks for, as a command of the one tree. Octets that are handed to an agent are no request to it: like every line that
--- is none they print `set`, as an agent that comes up does.
+-- What a line asks for, as a command of the one tree. Octets that are handed to an agent are no request to it: like
+-- every line that is none they print `set`, as an agent that comes up does.
 abbrev pub plain_command : Asked → Command
 plain_command (lines.Runs command) = command
 plain_command (Delivers dsp to octets) = Changes (Up to)
@@ -41,13 +42,13 @@ plain_command (Delivers dsp to octets) = Changes (Up to)
 abbrev pub plain_view : Line → Command
 plain_view c = plain_command (command_view c)
 
--- The text is what the one tree of this file's world prints for these lines: that the knowledge is consistent, and for each line its
--- block, as the tree answers it that all lines before have left.
+-- The text is what the one tree of this file's world prints for these lines: that the knowledge is consistent, and for
+-- each line its block, as the tree answers it that all lines before have left.
 abbrev pub IsTreeText : File → List Asked → List ℕ → Type 0
 IsTreeText f asked text = text ≡ tree_text f.world (moment_text f.start) (map plain_command asked)
 
--- Both files are taken: these octets are their contents, as far as the files tell them; the world file describes this world, and the
--- script's lines ask for this over it.
+-- Both files are taken: these octets are their contents, as far as the files tell them; the world file describes this
+-- world, and the script's lines ask for this over it.
 pub record TakesBoth (told : Option (List outside.File)) (names : FileNames) : Type 0 where
   pub world : List ℕ
   pub script : List ℕ
@@ -105,8 +106,9 @@ pub record RefusesSecond (told : Option (List outside.File)) (names : FileNames)
 abbrev pub RefusesEither : Option (List outside.File) → FileNames → List ℕ → Type 0
 RefusesEither told names text = RefusesFirst told names.world text ⊎ RefusesSecond told names text
 
--- What is written, by how it ends: the whole output, the line on knowledge or of a refusal, a first part of one of these, or the
--- output for the lines before memory ran out; before both files are read nothing is, but the line of a refused world.
+-- What is written, by how it ends: the whole output, the line on knowledge or of a refusal, a first part of one of
+-- these, or the output for the lines before memory ran out; before both files are read nothing is, but the line of a
+-- refused world.
 abbrev pub EndsTree : (List ℕ → Type 0) → (List ℕ → Type 0) → (List ℕ → Type 0) → (List ℕ → Type 0) → Status
     → Option (List ℕ) → Option (List ℕ) → ℕ → ℕ → Type 0
 EndsTree output first none refusal Done old new before after = Wrote output old new
@@ -119,9 +121,11 @@ EndsTree output first none refusal ReadFault old new before after = new ≡ old
 EndsTree output first none refusal TooLong old new before after = new ≡ old
 EndsTree output first none refusal Usage old new before after = ⊥
 
-abbrev pub WritesTree : Status → Option (List outside.File) → FileNames → Option (List ℕ) → Option (List ℕ) → ℕ → ℕ → Type 0
+abbrev pub WritesTree : Status → Option (List outside.File) → FileNames → Option (List ℕ) → Option (List ℕ) → ℕ → ℕ →
+    Type 0
 WritesTree status told names old new before after =
-    EndsTree (Tells told names) (TellsSoFar told names) (TellsNone told names) (RefusesEither told names) status old new before after
+    EndsTree (Tells told names) (TellsSoFar told names) (TellsNone told names)
+    (RefusesEither told names) status old new before after
 
 -- the world file is there, isn't too long, and describes a world
 pub record TakesFirst (told : Option (List outside.File)) (name : List ℕ) : Type 0 where
@@ -131,12 +135,13 @@ pub record TakesFirst (told : Option (List outside.File)) (name : List ℕ) : Ty
   pub file : File
   pub described : Describes world (Ok file)
 
--- What is known of the two files, by how it ends. The script is read unless the world file is refused, whose line is then what was
--- written; so a fault of the script is told only where the world file describes a world.
+-- What is known of the two files, by how it ends. The script is read unless the world file is refused, whose line is
+-- then what was written; so a fault of the script is told only where the world file describes a world.
 abbrev pub ReadsTree : Status → FileNames → Option (List outside.File) → ℕ → ℕ → Option (List ℕ) → Option (List ℕ)
     → Option (List ℕ) → Type 0
 ReadsTree Done names told before after failed old new = IsReadable told names.world × IsReadable told names.script
-ReadsTree Inconsistent names told before after failed old new = IsReadable told names.world × IsReadable told names.script
+ReadsTree Inconsistent names told before after failed old new =
+    IsReadable told names.world × IsReadable told names.script
 ReadsTree Refused names told before after failed old new =
     IsReadable told names.world × (Wrote (RefusesFirst told names.world) old new ⊎ IsReadable told names.script)
 ReadsTree WriteFault names told before after failed old new =
@@ -177,11 +182,13 @@ OfLines f P script text = (asked : List Asked) × AsksFor f.world script asked �
 
 abbrev pub TellsScript : Status → File → List ℕ → Option (List ℕ) → Option (List ℕ) → ℕ → ℕ → Type 0
 TellsScript status f script old new before after =
-    EndsTree (OfLines f IsTold script) (OfLines f IsToldSoFar script) (OfLines f IsNoTree script) (RefusesALine f.world script)
+    EndsTree (OfLines f IsTold script) (OfLines f IsToldSoFar script) (OfLines f IsNoTree script)
+    (RefusesALine f.world script)
     status old new before after
 
 -- for the script in a file
-abbrev pub TellsFile : Status → Option (List outside.File) → List ℕ → File → Option (List ℕ) → Option (List ℕ) → ℕ → ℕ → Type 0
+abbrev pub TellsFile : Status → Option (List outside.File) → List ℕ → File → Option (List ℕ) → Option (List ℕ) → ℕ → ℕ →
+    Type 0
 TellsFile status told name f old new before after =
     EndsTree (OfScript told name (OfLines f IsTold)) (OfScript told name (OfLines f IsToldSoFar))
     (OfScript told name (OfLines f IsNoTree)) (OfScript told name (RefusesALine f.world)) status old new before after

@@ -3,10 +3,10 @@ ghost use Rattle.std.specs.Prelude.{◌≡◌};
 ghost use Rattle.x5_model_typed.specs.Nodes as nodes;
 ghost use Rattle.x5_types.specs.NodeView.{node_view};
 
-use x5_types::Node;
+use crate::node::Node;
 
-/// Whether the nodes are the same: of one sort, and alike in each part.
-pub(crate) fn same(node: &Node<'_>, other: &Node<'_>) -> bool
+/// Whether the nodes are the same: of one sort, and alike in each part. No memory.
+pub fn same(node: &Node<'_>, other: &Node<'_>) -> bool
     ensures { result ≡ nodes.same (node_view node.now) (node_view other.now) }
 {
     match (node, other) {
