@@ -5,6 +5,7 @@ use Rattle.std.specs.List.{flat_map, enumerate_from, list_all}
 use Rattle.std.specs.Option.{option_map}
 use Rattle.std.proofs.lemmas.Grind.{flat_map-append}
 use Rattle.std.proofs.lemmas.List.{length-map}
+use Rattle.std.proofs.lemmas.List.Sums.{sum_by-cons}
 use Rattle.std.proofs.lemmas.Bool.{leb-true}
 use Rattle.std.proofs.lemmas.Bool.Decides.{leb_tells}
 use Rattle.std.proofs.lemmas.Option.{slice_get-map, slice_get_past, slice_get_within}
@@ -31,36 +32,37 @@ use Rattle.x5_world.specs.Counts.{contexts_of, pairs_of_nssrs, pairs_of_contexts
 use Rattle.x5_world.specs.State.{Net, StandsAt, HasRoom, holdings_in, names_in}
 use Rattle.x5_world.specs.Sent.{IsHolder, IsNet}
 
-at : ℕ → Context → Mastered
+abbrev at : ℕ → Context → Mastered
 at k c = record { master = k; context = c }
 
-of_agent : ℕ × Agent → List Mastered
+abbrev of_agent : ℕ × Agent → List Mastered
 of_agent a = map (λ c. record { master = a.0; context = c }) a.1.contexts
 
 contexts_from : (k : ℕ) (ds : List DescribedAgent)
     → length (flat_map of_agent (enumerate_from k (map described_agent_view ds))) ≡ contexts_of ds
 contexts_from k [] = refl
 contexts_from k (d ∷ ds) =
-    let h : length (flat_map of_agent (enumerate_from (suc k) (map described_agent_view ds))) ≡ contexts_of ds =
-    contexts_from (suc k) ds in
     let own : length (of_agent (k, described_agent_view d)) ≡ length d.spec.contexts =
     length-map (map context_view d.spec.contexts) (at k) ∙ length-map d.spec.contexts context_view in
     length-append (of_agent (k, described_agent_view d))
-    (flat_map of_agent (enumerate_from (suc k) (map described_agent_view ds)))
-    ∙ (λ i. own i + h i)
+    (flat_map of_agent (enumerate_from (k + 1) (map described_agent_view ds)))
+    ∙ (λ i. own i + contexts_from (k + 1) ds i)
+    ∙ sym (sum_by-cons (λ (a : DescribedAgent). length a.spec.contexts) d ds)
 
 pub contexts_are : (d : Described) → contexts_of d.agents ≡ length (mastered (world_view d))
 contexts_are d = sym (contexts_from 0 d.agents)
 
-in_nssr : List Nssr → List ℕ
+abbrev in_nssr : List Nssr → List ℕ
 in_nssr ns = flat_map (λ n. n.agents) ns
 
-in_context : Mastered → List ℕ
+abbrev in_context : Mastered → List ℕ
 in_context m = flat_map (λ n. n.agents) m.context.nssrs
 
 nssrs_are : (ns : List code.Nssr) → length (in_nssr (map nssr_view ns)) ≡ pairs_of_nssrs ns
 nssrs_are [] = refl
-nssrs_are (n ∷ ns) = length-append n.agents (in_nssr (map nssr_view ns)) ∙ ap (λ (k : ℕ). length n.agents + k) (nssrs_are ns)
+nssrs_are (n ∷ ns) =
+    length-append n.agents (in_nssr (map nssr_view ns)) ∙ ap (λ (k : ℕ). length n.agents + k) (nssrs_are ns)
+    ∙ sym (sum_by-cons (λ (x : code.Nssr). length x.agents) n ns)
 
 contexts_pairs : (k : ℕ) (cs : List ContextSpec)
     → length (flat_map in_context (map (at k) (map context_view cs))) ≡ pairs_of_contexts cs
@@ -68,15 +70,18 @@ contexts_pairs k [] = refl
 contexts_pairs k (c ∷ cs) =
     length-append (in_context (at k (context_view c))) (flat_map in_context (map (at k) (map context_view cs)))
     ∙ (λ i. nssrs_are c.nssr i + contexts_pairs k cs i)
+    ∙ sym (sum_by-cons (λ (x : ContextSpec). pairs_of_nssrs x.nssr) c cs)
 
 pairs_from : (k : ℕ) (ds : List DescribedAgent)
-    → length (flat_map in_context (flat_map of_agent (enumerate_from k (map described_agent_view ds)))) ≡ pairs_of_agents ds
+    → length (flat_map in_context (flat_map of_agent (enumerate_from k (map described_agent_view ds))))
+    ≡ pairs_of_agents ds
 pairs_from k [] = refl
 pairs_from k (d ∷ ds) =
-    let more : List Mastered = flat_map of_agent (enumerate_from (suc k) (map described_agent_view ds)) in
+    let more : List Mastered = flat_map of_agent (enumerate_from (k + 1) (map described_agent_view ds)) in
     ap length (flat_map-append in_context (of_agent (k, described_agent_view d)) more)
     ∙ length-append (flat_map in_context (of_agent (k, described_agent_view d))) (flat_map in_context more)
-    ∙ (λ i. contexts_pairs k d.spec.contexts i + pairs_from (suc k) ds i)
+    ∙ (λ i. contexts_pairs k d.spec.contexts i + pairs_from (k + 1) ds i)
+    ∙ sym (sum_by-cons (λ (a : DescribedAgent). pairs_of_contexts a.spec.contexts) d ds)
 
 pub pairs_are : (d : Described) → pairs_of_agents d.agents ≡ nssr_pairs (world_view d)
 pairs_are d = sym (pairs_from 0 d.agents)
