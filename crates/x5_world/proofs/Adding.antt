@@ -68,4 +68,3 @@ one_more names copy next i x d e c n =
     n ∙ ap (λ (ns : List (List ℕ)). with_name ns x) c
     ∙ added (has_name (take i names) x) (take i names) (take i names ++ x ∷ []) (new_name names i x d e)
     ∙ take_more names i x e ∙ ap (λ (k : ℕ). take k names) one
-

@@ -94,9 +94,10 @@ limited w d =
     let a = both_true (nat_le (length w.agents) 64) _ d.limits in
     let b = both_true (nat_le (length w.agreements) 64) _ a.1 in
     let c = both_true (nat_le (length (mastered w)) 4096) _ b.1 in
-    let e = both_true (nat_le (length (nssr_agents w)) 4096) _ c.1 in
-    (leb-true (length w.agents) 64 a.0,
-    (leb-true (length (mastered w)) 4096 c.0, leb-true (length (nssr_agents w)) 4096 e.0))
+    let e = both_true (nat_le (length (nssr_agents w)) 4096) _ c.1 in (
+      leb-true (length w.agents) 64 a.0,
+      (leb-true (length (mastered w)) 4096 c.0, leb-true (length (nssr_agents w)) 4096 e.0),
+    )
 
 pub few_contexts : (d : Described) → IsDescribed (world_view d) → contexts_of d.agents ≤ 4096
 few_contexts d h = (let l = (limited (world_view d) h).1.0 in let e = contexts_are d in omega (arith, l, e))

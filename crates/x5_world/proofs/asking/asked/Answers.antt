@@ -60,7 +60,7 @@ returns-clause-asked c =
     (λ x e. first_is at s c.args.most names (journal_in c.send.new.self) x scene most called before refl message e
     c.in_ok-send.ensures.carried) in
     let lines : (e : Exchange) → c.match-branch-3.exchange ≡ e → names_in e ≡ names
-        → journal_of names c.into_lines.result.items ≡ journal_in e =
+    → journal_of names c.into_lines.result.items ≡ journal_in e =
     (λ e same named i. journal_of (sym named i) ((c.into_lines.ensures ∙ ap (λ (x : Exchange). x.lines) same) i).items) in
     elim c.match-branch-3.branch [
       | in-Undelivered+in_ok-reply-in-Undelivered w ↦

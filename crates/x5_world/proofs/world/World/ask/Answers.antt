@@ -18,7 +18,7 @@ returns-clause-answered c =
     let named : c.self.inside.names ≡ old.names = ap (λ (n : Net). n.names) c.self.view_is in
     let sent : List Sent = c.in_ok-reply.sent.items in
     let printed : messages_view old.names c.without_acceptance.result.lines
-        ≡ map (λ l. model.printed_line (line_view old.names l)) sent =
+    ≡ map (λ l. model.printed_line (line_view old.names l)) sent =
     ap (messages_view old.names) c.without_acceptance.ensures.lines
     ∙ subst (λ (ns : List (List ℕ)). messages_view ns c.in_ok-lines.lines
     ≡ map (λ l. model.printed_line (line_view ns l)) sent) named
