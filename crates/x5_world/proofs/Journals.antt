@@ -1,6 +1,6 @@
 -- What is printed of the messages that were sent: one line for each, in their order, between agents of the network.
-use Rattle.std.proofs.Common.{◌≡◌, ℕ, ◌+◌, ◌<◌, ◌≤◌, Bool, true, ◌&&◌, nat_lt, nat_le, List, [], ◌∷◌, ◌++◌, length, map, drop, get_or, refl, sym, ap, subst, ◌∙◌, arith, append_assoc, append-nil, Option, Some, None, slice_get}
-use Rattle.std.specs.List.{list_all, flat_map}
+use Rattle.std.proofs.Common.{◌≡◌, ℕ, ◌+◌, ◌<◌, ◌≤◌, true, nat_lt, nat_le, List, [], ◌∷◌, ◌++◌, length, map, drop, get_or, refl, sym, ap, ◌∙◌, append_assoc, append-nil, Some, slice_get}
+use Rattle.std.specs.List.{list_all}
 use Rattle.std.proofs.lemmas.Grind.{flat_map-append}
 use Rattle.std.proofs.lemmas.List.Folds.{list_all-append}
 use Rattle.std.proofs.Math.ListN.{drop_of_length-le}
@@ -8,7 +8,6 @@ use Rattle.x5_model.specs.Words.{distinct, in_option, same_octets}
 use Rattle.x5_model.proofs.Lists.{both_true, and_true}
 use Rattle.x5_model_run.specs.Journal as model
 use Rattle.x5_ops.proofs.Dropping.{drop_at}
-use Rattle.x5_ops.specs.AgentNames.{agent_of}
 use Rattle.x5_ops.specs.JournalViews.{printed_view, messages_view}
 use Rattle.x5_ops.specs.declared.journal.Line.{Line}
 use Rattle.x5_eval.proofs.Names.{own_place}

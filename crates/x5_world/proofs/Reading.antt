@@ -17,7 +17,7 @@ use Rattle.x5_model_run.specs.Chain.{Scene}
 use Rattle.x5_model_heard.specs.Kept.{IsOfUser, looks_at_one}
 use Rattle.x5_model_heard.specs.Told.{KnowsAgents, are_agents}
 use Rattle.x5_model_serve.specs.Finding as finding
-use Rattle.x5_model_serve.specs.Serving.{Hand, hand, is_done_here, holds_now}
+use Rattle.x5_model_serve.specs.Serving.{Hand, is_done_here, holds_now}
 
 false_true : false ≡ true → ⊥
 false_true e = cc

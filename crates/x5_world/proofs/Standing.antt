@@ -1,6 +1,6 @@
 -- The network of a line, as the definitions judge it: what is held is what the file describes, since so far nothing was
 -- accepted or refreshed; and each kind of line leads to the network of the next one.
-use Rattle.std.proofs.Common.{◌≡◌, ℕ, ◌+◌, ◌*◌, Bool, true, false, ◌&&◌, IsTrue, List, [], ◌∷◌, length, map, reverse, refl, sym, ap, ◌∙◌, arith}
+use Rattle.std.proofs.Common.{◌≡◌, ℕ, ◌+◌, ◌*◌, Bool, true, false, List, [], ◌∷◌, length, map, refl, sym, ap, ◌∙◌, arith}
 use Rattle.std.specs.List.{filter}
 use Rattle.std.specs.Prelude.{nat_lt}
 use Rattle.std.proofs.lemmas.List.{length-map}
@@ -15,7 +15,7 @@ use Rattle.x5_model_run.specs.Holdings.{Holdings}
 use Rattle.x5_model_run.specs.Journal.{Journal}
 use Rattle.x5_model_run.specs.History.{Deed, Nothing, Outs, Loses, Accepts, Refreshes, Splits, Unsplits, Did, Point, knowledge_by, knowledge_after, knowledge_at, network_at, sent_before, holdings_at}
 use Rattle.x5_model_run.specs.Stage.{budget, nssr_pairs, once_each}
-use Rattle.x5_model_run.specs.Chain.{Scene, scene_at, opening}
+use Rattle.x5_model_run.specs.Chain.{scene_at, opening}
 use Rattle.x5_model_run.specs.Run.{Asks, Changes, Drops, Blank, Silent, Set, Replies, did_by}
 use Rattle.x5_model_held.specs.Theorems.{is_still, are_still}
 use Rattle.x5_model_held.proofs.Begun.{held_as_described}

@@ -1,6 +1,6 @@
 -- A user's request from its first message to its reply is one of the three of the relation: the message is lost, the reply
 -- is lost, or he has the reply.
-use Rattle.std.proofs.Common.{◌≡◌, ℕ, ◌+◌, ◌<◌, ◌≤◌, true, List, [], length, refl, sym, ap, subst, ◌∙◌, arith, None}
+use Rattle.std.proofs.Common.{◌≡◌, ℕ, ◌+◌, ◌<◌, ◌≤◌, true, List, [], length, refl, sym, subst, ◌∙◌, arith, None}
 use Rattle.x5_model.specs.References.{Chained}
 use Rattle.x5_model.specs.Requests.{Request}
 use Rattle.x5_model.specs.Answers.{Reply}
@@ -15,7 +15,7 @@ use Rattle.x5_serve.specs.declared.network.Carried.{Carried}
 use Rattle.x5_serve.specs.declared.network.Carried.TheVariants.{Undelivered, Unheard, Taken}
 use Rattle.x5_ops.specs.declared.references.Chained as code
 use Rattle.x5_world.specs.State.{Net}
-use Rattle.x5_world.specs.Sent.{IsNet, IsUnderWay, scene_of}
+use Rattle.x5_world.specs.Sent.{IsNet, IsUnderWay}
 
 -- before its first message
 pub begun : (n : Net) (first most : ℕ) (r : Request) (m : Chained) → m ≡ opening r → IsNet n → first < length n.names

@@ -1,6 +1,6 @@
 -- Links and the count of messages may change, and it's a network as before; each line leaves room for the next one; and a
 -- request that was asked was answered.
-use Rattle.std.proofs.Common.{◌≡◌, ℕ, zero, suc, ◌+◌, ◌*◌, ◌<◌, ◌≤◌, Bool, true, false, List, [], ◌∷◌, length, map, reverse, refl, sym, ap, subst, ◌∙◌, arith}
+use Rattle.std.proofs.Common.{◌≡◌, ℕ, zero, ◌+◌, ◌*◌, ◌<◌, ◌≤◌, Bool, true, false, List, [], ◌∷◌, length, map, refl, sym, ap, subst, ◌∙◌, arith}
 use Rattle.std.proofs.Math.Nat.{le-mul_of_pos_right}
 use Rattle.std.proofs.lemmas.List.{reverse-reverse}
 use Rattle.x5_model.specs.Requests.{Request}
@@ -9,7 +9,7 @@ use Rattle.x5_model_run.specs.Network.{Outage, Down, Up, Cut, Join, Refuse, Will
 use Rattle.x5_model_run.specs.History.{Point}
 use Rattle.x5_model_run.specs.Journal as model
 use Rattle.x5_model_run.specs.Stage.{budget}
-use Rattle.x5_model_run.specs.Chain.{Scene, opening, scene_at}
+use Rattle.x5_model_run.specs.Chain.{Scene, opening}
 use Rattle.x5_model_serve.specs.Serving.{IsRequest}
 use Rattle.x5_ops.specs.AnswerViews.{reply_view}
 use Rattle.x5_ops.specs.JournalViews.{messages_view}

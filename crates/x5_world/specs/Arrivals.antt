@@ -1,5 +1,4 @@
 -- What becomes of a message that was sent, by its fate.
-use Rattle.std.specs.Prelude.{◌≡◌}
 use Rattle.x5_model_run.specs.Network as fates
 use Rattle.x5_ops.specs.declared.references.Chained.{Chained}
 use Rattle.x5_serve.specs.declared.network.Carried.{Carried}

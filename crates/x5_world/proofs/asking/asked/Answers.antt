@@ -1,11 +1,9 @@
 -- The user's message is the first of the exchange, and what becomes of it leads to one of the relation's three ends.
-use Rattle.std.proofs.Common.{◌≡◌, ℕ, List, true, length, refl, sym, ap, subst, ◌∙◌, rules}
+use Rattle.std.proofs.Common.{◌≡◌, ℕ, List, length, refl, sym, ap, subst, ◌∙◌}
 use Rattle.std.proofs.lemmas.Bool.{lt-ltb}
-use Rattle.x5_model.specs.Answers as model
 use Rattle.x5_model_run.specs.Chain as chain
 use Rattle.x5_model_run.specs.Chain.{Scene}
-use Rattle.x5_model_run.specs.Journal.{Journal}
-use Rattle.x5_model_serve.specs.Serving.{IsRequest, nothing_yet}
+use Rattle.x5_model_serve.specs.Serving.{nothing_yet}
 use Rattle.x5_model_known.proofs.Replying.{replies_name_agents}
 use Rattle.x5_ops.specs.AnswerViews.{reply_view}
 use Rattle.x5_ops.specs.ReferenceViews.{chained_view}

@@ -1,5 +1,5 @@
 -- The line has what the message has, with the names of its two agents.
-use Rattle.std.proofs.Common.{◌≡◌, true, List, [], ◌∷◌, length, sym, ap, ◌∙◌}
+use Rattle.std.proofs.Common.{◌≡◌, true, [], ◌∷◌, sym, ap, ◌∙◌}
 use Rattle.std.proofs.lemmas.List.{length-map}
 use Rattle.x5_model.specs.Words.{in_option}
 use Rattle.x5_model.proofs.Lists.{and_true}
@@ -8,7 +8,7 @@ use Rattle.x5_ops.specs.ReferenceViews.{progress_view, item_view}
 use Rattle.x5_ops.specs.JournalViews.{fate_view}
 use Rattle.x5_eval.proofs.Names.{own_place}
 use Rattle.x5_world.specs.Answered.{is_agent}
-use Rattle.x5_world.proofs.Journals.{named_is, sender_there, receiver_there, trace_counts}
+use Rattle.x5_world.proofs.Journals.{named_is, receiver_there}
 use Rattle.x5_world.proofs.journal.line.Goals as goal
 
 pub returns-clause-printed : goal.returns-clause-printed

@@ -1,5 +1,5 @@
 -- The sender's name stands at its place.
-use Rattle.std.proofs.Common.{◌≡◌, true, nat_lt, length, sym, ap, ◌∙◌, Some}
+use Rattle.std.proofs.Common.{true, nat_lt, length, sym, ap, ◌∙◌, Some}
 use Rattle.x5_model.specs.Words.{in_option}
 use Rattle.x5_ops.specs.AgentNames.{agent_of}
 use Rattle.x5_eval.proofs.Names.{own_place}

@@ -4,7 +4,6 @@ use Rattle.std.specs.List.{list_all}
 use Rattle.x5_model_run.specs.Journal as model
 use Rattle.x5_ops.specs.JournalViews.{messages_view}
 use Rattle.x5_ops.specs.RequestViews.{request_view}
-use Rattle.x5_ops.specs.declared.journal.Line.{Line}
 use Rattle.x5_world.specs.Answered.{line_names_agents}
 use Rattle.x5_world.specs.State.{Net}
 use Rattle.x5_world.specs.Sent.{line_view}

@@ -1,11 +1,9 @@
 -- What is made of a described world is the network of its first line.
-use Rattle.std.proofs.Common.{◌≡◌, ℕ, ◌≤◌, List, map, sym, ap, subst, ◌∙◌}
-use Rattle.x5_holdings.specs.State.{holdings_view}
+use Rattle.std.proofs.Common.{◌≤◌, List, sym, ap, subst, ◌∙◌}
 use Rattle.x5_know.specs.WorldView.{world_view}
 use Rattle.x5_know.specs.declared.described.DescribedAgent.{DescribedAgent}
 use Rattle.x5_world.specs.Counts.{contexts_of, pairs_of_agents}
-use Rattle.x5_world.specs.State.{Net}
-use Rattle.x5_world.proofs.Begun.{IsBegun, few_contexts, few_pairs, is_begun, net_begun, stands_begun, room_begun}
+use Rattle.x5_world.proofs.Begun.{few_contexts, few_pairs, is_begun, net_begun, stands_begun, room_begun}
 use Rattle.x5_world.proofs.world.World.new.Goals as goal
 
 pub contexts-contexts-requires : goal.contexts-contexts-requires

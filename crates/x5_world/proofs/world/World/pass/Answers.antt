@@ -1,5 +1,5 @@
 -- A comment changes nothing.
-use Rattle.std.proofs.Common.{◌≡◌, ◌+◌, ◌≤◌, length, arith}
+use Rattle.std.proofs.Common.{◌+◌, ◌≤◌, length, arith}
 use Rattle.x5_world.proofs.Standing.{after_comment}
 use Rattle.x5_world.proofs.Worlds.{one_line_more}
 use Rattle.x5_world.proofs.world.World.pass.Goals as goal
