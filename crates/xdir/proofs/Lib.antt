@@ -1,12 +1,13 @@
 pub mod Ends
 pub mod SoFar
-pub mod Known
+pub mod Courses
 pub mod Files
-pub mod Shapes
-pub mod Agents
+pub mod Beginning
 pub mod Taken
+pub mod Targets
 pub mod Few
 pub mod Checks
 pub mod Summaries
 pub mod Counts
 pub mod Making
+pub mod Named
