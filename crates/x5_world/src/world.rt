@@ -1,0 +1,115 @@
+//! The network of a run.
+
+ghost use Rattle.std.specs.Prelude.{◌≡◌, ℕ, ◌<◌, ◌+◌, ◌≤◌, ◌∷◌, [], length, true, IfOk, OnErr};
+ghost use Rattle.x5_know.specs.WorldView.{world_view};
+ghost use Rattle.x5_model_heard.specs.Kept.{looks_at_one};
+ghost use Rattle.x5_model_run.specs.Needs.{target_of};
+ghost use Rattle.x5_model_run.specs.History.{Point, Outs, Loses, Nothing};
+ghost use Rattle.x5_model_run.specs.Run.{Changes, Drops, Blank, Set, Silent, did_by};
+ghost use Rattle.x5_model_tree.specs.Consistent.{IsConsistent};
+ghost use Rattle.x5_model_tree.specs.Described.{IsDescribed};
+ghost use Rattle.x5_ops.specs.JournalViews.{outage_view};
+ghost use Rattle.x5_ops.specs.RequestViews.{body_view, request_view};
+ghost use Rattle.x5_world.specs.State.{Net, StandsAt, HasRoom, after, names_in, most_messages};
+ghost use Rattle.x5_world.specs.Answered.{IsAnswered, NamesAgents};
+
+use std::alloc::Global;
+use std::marker::Model;
+use x5_holdings::Holdings;
+use x5_know::{AgentNames, Described};
+use x5_memory::NoMemory;
+use x5_ops::{AgentId, Journal, Outage, Reply, Request};
+
+/// The agents with what each holds, and the network between them.
+#[derive(Drop)]
+pub struct World {
+    names: AgentNames,
+    agents: Vec<Holdings>,
+}
+
+impl Model for World {
+    ghost use Rattle.std.specs.Prelude.{[], map};
+    ghost use Rattle.x5_holdings.specs.State.{holdings_view};
+    ghost use Rattle.x5_world.specs.State.{Net};
+
+    ghost Value = { Net };
+
+    ghost view = { λ w. record { names = w.names; agents = map holdings_view w.agents.items; network = record { down = []; refusing = []; cut = []; lost_messages = []; lost_replies = [] }; sent = 0; contexts = 0; pairs = 0 } };
+}
+
+impl World {
+    /// The network before the first line of a script: each agent holds what the file describes of it, and nothing was sent.
+    pub fn new(alloc: Global, described: &Described) -> Result<World, NoMemory>
+        requires described { IsDescribed (world_view described.now) }
+        requires named { described.now.names ≡ names_in (world_view described.now) }
+        ensures names { IfOk result (λ w. w.names ≡ names_in (world_view described.now)) }
+        ensures stands { IfOk result (λ w. IsConsistent (world_view described.now) → StandsAt w (record { described = world_view described.now; past = [] })) }
+        ensures room { IfOk result (λ w. HasRoom w 0) }
+    {
+        let _ = alloc;
+        let _ = described;
+        Err(NoMemory)
+    }
+
+    /// What a user's read or compare is answered by this agent, and the messages that it takes, in their order; nobody accepts
+    /// anything. After want of memory the network isn't used again.
+    pub fn ask(
+        &mut self,
+        alloc: Global,
+        first: AgentId,
+        request: &Request,
+    ) -> Result<(Reply, Journal), NoMemory>
+        requires there { first < length self.old.names }
+        requires alone { looks_at_one (body_view request.now.body) ≡ true }
+        requires short { length (target_of (body_view request.now.body)) ≤ 16 }
+        requires room { (lines : ℕ) × (HasRoom self.old lines × (lines < 100000)) }
+        ensures names { self.new.names ≡ self.old.names }
+        ensures answered { IfOk result (λ out. (p : Point) → StandsAt self.old p → IsAnswered self.old self.new p first (request_view request.now) out.0 out.1) }
+        ensures named { IfOk result (λ out. NamesAgents self.old.names out.0 out.1) }
+        ensures room_after { IfOk result (λ _. (lines : ℕ) → HasRoom self.old lines → HasRoom self.new (lines + 1)) }
+    {
+        let _ = alloc;
+        let _ = first;
+        let _ = request;
+        Err(NoMemory)
+    }
+
+    /// An agent is down or up again, a pair is cut or joined again, an agent refuses to chain or is willing again. After want of
+    /// memory all is as it was.
+    pub fn change(&mut self, outage: Outage) -> Result<(), NoMemory>
+        ensures names { self.new.names ≡ self.old.names }
+        ensures stands { IfOk result (λ _. (p : Point) → StandsAt self.old p → StandsAt self.new (after (did_by (Changes (outage_view outage)) Set) p)) }
+        ensures room { IfOk result (λ _. (lines : ℕ) → HasRoom self.old lines → HasRoom self.new (lines + 1)) }
+        ensures err { OnErr result (self.new ≡ self.old) }
+    {
+        let _ = outage;
+        Err(NoMemory)
+    }
+
+    /// Of the messages sent from now on the one of this number, from 1, is lost, or the reply to it. After want of memory all is
+    /// as it was.
+    pub fn lose(&mut self, reply: bool, number: u32) -> Result<(), NoMemory>
+        requires room { (lines : ℕ) × (HasRoom self.old lines × (lines < 100000)) }
+        ensures names { self.new.names ≡ self.old.names }
+        ensures stands { IfOk result (λ _. (p : Point) → StandsAt self.old p → StandsAt self.new (after (did_by (Drops reply number) Set) p)) }
+        ensures room_after { IfOk result (λ _. (lines : ℕ) → HasRoom self.old lines → HasRoom self.new (lines + 1)) }
+        ensures err { OnErr result (self.new ≡ self.old) }
+    {
+        let _ = reply;
+        let _ = number;
+        Err(NoMemory)
+    }
+
+    /// A comment: nothing happens, and the next line finds the network as it is. No memory.
+    pub fn pass(&self)
+        ensures stands { (p : Point) → StandsAt self.now p → StandsAt self.now (after (did_by Blank Silent) p) }
+        ensures room { (lines : ℕ) → HasRoom self.now lines → HasRoom self.now (lines + 1) }
+    {}
+
+    /// The agents' names. No memory.
+    pub fn names(&self) -> &AgentNames
+        ensures { result.now ≡ self.now.names }
+    {
+        &self.names
+    }
+}
