@@ -1,6 +1,7 @@
--- What the dispatch asks of a network, of every exchange: what its agents hold is their own, and what they know are agents
--- of the network.
-use Rattle.std.proofs.Common.{◌≡◌, ℕ, zero, suc, ◌<◌, List, [], ◌∷◌, length, slice_get, refl, sym, ap, subst, arith, Some}
+-- What the dispatch asks of a network, of every exchange: what its agents hold is their own, and what they know are
+-- agents of the network.
+use Rattle.std.proofs.Common.{◌≡◌, ℕ, zero, suc, ◌<◌, List, [], ◌∷◌, length, slice_get, refl, sym, ap, subst, arith}
+use Rattle.std.proofs.Common.{Some}
 use Rattle.x5_model.specs.Words.{in_option}
 use Rattle.x5_model.proofs.Decide.{less_decides}
 use Rattle.x5_model.specs.References.{Chained}

@@ -1,5 +1,6 @@
 -- The messages that were sent for a request, as the definitions' journal has them.
-use Rattle.std.specs.Prelude.{◌≡◌, ℕ, ◌<◌, ◌+◌, ◌≤◌, ◌&&◌, nat_lt, nat_le, Bool, true, false, List, [], length, map, reverse}
+use Rattle.std.specs.Prelude.{◌≡◌, ℕ, ◌<◌, ◌+◌, ◌≤◌, ◌&&◌, nat_lt, nat_le, Bool, true, false, List, [], length, map}
+use Rattle.std.specs.Prelude.{reverse}
 use Rattle.std.specs.List.{list_all}
 use Rattle.x5_model.specs.Words.{distinct, in_option, same_octets}
 use Rattle.x5_model.specs.References.{Chained}

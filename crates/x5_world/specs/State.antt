@@ -50,8 +50,8 @@ after d p = record { described = p.described; past = d ∷ p.past }
 abbrev pub most_messages : ℕ
 most_messages = 400000000000
 
--- After so many lines not too many messages were sent, and not too many replies are to be lost, so that all messages can
--- be counted.
+-- After so many lines not too many messages were sent, and not too many replies are to be lost, so that all messages
+-- can be counted.
 pub record HasRoom (n : Net) (lines : ℕ) : Type 0 where
   pub sent : n.sent ≤ lines * most_messages
   pub lost : length n.network.lost_replies ≤ lines + 16

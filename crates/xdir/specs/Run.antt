@@ -1,17 +1,17 @@
 -- What `run WORLD SCRIPT` reads and writes, by how it ends. The headline is `Runs`.
-use Rattle.std.specs.Prelude.{◌≡◌, ℕ, ◌+◌, ◌⊎◌, Bool, true, false, not, ◌&&◌, List, [], ◌++◌, length, map, Option, Some}
-use Rattle.std.specs.Prelude.{Ok, Err, ⊤}
+use Rattle.std.specs.Prelude.{◌≡◌, ℕ, ◌+◌, ◌⊎◌, Bool, true, false, not, List, [], ◌++◌, length, map, Option, Some, Ok}
+use Rattle.std.specs.Prelude.{Err, ⊤}
 use Rattle.std.specs.List.{position}
 use Rattle.x5_know.specs.Moments.{moment_text}
+use Rattle.x5_model_heard.specs.Kept.{looks_at_one}
 use Rattle.x5_model_output.specs.Output.{PrintsRun}
 use Rattle.x5_model_run.specs.Run.{Command, Blank, Asks, Changes, Drops, Updates}
 use Rattle.x5_model_script.specs.Lines.{Asked, Delivers}
 use Rattle.x5_model_script.specs.Lines as lines
 use Rattle.x5_model_script.specs.Script.{script_of}
 use Rattle.x5_model_script.specs.Words.{Fault}
-use Rattle.x5_model_star.specs.Reads.{is_read}
 use Rattle.x5_model_star.specs.Runs.{RightAndWhole}
-use Rattle.x5_model_star.specs.Star.{IsStar}
+use Rattle.x5_model_tree.specs.Consistent.{IsConsistent}
 use Rattle.x5_model_tree.specs.World.{World}
 use Rattle.x5_model_world.specs.Reading.{Breach}
 use Rattle.x5_model_world.specs.WorldFile.{File, Describes, IsNoJson}
@@ -19,7 +19,7 @@ use Rattle.x5_port.specs.Outside as outside
 use Rattle.x5_port.specs.Outside.{IsContent, IsLonger, Rose}
 use Rattle.x5_words.specs.Forms.{FileNames}
 use Rattle.xdir.specs.Outcomes.{most_octets, Wrote, Broke, Ends, IsReadable}
-use Rattle.xdir.specs.Text.{not_json_text, no_star_text, refused_world_text, refused_line_text, not_yet_text}
+use Rattle.xdir.specs.Text.{not_json_text, not_yet_world_text, refused_world_text, refused_line_text, not_yet_text}
 use Rattle.xdir.specs.declared.top.Status.{Status}
 use Rattle.xdir.specs.declared.top.Status.TheVariants.{Done, Refused, Usage, ReadFault, WriteFault, NoMemory}
 use Rattle.xdir.specs.declared.top.Status.TheVariants.{Inconsistent, TooLong}
@@ -35,12 +35,12 @@ lost_in w = length w.network.lost_replies
 abbrev pub AsksFor : World → List ℕ → List Asked → Type 0
 AsksFor w script asked = script_of (names_in w) (lost_in w) script ≡ Ok asked
 
--- a comment, or a read or a compare that may be chained: other lines are for no run so far
+-- a comment, a read or a compare, an outage or a loss: other lines are for no run so far
 abbrev pub is_other : Asked → Bool
 is_other (lines.Runs Blank) = false
-is_other (lines.Runs (Asks to r)) = not (is_read r.body && not r.controls.nochain)
-is_other (lines.Runs (Changes outage)) = true
-is_other (lines.Runs (Drops reply number)) = true
+is_other (lines.Runs (Asks to r)) = not (looks_at_one r.body)
+is_other (lines.Runs (Changes outage)) = false
+is_other (lines.Runs (Drops reply number)) = false
 is_other (lines.Runs (Updates number pushes total)) = true
 is_other (Delivers dsp to octets) = true
 
@@ -74,19 +74,19 @@ pub data RefusesFile (world text : List ℕ) : Type 0 where
   no_json : IsNoJson world → text ≡ not_json_text → RefusesFile world text
   faulty : (b : Breach) → Describes world (Err b) → text ≡ refused_world_text b → RefusesFile world text
 
--- the world that the file describes is no star, and the text is its line
-abbrev pub RefusesStar : File → List ℕ → Type 0
-RefusesStar f text = (IsStar f.world → ⊥) × (text ≡ no_star_text)
+-- the knowledge in the world that the file describes isn't consistent, and the text is its line
+abbrev pub RefusesKnowledge : File → List ℕ → Type 0
+RefusesKnowledge f text = (IsConsistent f.world → ⊥) × (text ≡ not_yet_world_text)
 
-pub record DescribesNoStar (world text : List ℕ) : Type 0 where
+pub record DescribesInconsistent (world text : List ℕ) : Type 0 where
   pub file : File
   pub described : Describes world (Ok file)
-  pub refuses : RefusesStar file text
+  pub refuses : RefusesKnowledge file text
 
 pub record RefusesWorld (told : Option (List outside.File)) (name text : List ℕ) : Type 0 where
   pub world : List ℕ
   pub world_is : IsContent told name world
-  pub refuses : RefusesFile world text ⊎ DescribesNoStar world text
+  pub refuses : RefusesFile world text ⊎ DescribesInconsistent world text
 
 -- the script has a line that is refused, or, where it has none, one that asks for what no run does so far; the first is
 -- told
@@ -96,7 +96,7 @@ pub data RefusesScript (w : World) (script text : List ℕ) : Type 0 where
   not_yet : (asked : List Asked) (before : ℕ) → AsksFor w script asked → position is_other asked ≡ Some before
       → text ≡ not_yet_text (before + 1) → RefusesScript w script text
 
--- over the star that the world file describes
+-- over the world with consistent knowledge that the file describes
 pub record RefusesLine (told : Option (List outside.File)) (names : FileNames) (text : List ℕ) : Type 0 where
   pub world : List ℕ
   pub script : List ℕ
@@ -104,7 +104,7 @@ pub record RefusesLine (told : Option (List outside.File)) (names : FileNames) (
   pub script_is : IsContent told names.script script
   pub file : File
   pub described : Describes world (Ok file)
-  pub star : IsStar file.world
+  pub consistent : IsConsistent file.world
   pub refuses : RefusesScript file.world script text
 
 abbrev pub Refuses : Option (List outside.File) → FileNames → List ℕ → Type 0
@@ -120,14 +120,14 @@ StopsAtWorld Refused told name old new = Wrote (RefusesWorld told name) old new
 StopsAtWorld WriteFault told name old new = Broke (RefusesWorld told name) old new
 StopsAtWorld other told name old new = ⊥
 
--- the world file is there, isn't too long, and describes a star
+-- the world file is there, isn't too long, and describes a world with consistent knowledge
 pub record TakesWorld (told : Option (List outside.File)) (name : List ℕ) : Type 0 where
   pub readable : IsReadable told name
   pub world : List ℕ
   pub world_is : IsContent told name world
   pub file : File
   pub described : Describes world (Ok file)
-  pub star : IsStar file.world
+  pub consistent : IsConsistent file.world
 
 -- What is known of the two files, by how a run ends. The script is read unless the world is refused, whose line is then
 -- what was written; so a fault of the script is told only where the world is taken.

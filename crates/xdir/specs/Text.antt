@@ -8,8 +8,9 @@ use Rattle.x5_model_world.specs.Reading.{Breach, BadShape, BadName, OverLimit, R
 abbrev pub not_json_text : List ℕ
 not_json_text = codes "refused world notJson\n"
 
-abbrev pub no_star_text : List ℕ
-no_star_text = codes "refused world notYet\n"
+-- of a world that no run is over so far
+abbrev pub not_yet_world_text : List ℕ
+not_yet_world_text = codes "refused world notYet\n"
 
 -- the line of what is wrong in a world file, by its path
 abbrev pub at_path_text : List ℕ → List ℕ → List ℕ

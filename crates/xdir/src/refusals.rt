@@ -16,8 +16,8 @@ use x5_script::{ScriptFault, ScriptRefusal};
 /// What is printed of a world file that is no JSON.
 pub const NOT_JSON: &str = "refused world notJson\n";
 
-/// What is printed of a world that is no star.
-pub const NO_STAR: &str = "refused world notYet\n";
+/// What is printed of a world that no run is over so far: its agents' knowledge isn't consistent.
+pub const NOT_YET: &str = "refused world notYet\n";
 
 fn path_line(alloc: Global, word: &str, path: &str) -> Result<String, AllocError>
     ensures { IfOk result (λ line. string_bytes line ≡ shown.at_path_text word.now path.now) }

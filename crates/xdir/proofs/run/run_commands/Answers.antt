@@ -1,9 +1,9 @@
-use Rattle.std.proofs.Common.{◌∙◌, ℕ, map, sym, subst, arith, All}
+use Rattle.std.proofs.Common.{◌∙◌, map, sym, arith}
 use Rattle.x5_script.specs.Views.{command_view}
-use Rattle.xdir.specs.Star.{IsTaken, run_view, star_file}
+use Rattle.x5_load.specs.Views.{file_view}
+use Rattle.xdir.specs.Taken.{run_view}
 use Rattle.xdir.specs.Steps.{IsAskedOutput, IsFirstAskedOutput}
 use Rattle.xdir.specs.Summed.{IsAskedSummary}
-use Rattle.xdir.proofs.Agents.{same_lengths}
 use Rattle.xdir.proofs.Ends.{such_ends, such_prints}
 use Rattle.xdir.proofs.Files.{runs_asked}
 use Rattle.xdir.proofs.Summaries.{such_at_once, sums_asked}
@@ -18,7 +18,7 @@ refuse_other-requires g c =
 
 pub returns-in-Some-clause-writes : goal.returns-in-Some-clause-writes
 returns-in-Some-clause-writes g c = λ printed.
-    let f = star_file c.args.star.now in
+    let f = file_view c.args.described.now in
     let asked = map command_view c.args.commands.now in
     such_ends (λ text is. record {
       before = c.in-Some.before;
@@ -29,7 +29,7 @@ returns-in-Some-clause-writes g c = λ printed.
 
 pub returns-in-Some-clause-sums : goal.returns-in-Some-clause-sums
 returns-in-Some-clause-sums g c = λ printed.
-    let f = star_file c.args.star.now in
+    let f = file_view c.args.described.now in
     let asked = map command_view c.args.commands.now in
     such_at_once (λ text is. record {
       before = c.in-Some.before;
@@ -43,19 +43,18 @@ returns-in-Some-clause-prints g c = such_prints c.refuse_other.result _ _ _ _ _ 
 
 pub run_taken-requires-clause-taken : goal.run_taken-requires-clause-taken
 run_taken-requires-clause-taken g c =
-    subst (λ (n : ℕ). All (IsTaken n) c.args.commands.now) (same_lengths c.args.star.now c.requires.ready)
-    (all_taken c.args.star.now.names c.args.commands.now (sym c.first_other.ensures ∙ c.in-None.is) c.requires.named)
+    all_taken c.args.network.now.names c.args.commands.now (sym c.first_other.ensures ∙ c.in-None.is) c.requires.named c.requires.short
 
 pub returns-in-None-clause-writes : goal.returns-in-None-clause-writes
 returns-in-None-clause-writes g c = λ printed.
-    runs_asked (star_file c.args.star.now) (map command_view c.args.commands.now) (map run_view c.args.commands.now)
-    (all_run c.args.star.now.names c.args.commands.now (sym c.first_other.ensures ∙ c.in-None.is))
+    runs_asked (file_view c.args.described.now) (map command_view c.args.commands.now) (map run_view c.args.commands.now)
+    (all_run c.args.commands.now (sym c.first_other.ensures ∙ c.in-None.is))
     c.run_taken.result (g.K.Sink.octets c.args.out.now) (g.K.Sink.octets c.run_taken.new.out)
     (g.K.Sink.fault_count c.args.out.now) (g.K.Sink.fault_count c.run_taken.new.out) (c.run_taken.ensures.writes printed)
 
 pub returns-in-None-clause-sums : goal.returns-in-None-clause-sums
 returns-in-None-clause-sums g c = λ printed.
-    sums_asked (star_file c.args.star.now) (map command_view c.args.commands.now) (map run_view c.args.commands.now)
-    (all_run c.args.star.now.names c.args.commands.now (sym c.first_other.ensures ∙ c.in-None.is))
+    sums_asked (file_view c.args.described.now) (map command_view c.args.commands.now) (map run_view c.args.commands.now)
+    (all_run c.args.commands.now (sym c.first_other.ensures ∙ c.in-None.is))
     c.run_taken.result (g.K.Sink.octets c.args.out.now) (g.K.Sink.octets c.run_taken.new.out)
     (g.K.Sink.fault_count c.args.out.now) (g.K.Sink.fault_count c.run_taken.new.out) (c.run_taken.ensures.sums printed)
