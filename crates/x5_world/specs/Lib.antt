@@ -1,2 +1,8 @@
 pub mod State
 pub mod Answered
+pub mod Counts
+pub mod Sent
+pub mod Exchanges
+pub mod Arrivals
+pub mod Laws
+pub mod Users

@@ -2,6 +2,13 @@
 //! is lost as the network stands (X.518, sections 8 and 17 to 21).
 #![tactic(auto)]
 
+mod asking;
+mod copies;
+mod counts;
+mod exchange;
+mod journal;
+mod links;
+mod naming;
 mod world;
 
 pub use world::World;

@@ -1,40 +1,58 @@
 //! The network of a run.
 
-ghost use Rattle.std.specs.Prelude.{◌≡◌, ℕ, ◌<◌, ◌+◌, ◌≤◌, ◌∷◌, [], length, true, IfOk, OnErr};
+ghost use Rattle.std.specs.Prelude.{◌≡◌, ℕ, ◌<◌, ◌+◌, ◌≤◌, ◌*◌, [], true, nat_lt, length, IfOk, OnErr, slice_get, Some};
+ghost use Rattle.std.specs.List.{filter};
+ghost use Rattle.std.specs.Option.{option_map};
 ghost use Rattle.x5_know.specs.WorldView.{world_view};
 ghost use Rattle.x5_model_heard.specs.Kept.{looks_at_one};
+ghost use Rattle.x5_model_run.specs.Network as network;
 ghost use Rattle.x5_model_run.specs.Needs.{target_of};
-ghost use Rattle.x5_model_run.specs.History.{Point, Outs, Loses, Nothing};
+ghost use Rattle.x5_model_run.specs.History.{Point};
 ghost use Rattle.x5_model_run.specs.Run.{Changes, Drops, Blank, Set, Silent, did_by};
+ghost use Rattle.x5_model_run.specs.Stage.{once_each};
 ghost use Rattle.x5_model_tree.specs.Consistent.{IsConsistent};
 ghost use Rattle.x5_model_tree.specs.Described.{IsDescribed};
-ghost use Rattle.x5_ops.specs.JournalViews.{outage_view};
+ghost use Rattle.x5_holdings.specs.State.{holdings_view};
+ghost use Rattle.x5_ops.specs.JournalViews.{fate_view, outage_view};
 ghost use Rattle.x5_ops.specs.RequestViews.{body_view, request_view};
-ghost use Rattle.x5_world.specs.State.{Net, StandsAt, HasRoom, after, names_in, most_messages};
+ghost use Rattle.x5_world.specs.State.{StandsAt, HasRoom, after, names_in, most_messages};
 ghost use Rattle.x5_world.specs.Answered.{IsAnswered, NamesAgents};
 
+use crate::asking::asked;
+use crate::counts::{contexts, pairs};
+use crate::journal;
+use crate::links::Links;
+use crate::naming::copied;
 use std::alloc::Global;
 use std::marker::Model;
+use x5_agents::agents_of;
 use x5_holdings::Holdings;
 use x5_know::{AgentNames, Described};
 use x5_memory::NoMemory;
-use x5_ops::{AgentId, Journal, Outage, Reply, Request};
+use x5_ops::{AgentId, Fate, Journal, Outage, Reply, Request};
 
 /// The agents with what each holds, and the network between them.
 #[derive(Drop)]
 pub struct World {
     names: AgentNames,
     agents: Vec<Holdings>,
+    links: Links,
+    sent: u64,
+    contexts: usize,
+    pairs: usize,
 }
 
 impl Model for World {
-    ghost use Rattle.std.specs.Prelude.{[], map};
+    ghost use Rattle.std.specs.Prelude.{map};
     ghost use Rattle.x5_holdings.specs.State.{holdings_view};
     ghost use Rattle.x5_world.specs.State.{Net};
+    ghost use Rattle.x5_world.specs.Sent.{IsNet};
 
     ghost Value = { Net };
 
-    ghost view = { λ w. record { names = w.names; agents = map holdings_view w.agents.items; network = record { down = []; refusing = []; cut = []; lost_messages = []; lost_replies = [] }; sent = 0; contexts = 0; pairs = 0 } };
+    ghost view = { λ w. record { names = w.names; agents = map holdings_view w.agents.items; network = w.links; sent = w.sent; contexts = w.contexts; pairs = w.pairs } };
+
+    ghost invariant = { λ w. IsNet (record { names = w.names; agents = map holdings_view w.agents.items; network = w.links; sent = w.sent; contexts = w.contexts; pairs = w.pairs }) };
 }
 
 impl World {
@@ -46,9 +64,66 @@ impl World {
         ensures stands { IfOk result (λ w. IsConsistent (world_view described.now) → StandsAt w (record { described = world_view described.now; past = [] })) }
         ensures room { IfOk result (λ w. HasRoom w 0) }
     {
-        let _ = alloc;
-        let _ = described;
-        Err(NoMemory)
+        let names = copied(alloc, &described.names)?;
+        let agents = agents_of(alloc, described)?;
+        let links = Links::of(alloc, &described.network)?;
+        let contexts = contexts(described.agents.as_slice());
+        let pairs = pairs(described.agents.as_slice());
+        Ok(World {
+            names,
+            agents,
+            links,
+            sent: 0,
+            contexts,
+            pairs,
+        })
+    }
+
+    /// The agents' names. No memory.
+    pub fn names(&self) -> &AgentNames
+        ensures { result.now ≡ self.now.names }
+    {
+        &self.names
+    }
+
+    /// How many messages were sent so far. No memory.
+    pub(crate) fn sent(&self) -> u64
+        ensures { result ≡ self.now.sent }
+    {
+        self.sent
+    }
+
+    /// What becomes of the message of this number. No memory.
+    pub(crate) fn fate(&self, number: u64, from: Option<AgentId>, to: AgentId) -> Fate
+        ensures { fate_view result ≡ network.fate_of self.now.network number from to }
+    {
+        self.links.fate(number, from, to)
+    }
+
+    /// Whether the agent doesn't chain. No memory.
+    pub(crate) fn refuses(&self, agent: AgentId) -> bool
+        ensures { result ≡ network.refuses self.now.network agent }
+    {
+        self.links.refuses(agent)
+    }
+
+    /// What the agent holds. No memory.
+    pub(crate) fn held(&self, agent: AgentId) -> &Holdings
+        requires { agent < length self.now.names }
+        ensures held { slice_get self.now.agents agent ≡ Some (holdings_view result.now) }
+        ensures me { result.now.me ≡ agent }
+    {
+        &self.agents[agent.0 as usize]
+    }
+
+    /// How many messages a request may take that is asked now.
+    fn budget(&self, alloc: Global) -> Result<usize, NoMemory>
+        requires { length self.now.network.lost_replies ≤ 100015 }
+        ensures is { IfOk result (λ most. most ≡ ((self.now.contexts + 34) * (length self.now.names + 9) + self.now.pairs) * (1 + length (once_each (filter (λ number. nat_lt self.now.sent number) self.now.network.lost_replies)))) }
+        ensures most { IfOk result (λ most. most ≤ most_messages) }
+    {
+        let losses = self.links.losses_behind(alloc, self.sent)?;
+        Ok(((self.contexts + 34) * (self.names.len() + 9) + self.pairs) * (1 + losses))
     }
 
     /// What a user's read or compare is answered by this agent, and the messages that it takes, in their order; nobody accepts
@@ -68,10 +143,11 @@ impl World {
         ensures named { IfOk result (λ out. NamesAgents self.old.names out.0 out.1) }
         ensures room_after { IfOk result (λ _. (lines : ℕ) → HasRoom self.old lines → HasRoom self.new (lines + 1)) }
     {
-        let _ = alloc;
-        let _ = first;
-        let _ = request;
-        Err(NoMemory)
+        let most = self.budget(alloc)?;
+        let (reply, sent) = asked(alloc, self, first, request, most)?;
+        let lines = journal::lines(alloc, &self.names, &sent)?;
+        self.sent += sent.len() as u64;
+        Ok((reply, journal::without_acceptance(alloc, lines)))
     }
 
     /// An agent is down or up again, a pair is cut or joined again, an agent refuses to chain or is willing again. After want of
@@ -82,8 +158,7 @@ impl World {
         ensures room { IfOk result (λ _. (lines : ℕ) → HasRoom self.old lines → HasRoom self.new (lines + 1)) }
         ensures err { OnErr result (self.new ≡ self.old) }
     {
-        let _ = outage;
-        Err(NoMemory)
+        self.links.change(outage)
     }
 
     /// Of the messages sent from now on the one of this number, from 1, is lost, or the reply to it. After want of memory all is
@@ -95,9 +170,8 @@ impl World {
         ensures room_after { IfOk result (λ _. (lines : ℕ) → HasRoom self.old lines → HasRoom self.new (lines + 1)) }
         ensures err { OnErr result (self.new ≡ self.old) }
     {
-        let _ = reply;
-        let _ = number;
-        Err(NoMemory)
+        let number = self.sent + u64::from(number);
+        self.links.lose(reply, number)
     }
 
     /// A comment: nothing happens, and the next line finds the network as it is. No memory.
@@ -105,11 +179,4 @@ impl World {
         ensures stands { (p : Point) → StandsAt self.now p → StandsAt self.now (after (did_by Blank Silent) p) }
         ensures room { (lines : ℕ) → HasRoom self.now lines → HasRoom self.now (lines + 1) }
     {}
-
-    /// The agents' names. No memory.
-    pub fn names(&self) -> &AgentNames
-        ensures { result.now ≡ self.now.names }
-    {
-        &self.names
-    }
 }
