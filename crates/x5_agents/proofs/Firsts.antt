@@ -11,7 +11,7 @@ use Rattle.x5_model_tree.specs.World.{Context, Agreement}
 use Rattle.x5_model_tree.specs.Masters.{held_contexts}
 use Rattle.x5_model_run.specs.History.{first_agreements}
 
-same_both : (a b : Key) → same_key a b ≡ same_key b a
+pub same_both : (a b : Key) → same_key a b ≡ same_key b a
 same_both a b = elim (true_or_false (same_key a b)) [
   | inl e ↦ e ∙ sym ((key_decides b a).1 (sym ((key_decides a b).0 e)))
   | inr e ↦ elim (true_or_false (same_key b a)) [

@@ -6,6 +6,7 @@ pub mod Growing
 pub mod Several
 pub mod Wholes
 pub mod Firsts
+pub mod Apart
 pub mod Taking
 pub mod Copying
 pub mod Parts

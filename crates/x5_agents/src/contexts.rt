@@ -5,7 +5,7 @@ ghost use Rattle.std.specs.List.{list_all};
 ghost use Rattle.x5_model_tree.specs.Described.{is_kept, is_rooted};
 ghost use Rattle.x5_model_tree.specs.Masters.{held_contexts};
 ghost use Rattle.x5_model_held.specs.Beginning.{described_context};
-ghost use Rattle.x5_holdings.specs.State.{held_view};
+ghost use Rattle.x5_holdings.specs.State.{are_apart, held_view};
 ghost use Rattle.x5_ops.specs.KnowledgeViews.{context_view, specific_view};
 ghost use Rattle.x5_agents.specs.Growing.{is_whole};
 
@@ -48,7 +48,8 @@ pub(crate) fn own_of(
     specific: &[Specific],
 ) -> Result<Vec<Held>, NoMemory>
     requires { list_all is_whole (map context_view contexts.now) ≡ true }
-    ensures { IfOk result (λ v. map held_view v.items ≡ map (described_context (map specific_view specific.now)) (held_contexts [] (map context_view contexts.now))) }
+    ensures held { IfOk result (λ v. map held_view v.items ≡ map (described_context (map specific_view specific.now)) (held_contexts [] (map context_view contexts.now))) }
+    ensures apart { IfOk result (λ v. are_apart v.items ≡ true) }
 {
     let mut own = Vec::new(alloc);
     let mut prefixes: IndexSet<Key> = IndexSet::new(alloc);

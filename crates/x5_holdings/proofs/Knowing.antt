@@ -7,6 +7,7 @@ use Rattle.std.specs.Cmp.{both_ways}
 use Rattle.std.specs.Prelude.{slice_get}
 use Rattle.std.specs.Option.{is_some, option_map}
 use Rattle.x5_model.specs.Members.{In}
+use Rattle.x5_model.specs.Words.{has}
 use Rattle.x5_model.specs.Keys.{Key, IsPrefix, same_key, is_prefix, parent}
 use Rattle.x5_model.specs.Values.{Name, key_of, key_of_rdn}
 use Rattle.x5_model.specs.Requests.{Request}
@@ -14,7 +15,7 @@ use Rattle.x5_model.proofs.KeyLaws.{key_decides}
 use Rattle.x5_model.proofs.Prefixes.{prefix_decides, prefix_itself, prefix_length, prefix_chain, prefix_of_parent}
 use Rattle.x5_model.proofs.Prefixes.{parent_is_prefix, same_by_length}
 use Rattle.x5_model.proofs.Lists.{in_left, in_right, in_either, in_map, of_map, of_find, not_found, both_true}
-use Rattle.x5_model.proofs.Lists.{and_true, any_in, of_any}
+use Rattle.x5_model.proofs.Lists.{and_true, any_in, of_any, true_or_false, has_in, of_has}
 use Rattle.x5_model_tree.specs.World.{Specific}
 use Rattle.x5_model_tree.specs.Tree.{longest}
 use Rattle.x5_model_tree.proofs.Longest.{IsLongest, longest_is, longest_right}
@@ -210,6 +211,26 @@ module _ (r : Request) (h : Holdings) where
       (map key_of (known_pins r h)) → ⊥
   unknown key None f e i = not_known r h key f.0 f.1 f.2 f.3 i
   unknown key (Some pin) f e i = cc
+
+  -- what is known of the pin says whether it's known
+  pub knows_is : (key : Key) (found : Option Pin) → IsKnownAt r h key found → is_some found ≡ has same_key
+      (map key_of (known_pins r h)) key
+  knows_is key None f =
+      elim (true_or_false (has same_key (map key_of (known_pins r h)) key)) [
+        | inr e ↦ sym e
+        | inl e ↦ absurd (unknown key None f refl (of_has same_key key_decides key (map key_of (known_pins r h)) e))
+      ]
+  knows_is key (Some (Own place)) f =
+      sym (has_in same_key key_decides key (map key_of (known_pins r h))
+      (let w = there (slice_get h.own place) f.1 in own_is_known r h key w.0 (f.0 ∙ w.1)))
+  knows_is key (Some (CopyAt place)) f =
+      sym (has_in same_key key_decides key (map key_of (known_pins r h))
+      (let w = there (slice_get h.copies place) f.2 in copy_is_known r h key w.0 (f.1 ∙ w.1)))
+  knows_is key (Some (Subordinate k)) f =
+      sym (has_in same_key key_decides key (map key_of (known_pins r h))
+      (subordinate_is_known r h key (specific_view k.now) f.2))
+  knows_is key (Some (Cross k)) f =
+      sym (has_in same_key key_decides key (map key_of (known_pins r h)) (cross_is_known r h key (cross_view k.now) f.3))
 
   pub known_root : (key : Key) (found : Option Pin) → length key ≡ 0 → IsKnownAt r h key found → is_some found ≡ false
       → IsKnown r h key None

@@ -9,3 +9,4 @@ pub mod Posted
 pub mod Changed
 pub mod Placing
 pub mod Under
+pub mod Standing

@@ -2,7 +2,7 @@
 use Rattle.std.specs.Prelude.{◌≡◌, true, map}
 use Rattle.x5_model.specs.Values.{key_of}
 use Rattle.x5_holdings.specs.Rows.{AreRowsOf}
-use Rattle.x5_holdings.specs.State.{Kept, CopyKept, State, IsKept, IsBrought, are_once}
+use Rattle.x5_holdings.specs.State.{Kept, CopyKept, State, IsKept, IsBrought, are_once, are_apart}
 use Rattle.x5_holdings.specs.Tables.{AreTables}
 use Rattle.x5_holdings.specs.declared.held.Held.TheInside as held
 use Rattle.x5_holdings.specs.declared.held.Copied.TheInside as copied
@@ -41,5 +41,6 @@ state_of a = record {
 }
 
 pub record AreHoldings (a : holdings.Inside) : Type 0 where
+  pub apart : are_apart (state_of a).own ≡ true
   pub once : are_once (state_of a).copies ≡ true
   pub tables : AreTables (state_of a) a.tables

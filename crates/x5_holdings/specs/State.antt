@@ -125,6 +125,10 @@ IsBrought prefix (Some s) = key_of s.0.prefix ≡ key_of prefix
 abbrev pub are_once : List CopyKept → Bool
 are_once copies = distinct same_key (map (λ c. key_of c.prefix) copies)
 
+-- no two contexts that are mastered have one prefix
+abbrev pub are_apart : List Kept → Bool
+are_apart own = distinct same_key (map (λ c. key_of c.prefix) own)
+
 -- a context's entries aside, nothing changed in it
 pub record OnlyEntries (old after : Kept) : Type 0 where
   pub prefix : after.prefix ≡ old.prefix

@@ -1,11 +1,12 @@
 //! The subordinate references of contexts, found by their pins without a walk.
 
 ghost use Rattle.std.specs.Prelude.{◌≡◌, ◌++◌, ◌∷◌, [], List, map, IfOk, OnOk};
-ghost use Rattle.x5_model.specs.Keys.{Key};
+ghost use Rattle.std.specs.List.{list_any};
+ghost use Rattle.x5_model.specs.Keys.{Key, is_prefix};
 ghost use Rattle.x5_model.specs.Values.{key_of};
 ghost use Rattle.x5_ops.specs.declared.knowledge.Specific.{Specific as specific};
 ghost use Rattle.x5_holdings.specs.Rows.{numbered};
-ghost use Rattle.x5_holdings.specs.Spots.{AreBelow, IsSpot, spots_from};
+ghost use Rattle.x5_holdings.specs.Spots.{AreBelow, IsSpot, pins_in, spots_from};
 ghost use Rattle.x5_holdings.specs.State.{brought_references};
 
 use crate::held::{Copied, Held};
@@ -91,6 +92,13 @@ impl Below {
         }
         let pins = Pins::of(rows)?;
         Ok(Below { pins, spots })
+    }
+
+    /// Whether one of the pins is the name of these RDNs, or stands below it. No memory.
+    pub(crate) fn has_under(&self, rdns: &[Rdn]) -> bool
+        ensures { (lists : List (List specific)) → AreBelow self.now lists → result ≡ list_any (is_prefix (key_of rdns.now)) (pins_in lists) }
+    {
+        self.pins.has_under(rdns)
     }
 
     /// Where the first reference to the pin of these RDNs stands. No memory.

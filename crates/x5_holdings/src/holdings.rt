@@ -2,14 +2,16 @@
 
 ghost use Rattle.std.specs.Prelude.{◌≡◌, [], true, None, IfOk, map};
 ghost use Rattle.std.specs.Option.{option_map};
+ghost use Rattle.x5_model.specs.Keys.{same_key};
 ghost use Rattle.x5_model.specs.Values.{key_of};
-ghost use Rattle.x5_model_run.specs.Holdings.{held_at, copy_at, holds_within, subordinates};
+ghost use Rattle.x5_model.specs.Words.{has};
+ghost use Rattle.x5_model_run.specs.Holdings.{held_at, copy_at, holds_within, known_pins, subordinates};
 ghost use Rattle.x5_model_run.specs.Needs.{specific_at};
 ghost use Rattle.x5_ops.specs.KnowledgeViews.{specific_view, cross_view};
 ghost use Rattle.x5_ops.specs.RequestViews.{request_view};
 ghost use Rattle.x5_holdings.specs.Known.{IsPlaceOf, IsKnown, IsKnownAt};
 ghost use Rattle.x5_holdings.specs.Spots.{first_to, joined};
-ghost use Rattle.x5_holdings.specs.State.{are_once, copy_view, held_view, holdings_view};
+ghost use Rattle.x5_holdings.specs.State.{are_apart, are_once, copy_view, held_view, holdings_view};
 ghost use Rattle.x5_holdings.specs.Tables.{AreTables, below_copies, below_own};
 
 use crate::below::Below;
@@ -31,8 +33,8 @@ pub enum Pin<'a> {
     Cross(&'a Cross),
 }
 
-/// What an agent holds at a moment: the contexts that it masters, copies of others, one of each context, and references: its
-/// superior, the subordinate references of one RDN at a first-level agent, and cross references (X.501, section 22).
+/// What an agent holds at a moment: the contexts that it masters, one of each prefix, copies of others, one of each context, and
+/// references: its superior, the subordinate references of one RDN at a first-level agent, and cross references (X.501, section 22).
 #[derive(Debug, Drop)]
 pub struct Holdings {
     me: AgentId,
@@ -81,7 +83,8 @@ impl Holdings {
         }
     }
 
-    /// What an agent holds with these contexts, copies and references, at moment 0. No two of the copies are of one context.
+    /// What an agent holds with these contexts, copies and references, at moment 0. No two of the contexts have one prefix, and no
+    /// two of the copies are of one context.
     pub fn new(
         alloc: Global,
         me: AgentId,
@@ -91,7 +94,8 @@ impl Holdings {
         root: SpecificList,
         cross: CrossList,
     ) -> Result<Holdings, NoMemory>
-        requires { are_once copies.items ≡ true }
+        requires apart { are_apart own.items ≡ true }
+        requires once { are_once copies.items ≡ true }
         ensures { IfOk result (λ h. h ≡ record { me = me; moment = 0; superior = superior; own = own.items; copies = copies.items; root = root; cross = cross }) }
     {
         let tables = Tables {
@@ -149,9 +153,10 @@ impl Holdings {
         &self.tables
     }
 
-    /// The contexts that it masters, in their order. No memory.
+    /// The contexts that it masters, in their order, no two of one prefix. No memory.
     pub fn own(&self) -> &[Held]
-        ensures { result.now ≡ self.now.own }
+        ensures own { result.now ≡ self.now.own }
+        ensures apart { are_apart self.now.own ≡ true }
     {
         self.own.as_slice()
     }
@@ -256,6 +261,14 @@ impl Holdings {
             return Some(Pin::Subordinate(reference));
         }
         Some(Pin::Cross(self.cross_at(pin)?))
+    }
+
+    /// Whether the pin is known: a context that is mastered or a copy has it as its prefix, or a reference that the request may use
+    /// leads to it. No memory.
+    pub fn knows(&self, request: &Request, pin: &[Rdn]) -> bool
+        ensures { result ≡ has same_key (map key_of (known_pins (request_view request.now) (holdings_view self.now))) (key_of pin.now) }
+    {
+        self.known_at(request, pin).is_some()
     }
 
     /// The first of what is known of the longest known prefix of the name: a context that is mastered comes before a copy, a copy

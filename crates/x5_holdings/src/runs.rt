@@ -1,11 +1,14 @@
 //! The members of lists whose names stand at or below a name: ranges of sorted tables, found without a walk through all
 //! that is known.
 
-ghost use Rattle.std.specs.Prelude.{◌≡◌, ◌<◌, ◌≤◌, ◌++◌, ◌∷◌, [], List, OnOk, map, length, drop, get_or, true, false, IfOk, ℕ};
-ghost use Rattle.std.specs.List.{filter};
+ghost use Rattle.std.specs.Prelude.{◌≡◌, ◌||◌, ◌<◌, ◌≤◌, ◌++◌, ◌∷◌, [], List, OnOk, map, length, drop, get_or, true, false, IfOk, ℕ};
+ghost use Rattle.std.specs.List.{filter, list_any};
 ghost use Rattle.std.specs.List.Sorted.{IsSorted, IsPartitionPoint};
-ghost use Rattle.x5_model.specs.Keys.{Key, key_below};
+ghost use Rattle.x5_model.specs.Keys.{Key, is_prefix, key_below};
+ghost use Rattle.x5_model.specs.Requests.{Request as model_request};
 ghost use Rattle.x5_model.specs.Values.{key_of};
+ghost use Rattle.x5_model_run.specs.Holdings.{known_pins, may_copy};
+ghost use Rattle.x5_holdings.specs.State.{holdings_view};
 ghost use Rattle.x5_holdings.specs.Rows.{KeyRow, AreRowsOf, row_cmp};
 ghost use Rattle.x5_holdings.specs.Runs.{run_of, stands_under, is_long, long_places};
 
@@ -87,6 +90,13 @@ impl Pins {
         run(self.rows(), rdns)
     }
 
+    /// Whether one of the names is that of these RDNs, or stands below it. No memory.
+    pub(crate) fn has_under(&self, rdns: &[Rdn]) -> bool
+        ensures { (keys : List Key) → AreRowsOf self.now keys → result ≡ list_any (is_prefix (key_of rdns.now)) keys }
+    {
+        !self.under(rdns).is_empty()
+    }
+
     /// The places of the names with so many RDNs at or below the name of these RDNs.
     pub(crate) fn places_under(
         &self,
@@ -144,6 +154,29 @@ impl Holdings {
         ensures { result.now ≡ run_of (map (λ k. key_of k.pin) self.now.root) (key_of rdns.now) }
     {
         self.tables().root.under(rdns)
+    }
+}
+
+/// Whether one of what is known of pins has one.
+fn is_one(own: bool, copied: bool, below: bool, root: bool, cross: bool) -> bool
+    ensures { result ≡ (own || (copied || (below || (root || cross)))) }
+{
+    own || copied || below || root || cross
+}
+
+impl Holdings {
+    /// Whether a pin is known that is the name of these RDNs or stands below it, as an update knows them: references that refreshes
+    /// of copies brought don't count. No memory.
+    pub fn knows_under(&self, rdns: &[Rdn]) -> bool
+        ensures { (r : model_request) → may_copy r ≡ false → result ≡ list_any (is_prefix (key_of rdns.now)) (map key_of (known_pins r (holdings_view self.now))) }
+    {
+        let tables = self.tables();
+        let own = tables.own.has_under(rdns);
+        let copied = tables.copies.has_under(rdns);
+        let below = tables.below_own.has_under(rdns);
+        let root = tables.root.has_under(rdns);
+        let cross = tables.cross.has_under(rdns);
+        is_one(own, copied, below, root, cross)
     }
 }
 

@@ -16,7 +16,7 @@ name-requires c =
     let x = c.index-own-own.result in
     let held : slice_get c.args.state.now.own c.args.own ≡ Some x = held_there c.args.state.now.own c.args.own
     c.requires.1.kept x c.requires.1.held
-    (c.index-own-own.is ∙ ap (λ (l : List Kept). get_or l c.args.own x) c.own.ensures) in
+    (c.index-own-own.is ∙ ap (λ (l : List Kept). get_or l c.args.own x) c.own.ensures.own) in
     subst (λ (n : Nodes). is_live n.nodes c.args.node ≡ true) (sym c.tree.ensures.nodes)
     (lowest_live c.args.state.now c.args.own c.args.node c.requires.0 c.requires.1 x held)
 
@@ -25,7 +25,7 @@ returns c =
     let x = c.index-own-own.result in
     let held : slice_get c.args.state.now.own c.args.own ≡ Some x = held_there c.args.state.now.own c.args.own
     c.requires.1.kept x c.requires.1.held
-    (c.index-own-own.is ∙ ap (λ (l : List Kept). get_or l c.args.own x) c.own.ensures) in
+    (c.index-own-own.is ∙ ap (λ (l : List Kept). get_or l c.args.own x) c.own.ensures.own) in
     IfOk-weaker c.name.result
     (λ (name : Name). option_map name_in (node_with c.tree.result.now.nodes c.args.node) ≡ Some name)
     (λ (name : Name). (named : Named) → IsLowest c.args.state.now c.args.own c.args.node named → name ≡ named.name)

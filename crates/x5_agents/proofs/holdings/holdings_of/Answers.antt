@@ -28,7 +28,7 @@ returns c =
     (λ (h : State). holdings_view h ≡ described_holdings (world_view c.args.world.now) c.args.me (described_agent_view c.args.agent.now))
     (λ h is. held_by_parts (world_view c.args.world.now) c.args.me (described_agent_view c.args.agent.now) h c.in_ok-own.own.items
     c.in_ok-copies.copies.items c.in_ok-root.root c.in_ok-cross.cross is
-    (c.in_ok-own.ensures
+    (c.in_ok-own.ensures.held
     ∙ (λ i. map (described_context (map specific_view (c.as_slice-2.ensures i))) (held_contexts [] (map context_view (c.as_slice.ensures i)))))
     (c.in_ok-copies.ensures.copies
     ∙ ap (λ (l : List model.Agreement). map described_copy (first_agreements [] (filter (λ (g : model.Agreement). g.consumer == c.args.me) l))) c.as_slice-3.ensures)

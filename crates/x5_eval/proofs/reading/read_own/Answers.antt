@@ -25,7 +25,7 @@ entry-found-requires c =
     let x = c.index-own-own.result in
     let held : slice_get c.args.state.now.own c.args.own ≡ Some x = held_there c.args.state.now c.args.own
     c.requires.at.kept x c.requires.at.held
-    (c.index-own-own.is ∙ ap (λ (l : List Kept). get_or l c.args.own x) c.own.ensures) in
+    (c.index-own-own.is ∙ ap (λ (l : List Kept). get_or l c.args.own x) c.own.ensures.own) in
     subst (λ (n : Nodes). is_live n.nodes c.args.node ≡ true) (sym c.tree-tree.ensures.nodes)
     (live x.nodes.nodes (key_of c.args.message.now.target) c.args.node
     (own_target c.args.state.now (chained_view c.args.names.now c.args.message.now) c.args.own c.args.node x
@@ -36,7 +36,7 @@ answer_at-requires-clause-live c =
     let x = c.index-own-own.result in
     let held : slice_get c.args.state.now.own c.args.own ≡ Some x = held_there c.args.state.now c.args.own
     c.requires.at.kept x c.requires.at.held
-    (c.index-own-own.is ∙ ap (λ (l : List Kept). get_or l c.args.own x) c.own.ensures) in
+    (c.index-own-own.is ∙ ap (λ (l : List Kept). get_or l c.args.own x) c.own.ensures.own) in
     subst (λ (n : Nodes). is_live n.nodes c.args.node ≡ true) (sym c.tree-tree.ensures.nodes)
     (live x.nodes.nodes (key_of c.args.message.now.target) c.args.node
     (own_target c.args.state.now (chained_view c.args.names.now c.args.message.now) c.args.own c.args.node x
@@ -49,7 +49,7 @@ returns c =
     let sv = source_view c.args.names.now c.in_ok-source.source in
     let held : slice_get c.args.state.now.own c.args.own ≡ Some x = held_there c.args.state.now c.args.own
     c.requires.at.kept x c.requires.at.held
-    (c.index-own-own.is ∙ ap (λ (l : List Kept). get_or l c.args.own x) c.own.ensures) in
+    (c.index-own-own.is ∙ ap (λ (l : List Kept). get_or l c.args.own x) c.own.ensures.own) in
     let is : sv ≡ own_source c.args.state.now.me (held_view x) =
     c.in_ok-source.ensures ∙ (λ i. record {
       context = c.prefix.ensures.prefix i;

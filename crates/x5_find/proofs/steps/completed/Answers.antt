@@ -18,12 +18,12 @@ returns-in-Some c = λ names.
     c.index-own-own.result c.top-node.result
     (got c.args.state.now.own c.in-Some.own c.index-own-own.result
     (within c.args.state.now.own c.in-Some.own c.in-Some.ensures.1)
-    (c.index-own-own.is ∙ ap (λ (l : List Kept). get_or l c.in-Some.own c.index-own-own.result) c.own.ensures))
+    (c.index-own-own.is ∙ ap (λ (l : List Kept). get_or l c.in-Some.own c.index-own-own.result) c.own.ensures.own))
     (ap (λ (n : Name). held_at (holdings_view c.args.state.now).own (key_of n)) (sym c.rdns-prefix.ensures) ∙
     (c.in-Some.ensures.0 ∙ ap (option_map held_view)
     (got c.args.state.now.own c.in-Some.own c.index-own-own.result
     (within c.args.state.now.own c.in-Some.own c.in-Some.ensures.1)
-    (c.index-own-own.is ∙ ap (λ (l : List Kept). get_or l c.in-Some.own c.index-own-own.result) c.own.ensures))))
+    (c.index-own-own.is ∙ ap (λ (l : List Kept). get_or l c.in-Some.own c.index-own-own.result) c.own.ensures.own))))
     c.tree.ensures.kept
     (subst (λ (n : Nodes). option_map id_of (first_of n.nodes) ≡ Some c.top-node.result) c.tree.ensures.nodes
     c.top-node.ensures)

@@ -22,7 +22,7 @@ way-length-requires c =
     (own_on_way c.args.state.now (chained_view [] c.args.message.now) c.args.own c.requires.pin c.index-own-own.result
     (got c.args.state.now.own c.args.own c.index-own-own.result
     (own_within c.args.state.now (chained_view [] c.args.message.now) c.args.own c.requires.pin)
-    (c.index-own-own.is ∙ ap (λ (l : List Kept). get_or l c.args.own c.index-own-own.result) c.own.ensures))
+    (c.index-own-own.is ∙ ap (λ (l : List Kept). get_or l c.args.own c.index-own-own.result) c.own.ensures.own))
     c.tree.ensures.kept)
 
 pub returns-then-length-len : goal.returns-then-length-len
@@ -33,7 +33,7 @@ returns-then-length-len c = λ names.
       pin = c.requires.pin;
       held = (got c.args.state.now.own c.args.own c.index-own-own.result
           (own_within c.args.state.now (chained_view [] c.args.message.now) c.args.own c.requires.pin)
-          (c.index-own-own.is ∙ ap (λ (l : List Kept). get_or l c.args.own c.index-own-own.result) c.own.ensures));
+          (c.index-own-own.is ∙ ap (λ (l : List Kept). get_or l c.args.own c.index-own-own.result) c.own.ensures.own));
       kept_well = c.tree.ensures.kept;
       low = subst (λ (n : Nodes). IsLowest n.nodes (key_of c.args.message.now.target) c.way-length.result.0)
           c.tree.ensures.nodes c.way-length.ensures.lowest;
@@ -52,7 +52,7 @@ returns-in-Some c = λ names.
       pin = c.requires.pin;
       held = (got c.args.state.now.own c.args.own c.index-own-own.result
           (own_within c.args.state.now (chained_view [] c.args.message.now) c.args.own c.requires.pin)
-          (c.index-own-own.is ∙ ap (λ (l : List Kept). get_or l c.args.own c.index-own-own.result) c.own.ensures));
+          (c.index-own-own.is ∙ ap (λ (l : List Kept). get_or l c.args.own c.index-own-own.result) c.own.ensures.own));
       kept_well = c.tree.ensures.kept;
       low = subst (λ (n : Nodes). IsLowest n.nodes (key_of c.args.message.now.target) c.way-length.result.0)
           c.tree.ensures.nodes c.way-length.ensures.lowest;
@@ -76,7 +76,7 @@ returns-in_default c = λ names.
       pin = c.requires.pin;
       held = (got c.args.state.now.own c.args.own c.index-own-own.result
           (own_within c.args.state.now (chained_view [] c.args.message.now) c.args.own c.requires.pin)
-          (c.index-own-own.is ∙ ap (λ (l : List Kept). get_or l c.args.own c.index-own-own.result) c.own.ensures));
+          (c.index-own-own.is ∙ ap (λ (l : List Kept). get_or l c.args.own c.index-own-own.result) c.own.ensures.own));
       kept_well = c.tree.ensures.kept;
       low = subst (λ (n : Nodes). IsLowest n.nodes (key_of c.args.message.now.target) c.way-length.result.0)
           c.tree.ensures.nodes c.way-length.ensures.lowest;

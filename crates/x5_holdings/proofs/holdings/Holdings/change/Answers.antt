@@ -5,11 +5,13 @@ use Rattle.x5_holdings.specs.Making.{IsChanged}
 use Rattle.x5_holdings.specs.Placed.{IsOwnChanged}
 use Rattle.x5_holdings.specs.State.{State}
 use Rattle.x5_holdings.proofs.Holding.{got}
-use Rattle.x5_holdings.proofs.Placing.{same_tables}
+use Rattle.x5_holdings.proofs.Placing.{still_apart, same_tables}
 use Rattle.x5_holdings.proofs.holdings.Holdings.change.Goals as goal
 
 pub invariant_of-self : goal.invariant_of-self
 invariant_of-self c = record {
+  apart = still_apart (state_of c.self.inside).own c.args.own c.index_mut.result.now c.change.new.self c.index_mut.ensures.value
+      c.change.ensures.prefix c.self.invariant.apart;
   once = c.self.invariant.once;
   tables = same_tables (state_of c.self.inside) c.self.inside.tables c.args.own c.index_mut.result.now c.change.new.self
       c.index_mut.ensures.value c.change.ensures.prefix c.change.ensures.subordinate c.self.invariant.tables;

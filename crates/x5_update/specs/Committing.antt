@@ -1,0 +1,21 @@
+-- What is committed of an update: the context of its target changes, and the change is noted in that context's log with the
+-- agent's moment; nothing else does (X.511, section 11; X.525, section 9).
+use Rattle.std.specs.Prelude.{◌≡◌, ℕ, slice_get, slice_set}
+use Rattle.std.specs.declared.option.Option.TheVariants.{Some}
+use Rattle.x5_model.specs.Requests.{Request}
+use Rattle.x5_model_serve.specs.Committed.{committed}
+use Rattle.x5_ops.specs.declared.knowledge.Step.{Step}
+use Rattle.x5_holdings.specs.Logs.{IsLogged}
+use Rattle.x5_holdings.specs.State.{Kept, State, holdings_view}
+use Rattle.x5_update.specs.Plans.{IsStepOf}
+
+pub record IsCommitted (old : State) (r : Request) (new : State) : Type 0 where
+  pub place : ℕ
+  pub before : Kept
+  pub after : Kept
+  pub step : Step
+  pub was : slice_get old.own place ≡ Some before
+  pub new_is : new ≡ record old { own = slice_set old.own place after }
+  pub holdings : holdings_view new ≡ committed r (holdings_view old)
+  pub told : IsStepOf before r.body step
+  pub noted : IsLogged before.log (record { moment = old.moment; step = step }) after.log

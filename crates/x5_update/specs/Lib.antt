@@ -1,0 +1,4 @@
+pub mod Seats
+pub mod Judging
+pub mod Plans
+pub mod Committing
