@@ -1,6 +1,6 @@
 //! The references of an agent, of both kinds in one list.
 
-ghost use Rattle.std.specs.Prelude.{◌≡◌, false, IfOk};
+ghost use Rattle.std.specs.Prelude.{◌≡◌, true, false, IfOk};
 ghost use Rattle.serde_json.specs.View.{view, items_view};
 ghost use Rattle.x5_model.specs.Values.{key_of};
 ghost use Rattle.x5_model_world.specs.AgentText as model;
