@@ -168,9 +168,9 @@ impl References {
     }
 }
 
-/// What an object describes as one more reference: of which kind, to which name, and at which agents. No reference of the kind is to
-/// that name.
-fn reference_behind(
+/// The reference that an object behind these describes: of which kind it is, to which name, and at which agents. No other of its kind
+/// is to that name.
+fn reference_in(
     alloc: Global,
     names: &AgentNames,
     place: &Place<'_>,
@@ -203,6 +203,21 @@ fn reference_behind(
     Ok((cross, pin, Access { master, shadows }))
 }
 
+/// The references with one more, which an object describes.
+fn reference_behind(
+    alloc: Global,
+    names: &AgentNames,
+    place: &Place<'_>,
+    before: References,
+    value: &Value,
+) -> Result<References, LoadFault>
+    ensures { Reads (λ r. r) result (model.reference_behind names.now (path_of place.now) before (view value.now)) }
+{
+    let (cross, pin, access) = reference_in(alloc, names, place, &before, value)?;
+    let references = before.with(alloc, cross, pin, access)?;
+    Ok(references)
+}
+
 /// The references that a list describes.
 pub(crate) fn references_behind(
     alloc: Global,
@@ -214,9 +229,7 @@ pub(crate) fn references_behind(
 {
     let mut references = References::new(alloc);
     for (i, item) in items.iter().enumerate() {
-        let here = Place::Item(&*place, i);
-        let (cross, pin, access) = reference_behind(alloc, names, &here, &references, item)?;
-        references = references.with(alloc, cross, pin, access)?;
+        references = reference_behind(alloc, names, &Place::Item(&*place, i), references, item)?;
     }
     Ok(references)
 }
