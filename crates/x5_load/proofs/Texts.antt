@@ -1,7 +1,8 @@
 -- Texts, and pairs of texts, by the code's lists.
-use Rattle.std.proofs.Common.{◌≡◌, ◌||◌, ◌&&◌, ◌<◌, ℕ, List, [], ◌∷◌, ◌++◌, map, length, take, get_or, refl, sym, ap, ◌∙◌, ◌+◌, arith, Bor, None}
+use Rattle.std.proofs.Common.{◌≡◌, ◌||◌, ◌&&◌, ◌<◌, ℕ, List, [], ◌∷◌, ◌++◌, map, length, take, get_or, refl, sym, ap, ◌∙◌, ◌+◌, arith, Bor, None, Bool, false, if◌then◌else◌}
 use Rattle.std.proofs.lemmas.List.{take_more}
 use Rattle.std.specs.List.{list_any}
+use Rattle.indexmap.specs.IndexSet.{insert_key}
 use Rattle.x5_model.specs.Words.{same_octets}
 use Rattle.serde_json.specs.Find.{as_str}
 use Rattle.serde_json.specs.View.{view, items_view}
@@ -19,6 +20,14 @@ pub text_more : (ts : List (Bor (List ℕ))) (t : Bor (List ℕ))
 text_more [] t = refl
 text_more (u ∷ ts) t = ap (λ l. u.now ∷ l) (text_more ts t)
 
+-- a new text stands behind the others
+pub text_added : (ts : List (Bor (List ℕ))) (t : Bor (List ℕ)) → has_text (map (λ u. u.now) ts) t.now ≡ false
+    → map (λ u. u.now) (insert_key (λ (a b : Bor (List ℕ)). same_octets a.now b.now) ts t)
+    ≡ map (λ u. u.now) ts ++ t.now ∷ []
+text_added ts t new =
+    ap (λ (b : Bool). map (λ (u : Bor (List ℕ)). u.now) (if b then ts else ts ++ t ∷ [])) (sym (text_there t.now ts) ∙ new)
+    ∙ text_more ts t
+
 pub pair_there : (a b : List ℕ) (ps : List (Bor (List ℕ) × Bor (List ℕ)))
     → list_any (same_texts (a, b)) (map texts_of ps)
     ≡ list_any (λ p. same_octets a p.0.now && same_octets b p.1.now) ps
@@ -29,6 +38,15 @@ pub pair_more : (ps : List (Bor (List ℕ) × Bor (List ℕ))) (p : Bor (List �
     → map texts_of (ps ++ p ∷ []) ≡ map texts_of ps ++ texts_of p ∷ []
 pair_more [] p = refl
 pair_more (q ∷ ps) p = ap (λ l. texts_of q ∷ l) (pair_more ps p)
+
+-- a new pair stands behind the others
+pub pair_added : (ps : List (Bor (List ℕ) × Bor (List ℕ))) (p : Bor (List ℕ) × Bor (List ℕ))
+    → list_any (same_texts (texts_of p)) (map texts_of ps) ≡ false
+    → map texts_of (insert_key (λ (a b : Bor (List ℕ) × Bor (List ℕ)). same_octets a.0.now b.0.now && same_octets a.1.now b.1.now) ps p)
+    ≡ map texts_of ps ++ texts_of p ∷ []
+pair_added ps p new =
+    ap (λ (b : Bool). map texts_of (if b then ps else ps ++ p ∷ [])) (sym (pair_there p.0.now p.1.now ps) ∙ new)
+    ∙ pair_more ps p
 
 -- a list of two is the pair of their texts, and one of fewer or more is none
 pub pair_is : (vs : List Value) (a b : Value) → length vs ≡ 2 → a ≡ get_or vs 0 a → b ≡ get_or vs 1 b

@@ -112,6 +112,8 @@ fn agent_with(
         specific,
         cross,
         crosses,
+        specific_keys: _,
+        cross_keys: _,
     } = references;
     DescribedAgent {
         spec: AgentSpec {

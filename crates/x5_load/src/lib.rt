@@ -3,6 +3,7 @@
 
 mod agents;
 mod agreements;
+mod distinct;
 mod limits;
 mod loading;
 mod mentioned;

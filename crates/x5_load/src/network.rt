@@ -1,17 +1,17 @@
 //! The network of a world file of format 2.
 
-ghost use Rattle.std.specs.Prelude.{◌≡◌, ◌==◌, ◌&&◌, [], map, codes, option_map, option_and_then, IfOk};
+ghost use Rattle.std.specs.Prelude.{◌≡◌, ◌==◌, [], map, codes, false, option_map, option_and_then, IfOk};
 ghost use Rattle.std.specs.List.{list_any};
 ghost use Rattle.serde_json.specs.Find.{get, as_array, as_str};
 ghost use Rattle.serde_json.specs.View.{view, items_view};
 ghost use Rattle.x5_load.specs.Parts as parts;
 ghost use Rattle.x5_load.specs.TextPairs.{texts_of};
-ghost use Rattle.x5_model.specs.Words.{same_octets};
 ghost use Rattle.x5_model_world.specs.ContextText.{agent_of as place_of};
 ghost use Rattle.x5_model_world.specs.NetworkText as model;
 ghost use Rattle.x5_world_members.specs.Paths.{path_of};
 ghost use Rattle.x5_world_members.specs.Views.{Reads};
 
+use crate::distinct::{Numbers, Pairs, Texts};
 use crate::limits::few;
 use serde_json::Value;
 use std::alloc::Global;
@@ -29,51 +29,37 @@ const MOST_LOST_MESSAGES: u32 = 4096;
 /// Lost replies of a world at most.
 const MOST_LOST_REPLIES: u32 = 16;
 
-/// Whether the text is one of these.
-fn is_there(before: &[&str], text: &str) -> bool
-    ensures { result ≡ list_any (λ t. same_octets text.now t.now) before.now }
-{
-    before.iter().any(|one| text == *one)
-}
-
-/// Whether the text is one of these.
-fn has_text(before: &[&str], text: &str) -> bool
-    ensures { result ≡ model.has_text (map (λ t. t.now) before.now) text.now }
-{
-    is_there(before, text)
-}
-
 /// A text that is none of those before.
 fn text_behind<'a>(
     alloc: Global,
     place: &Place<'_>,
-    before: &[&str],
+    before: &Texts<'a>,
     value: &'a Value,
 ) -> Result<&'a str, LoadFault>
-    ensures { Reads (λ t. t.now) result (model.text_behind (path_of place.now) (map (λ t. t.now) before.now) (view value.now)) }
+    ensures read { Reads (λ t. t.now) result (model.text_behind (path_of place.now) before.now (view value.now)) }
+    ensures new { IfOk result (λ t. model.has_text before.now t.now ≡ false) }
 {
     let Some(text) = value.as_str() else {
         return Err(place.bad_shape(alloc));
     };
-    if has_text(before, text) {
+    if before.has(text) {
         return Err(place.bad_shape(alloc));
     }
     Ok(text)
 }
 
 /// The texts of a list, each of which stands there once.
-#[tactic(auto, using(crate::proofs::Texts::text_more))]
 fn texts_behind<'a>(
     alloc: Global,
     place: &Place<'_>,
     items: &'a [Value],
-) -> Result<Vec<&'a str>, LoadFault>
-    ensures { Reads (λ v. map (λ t. t.now) v.items) result (model.texts_behind (path_of place.now) 0 [] (items_view items.now)) }
+) -> Result<Texts<'a>, LoadFault>
+    ensures { Reads (λ t. t) result (model.texts_behind (path_of place.now) 0 [] (items_view items.now)) }
 {
-    let mut texts = Vec::new(alloc);
+    let mut texts = Texts::new(alloc);
     for (i, item) in items.iter().enumerate() {
         let text = text_behind(alloc, &Place::Item(&*place, i), &texts, item)?;
-        texts.push(text)?;
+        texts.add(text)?;
     }
     Ok(texts)
 }
@@ -102,22 +88,8 @@ fn agents_at(
     let here = Place::Member(&whole, "network");
     let items = list_if_any(alloc, &here, name, value)?;
     let texts = texts_behind(alloc, &Place::Member(&here, name), items)?;
-    let agents = agents_of(alloc, names, &texts)?;
+    let agents = agents_of(alloc, names, texts.as_slice())?;
     Ok(agents)
-}
-
-/// Whether one of the pairs has these texts, in this order.
-fn are_there(before: &[(&str, &str)], a: &str, b: &str) -> bool
-    ensures { result ≡ list_any (λ p. same_octets a.now p.0.now && same_octets b.now p.1.now) before.now }
-{
-    before.iter().any(|pair| a == pair.0 && b == pair.1)
-}
-
-/// Whether one of the pairs has these texts, in this order.
-fn has_in_order(before: &[(&str, &str)], a: &str, b: &str) -> bool
-    ensures { result ≡ list_any (model.same_texts (a.now, b.now)) (map texts_of before.now) }
-{
-    are_there(before, a, b)
 }
 
 /// The two values, if both are texts.
@@ -159,33 +131,33 @@ fn pair_in(value: &Value) -> Option<(&str, &str)>
 fn pair_behind<'a>(
     alloc: Global,
     place: &Place<'_>,
-    before: &[(&str, &str)],
+    before: &Pairs<'a>,
     value: &'a Value,
 ) -> Result<(&'a str, &'a str), LoadFault>
-    ensures { Reads texts_of result (model.pair_behind (path_of place.now) (map texts_of before.now) (view value.now)) }
+    ensures read { Reads texts_of result (model.pair_behind (path_of place.now) before.now (view value.now)) }
+    ensures new { IfOk result (λ p. list_any (model.same_texts (texts_of p)) before.now ≡ false) }
 {
     let Some((a, b)) = pair_in(value) else {
         return Err(place.bad_shape(alloc));
     };
-    if a == b || has_in_order(before, a, b) || has_in_order(before, b, a) {
+    if a == b || before.has(a, b) || before.has(b, a) {
         return Err(place.bad_shape(alloc));
     }
     Ok((a, b))
 }
 
 /// The pairs of a list.
-#[tactic(auto, using(crate::proofs::Texts::pair_more))]
 fn pairs_behind<'a>(
     alloc: Global,
     place: &Place<'_>,
     items: &'a [Value],
-) -> Result<Vec<(&'a str, &'a str)>, LoadFault>
-    ensures { Reads (λ v. map texts_of v.items) result (model.pairs_behind (path_of place.now) 0 [] (items_view items.now)) }
+) -> Result<Pairs<'a>, LoadFault>
+    ensures { Reads (λ p. p) result (model.pairs_behind (path_of place.now) 0 [] (items_view items.now)) }
 {
-    let mut pairs = Vec::new(alloc);
+    let mut pairs = Pairs::new(alloc);
     for (i, item) in items.iter().enumerate() {
-        let pair = pair_behind(alloc, &Place::Item(&*place, i), &pairs, item)?;
-        pairs.push(pair)?;
+        let (a, b) = pair_behind(alloc, &Place::Item(&*place, i), &pairs, item)?;
+        pairs.add(a, b)?;
     }
     Ok(pairs)
 }
@@ -215,7 +187,7 @@ fn cut_behind(
 {
     few(alloc, place, MOST_CUT, items)?;
     let texts = pairs_behind(alloc, place, items)?;
-    let pairs = pairs_of(alloc, names, &texts)?;
+    let pairs = pairs_of(alloc, names, texts.as_slice())?;
     Ok(pairs)
 }
 
@@ -229,39 +201,33 @@ fn cut_at(alloc: Global, names: &AgentNames, value: &Value) -> Result<PairList, 
     cut_behind(alloc, names, &Place::Member(&here, "cut"), items)
 }
 
-/// Whether the number is one of these.
-fn has_number(before: &[u32], number: u32) -> bool
-    ensures { result ≡ list_any (λ k. number == k) before.now }
-{
-    before.iter().any(|one| number == *one)
-}
-
 /// A number that is none of those before.
 fn number_behind(
     alloc: Global,
     place: &Place<'_>,
-    before: &[u32],
+    before: &Numbers,
     value: &Value,
 ) -> Result<u32, LoadFault>
-    ensures { Reads (λ n. n) result (model.number_behind (path_of place.now) before.now (view value.now)) }
+    ensures read { Reads (λ n. n) result (model.number_behind (path_of place.now) before.now (view value.now)) }
+    ensures new { IfOk result (λ n. list_any (λ k. n == k) before.now ≡ false) }
 {
     let Some(number) = number_of(value) else {
         return Err(place.bad_shape(alloc));
     };
-    if has_number(before, number) {
+    if before.has(number) {
         return Err(place.bad_shape(alloc));
     }
     Ok(number)
 }
 
 /// The numbers of a list, each of which stands there once.
-fn numbers_behind(alloc: Global, place: &Place<'_>, items: &[Value]) -> Result<Vec<u32>, LoadFault>
-    ensures { Reads (λ v. v.items) result (model.numbers_behind (path_of place.now) 0 [] (items_view items.now)) }
+fn numbers_behind(alloc: Global, place: &Place<'_>, items: &[Value]) -> Result<Numbers, LoadFault>
+    ensures { Reads (λ n. n) result (model.numbers_behind (path_of place.now) 0 [] (items_view items.now)) }
 {
-    let mut numbers = Vec::new(alloc);
+    let mut numbers = Numbers::new(alloc);
     for (i, item) in items.iter().enumerate() {
         let number = number_behind(alloc, &Place::Item(&*place, i), &numbers, item)?;
-        numbers.push(number)?;
+        numbers.add(number)?;
     }
     Ok(numbers)
 }
@@ -277,7 +243,8 @@ fn numbers_in(
 {
     few(alloc, place, most, items)?;
     let numbers = numbers_behind(alloc, place, items)?;
-    Ok(NumberList::from_vec(numbers))
+    let list = numbers.as_slice().to_vec(alloc)?;
+    Ok(NumberList::from_vec(list))
 }
 
 /// The numbers that the list at the name lists.

@@ -1,13 +1,10 @@
 //! The references of an agent, of both kinds in one list.
 
-ghost use Rattle.std.specs.Prelude.{◌≡◌, map, IfOk, if◌then◌else◌};
-ghost use Rattle.std.specs.List.{list_any};
+ghost use Rattle.std.specs.Prelude.{◌≡◌, true, false, IfOk};
 ghost use Rattle.serde_json.specs.View.{view, items_view};
-ghost use Rattle.x5_model.specs.Keys.{same_key};
 ghost use Rattle.x5_model.specs.Values.{key_of};
 ghost use Rattle.x5_model_world.specs.AgentText as model;
 ghost use Rattle.x5_model_world.specs.ContextText.{has_key};
-ghost use Rattle.x5_ops.specs.KnowledgeViews.{specific_view, cross_view};
 ghost use Rattle.x5_world_members.specs.Paths.{path_of};
 ghost use Rattle.x5_world_members.specs.Views.{Reads};
 
@@ -20,29 +17,34 @@ use x5_memory::NoMemory;
 use x5_names::Name;
 use x5_ops::{Access, Cross, Specific};
 use x5_world_members::{
-    LoadFault, Place, agent_of, agents_behind, entry_name_at, list_if_any, members_at, only,
-    text_at,
+    KeySet, LoadFault, Place, agent_of, agents_behind, entry_name_at, list_if_any, members_at,
+    only, text_at,
 };
 
 /// Shadow agents of a reference at most.
 const MOST_SHADOWS: u32 = 8;
 
-/// References of an agent so far: those of each kind, and of each in the order of the file whether it's a cross reference.
+/// References of an agent so far: those of each kind, no two to one name, and of each in the order of the file whether it's a cross
+/// reference. A name is found among those of a kind without a walk through the others.
 #[derive(Drop)]
 pub(crate) struct References {
     pub(crate) specific: Vec<Specific>,
     pub(crate) cross: Vec<Cross>,
     pub(crate) crosses: Vec<bool>,
+    pub(crate) specific_keys: KeySet,
+    pub(crate) cross_keys: KeySet,
 }
 
 impl Model for References {
-    ghost use Rattle.std.specs.Prelude.{map};
+    ghost use Rattle.std.specs.Prelude.{◌≡◌, map};
     ghost use Rattle.x5_model_world.specs.AgentText as model;
     ghost use Rattle.x5_ops.specs.KnowledgeViews.{specific_view, cross_view};
 
     ghost Value = { model.References };
 
     ghost view = { λ r. record { subordinate = map specific_view r.specific.items; cross = map cross_view r.cross.items; crosses = r.crosses.items } };
+
+    ghost invariant = { λ r. (r.specific_keys ≡ model.pin_keys (map specific_view r.specific.items)) × (r.cross_keys ≡ model.pin_keys (map cross_view r.cross.items)) };
 }
 
 /// Whether the word says that a reference is a cross reference, or a subordinate one; None for any other.
@@ -58,35 +60,6 @@ fn is_cross(word: &str) -> Option<bool>
     None
 }
 
-/// Whether one of the references is to the name.
-fn has_specific(references: &[Specific], name: &Name) -> bool
-    ensures { result ≡ list_any (λ r. same_key (key_of name.now) (key_of r.pin)) references.now }
-{
-    references
-        .iter()
-        .any(|reference| name.is_same(&reference.pin))
-}
-
-/// Whether one of the references is to the name.
-fn has_cross(references: &[Cross], name: &Name) -> bool
-    ensures { result ≡ list_any (λ r. same_key (key_of name.now) (key_of r.pin)) references.now }
-{
-    references
-        .iter()
-        .any(|reference| name.is_same(&reference.pin))
-}
-
-/// Whether one of the kind is to the name.
-fn has_reference(specific: &[Specific], cross: &[Cross], is_cross: bool, name: &Name) -> bool
-    ensures { result ≡ has_key (model.pin_keys (if is_cross then map cross_view cross.now else map specific_view specific.now)) (key_of name.now) }
-{
-    if is_cross {
-        has_cross(cross, name)
-    } else {
-        has_specific(specific, name)
-    }
-}
-
 impl References {
     /// No references yet. No memory.
     fn new(alloc: Global) -> References
@@ -96,18 +69,87 @@ impl References {
             specific: Vec::new(alloc),
             cross: Vec::new(alloc),
             crosses: Vec::new(alloc),
+            specific_keys: KeySet::new(alloc),
+            cross_keys: KeySet::new(alloc),
         }
     }
 
-    /// Whether one of the kind is to the name.
+    /// Whether one of the kind is to the name. No memory.
+    #[tactic(auto, using(crate::proofs::Pins::of_cross, crate::proofs::Pins::of_subordinate))]
     fn has(&self, cross: bool, name: &Name) -> bool
         ensures { result ≡ has_key (model.pin_keys (model.of_kind self.now cross)) (key_of name.now) }
     {
-        has_reference(self.specific.as_slice(), self.cross.as_slice(), cross, name)
+        if cross {
+            self.cross_keys.has(name.key())
+        } else {
+            self.specific_keys.has(name.key())
+        }
     }
 
-    /// The references with one more of the kind.
-    #[tactic(auto, using(crate::proofs::Pins::specific_more, crate::proofs::Pins::cross_more))]
+    /// The references with one more cross reference, to whose name there is none.
+    #[tactic(auto, using(crate::proofs::Pins::cross_more, crate::proofs::Pins::cross_keys))]
+    fn with_cross(self, pin: Name, access: Access) -> Result<References, NoMemory>
+        requires { has_key (model.pin_keys self.cross) (key_of pin) ≡ false }
+        ensures { IfOk result (λ r. r ≡ model.with_reference self true (record { pin = pin; access = access })) }
+    {
+        let References {
+            specific,
+            mut cross,
+            mut crosses,
+            specific_keys,
+            mut cross_keys,
+        } = self;
+        let key = pin.key().clone()?;
+        cross_keys.add(key)?;
+        crosses.push(true)?;
+        cross.push(Cross { pin, access })?;
+        Ok(References {
+            specific,
+            cross,
+            crosses,
+            specific_keys,
+            cross_keys,
+        })
+    }
+
+    /// The references with one more subordinate reference, to whose name there is none.
+    #[tactic(auto, using(crate::proofs::Pins::specific_more, crate::proofs::Pins::specific_keys))]
+    fn with_subordinate(
+        self,
+        alloc: Global,
+        pin: Name,
+        access: Access,
+    ) -> Result<References, NoMemory>
+        requires { has_key (model.pin_keys self.subordinate) (key_of pin) ≡ false }
+        ensures { IfOk result (λ r. r ≡ model.with_reference self false (record { pin = pin; access = access })) }
+    {
+        let References {
+            mut specific,
+            cross,
+            mut crosses,
+            mut specific_keys,
+            cross_keys,
+        } = self;
+        let key = pin.key().clone()?;
+        specific_keys.add(key)?;
+        crosses.push(false)?;
+        let context = Name::root(alloc);
+        specific.push(Specific {
+            context,
+            pin,
+            access,
+        })?;
+        Ok(References {
+            specific,
+            cross,
+            crosses,
+            specific_keys,
+            cross_keys,
+        })
+    }
+
+    /// The references with one more of the kind, to whose name none of the kind is.
+    #[tactic(auto, using(crate::proofs::Pins::of_cross, crate::proofs::Pins::of_subordinate, crate::proofs::Pins::with_cross, crate::proofs::Pins::with_subordinate))]
     fn with(
         self,
         alloc: Global,
@@ -115,41 +157,28 @@ impl References {
         pin: Name,
         access: Access,
     ) -> Result<References, NoMemory>
+        requires { has_key (model.pin_keys (model.of_kind self cross)) (key_of pin) ≡ false }
         ensures { IfOk result (λ r. r ≡ model.with_reference self cross (record { pin = pin; access = access })) }
     {
-        let References {
-            mut specific,
-            cross: mut across,
-            mut crosses,
-        } = self;
-        crosses.push(cross)?;
         if cross {
-            across.push(Cross { pin, access })?;
+            self.with_cross(pin, access)
         } else {
-            let context = Name::root(alloc);
-            specific.push(Specific {
-                context,
-                pin,
-                access,
-            })?;
+            self.with_subordinate(alloc, pin, access)
         }
-        Ok(References {
-            specific,
-            cross: across,
-            crosses,
-        })
     }
 }
 
-/// The references with one more, which an object describes.
-fn reference_behind(
+/// The reference that an object behind these describes: of which kind it is, to which name, and at which agents. No other of its kind
+/// is to that name.
+fn reference_in(
     alloc: Global,
     names: &AgentNames,
     place: &Place<'_>,
-    before: References,
+    before: &References,
     value: &Value,
-) -> Result<References, LoadFault>
-    ensures { Reads (λ r. r) result (model.reference_behind names.now (path_of place.now) before (view value.now)) }
+) -> Result<(bool, Name, Access), LoadFault>
+    ensures read { Reads (λ r. model.with_reference before.now r.0 (record { pin = r.1; access = r.2 })) result (model.reference_behind names.now (path_of place.now) before.now (view value.now)) }
+    ensures new { IfOk result (λ r. has_key (model.pin_keys (model.of_kind before.now r.0)) (key_of r.1) ≡ false) }
 {
     let members = members_at(alloc, place, value)?;
     let word = text_at(alloc, place, "kind", value)?;
@@ -171,7 +200,21 @@ fn reference_behind(
         members,
     )?;
     let master = agent_of(names, master);
-    let references = before.with(alloc, cross, pin, Access { master, shadows })?;
+    Ok((cross, pin, Access { master, shadows }))
+}
+
+/// The references with one more, which an object describes.
+fn reference_behind(
+    alloc: Global,
+    names: &AgentNames,
+    place: &Place<'_>,
+    before: References,
+    value: &Value,
+) -> Result<References, LoadFault>
+    ensures { Reads (λ r. r) result (model.reference_behind names.now (path_of place.now) before (view value.now)) }
+{
+    let (cross, pin, access) = reference_in(alloc, names, place, &before, value)?;
+    let references = before.with(alloc, cross, pin, access)?;
     Ok(references)
 }
 

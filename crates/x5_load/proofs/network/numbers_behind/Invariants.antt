@@ -6,5 +6,5 @@ use Rattle.x5_load.proofs.network.numbers_behind.Given as goal
 
 abbrev pub invariant-loop-i : goal.invariant-loop-i
 invariant-loop-i l =
-    model.numbers_behind (path_of l.place) l.i l.numbers.items (items_view (drop l.i l.items))
+    model.numbers_behind (path_of l.place) l.i l.numbers (items_view (drop l.i l.items))
     ≡ model.numbers_behind (path_of l.place) 0 [] (items_view l.items)

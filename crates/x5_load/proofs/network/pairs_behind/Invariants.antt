@@ -1,11 +1,10 @@
-use Rattle.std.proofs.Common.{◌≡◌, drop, map, []}
+use Rattle.std.proofs.Common.{◌≡◌, drop, []}
 use Rattle.serde_json.specs.View.{items_view}
 use Rattle.x5_model_world.specs.NetworkText as model
-use Rattle.x5_load.specs.TextPairs.{texts_of}
 use Rattle.x5_world_members.specs.Paths.{path_of}
 use Rattle.x5_load.proofs.network.pairs_behind.Given as goal
 
 abbrev pub invariant-loop-i : goal.invariant-loop-i
 invariant-loop-i l =
-    model.pairs_behind (path_of l.place) l.i (map texts_of l.pairs.items) (items_view (drop l.i l.items))
+    model.pairs_behind (path_of l.place) l.i l.pairs (items_view (drop l.i l.items))
     ≡ model.pairs_behind (path_of l.place) 0 [] (items_view l.items)
