@@ -1,8 +1,10 @@
 mod AttributeParts
+mod Decoding
 mod FilterMembers
 mod FilterRows
 mod Fitting
 mod Members
+mod Messages
 mod Octets
 mod ReadIsSayable
 mod Selections

@@ -108,6 +108,26 @@ not_five P (a ∷ b ∷ c ∷ d ∷ []) f k = k
 not_five P (a ∷ b ∷ c ∷ d ∷ e ∷ []) f k = f refl
 not_five P (a ∷ b ∷ c ∷ d ∷ e ∷ g ∷ l) f k = k
 
+-- those at the places, whatever stands behind the last
+pub five_at : (P : nodes.Node → nodes.Node → nodes.Node → nodes.Node → nodes.Node → Type 0) (xs : List Node) (d : Node)
+    → OfFive P (map node_view xs)
+    → P (node_view (get_or xs 0 d)) (node_view (get_or xs 1 d)) (node_view (get_or xs 2 d)) (node_view (get_or xs 3 d)) (node_view (get_or xs 4 d))
+five_at P [] x k = absurd k
+five_at P (a ∷ []) x k = absurd k
+five_at P (a ∷ b ∷ []) x k = absurd k
+five_at P (a ∷ b ∷ c ∷ []) x k = absurd k
+five_at P (a ∷ b ∷ c ∷ d ∷ []) x k = absurd k
+five_at P (a ∷ b ∷ c ∷ d ∷ e ∷ []) x k = k
+five_at P (a ∷ b ∷ c ∷ d ∷ e ∷ g ∷ l) x k = absurd k
+
+pub three_at : (P : nodes.Node → nodes.Node → nodes.Node → Type 0) (xs : List Node) (d : Node) → OfThree P (map node_view xs)
+    → P (node_view (get_or xs 0 d)) (node_view (get_or xs 1 d)) (node_view (get_or xs 2 d))
+three_at P [] x k = absurd k
+three_at P (a ∷ []) x k = absurd k
+three_at P (a ∷ b ∷ []) x k = absurd k
+three_at P (a ∷ b ∷ c ∷ []) x k = k
+three_at P (a ∷ b ∷ c ∷ d ∷ l) x k = absurd k
+
 pub record AreFive (P : nodes.Node → nodes.Node → nodes.Node → nodes.Node → nodes.Node → Type 0) (ns : List nodes.Node)
     (a b c d : Node) : Type 0 where
   pub fifth : nodes.Node
@@ -162,3 +182,24 @@ as_two (nodes.Bits b) t u e = absurd (cc e)
 as_two (nodes.Octets o) t u e = absurd (cc e)
 as_two (nodes.Text x) t u e = absurd (cc e)
 as_two (nodes.Chosen tag m) t u e = absurd (cc e)
+
+pub as_three : (n t u v : nodes.Node) → nodes.parts n ≡ t ∷ u ∷ v ∷ []
+    → n ≡ nodes.Many (nodes.More t (nodes.More u (nodes.More v nodes.Nil)))
+as_three (nodes.Many (nodes.More a (nodes.More b (nodes.More c nodes.Nil)))) t u v e =
+    let first : a ≡ t = cc in
+    let second : b ≡ u = cc in
+    let third : c ≡ v = cc in
+    ap₂ (λ (x y : nodes.Node). nodes.Many (nodes.More x (nodes.More y (nodes.More c nodes.Nil)))) first second
+    ∙ ap (λ (x : nodes.Node). nodes.Many (nodes.More t (nodes.More u (nodes.More x nodes.Nil)))) third
+as_three (nodes.Many nodes.Nil) t u v e = absurd (cc e)
+as_three (nodes.Many (nodes.More a nodes.Nil)) t u v e = absurd (cc e)
+as_three (nodes.Many (nodes.More a (nodes.More b nodes.Nil))) t u v e = absurd (cc e)
+as_three (nodes.Many (nodes.More a (nodes.More b (nodes.More c (nodes.More d ns))))) t u v e = absurd (cc e)
+as_three nodes.Vacant t u v e = absurd (cc e)
+as_three (nodes.Flag b) t u v e = absurd (cc e)
+as_three (nodes.Number k) t u v e = absurd (cc e)
+as_three (nodes.Oid arcs) t u v e = absurd (cc e)
+as_three (nodes.Bits b) t u v e = absurd (cc e)
+as_three (nodes.Octets o) t u v e = absurd (cc e)
+as_three (nodes.Text x) t u v e = absurd (cc e)
+as_three (nodes.Chosen tag m) t u v e = absurd (cc e)

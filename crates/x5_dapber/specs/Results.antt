@@ -33,3 +33,9 @@ Decodes view says (Err (judged.Ber f)) (Err (wire.Ber g)) = fault_view g ≡ f
 Decodes view says (Err (judged.Unrecognised k)) (Err (wire.Unrecognised l)) = l ≡ k
 Decodes view says e (Err wire.NoMemory) = Unit {0}
 Decodes view says e r = ⊥
+
+-- Just that is read, unless memory ran out.
+abbrev pub IsRead : {X Y : Type 0} → (X → Y) → Y → Result X WireFault → Type 0
+IsRead view y (Ok x) = view x ≡ y
+IsRead view y (Err wire.NoMemory) = Unit {0}
+IsRead view y r = ⊥

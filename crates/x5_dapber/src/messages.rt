@@ -1,6 +1,8 @@
 //! Whole messages of a user (X.519, section 7), as octets.
-ghost use Rattle.std.specs.Prelude.{◌≡◌, IfOk, Result, Ok};
-ghost use Rattle.x5_dapber.specs.Results.{IsWritten, Decodes};
+ghost use Rattle.std.specs.Prelude.{◌≡◌, ℕ, IfOk, Result, Ok};
+ghost use Rattle.x5_dapber.specs.Results.{IsWritten, Decodes, IsRead};
+ghost use Rattle.x5_model.specs.Requests as model;
+ghost use Rattle.x5_model_messages.specs.Laws.{IsBody};
 ghost use Rattle.x5_model_messages.specs.Requests as requests;
 ghost use Rattle.x5_model_typed.specs.Judged as judged;
 ghost use Rattle.x5_model_typed.specs.Named as named;
@@ -61,6 +63,9 @@ pub fn decode_request(alloc: Global, octets: &[u8]) -> Result<(u32, Request), Wi
         → Decodes (λ p. (p.0, request_view p.1)) requests.request_in (Ok n) result }
     ensures spelled { IfOk result (λ p. (n : nodes.Node) × Spells table named.DapRequest octets.now n
         × ((p.0, request_view p.1) ≡ requests.request_in n)) }
+    // Octets that spell what is written of a request whose parts are as they are spelled give it back, with its id.
+    ensures back { (id : ℕ) (r : model.Request) → IsBody r.body → Spells table named.DapRequest octets.now (requests.request_node id r)
+        → IsRead {Y = ℕ × model.Request} (λ p. (p.0, request_view p.1)) (id, r) result }
 {
     let node = read(alloc, Named::DapRequest, octets)?;
     Ok(request_in(alloc, &node)?)

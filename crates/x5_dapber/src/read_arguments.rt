@@ -172,8 +172,8 @@ fn search_in(alloc: Global, parts: &[Node<'_>]) -> Result<Body, NoMemory>
     }
     let base = name_of(alloc, &parts[0])?;
     let subset = subset_in(&parts[1]);
-    let filter = filter_in(alloc, &parts[2])?;
     let selection = selection_in(alloc, &parts[3])?;
+    let filter = filter_in(alloc, &parts[2])?;
     Ok(Body::Search {
         base,
         subset,
