@@ -1,5 +1,7 @@
 -- Members of a filter that nodes say, one behind the other.
-use Rattle.std.proofs.Common.{◌≡◌, ℕ, zero, suc, ◌<◌, refl, sym, ◌∙◌, List, [], ◌∷◌, length, map, get_or, ap, subst, Vec, Global, arith}
+use Rattle.std.proofs.Common.{◌≡◌, refl, sym, ◌∙◌, List, [], ◌∷◌, map, ap, subst, Vec, Global}
+use Rattle.std.specs.Prelude.{All}
+use Rattle.std.proofs.lemmas.List.Elements.{All-nil, All-cons}
 use Rattle.x5_match.specs.FilterView.{filter_view, filters_of}
 use Rattle.x5_match.specs.declared.filter.Filter as filter
 use Rattle.x5_match.specs.declared.filter.Filter.{Filter}
@@ -49,20 +51,17 @@ pub or_said : (v : Vec Filter Global) (n : nodes.Node)
     → filter_view (filter.Or v) ≡ model.Or (terms.filters_in n)
 or_said v n e = sym (or_of_items v) ∙ ap model.Or (members_said v n e)
 
-at_place : (items : List Node) (i : ℕ) (d : Node) → AreFilters (nodes.row (map node_view items)) → i < length items
-    → IsFilter (node_view (get_or items i d))
-at_place [] i d h lt = absurd (omega (arith, lt))
-at_place (x ∷ items) zero d h lt = h.0
-at_place (x ∷ items) (suc i) d h lt = at_place items i d h.1 (omega (arith, lt))
+in_row_so : (items : List Node) → AreFilters (nodes.row (map node_view items)) → All (λ n. IsFilter (node_view n)) items
+in_row_so [] h = All-nil (λ (n : Node). IsFilter (node_view n))
+in_row_so (x ∷ items) h = All-cons (λ (n : Node). IsFilter (node_view n)) x items h.0 (in_row_so items h.1)
 
 -- each member is a filter
-pub member_is : (v : Vec Node Global) (node : Node) (items : List Node) (i : ℕ) (m : Node) → HasFilters (node_view node)
-    → node ≡ Many v → items ≡ v.items → m ≡ get_or items i m → i < length items → IsFilter (node_view m)
-member_is v node items i m h is same at lt =
-    let has : AreFilters (nodes.row (map node_view items)) =
-    subst (λ (l : List Node). AreFilters (nodes.row (map node_view l))) (sym same)
-    (subst HasFilters (ap node_view is ∙ sym (many_of_items v)) h) in
-    subst (λ (x : Node). IsFilter (node_view x)) (sym at) (at_place items i m has lt)
+pub members_are_filters : (v : Vec Node Global) (node : Node) (items : List Node) → HasFilters (node_view node) → node ≡ Many v
+    → items ≡ v.items → All (λ n. IsFilter (node_view n)) items
+members_are_filters v node items h is same =
+    in_row_so items
+    (subst (λ (l : List Node). AreFilters (nodes.row (map node_view l))) (sym same)
+    (subst HasFilters (ap node_view is ∙ sym (many_of_items v)) h))
 
 pub parts_of : (v : Vec Node Global) (node : Node) (items : List Node) → node ≡ Many v → items ≡ v.items
     → map node_view items ≡ nodes.parts (node_view node)

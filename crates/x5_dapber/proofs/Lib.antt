@@ -3,8 +3,8 @@ mod Decoding
 mod FilterMembers
 mod FilterRows
 mod Fitting
+mod Invokes
 mod Members
-mod Messages
 mod Octets
 mod ReadIsSayable
 mod Selections

@@ -1,5 +1,5 @@
 -- What the octets spell is a value for whose parts the code has types, so what it says is decoded.
-use Rattle.std.proofs.Common.{◌≡◌, ℕ}
+use Rattle.std.proofs.Common.{◌≡◌, ℕ, arith}
 use Rattle.std.proofs.lemmas.Result.{err_from_is_err_and}
 use Rattle.std.specs.declared.result.Result.TheVariants.{Ok, Err}
 use Rattle.x5_model.specs.Requests as model
@@ -23,7 +23,7 @@ pub request_in-requires : goal.request_in-requires
 request_in-requires c =
     request_fits (node_view c.in_ok-node.node)
     (messages_spelled_fit nowhere named.DapRequest c.args.octets.now (node_view c.in_ok-node.node)
-    (are_octets c.args.octets.now c.type_inv.octets) c.in_ok-node.ensures.spelled)
+    (are_octets c.args.octets.now (λ k. omega (arith, c.type_inv.octets k))) c.in_ok-node.ensures.spelled)
 
 -- a breach, or want of memory while octets are read
 pub returns-in_err-node-clause-decodes : goal.returns-in_err-node-clause-decodes
@@ -48,20 +48,20 @@ returns-in_err-node-clause-back c = λ id r body spells.
 -- want of memory while the request is made
 pub returns-in_err-request_in-clause-decodes : goal.returns-in_err-request_in-clause-decodes
 returns-in_err-request_in-clause-decodes c = λ e comes.
-    let p = err_from_is_err_and c.from_residual.result c.from_residual.ensures.1 in
-    memory_decodes seen request_in e c.from_residual.result p.0 p.1 p.2
+    let p = err_from_is_err_and c.from_residual-in_err-request_in.result c.from_residual-in_err-request_in.ensures.1 in
+    memory_decodes seen request_in e c.from_residual-in_err-request_in.result p.0 p.1 p.2
 
 pub returns-in_err-request_in-clause-exact : goal.returns-in_err-request_in-clause-exact
 returns-in_err-request_in-clause-exact c = λ n spells.
-    let p = err_from_is_err_and c.from_residual.result c.from_residual.ensures.1 in
-    memory_decodes seen request_in (Ok n) c.from_residual.result p.0 p.1 p.2
+    let p = err_from_is_err_and c.from_residual-in_err-request_in.result c.from_residual-in_err-request_in.ensures.1 in
+    memory_decodes seen request_in (Ok n) c.from_residual-in_err-request_in.result p.0 p.1 p.2
 
 pub returns-in_err-request_in-clause-back : goal.returns-in_err-request_in-clause-back
 returns-in_err-request_in-clause-back c = λ id r body spells.
-    let p = err_from_is_err_and c.from_residual.result c.from_residual.ensures.1 in
+    let p = err_from_is_err_and c.from_residual-in_err-request_in.result c.from_residual-in_err-request_in.ensures.1 in
     let n = request_node id r in
-    known_read seen request_in n (id, r) c.from_residual.result (requests_back id r body)
-    (memory_decodes seen request_in (Ok n) c.from_residual.result p.0 p.1 p.2)
+    known_read seen request_in n (id, r) c.from_residual-in_err-request_in.result (requests_back id r body)
+    (memory_decodes seen request_in (Ok n) c.from_residual-in_err-request_in.result p.0 p.1 p.2)
 
 pub returns-clause-decodes : goal.returns-clause-decodes
 returns-clause-decodes c = λ e comes.

@@ -3,7 +3,7 @@ use Rattle.std.proofs.Common.{◌≡◌, rules}
 use Rattle.x5_model_typed.specs.Nodes as nodes
 use Rattle.x5_ops.specs.RequestViews.{request_view}
 use Rattle.x5_types.specs.NodeView.{node_view}
-use Rattle.x5_dapber.proofs.Messages.{not_so, code_so, id_so, argument_so, said}
+use Rattle.x5_dapber.proofs.Invokes.{not_so, code_so, id_so, argument_so, said}
 use Rattle.x5_dapber.proofs.read_arguments.request_in.Goals as goal
 
 pub unreachable-requires-then-parts-ne3 : goal.unreachable-requires-then-parts-ne3

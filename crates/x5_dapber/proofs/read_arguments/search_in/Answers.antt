@@ -29,16 +29,17 @@ subset_in-subset-requires c =
 pub selection_in-requires : goal.selection_in-requires
 selection_in-requires c =
     subst (λ (v : Node). IsSelection (node_view v)) (sym c.index-parts-3.is)
-    (five_at AreSo c.args.parts.now c.index-parts-3.result c.requires).1.1
+    (five_at AreSo c.args.parts.now c.index-parts-3.result c.requires).2
 
 pub filter_in-requires : goal.filter_in-requires
-filter_in-requires c =
-    subst (λ (v : Node). IsFilter (node_view v)) (sym c.index-parts-2.is)
-    (five_at AreSo c.args.parts.now c.index-parts-2.result c.requires).1.0
+filter_in-requires c = record {
+  said = subst (λ (v : Node). IsFilter (node_view v)) (sym c.index-parts-2.is)
+      (five_at AreSo c.args.parts.now c.index-parts-2.result c.requires).1;
+}
 
 pub returns : goal.returns
 returns c =
     let five = five_are AreSo c.args.parts.now c.index-parts-0.result c.index-parts-1.result c.index-parts-2.result
     c.index-parts-3.result c.index-parts-0.is c.index-parts-1.is c.index-parts-2.is c.index-parts-3.is c.requires in
-    searched _ _ _ _ _ _ _ _ c.in_ok-base.ensures c.subset_in-subset.ensures c.in_ok-filter.ensures c.in_ok-selection.ensures
+    searched _ _ _ _ _ _ _ _ c.in_ok-base.ensures c.subset_in-subset.ensures c.in_ok-filter.ensures.filter c.in_ok-selection.ensures
     ∙ sym (ap (body_in 5) five.split)

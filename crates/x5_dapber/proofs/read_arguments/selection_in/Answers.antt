@@ -1,5 +1,5 @@
--- The one component is vacant, or has types as its members. (Not checked yet: names of steps are guessed.)
-use Rattle.std.proofs.Common.{ap, sym, ◌∙◌}
+-- The one component is vacant, or has types as its members.
+use Rattle.std.proofs.Common.{◌≡◌, ap, sym, ◌∙◌}
 use Rattle.std.specs.Prelude.{All}
 use Rattle.x5_model.specs.Requests.{Only}
 use Rattle.x5_model_typed.specs.Nodes as nodes
@@ -13,4 +13,4 @@ pub types_in-requires : goal.types_in-requires
 types_in-requires c =
     let one = one_is (λ types. All IsType (nodes.parts types)) c.parts.result.now _ c.kinds-item.result c.parts.ensures
     c.kinds-item.is c.requires in
-    members_are IsType c.parts-2.result.now _ c.parts-2.ensures one.1
+    members_are IsType c.parts-else-is_vacant.result.now _ c.parts-else-is_vacant.ensures one.1

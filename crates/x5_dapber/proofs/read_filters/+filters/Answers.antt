@@ -2,7 +2,7 @@
 use Rattle.std.proofs.Common.{rules, ap, map}
 use Rattle.x5_model_messages.specs.FilterTerms as terms
 use Rattle.x5_types.specs.NodeView.{node_view}
-use Rattle.x5_dapber.proofs.FilterMembers.{and_said, or_said, member_is, parts_of}
+use Rattle.x5_dapber.proofs.FilterMembers.{and_said, or_said, members_are_filters, parts_of}
 use Rattle.x5_dapber.proofs.read_filters.+filters.Goals as goal
 
 pub filter_in-returns-in_ok-filters_in-in-1 : goal.filter_in-returns-in_ok-filters_in-in-1
@@ -16,13 +16,9 @@ filter_in-returns-in_ok-filters_in-in-2 t c =
     record { filter = search (rules, e) }
 
 pub filters_in-loop-node-init : goal.filters_in-loop-node-init
-filters_in-loop-node-init t c =
-    rw c.new-members.ensures.items
-    (ap (map terms.filter_in) (parts_of c.in-Many.nodes c.args.node.now c.deref-node-items.result.now c.in-Many.is c.deref-node-items.ensures.value))
-
-pub filters_in-filter_in-requires : goal.filters_in-filter_in-requires
-filters_in-filter_in-requires t c = (
-  search rules,
-  member_is c.in-Many.nodes c.args.node.now c.deref-node-items.result.now c.loop-node.node-index c.node-item.result
-  c.requires.said c.in-Many.is c.deref-node-items.ensures.value c.node-item.is c.loop-node-test.true,
-)
+filters_in-loop-node-init t c = record {
+  so_far = rw c.new-members.ensures.items
+      (ap (map terms.filter_in) (parts_of c.in-Many.nodes c.args.node.now c.deref-node-items.result.now c.in-Many.is c.deref-node-items.ensures.value));
+  said = members_are_filters c.in-Many.nodes c.args.node.now c.deref-node-items.result.now c.requires.said c.in-Many.is
+      c.deref-node-items.ensures.value;
+}

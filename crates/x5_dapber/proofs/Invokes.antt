@@ -23,7 +23,7 @@ argument_by (x ∷ []) code argument f g k = absurd k
 argument_by (x ∷ y ∷ []) code argument f g k = absurd k
 argument_by (x ∷ y ∷ z ∷ []) code argument f g k =
     subst (λ (v : Node). IsArgument (number (node_view v)) (node_view argument)) (sym f)
-    (subst (λ (w : Node). IsArgument (number (node_view y)) (node_view w)) (sym g) k.1.1)
+    (subst (λ (w : Node). IsArgument (number (node_view y)) (node_view w)) (sym g) k.2)
 argument_by (x ∷ y ∷ z ∷ u ∷ l) code argument f g k = absurd k
 
 abbrev pair : ℕ → model.Request → ℕ × model.Request
@@ -39,7 +39,7 @@ module _ (xs : List Node) (n inner : nodes.Node) (tag : ℕ) (is : n ≡ nodes.C
   not_so others = not_three AreSo xs (map node_view xs) refl others are_so
 
   pub code_so : (code : Node) → code ≡ get_or xs 1 code → IsCount (node_view code)
-  code_so code at = subst (λ (v : Node). IsCount (node_view v)) (sym at) (three_at AreSo xs code are_so).1.0
+  code_so code at = subst (λ (v : Node). IsCount (node_view v)) (sym at) (three_at AreSo xs code are_so).1
 
   pub id_so : (id : Node) → id ≡ get_or xs 0 id → IsCount (node_view id)
   id_so id at = subst (λ (v : Node). IsCount (node_view v)) (sym at) (three_at AreSo xs id are_so).0
