@@ -31,7 +31,7 @@ pair k r = (k, r)
 
 -- the components of what is chosen
 module _ (xs : List Node) (n inner : nodes.Node) (tag : ℕ) (is : n ≡ nodes.Chosen tag inner)
-  (parts : map node_view xs ≡ nodes.parts inner) (so : IsRequest n) where
+    (parts : map node_view xs ≡ nodes.parts inner) (so : IsRequest n) where
   are_so : OfThree AreSo (map node_view xs)
   are_so = subst (λ (l : List nodes.Node). OfThree AreSo l) (sym parts) (subst IsRequest is so)
 

@@ -155,9 +155,7 @@ fn list_in(alloc: Global, parts: &[Node<'_>]) -> Result<Body, NoMemory>
     requires { sayable.AreParts 4 (map node_view parts.now) }
     ensures { IfOk result (λ b. body_view b ≡ requests.body_in 4 (map node_view parts.now)) }
 {
-    let [object, _] = parts else {
-        unreachable!()
-    };
+    let [object, _] = parts else { unreachable!() };
     Ok(Body::List {
         object: name_of(alloc, object)?,
     })
@@ -199,9 +197,7 @@ fn remove_in(alloc: Global, parts: &[Node<'_>]) -> Result<Body, NoMemory>
     requires { sayable.AreParts 7 (map node_view parts.now) }
     ensures { IfOk result (λ b. body_view b ≡ requests.body_in 7 (map node_view parts.now)) }
 {
-    let [object, _] = parts else {
-        unreachable!()
-    };
+    let [object, _] = parts else { unreachable!() };
     Ok(Body::Remove {
         object: name_of(alloc, object)?,
     })
@@ -252,11 +248,7 @@ fn body_in(alloc: Global, code: u32, parts: &[Node<'_>]) -> Result<Body, NoMemor
 }
 
 /// The request of the operation with the code that the argument says.
-pub(crate) fn argument_in(
-    alloc: Global,
-    code: u32,
-    node: &Node<'_>,
-) -> Result<Request, NoMemory>
+pub(crate) fn argument_in(alloc: Global, code: u32, node: &Node<'_>) -> Result<Request, NoMemory>
     requires { sayable.IsArgument code (node_view node.now) }
     ensures { IfOk result (λ r. request_view r ≡ requests.argument_in code (node_view node.now)) }
 {
