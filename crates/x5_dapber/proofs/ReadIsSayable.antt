@@ -16,14 +16,14 @@ use Rattle.x5_model_typed.specs.Forms as forms
 use Rattle.x5_model_typed.specs.Forms.{Component, Explicit, Sequence, Set, Members, Never, Alternative, choice, plain, at, or, code}
 use Rattle.x5_model_typed.specs.Leaves.{where_so, any_oid, short_oid, oid, oid_octets, from_to, is_short_number, number, number_octets, options_node}
 use Rattle.x5_model_typed.specs.Layouts as layouts
-use Rattle.x5_model_typed.specs.Typed.{Goes, named, required}
-use Rattle.x5_model_typed.specs.Written.{leaf_octets, can_hold, is_marked}
+use Rattle.x5_model_typed.specs.Typed.{named, required}
+use Rattle.x5_model_typed.specs.Written.{can_hold, is_marked}
 use Rattle.x5_model_typed_laws.specs.Fits.{Fits, FitsIn, FitsSequence, FitsSet, FitsEach, more, left_out, given, over, whole, made, chosen, chosen_made}
 use Rattle.x5_types.specs.FormView.{table}
-use Rattle.x5_dapber.specs.Sayable.{IsType, IsValue, IsAttribute, IsAssertion, IsChange, IsPiece, IsSubstrings, IsItem, IsFilter, HasFilters, AreFilters, IsCount, IsSelection, AreControls, AreParts, IsArgument, IsRequest}
+use Rattle.x5_dapber.specs.Sayable.{IsType, IsValue, IsAttribute, IsAssertion, IsChange, IsPiece, IsSubstrings, IsItem, IsFilter, HasFilters, AreFilters, IsCount, IsSelection, AreControls, IsArgument, IsRequest}
 use Rattle.x5_model.specs.Words.{in_option}
 use Rattle.x5_model_messages.specs.Terms.{number_in}
-use Rattle.x5_dapber.proofs.Fitting.{so, only, IsMade, only_made, sequence_in, set_in, members_in, only_leaf, found_is, tag_below, is_explicit, no_explicit, as_form, each_in, Pair, pair_in, First, required_in, optional_in, no_more}
+use Rattle.x5_dapber.proofs.Fitting.{so, only, IsMade, only_made, sequence_in, set_in, members_in, only_leaf, found_is, tag_below, is_explicit, no_explicit, as_form, each_in, pair_in, required_in, optional_in, no_more}
 
 -- ---- types and values
 

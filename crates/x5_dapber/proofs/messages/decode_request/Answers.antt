@@ -1,7 +1,7 @@
 -- What the octets spell is a value for whose parts the code has types, so what it says is decoded.
-use Rattle.std.proofs.Common.{◌≡◌, ℕ, arith}
+use Rattle.std.proofs.Common.{ℕ, arith}
 use Rattle.std.proofs.lemmas.Result.{err_from_is_err_and}
-use Rattle.std.specs.declared.result.Result.TheVariants.{Ok, Err}
+use Rattle.std.specs.declared.result.Result.TheVariants.{Ok}
 use Rattle.x5_model.specs.Requests as model
 use Rattle.x5_model_messages.specs.Requests.{request_in, request_node}
 use Rattle.x5_model_messages.proofs.Requests.{requests_back}

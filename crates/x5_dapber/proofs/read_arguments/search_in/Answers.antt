@@ -1,7 +1,7 @@
 -- Five components, of which the second is a number, the third a filter and the fourth a selection.
 use Rattle.std.proofs.Common.{◌≡◌, ap, sym, subst, ◌∙◌}
 use Rattle.x5_model.specs.Filters.{Filter}
-use Rattle.x5_model.specs.Requests.{Body, Selection, Subset, Search}
+use Rattle.x5_model.specs.Requests.{Selection, Subset, Search}
 use Rattle.x5_model.specs.Values.{Name}
 use Rattle.x5_model_messages.specs.Requests.{body_in}
 use Rattle.x5_model_typed.specs.Nodes as nodes

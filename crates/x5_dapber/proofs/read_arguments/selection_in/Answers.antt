@@ -1,12 +1,8 @@
 -- The one component is vacant, or has types as its members.
-use Rattle.std.proofs.Common.{◌≡◌, ap, sym, ◌∙◌}
 use Rattle.std.specs.Prelude.{All}
-use Rattle.x5_model.specs.Requests.{Only}
 use Rattle.x5_model_typed.specs.Nodes as nodes
-use Rattle.x5_types.specs.NodeView.{node_view}
 use Rattle.x5_dapber.specs.Sayable.{IsType}
 use Rattle.x5_dapber.proofs.Members.{members_are, one_is}
-use Rattle.x5_dapber.proofs.Selections.{all_selected, only_selected}
 use Rattle.x5_dapber.proofs.read_arguments.selection_in.Goals as goal
 
 pub types_in-requires : goal.types_in-requires

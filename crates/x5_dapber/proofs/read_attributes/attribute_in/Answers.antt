@@ -1,8 +1,6 @@
 -- The members of the second component are values, and the type and the values are what is said.
-use Rattle.std.proofs.Common.{◌∙◌, sym, ap}
 use Rattle.std.specs.Prelude.{All}
 use Rattle.x5_model_typed.specs.Nodes as nodes
-use Rattle.x5_model_messages.specs.Terms as terms
 use Rattle.x5_types.specs.NodeView.{node_view}
 use Rattle.x5_dapber.specs.Sayable.{IsType, IsValue}
 use Rattle.x5_dapber.proofs.AttributeParts.{attribute_said}
