@@ -1,2 +1,10 @@
 mod AttributeParts
+mod Decoding
+mod FilterMembers
 mod FilterRows
+mod Fitting
+mod Invokes
+mod Members
+mod Octets
+mod ReadIsSayable
+mod Selections

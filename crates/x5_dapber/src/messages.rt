@@ -1,19 +1,28 @@
 //! Whole messages of a user (X.519, section 7), as octets.
-ghost use Rattle.std.specs.Prelude.{◌≡◌, IfOk};
-ghost use Rattle.x5_dapber.specs.Results.{IsWritten};
+ghost use Rattle.std.specs.Prelude.{◌≡◌, ℕ, IfOk, Result, Ok};
+ghost use Rattle.x5_dapber.specs.Results.{IsWritten, Decodes, IsRead};
+ghost use Rattle.x5_model.specs.Requests as model;
+ghost use Rattle.x5_model_messages.specs.Laws.{IsBody};
 ghost use Rattle.x5_model_messages.specs.Requests as requests;
+ghost use Rattle.x5_model_typed.specs.Judged as judged;
 ghost use Rattle.x5_model_typed.specs.Named as named;
+ghost use Rattle.x5_model_typed.specs.Nodes as nodes;
+ghost use Rattle.x5_model_typed.specs.Typed.{Spells};
 ghost use Rattle.x5_model_typed.specs.Written.{canonical_octets};
 ghost use Rattle.x5_ops.specs.RequestViews.{request_view};
+ghost use Rattle.x5_typed.specs.Comes.{ComesTo};
 ghost use Rattle.x5_types.specs.FormView.{table};
 ghost use Rattle.x5_types.specs.NodeView.{node_view};
 
 use crate::arguments::argument_node;
+use crate::fault::WireFault;
 use crate::parts::{chosen, number, three};
+use crate::read_arguments::request_in;
 use std::alloc::Global;
 use x5_memory::NoMemory;
 use x5_ops::Request;
 use x5_syntax::Octets;
+use x5_typed::read;
 use x5_types::{Named, Node};
 use x5_writer::{WriteFault, write};
 
@@ -37,4 +46,27 @@ pub fn encode_request(alloc: Global, id: u32, request: &Request) -> Result<Octet
 {
     let node = request_node(alloc, id, request)?;
     Ok(Octets::new(write(alloc, Named::DapRequest, &node)?))
+}
+
+/// The id and the request of a user's message (X.519, section 7): of octets that are one spelling of it and nothing else.
+///
+/// # Errors
+/// The first breach in the order of reading, with its place: the whole first reading, whatever the type, before the
+/// second. `Unrecognised` exactly where that is the code of an operation that users don't have. Or that memory ran out.
+pub fn decode_request(alloc: Global, octets: &[u8]) -> Result<(u32, Request), WireFault>
+    // What the value says, or the breach, that reading comes to; and it comes to exactly one.
+    ensures decodes { (e : Result nodes.Node judged.Breach) → ComesTo named.DapRequest octets.now e
+        → Decodes (λ p. (p.0, request_view p.1)) requests.request_in e result }
+    ensures comes { (e : Result nodes.Node judged.Breach) × ComesTo named.DapRequest octets.now e }
+    // Of octets that spell a value of the type it's what that says, and no other octets give a request.
+    ensures exact { (n : nodes.Node) → Spells table named.DapRequest octets.now n
+        → Decodes (λ p. (p.0, request_view p.1)) requests.request_in (Ok n) result }
+    ensures spelled { IfOk result (λ p. (n : nodes.Node) × Spells table named.DapRequest octets.now n
+        × ((p.0, request_view p.1) ≡ requests.request_in n)) }
+    // Octets that spell what is written of a request whose parts are as they are spelled give it back, with its id.
+    ensures back { (id : ℕ) (r : model.Request) → IsBody r.body → Spells table named.DapRequest octets.now (requests.request_node id r)
+        → IsRead {Y = ℕ × model.Request} (λ p. (p.0, request_view p.1)) (id, r) result }
+{
+    let node = read(alloc, Named::DapRequest, octets)?;
+    Ok(request_in(alloc, &node)?)
 }

@@ -1,3 +1,3 @@
 mod Back
-mod Requests
+pub mod Requests
 mod Rows

@@ -7,6 +7,6 @@ mod pair;
 mod rule;
 mod trace;
 
-pub use crate::name::name_of;
+pub use crate::name::{name_in, name_of, rdn_in, text_in};
 pub use crate::rule::settle;
 pub use x5_memory::NoMemory;

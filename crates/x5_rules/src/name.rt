@@ -21,7 +21,8 @@ fn type_in(node: &Node<'_>) -> TypeId
     }
 }
 
-fn text_in(alloc: Global, node: &Node<'_>) -> Result<Text, NoMemory>
+/// The text that the node says, or none.
+pub fn text_in(alloc: Global, node: &Node<'_>) -> Result<Text, NoMemory>
     ensures { IfOk result (λ text. text ≡ rules.text_in (node_view node.now)) }
 {
     match node {
@@ -40,7 +41,8 @@ fn pair_in(alloc: Global, node: &Node<'_>) -> Result<(TypeId, Text), NoMemory>
     }
 }
 
-fn rdn_in(alloc: Global, node: &Node<'_>) -> Result<RdnValue, NoMemory>
+/// What is written of the RDN that the node says.
+pub fn rdn_in(alloc: Global, node: &Node<'_>) -> Result<RdnValue, NoMemory>
     ensures { IfOk result (λ rdn. rdn ≡ rules.rdn_in (node_view node.now)) }
 {
     let mut pairs = Vec::new(alloc);
@@ -50,7 +52,8 @@ fn rdn_in(alloc: Global, node: &Node<'_>) -> Result<RdnValue, NoMemory>
     Ok(RdnValue::new(pairs))
 }
 
-fn name_in(alloc: Global, node: &Node<'_>) -> Result<NameValue, NoMemory>
+/// What is written of the name that the node says.
+pub fn name_in(alloc: Global, node: &Node<'_>) -> Result<NameValue, NoMemory>
     ensures { IfOk result (λ name. name ≡ rules.name_in (node_view node.now)) }
 {
     let mut rdns = Vec::new(alloc);
