@@ -1,13 +1,15 @@
 -- Loops that add, for each member of a list, what it gives.
-use Rattle.std.proofs.Common.{◌≡◌, ℕ, zero, suc, ◌+◌, ◌<◌, ◌≤◌, List, [], ◌∷◌, ◌++◌, map, length, drop, get_or, append_assoc, append-nil, refl, sym, ap, subst, ◌∙◌, arith}
-use Rattle.std.specs.List.{flat_map}
+use Rattle.std.proofs.Common.{◌≡◌, ℕ, zero, suc, ◌+◌, ◌<◌, ◌≤◌, List, [], ◌∷◌, ◌++◌, map, length, drop, get_or, append_assoc, append-nil, refl, sym, ap, subst, ◌∙◌, arith, Option, Some, None, Result, Ok, Err, OnOk}
+use Rattle.std.specs.List.{flat_map, slice_get}
+use Rattle.std.specs.Option.{option_map}
 use Rattle.x5_model.specs.Members.{In}
+use Rattle.x5_model.specs.Words.{in_option}
 use Rattle.x5_model.specs.References.{Reference}
 use Rattle.x5_model.proofs.Lists.{in_left, in_right}
 use Rattle.x5_ops.proofs.Dropping.{drop_at}
-use Rattle.x5_eval.specs.Rest.{AreKnown}
+use Rattle.x5_eval.specs.Rest.{AreKnown, at_place}
 
-none_left : {A : Type 0} (xs : List A) (i : ℕ) → length xs ≤ i → drop i xs ≡ []
+pub none_left : {A : Type 0} (xs : List A) (i : ℕ) → length xs ≤ i → drop i xs ≡ []
 none_left [] zero l = refl
 none_left [] (suc i) l = refl
 none_left (x ∷ xs) zero l = absurd (omega arith)
@@ -54,3 +56,27 @@ module _ {A : Type 0} (n : ℕ) (f : A → List Reference) (xs : List A) (i : �
 pub adds_all : {A : Type 0} (n : ℕ) (f : A → List Reference) (xs : List A) (i : ℕ) (all acc : List Reference) → length xs ≤ i
     → Adds n f all acc (drop i xs) → acc ≡ all
 adds_all n f xs i all acc l a = all_there f xs i acc all l a.so_far
+
+-- ---- what is told at a place
+pub get_mapped : {A B : Type 0} (v : A → B) (xs : List A) (i : ℕ) → slice_get (map v xs) i ≡ option_map v (slice_get xs i)
+get_mapped v [] i = refl
+get_mapped v (x ∷ xs) zero = refl
+get_mapped v (x ∷ xs) (suc i) = get_mapped v xs i
+
+pub some_at : {A B R : Type 0} (f : B → List R) (v : A → B) (xs : List A) (i : ℕ) (x : A) → slice_get xs i ≡ Some x
+    → at_place f (map v xs) i ≡ f (v x)
+some_at {A} {B} f v xs i x e =
+    ap (λ (o : Option B). in_option [] f o) (get_mapped v xs i) ∙ ap (λ (o : Option A). in_option [] f (option_map v o)) e
+
+pub none_at : {A B R : Type 0} (f : B → List R) (v : A → B) (xs : List A) (i : ℕ) → slice_get xs i ≡ None
+    → at_place f (map v xs) i ≡ []
+none_at {A} {B} f v xs i e =
+    ap (λ (o : Option B). in_option [] f o) (get_mapped v xs i) ∙ ap (λ (o : Option A). in_option [] f (option_map v o)) e
+
+pub map_twice : {A B C : Type 0} (f : A → B) (g : B → C) (xs : List A) → map g (map f xs) ≡ map (λ x. g (f x)) xs
+map_twice f g [] = refl
+map_twice {A} {B} {C} f g (x ∷ xs) = ap (λ (l : List C). g (f x) ∷ l) (map_twice f g xs)
+
+pub on_ok : {X E : Type 0} (P Q : Type 0) → (P → Q) → (r : Result X E) → OnOk r P → OnOk r Q
+on_ok P Q f (Ok x) p = f p
+on_ok P Q f (Err e) p = p

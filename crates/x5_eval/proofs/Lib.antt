@@ -18,3 +18,7 @@ pub mod Adding
 pub mod Picking
 pub mod Taking
 pub mod Excluding
+pub mod Answered
+pub mod Resting
+pub mod Leaving
+pub mod Wholes

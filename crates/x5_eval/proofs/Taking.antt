@@ -12,6 +12,8 @@ use Rattle.x5_model.specs.References.{Reference}
 use Rattle.x5_model.proofs.KeyLaws.{key_cmp_total, key_ties}
 use Rattle.x5_model_run.specs.Journal.{is_wide}
 use Rattle.x5_model_serve.specs.Answering.{taken_before}
+use Rattle.x5_ops.specs.ReferenceViews.{kind_view}
+use Rattle.x5_ops.specs.declared.references.Reference as code
 use Rattle.x5_eval.specs.Rest.{taken_cmp}
 
 abbrev pub by_taken : Reference → Reference → Bool
@@ -51,3 +53,7 @@ taken_weak =
 -- where one target is below the other, its reference is asked first
 pub below_first : (a b : Reference) → key_below (key_of a.target) (key_of b.target) ≡ true → taken_before a b ≡ true
 below_first a b e = ap (λ (c : Bool). c || (same_key (key_of a.target) (key_of b.target) && (not (is_wide a.kind) && is_wide b.kind))) e
+
+-- the same of references as the code has them
+pub code_weak : IsStrictWeakOrder (λ (a b : code.Reference). is_lt (taken_cmp (key_of a.target) (key_of b.target) (is_wide (kind_view a.kind)) (is_wide (kind_view b.kind))))
+code_weak = ranks_by pairs_total (λ (r : code.Reference). (key_of r.target, is_wide (kind_view r.kind)))

@@ -1,0 +1,132 @@
+-- Whether a request may be answered from a context with a prefix: from one that is mastered, or else from the copy, of which there is
+-- one at most, where it was refreshed and copies may be used.
+use Rattle.std.proofs.Common.{◌≡◌, ℕ, Bool, true, false, cond, not, ◌&&◌, ◌||◌, inl, inr, List, [], ◌∷◌, ◌++◌, map, refl, sym, ap, subst, ◌∙◌, Option, Some, None}
+use Rattle.std.specs.List.{filter, find, list_any}
+use Rattle.std.specs.Option.{is_some, option_map}
+use Rattle.x5_model.specs.Words.{distinct, has}
+use Rattle.x5_model.specs.Members.{In, here, there}
+use Rattle.x5_model.specs.Keys.{Key, same_key}
+use Rattle.x5_model.specs.Values.{key_of}
+use Rattle.x5_model.specs.Requests.{Request}
+use Rattle.x5_model.proofs.KeyLaws.{key_decides}
+use Rattle.x5_model.proofs.Lists.{both_true, not_true, true_or_false}
+use Rattle.x5_model_run.specs.Holdings.{Held, Copy, Holdings, held_at, copy_at, masters_pin, may_copy, served, usable_copies}
+use Rattle.x5_holdings.specs.State.{Kept, CopyKept, brought_for, stamp_of}
+
+found_any : {A : Type 0} (test : A → Bool) (xs : List A) → is_some (find test xs) ≡ list_any test xs
+found_any test [] = refl
+found_any test (x ∷ xs) = by (test x) (found_any test xs)
+  where
+    by : (b : Bool) → is_some (find test xs) ≡ list_any test xs → is_some (cond b (Some x) (find test xs)) ≡ (b || list_any test xs)
+    by true e = refl
+    by false e = e
+
+any_joined : {A : Type 0} (test : A → Bool) (xs ys : List A) → list_any test (xs ++ ys) ≡ (list_any test xs || list_any test ys)
+any_joined test [] ys = refl
+any_joined test (x ∷ xs) ys = ap (λ (b : Bool). test x || b) (any_joined test xs ys) ∙ by (test x) (list_any test xs) (list_any test ys)
+  where
+    by : (a b c : Bool) → (a || (b || c)) ≡ ((a || b) || c)
+    by true b c = refl
+    by false b c = refl
+
+-- those that pass one test all pass another
+any_left : {A : Type 0} (test other : A → Bool) (xs : List A) → ((x : A) → test x ≡ true → other x ≡ true)
+    → list_any test (filter other xs) ≡ list_any test xs
+any_left test other [] f = refl
+any_left test other (x ∷ xs) f = by (test x) (other x) refl refl (any_left test other xs f)
+  where
+    by : (a b : Bool) → test x ≡ a → other x ≡ b → list_any test (filter other xs) ≡ list_any test xs
+        → list_any test (cond b (x ∷ filter other xs) (filter other xs)) ≡ (a || list_any test xs)
+    by a true p q e = ap (λ (c : Bool). c || list_any test (filter other xs)) p ∙ ap (λ (c : Bool). a || c) e
+    by true false p q e = absurd (let t : other x ≡ true = f x p in cc)
+    by false false p q e = e
+
+module _ (r : Request) (h : Holdings) (p : Key) where
+  abbrev at : Held → Bool
+  at c = same_key (key_of c.prefix) p
+
+  abbrev stamped : List Copy → List Held
+  stamped ks = map (λ k. k.held) (filter (λ k. is_some k.stamp) ks)
+
+  any_served : is_some (held_at (served r h) p) ≡ (list_any at h.own || list_any at (filter (λ c. not (masters_pin h (key_of c.prefix))) (usable_copies r h)))
+  any_served = found_any at (served r h) ∙ any_joined at h.own (filter (λ c. not (masters_pin h (key_of c.prefix))) (usable_copies r h))
+
+  pub own_served : is_some (held_at h.own p) ≡ true → is_some (held_at (served r h) p) ≡ true
+  own_served e =
+      any_served ∙ ap (λ (b : Bool). b || list_any at (filter (λ c. not (masters_pin h (key_of c.prefix))) (usable_copies r h)))
+      (sym (found_any at h.own) ∙ e)
+
+  by_copies : held_at h.own p ≡ None → is_some (held_at (served r h) p) ≡ list_any at (usable_copies r h)
+  by_copies e =
+      any_served
+      ∙ ap (λ (b : Bool). b || list_any at (filter (λ c. not (masters_pin h (key_of c.prefix))) (usable_copies r h)))
+      (sym (found_any at h.own) ∙ ap is_some e)
+      ∙ any_left at (λ c. not (masters_pin h (key_of c.prefix))) (usable_copies r h)
+      (λ c t. ap (λ (k : Key). not (is_some (held_at h.own k))) ((key_decides (key_of c.prefix) p).0 t) ∙ ap (λ (o : Option Held). not (is_some o)) e)
+
+  none_stamped : (ks : List Copy) → find (λ k. at k.held) ks ≡ None → list_any at (stamped ks) ≡ false
+  none_stamped [] e = refl
+  none_stamped (k ∷ ks) e = by (at k.held) (is_some k.stamp) refl e
+    where
+      by : (a b : Bool) → at k.held ≡ a → cond a (Some k) (find (λ k. at k.held) ks) ≡ None
+          → list_any at (map (λ k. k.held) (cond b (k ∷ filter (λ k. is_some k.stamp) ks) (filter (λ k. is_some k.stamp) ks))) ≡ false
+      by true b q f = cc
+      by false true q f = ap (λ (c : Bool). c || list_any at (stamped ks)) q ∙ none_stamped ks f
+      by false false q f = none_stamped ks f
+
+  none_more : (ks : List Copy) → has same_key (map (λ k. key_of k.held.prefix) ks) p ≡ false → list_any at (stamped ks) ≡ false
+  none_more [] e = refl
+  none_more (k ∷ ks) e = by (at k.held) (is_some k.stamp) refl e
+    where
+      by : (a b : Bool) → at k.held ≡ a → (a || has same_key (map (λ k. key_of k.held.prefix) ks) p) ≡ false
+          → list_any at (map (λ k. k.held) (cond b (k ∷ filter (λ k. is_some k.stamp) ks) (filter (λ k. is_some k.stamp) ks))) ≡ false
+      by true b q f = cc
+      by false true q f = ap (λ (c : Bool). c || list_any at (stamped ks)) q ∙ none_more ks f
+      by false false q f = none_more ks f
+
+  one_stamped : (ks : List Copy) (k : Copy) → distinct same_key (map (λ k. key_of k.held.prefix) ks) ≡ true
+      → find (λ k. at k.held) ks ≡ Some k → list_any at (stamped ks) ≡ is_some k.stamp
+  one_stamped [] k d e = cc
+  one_stamped (c ∷ ks) k d e = by (at c.held) (is_some c.stamp) refl refl e
+    where
+      both = both_true (not (has same_key (map (λ k. key_of k.held.prefix) ks) (key_of c.held.prefix))) (distinct same_key (map (λ k. key_of k.held.prefix) ks)) d
+
+      first_is : Some c ≡ Some k → c ≡ k
+      first_is q = cc
+
+      by : (a b : Bool) → at c.held ≡ a → is_some c.stamp ≡ b → cond a (Some c) (find (λ k. at k.held) ks) ≡ Some k
+          → list_any at (map (λ k. k.held) (cond b (c ∷ filter (λ k. is_some k.stamp) ks) (filter (λ k. is_some k.stamp) ks))) ≡ is_some k.stamp
+      by true true q s f = ap (λ (x : Bool). x || list_any at (stamped ks)) q ∙ sym s ∙ ap (λ (x : Copy). is_some x.stamp) (first_is f)
+      by true false q s f =
+          none_more ks (
+            ap (has same_key (map (λ k. key_of k.held.prefix) ks)) (sym ((key_decides (key_of c.held.prefix) p).0 q))
+            ∙ not_true (has same_key (map (λ k. key_of k.held.prefix) ks) (key_of c.held.prefix)) both.0)
+          ∙ sym s ∙ ap (λ (x : Copy). is_some x.stamp) (first_is f)
+      by false true q s f = ap (λ (x : Bool). x || list_any at (stamped ks)) q ∙ one_stamped ks k both.1 f
+      by false false q s f = one_stamped ks k both.1 f
+
+  usable_any : (b : Bool) (ks : List Copy) → list_any at (cond b (stamped ks) []) ≡ (b && list_any at (stamped ks))
+  usable_any true ks = refl
+  usable_any false ks = refl
+
+  pub copy_served : held_at h.own p ≡ None → distinct same_key (map (λ k. key_of k.held.prefix) h.copies) ≡ true
+      → (k : Copy) → copy_at h p ≡ Some k → is_some (held_at (served r h) p) ≡ (may_copy r && is_some k.stamp)
+  copy_served e d k q =
+      by_copies e ∙ usable_any (may_copy r) h.copies ∙ ap (λ (b : Bool). may_copy r && b) (one_stamped h.copies k d q)
+
+  pub none_served : held_at h.own p ≡ None → copy_at h p ≡ None → is_some (held_at (served r h) p) ≡ false
+  none_served e q =
+      by_copies e ∙ usable_any (may_copy r) h.copies ∙ ap (λ (b : Bool). may_copy r && b) (none_stamped h.copies q) ∙ by (may_copy r)
+    where
+      by : (b : Bool) → (b && false) ≡ false
+      by true = refl
+      by false = refl
+
+-- what a request may be answered from is brought
+pub brought_some : (r : Request) (c : CopyKept) → is_some (brought_for r c) ≡ (may_copy r && is_some (stamp_of c.refreshed))
+brought_some r c = by (may_copy r) c.refreshed
+  where
+    by : (b : Bool) (o : Option (Kept × ℕ)) → is_some (cond b (option_map (λ s. s.0) o) None) ≡ (b && is_some (stamp_of o))
+    by true None = refl
+    by true (Some s) = refl
+    by false o = refl
