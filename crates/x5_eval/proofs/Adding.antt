@@ -80,3 +80,6 @@ map_twice {A} {B} {C} f g (x ∷ xs) = ap (λ (l : List C). g (f x) ∷ l) (map_
 pub on_ok : {X E : Type 0} (P Q : Type 0) → (P → Q) → (r : Result X E) → OnOk r P → OnOk r Q
 on_ok P Q f (Ok x) p = f p
 on_ok P Q f (Err e) p = p
+
+pub no_more : {A : Type 0} (xs ys : List A) → ys ≡ [] → xs ≡ xs ++ ys
+no_more {A} xs ys e = sym (append-nil xs) ∙ ap (λ (l : List A). xs ++ l) (sym e)

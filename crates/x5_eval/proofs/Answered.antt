@@ -1,8 +1,8 @@
 -- Whether a request may be answered from a context with a prefix: from one that is mastered, or else from the copy, of which there is
 -- one at most, where it was refreshed and copies may be used.
-use Rattle.std.proofs.Common.{◌≡◌, ℕ, Bool, true, false, cond, not, ◌&&◌, ◌||◌, inl, inr, List, [], ◌∷◌, ◌++◌, map, refl, sym, ap, subst, ◌∙◌, Option, Some, None}
-use Rattle.std.specs.List.{filter, find, list_any}
-use Rattle.std.specs.Option.{is_some, option_map}
+use Rattle.std.proofs.Common.{◌≡◌, ℕ, Bool, true, false, cond, not, ◌&&◌, ◌||◌, inl, inr, List, [], ◌∷◌, ◌++◌, map, refl, sym, ap, subst, ◌∙◌, ◌<◌, zero, suc, length, arith, Option, Some, None}
+use Rattle.std.specs.List.{filter, find, list_any, slice_get}
+use Rattle.std.specs.Option.{is_some, is_none, option_map}
 use Rattle.x5_model.specs.Words.{distinct, has}
 use Rattle.x5_model.specs.Members.{In, here, there}
 use Rattle.x5_model.specs.Keys.{Key, same_key}
@@ -11,7 +11,11 @@ use Rattle.x5_model.specs.Requests.{Request}
 use Rattle.x5_model.proofs.KeyLaws.{key_decides}
 use Rattle.x5_model.proofs.Lists.{both_true, not_true, true_or_false}
 use Rattle.x5_model_run.specs.Holdings.{Held, Copy, Holdings, held_at, copy_at, masters_pin, may_copy, served, usable_copies}
-use Rattle.x5_holdings.specs.State.{Kept, CopyKept, brought_for, stamp_of}
+use Rattle.x5_holdings.specs.Known.{IsPlaceOf, IsKnown}
+use Rattle.x5_holdings.specs.State.{Kept, CopyKept, State, are_once, brought_for, copy_view, held_view, holdings_view, stamp_of}
+use Rattle.x5_holdings.specs.declared.holdings.Pin.{Pin}
+use Rattle.x5_model_run.specs.Holdings.{known_pin}
+use Rattle.x5_eval.proofs.Adding.{get_mapped, map_twice}
 
 found_any : {A : Type 0} (test : A → Bool) (xs : List A) → is_some (find test xs) ≡ list_any test xs
 found_any test [] = refl
@@ -130,3 +134,42 @@ brought_some r c = by (may_copy r) c.refreshed
     by true None = refl
     by true (Some s) = refl
     by false o = refl
+
+-- ---- places of tables
+placed_some : {A B : Type 0} (v : A → B) (xs : List A) (found : Option B) (o : Option ℕ) → IsPlaceOf v xs found o → is_some o ≡ true → is_some found ≡ true
+placed_some v xs found None p e = cc
+placed_some {A} {B} v xs found (Some n) p e = ap is_some p.0 ∙ by (slice_get xs n) p.1
+  where
+    by : (o : Option A) → is_some o ≡ true → is_some (option_map v o) ≡ true
+    by None q = q
+    by (Some x) q = refl
+
+placed_none : {A B : Type 0} (v : A → B) (xs : List A) (found : Option B) (o : Option ℕ) → IsPlaceOf v xs found o → is_some o ≡ false → found ≡ None
+placed_none v xs found None p e = p
+placed_none v xs found (Some n) p e = cc
+
+pub some_within : {A : Type 0} (xs : List A) (i : ℕ) → is_some (slice_get xs i) ≡ true → i < length xs
+some_within [] i e = cc
+some_within (x ∷ xs) zero e = omega arith
+some_within (x ∷ xs) (suc i) e = (let l = some_within xs i e in omega (arith, l))
+
+module _ (s : State) (r : Request) (p : Key) (own copy : Option ℕ) (at_own : IsPlaceOf held_view s.own (held_at (holdings_view s).own p) own) where
+  pub own_is : is_some own ≡ true → is_some (held_at (served r (holdings_view s)) p) ≡ true
+  own_is e = own_served r (holdings_view s) p (placed_some held_view s.own (held_at (holdings_view s).own p) own at_own e)
+
+  pub none_is : is_some own ≡ false → copy_at (holdings_view s) p ≡ None → is_some (held_at (served r (holdings_view s)) p) ≡ false
+  none_is e q = none_served r (holdings_view s) p (placed_none held_view s.own (held_at (holdings_view s).own p) own at_own e) q
+
+  pub copy_is : is_some own ≡ false → are_once s.copies ≡ true → (n : ℕ) (k : CopyKept)
+      → copy_at (holdings_view s) p ≡ option_map copy_view (slice_get s.copies n) → slice_get s.copies n ≡ Some k
+      → is_some (brought_for r k) ≡ is_some (held_at (served r (holdings_view s)) p)
+  copy_is e once n k q g =
+      brought_some r k
+      ∙ sym (copy_served r (holdings_view s) p (placed_none held_view s.own (held_at (holdings_view s).own p) own at_own e)
+      (ap (distinct same_key) (map_twice copy_view (λ (c : Copy). key_of c.held.prefix) s.copies) ∙ once)
+      (copy_view k) (q ∙ ap (option_map copy_view) g))
+
+-- nothing on the way is known
+pub known_none : (r : Request) (h : Holdings) (n : Key) (o : Option Pin) → IsKnown r h n o → is_none o ≡ is_none (known_pin r h n)
+known_none r h n None e = sym (ap is_none e)
+known_none r h n (Some pin) e = sym (ap is_none e.longest)

@@ -1,8 +1,8 @@
 -- What a reference for an NSSR leaves out, each once: of a list in order those that aren't the same as the one before are those that
 -- the definition keeps, and a sort before or after makes no difference.
-use Rattle.std.proofs.Common.{◌≡◌, ℕ, ◌+◌, Bool, true, false, cond, not, ◌&&◌, ◌||◌, inl, inr, List, [], ◌∷◌, ◌++◌, length, map, refl, sym, ap, subst, ◌∙◌, append_assoc, append-nil, Option, Some, None}
+use Rattle.std.proofs.Common.{◌≡◌, ℕ, ◌+◌, ◌-◌, Bool, true, false, cond, not, ◌&&◌, ◌||◌, inl, inr, suc, List, [], ◌∷◌, ◌++◌, length, map, refl, sym, ap, subst, ◌∙◌, append_assoc, append-nil, arith, Option, Some, None}
 use Rattle.std.proofs.lemmas.List.MinMax.{ranks_by}
-use Rattle.std.specs.List.{filter}
+use Rattle.std.specs.List.{filter, slice_get}
 use Rattle.std.specs.List.Sorted.{ties}
 use Rattle.std.specs.Cmp.{IsStrictWeakOrder}
 use Rattle.std.specs.Ordering.{is_lt, ordering_reverse}
@@ -11,7 +11,7 @@ use Rattle.std.specs.declared.cmp.Ordering.TheVariants.{Less, Equal, Greater}
 use Rattle.x5_model.specs.Words.{last_of, some_and, sorted}
 use Rattle.x5_model.specs.Members.{In, here, there}
 use Rattle.x5_model.specs.Keys.{KeyRdn, same_rdn, rdn_cmp}
-use Rattle.x5_model.specs.Values.{Rdn, key_of_rdn}
+use Rattle.x5_model.specs.Values.{Rdn, Name, key_of_rdn, last_rdn}
 use Rattle.x5_model.proofs.KeyLaws.{rdn_decides, rdn_cmp_total, rdn_ties}
 use Rattle.x5_model.proofs.Lists.{in_first, of_filter, not_true, true_or_false}
 use Rattle.x5_model_run.specs.Journal.{same_spelled_rdn}
@@ -19,7 +19,7 @@ use Rattle.x5_model_run.specs.Needs.{rdn_below, once}
 use Rattle.x5_model_serve.specs.Answering.{first_each}
 use Rattle.x5_merge.specs.Order.{Rising}
 use Rattle.x5_merge.proofs.Sorting.{one_outcome, sorted_rising, class_sorted}
-use Rattle.x5_eval.specs.Rest.{other_last, others_last}
+use Rattle.x5_eval.specs.Rest.{last_in, other_last, others_last}
 use Rattle.x5_eval.proofs.Classes.{AreAlike}
 use Rattle.x5_eval.proofs.Gathering.{filter_all, class_first, first_only}
 
@@ -157,3 +157,30 @@ each_in_order rs ts alike =
     (λ q. class_once q (sorted rdn_below rs)
     ∙ ap first_only (class_sorted rdn_below rdn_weak q rs ∙ alike q)
     ∙ sym (class_sorted rdn_below rdn_weak q (once ts) ∙ class_once q ts))
+
+-- ---- the last of a list, by its place
+less_one : (n : ℕ) → suc n - 1 ≡ n
+less_one n = omega arith
+
+at_last : (rs : List Rdn) (r : Rdn) → slice_get (r ∷ rs) (length rs) ≡ last_of (r ∷ rs)
+at_last [] r = refl
+at_last (x ∷ rs) r = at_last rs x
+
+pub last_at : (rs : List Rdn) → slice_get rs (length rs - 1) ≡ last_of rs
+last_at [] = refl
+last_at (r ∷ rs) = ap (slice_get (r ∷ rs)) (less_one (length rs)) ∙ at_last rs r
+
+last_of_name : (r : Rdn) (rs : List Rdn) → last_of (r ∷ rs) ≡ Some (last_rdn (r ∷ rs))
+last_of_name r [] = refl
+last_of_name r (x ∷ rs) = last_of_name x rs
+
+pub last_some : (n : Name) (r : Rdn) → Some r ≡ slice_get n (length n - 1) → last_in n ≡ r ∷ []
+last_some [] r e = cc
+last_some (x ∷ n) r e = ap (λ (y : Rdn). y ∷ []) (inside (last_rdn (x ∷ n)) r (sym (last_of_name x n) ∙ sym (last_at (x ∷ n)) ∙ sym e))
+  where
+    inside : (a b : Rdn) → Some a ≡ Some b → a ≡ b
+    inside a b q = cc
+
+pub last_none : (n : Name) → None ≡ slice_get n (length n - 1) → last_in n ≡ []
+last_none [] e = refl
+last_none (x ∷ n) e = (let q : None ≡ Some (last_rdn (x ∷ n)) = e ∙ last_at (x ∷ n) ∙ last_of_name x n in cc)

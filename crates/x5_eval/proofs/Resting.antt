@@ -1,14 +1,14 @@
 -- The references for the rest of a list or search, as rows of pins and of NSSRs lead to them, are those of the definition, put in
 -- order.
-use Rattle.std.proofs.Common.{◌≡◌, ℕ, zero, suc, ◌+◌, Bool, true, false, cond, ◌&&◌, ◌||◌, ◌==◌, inl, inr, List, [], ◌∷◌, ◌++◌, length, map, take, refl, sym, ap, subst, ◌∙◌, arith, append-nil, Option, Some, None}
-use Rattle.std.proofs.lemmas.Bool.Decides.{Decides-eqb}
+use Rattle.std.proofs.Common.{◌≡◌, ℕ, zero, suc, ◌+◌, ◌<◌, nat_lt, Bool, true, false, cond, not, ◌&&◌, ◌||◌, ◌==◌, inl, inr, List, [], ◌∷◌, ◌++◌, length, map, take, refl, sym, ap, subst, ◌∙◌, arith, append-nil, Option, Some, None}
+use Rattle.std.proofs.lemmas.Bool.Decides.{Decides-eqb, Decides-ltb}
 use Rattle.std.specs.List.{filter, find, flat_map}
 use Rattle.std.specs.List.Sorted.{ties}
-use Rattle.std.specs.Option.{is_none}
+use Rattle.std.specs.Option.{is_none, is_some, option_map}
 use Rattle.x5_model.specs.Words.{in_option, sorted}
 use Rattle.x5_model.specs.Members.{In, here, there}
-use Rattle.x5_model.specs.Keys.{Key, same_key, is_prefix, is_child, key_below}
-use Rattle.x5_model.specs.Values.{Name, key_of}
+use Rattle.x5_model.specs.Keys.{Key, is_root, same_key, is_prefix, is_child, key_below}
+use Rattle.x5_model.specs.Values.{Rdn, Name, key_of}
 use Rattle.x5_model.specs.Entries.{Named}
 use Rattle.x5_model.specs.Requests.{Subset, Base, OneLevel, WholeSubtree}
 use Rattle.x5_model.specs.References.{Done, Subordinate, Reference, Chained}
@@ -19,8 +19,8 @@ use Rattle.x5_model.proofs.Ascending.{in_sorted}
 use Rattle.x5_model_tree.specs.World.{Specific, Nssr}
 use Rattle.x5_model_tree.specs.Tree.{key_at, entry_at}
 use Rattle.x5_model_tree.specs.Ask.{in_subset}
-use Rattle.x5_model_run.specs.Holdings.{Held, Holdings, held_at, served, usable_agents}
-use Rattle.x5_model_run.specs.Needs.{reference, others, in_scope, below_needs, to_each, wide_needs, treated_below, subset_of, answers_root}
+use Rattle.x5_model_run.specs.Holdings.{Held, Holdings, held_at, is_first_level, known_pin, served, usable_agents}
+use Rattle.x5_model_run.specs.Needs.{reference, others, in_scope, below_needs, to_each, wide_needs, treated_below, resolves, subset_of, answers_root}
 use Rattle.x5_model_theory.proofs.Stages.{key_length}
 use Rattle.x5_model_serve.specs.Walking.{left}
 use Rattle.x5_model_serve.specs.Answering.{taken_before, walked_needs, rest_of_parts}
@@ -30,7 +30,7 @@ use Rattle.x5_ops.specs.declared.knowledge.Nssr as nssr
 use Rattle.x5_ops.specs.declared.knowledge.Specific as specific
 use Rattle.x5_holdings.specs.Runs.{run_of}
 use Rattle.x5_eval.specs.Numbers.{in_reach, own_place, reaches}
-use Rattle.x5_eval.specs.Rest.{AreAlike, AreKnown, at_place, depth_in, places_to, pin_needs, root_needs, wide_to, wide_by, nssr_needs, context_needs, unnamed}
+use Rattle.x5_eval.specs.Rest.{AreAlike, AreKnown, are_known, at_place, depth_in, entry_needs, places_to, pin_needs, root_needs, wide_to, wide_by, nssr_needs, context_needs, unnamed}
 use Rattle.x5_eval.proofs.Adding.{map_twice}
 use Rattle.x5_eval.proofs.Classes.{alike_sorted, alike_joined}
 use Rattle.x5_eval.proofs.Picking.{picked}
@@ -296,3 +296,74 @@ pub no_root : (h : Holdings) (m : Chained) (subset : Subset) (before : List Refe
     → AreAlike before (before ++ root_needs h m subset)
 no_root h m subset before e q =
     ap (filter (ties taken_before q)) (sym (append-nil before) ∙ ap (λ (b : Bool). before ++ cond b (below_needs h m subset h.root) []) (sym e))
+
+pub root_by : (h : Holdings) (m : Chained) → is_some (subset_of m) ≡ true → is_first_level h ≡ true → is_root (key_of m.target) ≡ true
+    → resolves h m ≡ true → is_none (known_pin m.request h (key_of m.target)) ≡ answers_root h m
+root_by h m a b c d =
+    sym (λ i. a i && (b i && (c i && (d i && is_none (known_pin m.request h (key_of m.target))))))
+
+and_none : (a : Bool) → (a && false) ≡ false
+and_none true = refl
+and_none false = refl
+
+pub root_unless : (h : Holdings) (m : Chained) → (is_first_level h && is_root (key_of m.target)) ≡ false → answers_root h m ≡ false
+root_unless h m e = by (is_some (subset_of m)) (is_first_level h) (is_root (key_of m.target)) (resolves h m && is_none (known_pin m.request h (key_of m.target))) e
+  where
+    by : (a b c d : Bool) → (b && c) ≡ false → (a && (b && (c && d))) ≡ false
+    by false b c d p = refl
+    by true false c d p = refl
+    by true true false d p = refl
+    by true true true d p = cc
+
+pub root_unresolved : (h : Holdings) (m : Chained) → resolves h m ≡ false → answers_root h m ≡ false
+root_unresolved h m e =
+    ap (λ (r : Bool). is_some (subset_of m) && (is_first_level h && (is_root (key_of m.target) && (r && is_none (known_pin m.request h (key_of m.target)))))) e
+    ∙ by (is_some (subset_of m)) (is_first_level h) (is_root (key_of m.target))
+  where
+    by : (a b c : Bool) → (a && (b && (c && false))) ≡ false
+    by false b c = refl
+    by true false c = refl
+    by true true c = and_none c
+
+-- ---- those of an NSSR
+
+pub each_agent : (name : Name) (exclusions : List Rdn) (me : ℕ) (agents : List ℕ)
+    → flat_map (λ a. wide_by name exclusions me (a ∷ [])) agents ≡ wide_by name exclusions me agents
+each_agent name exclusions me agents = singles (wide_to name exclusions) (λ a. not (a == me)) agents
+
+pub agent_there : (n : ℕ) (name : Name) (exclusions : List Rdn) (me a : ℕ) → (a == me) ≡ false
+    → AreKnown n (wide_by name exclusions me (a ∷ [])) → a < n
+agent_there n name exclusions me a e k =
+    let named : are_known n (a ∷ []) ≡ true = k (wide_to name exclusions a)
+    (subst (λ (b : Bool). In (wide_to name exclusions a) (map (wide_to name exclusions) (cond (not b) (a ∷ []) []))) (sym e) here) in
+    (Decides-ltb a n).0 (both_true (nat_lt a n) true named).0
+
+pub named_is : (h : Holdings) (m : Chained) (subset : Subset) (c : Held) (n : Nssr) (o : Option Name)
+    → o ≡ option_map (λ e. e.name) (entry_at c.entries (key_of n.at))
+    → nssr_needs h m subset c n ≡ in_option [] (entry_needs h m subset c n.agents) o
+named_is h m subset c n o e = by (entry_at c.entries (key_of n.at)) ∙ ap (in_option [] (entry_needs h m subset c n.agents)) (sym e)
+  where
+    by : (x : Option Named) → in_option [] (to_each h m subset c n) x ≡ in_option [] (entry_needs h m subset c n.agents) (option_map (λ e. e.name) x)
+    by None = refl
+    by (Some x) = refl
+
+pub out_of_scope : (h : Holdings) (m : Chained) (subset : Subset) (c : Held) (agents : List ℕ) (name : Name)
+    → in_scope subset (key_of m.target) (key_of name) ≡ false → entry_needs h m subset c agents name ≡ []
+out_of_scope h m subset c agents name e =
+    ap (λ (b : Bool). cond b (wide_by name (treated_below h m c (key_of name)) h.me agents) []) e
+
+pub in_its_scope : (h : Holdings) (m : Chained) (subset : Subset) (c : Held) (agents : List ℕ) (name : Name) (exclusions : List Rdn) (me : ℕ)
+    → in_scope subset (key_of m.target) (key_of name) ≡ true → exclusions ≡ treated_below h m c (key_of name) → me ≡ h.me
+    → entry_needs h m subset c agents name ≡ flat_map (λ a. wide_by name exclusions me (a ∷ [])) agents
+in_its_scope h m subset c agents name exclusions me e f g =
+    ap (λ (b : Bool). cond b (wide_by name (treated_below h m c (key_of name)) h.me agents) []) e
+    ∙ sym (λ i. wide_by name (f i) (g i) agents)
+    ∙ sym (each_agent name exclusions me agents)
+
+-- the agents of a pin that is due
+pub pin_there : (n : ℕ) (h : Holdings) (m : Chained) (subset : Subset) (k : Specific)
+    → (in_subset subset (key_of m.target) (key_of k.pin) && is_none (held_at (served m.request h) (key_of k.pin))) ≡ true
+    → AreKnown n (pin_needs h m subset k) → are_known n (usable_agents m.request k.access) ≡ true
+pin_there n h m subset k e known =
+    known (asks h m subset k)
+    (subst (λ (b : Bool). In (asks h m subset k) (map (asks h m subset) (cond b (k ∷ []) []))) (sym e) here)

@@ -17,7 +17,7 @@ use Rattle.x5_model_tree.specs.World.{Specific, Nssr}
 use Rattle.x5_model_tree.specs.Tree.{entry_at}
 use Rattle.x5_model_run.specs.Journal.{same_spelled_rdn}
 use Rattle.x5_model_run.specs.Holdings.{Held, Copy, Holdings, served}
-use Rattle.x5_model_run.specs.Needs.{reference, others, answers_root, below_needs, to_each, wide_needs}
+use Rattle.x5_model_run.specs.Needs.{reference, others, answers_root, below_needs, in_scope, to_each, treated_below, wide_needs}
 use Rattle.x5_model_serve.specs.Answering.{taken_before}
 use Rattle.x5_holdings.specs.Runs.{run_of}
 use Rattle.x5_eval.specs.Numbers.{counts, in_reach, own_place}
@@ -62,6 +62,13 @@ wide_to name exclusions a = record (reference name Done NonSpecific (a ∷ [])) 
 
 abbrev pub wide_by : Name → List Rdn → ℕ → List ℕ → List Reference
 wide_by name exclusions me agents = map (wide_to name exclusions) (others me agents)
+
+-- those at an entry of this name
+abbrev pub entry_needs : Holdings → Chained → Subset → Held → List ℕ → Name → List Reference
+entry_needs h m subset c agents name =
+    if in_scope subset (key_of m.target) (key_of name)
+    then wide_by name (treated_below h m c (key_of name)) h.me agents
+    else []
 
 abbrev pub nssr_needs : Holdings → Chained → Subset → Held → Nssr → List Reference
 nssr_needs h m subset c n = in_option [] (to_each h m subset c n) (entry_at c.entries (key_of n.at))

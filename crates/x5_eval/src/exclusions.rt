@@ -6,7 +6,8 @@ ghost use Rattle.std.specs.List.{filter, flat_map};
 ghost use Rattle.std.specs.List.Sorted.{ties};
 ghost use Rattle.x5_model.specs.Keys.{pair_cmp, rdn_cmp};
 ghost use Rattle.x5_model.specs.Values.{Rdn, key_of, key_of_pair, key_of_rdn, last_rdn};
-ghost use Rattle.x5_model.specs.Words.{sorted};
+ghost use Rattle.x5_model.specs.Words.{last_of, some_and, sorted};
+ghost use Rattle.x5_model_run.specs.Journal.{same_spelled_rdn};
 ghost use Rattle.x5_model_run.specs.Needs.{once, rdn_below};
 ghost use Rattle.x5_ops.specs.KnowledgeViews.{specific_view};
 ghost use Rattle.x5_ops.specs.RequestViews.{request_view};
@@ -147,16 +148,23 @@ fn in_order(rdns: Vec<Rdn>) -> Result<Vec<Rdn>, NoMemory>
     Ok(rdns)
 }
 
+/// Whether the last of these is the same. No memory.
+fn is_last(kept: &[Rdn], rdn: &Rdn) -> bool
+    ensures { result ≡ some_and (λ x. same_spelled_rdn x rdn.now) (last_of kept.now) }
+{
+    match kept.last() {
+        Some(last) => compare_rdns(last.pairs(), rdn.pairs()).is_eq(),
+        None => false,
+    }
+}
+
 /// Adds the RDN, if it isn't the same as the last.
 fn add_other(kept: &mut Vec<Rdn>, rdn: &Rdn) -> Result<(), NoMemory>
     ensures { OnOk result (kept.new.items ≡ kept.old.items ++ other_last kept.old.items rdn.now) }
 {
-    if let Some(last) = kept.last() {
-        if compare_rdns(last.pairs(), rdn.pairs()).is_eq() {
-            return Ok(());
-        }
+    if !is_last(kept, rdn) {
+        kept.push(rdn.clone()?)?;
     }
-    kept.push(rdn.clone()?)?;
     Ok(())
 }
 
@@ -182,7 +190,7 @@ fn treated(
 ) -> Result<Vec<Rdn>, NoMemory>
     ensures { IfOk result (λ rdns. (q : Rdn) → filter (ties rdn_below q) rdns.items ≡ filter (ties rdn_below q) (map last_rdn (treated_pins (request_view request.now) (holdings_view state.now) (map specific_view held.now.subordinate) (key_of at.now)))) }
 {
-    let depth = at.len() + 1;
+    let depth = at.rdns().len() + 1;
     let mut rdns = Vec::new(alloc);
     let own = state.own_at_depth(alloc, at.rdns(), depth)?;
     add_owns(state, &own, &mut rdns)?;

@@ -2,12 +2,13 @@
 
 ghost use Rattle.std.specs.Prelude.{◌≡◌, ◌<◌, ◌++◌, ◌∷◌, ◌&&◌, [], ℕ, List, Some, true, length, map, IfOk, OnOk};
 ghost use Rattle.std.specs.List.{flat_map};
-ghost use Rattle.std.specs.Option.{is_none, is_some};
+ghost use Rattle.std.specs.Option.{is_none, is_some, option_map};
 ghost use Rattle.x5_model.specs.Words.{distinct, same_octets, sorted};
 ghost use Rattle.x5_model.specs.Values.{key_of};
 ghost use Rattle.x5_model.specs.References as model;
 ghost use Rattle.x5_model_tree.specs.Ask.{in_subset};
-ghost use Rattle.x5_model_run.specs.Holdings.{held_at, served, usable_agents};
+ghost use Rattle.x5_model_tree.specs.Tree.{entry_at};
+ghost use Rattle.x5_model_run.specs.Holdings.{held_at, known_pin, served, usable_agents};
 ghost use Rattle.x5_model_run.specs.Needs as needs;
 ghost use Rattle.x5_model_run.specs.Needs.{below_needs, wide_needs};
 ghost use Rattle.x5_model_serve.specs.Answering.{rest_of_parts, taken_before};
@@ -16,9 +17,10 @@ ghost use Rattle.x5_ops.specs.KnowledgeViews.{nssr_view, specific_view};
 ghost use Rattle.x5_model_run.specs.Journal.{is_wide};
 ghost use Rattle.x5_ops.specs.ReferenceViews.{chained_view, kind_view, reference_view};
 ghost use Rattle.x5_ops.specs.RequestViews.{request_view, subset_view};
+ghost use Rattle.x5_dse.specs.Linked.{entries_of};
 ghost use Rattle.x5_holdings.specs.State.{held_view, holdings_view};
 ghost use Rattle.x5_eval.specs.Numbers.{own_place};
-ghost use Rattle.x5_eval.specs.Rest.{AreAlike, AreKnown, are_known, at_place, context_needs, depth_in, nssr_needs, pin_needs, places_to, root_needs, taken_cmp, unnamed, wide_by, wide_to};
+ghost use Rattle.x5_eval.specs.Rest.{AreAlike, AreKnown, are_known, at_place, context_needs, depth_in, entry_needs, nssr_needs, pin_needs, places_to, root_needs, taken_cmp, unnamed, wide_by, wide_to};
 
 use crate::exclusions::exclusions;
 use crate::points::{one, usable};
@@ -195,16 +197,24 @@ fn resolves(state: &Holdings, message: &Chained) -> bool
     }
 }
 
-/// Whether the base is the root, and the agent answers it itself. No memory.
-fn answers_root(state: &Holdings, message: &Chained, subset: Subset) -> bool
-    requires { (names : List (List ℕ)) → Some (subset_view subset) ≡ needs.subset_of (chained_view names message.now) }
-    ensures { (names : List (List ℕ)) → result ≡ needs.answers_root (holdings_view state.now) (chained_view names message.now) }
+/// Whether nothing is known on the way to the target. No memory.
+fn is_unknown(state: &Holdings, message: &Chained) -> bool
+    ensures { result ≡ is_none (known_pin (request_view message.now.request) (holdings_view state.now) (key_of message.now.target)) }
 {
-    let _ = subset;
-    state.superior().is_none()
-        && message.target.is_root()
-        && resolves(state, message)
-        && state.known(&message.request, message.target.rdns()).is_none()
+    state.known(&message.request, message.target.rdns()).is_none()
+}
+
+/// Whether the base is the root, and the agent answers it itself. No memory.
+fn answers_root(state: &Holdings, message: &Chained) -> bool
+    ensures { (names : List (List ℕ)) → is_some (needs.subset_of (chained_view names message.now)) ≡ true → result ≡ needs.answers_root (holdings_view state.now) (chained_view names message.now) }
+{
+    if state.superior().is_some() || !message.target.is_root() {
+        return false;
+    }
+    if !resolves(state, message) {
+        return false;
+    }
+    is_unknown(state, message)
 }
 
 /// Adds what is asked for by the subordinate references of the root, where the agent answers that.
@@ -221,7 +231,7 @@ fn add_root(
     requires known { AreKnown (length names.now) (root_needs (holdings_view state.now) (chained_view names.now message.now) (subset_view subset)) }
     ensures { OnOk result (AreAlike (map (reference_view names.now) found.new) (map (reference_view names.now) found.old ++ root_needs (holdings_view state.now) (chained_view names.now message.now) (subset_view subset))) }
 {
-    if !answers_root(state, message, subset) {
+    if !answers_root(state, message) {
         return Ok(());
     }
     let places = places_of(alloc, state.root_under(message.target.rdns()))?;
@@ -290,6 +300,41 @@ fn add_agents(
     Ok(())
 }
 
+/// The name of the entry with this name's key, as it's spelled there, if the context has it.
+fn entry_name(alloc: Global, held: &Held, at: &Name) -> Result<Option<Name>, NoMemory>
+    ensures { IfOk result (λ found. found ≡ option_map (λ e. e.name) (entry_at (entries_of held.now.nodes.nodes) (key_of at.now))) }
+{
+    let tree = held.tree();
+    let Some(node) = tree.find(at) else {
+        return Ok(None);
+    };
+    let _ = tree.entry(node);
+    Ok(Some(tree.name(alloc, node)?))
+}
+
+/// Adds what is asked of the agents of an NSSR at the entry, if that is in scope.
+fn add_entry(
+    alloc: Global,
+    names: &AgentNames,
+    state: &Holdings,
+    message: &Chained,
+    subset: Subset,
+    held: &Held,
+    agents: &[AgentId],
+    name: &Name,
+    found: &mut ReferenceList,
+) -> Result<(), NoMemory>
+    requires apart { distinct same_octets names.now ≡ true }
+    requires known { AreKnown (length names.now) (entry_needs (holdings_view state.now) (chained_view names.now message.now) (subset_view subset) (held_view held.now) agents.now name.now) }
+    ensures { OnOk result (map (reference_view names.now) found.new ≡ map (reference_view names.now) found.old ++ entry_needs (holdings_view state.now) (chained_view names.now message.now) (subset_view subset) (held_view held.now) agents.now name.now) }
+{
+    if !is_in_scope(subset, &message.target, name) {
+        return Ok(());
+    }
+    let left_out = exclusions(alloc, state, &message.request, held, name)?;
+    add_agents(alloc, names, state.me(), name, &left_out, agents, found)
+}
+
 /// Adds what is asked for by the NSSR, if its entry is in the context and in scope.
 fn add_nssr(
     alloc: Global,
@@ -305,16 +350,11 @@ fn add_nssr(
     requires known { AreKnown (length names.now) (nssr_needs (holdings_view state.now) (chained_view names.now message.now) (subset_view subset) (held_view held.now) (nssr_view nssr.now)) }
     ensures { OnOk result (map (reference_view names.now) found.new ≡ map (reference_view names.now) found.old ++ nssr_needs (holdings_view state.now) (chained_view names.now message.now) (subset_view subset) (held_view held.now) (nssr_view nssr.now)) }
 {
-    let Some(node) = held.tree().find(&nssr.at) else {
-        return Ok(());
-    };
-    let name = held.tree().name(alloc, node)?;
-    if !is_in_scope(subset, &message.target, &name) {
-        return Ok(());
-    }
-    let left_out = exclusions(alloc, state, &message.request, held, &name)?;
     let agents = nssr.agents.as_slice();
-    add_agents(alloc, names, state.me(), &name, &left_out, agents, found)
+    match entry_name(alloc, held, &nssr.at)? {
+        Some(name) => add_entry(alloc, names, state, message, subset, held, agents, &name, found),
+        None => Ok(()),
+    }
 }
 
 /// Adds what is asked for by the context's NSSR at the place.
