@@ -5,7 +5,7 @@ use Rattle.std.proofs.lemmas.List.MinMax.{ranks_by}
 use Rattle.std.specs.List.{filter, slice_get}
 use Rattle.std.specs.List.Sorted.{ties}
 use Rattle.std.specs.Cmp.{IsStrictWeakOrder}
-use Rattle.std.specs.Ordering.{is_lt, ordering_reverse}
+use Rattle.std.specs.Ordering.{is_eq, is_lt, ordering_reverse}
 use Rattle.std.specs.declared.cmp.Ordering.{Ordering}
 use Rattle.std.specs.declared.cmp.Ordering.TheVariants.{Less, Equal, Greater}
 use Rattle.x5_model.specs.Words.{last_of, some_and, sorted}
@@ -90,43 +90,43 @@ added rs y x = ap (λ (o : Option Rdn). cond (some_and (λ z. same_spelled_rdn z
 
 kept_more : (rs : List Rdn) (y : Rdn) (xs : List Rdn) → Rising rdn_below (y ∷ xs) → others_last (rs ++ y ∷ []) xs ≡ rs ++ y ∷ others y (once xs)
 kept_more rs y [] r = refl
-kept_more rs y (x ∷ xs) r = ap (λ (l : List Rdn). others_last ((rs ++ y ∷ []) ++ l) xs) (added rs y x) ∙ by (same_spelled_rdn y x) refl
+kept_more rs y (x ∷ xs) r =
+    ap (λ (l : List Rdn). others_last ((rs ++ y ∷ []) ++ l) xs) (added rs y x)
+    ∙ by (same_spelled_rdn y x) refl (kept_more rs y xs (λ z i. r.0 z (there i), r.1.1)) (kept_more (rs ++ y ∷ []) x xs r.1)
   where
-    tail : Rising rdn_below (y ∷ xs)
-    tail = (λ z i. r.0 z (there i), r.1.1)
+    below : same_spelled_rdn y x ≡ false → rdn_below y x ≡ true
+    below e = by_order (rdn_below y x) (rdn_below x y) (sym (apart_or_same y x) ∙ ap not e) (r.0 x here)
+      where
+        by_order : (a b : Bool) → (a || b) ≡ true → b ≡ false → a ≡ true
+        by_order true b p q = refl
+        by_order false true p q = cc
+        by_order false false p q = cc
 
-    by : (b : Bool) → same_spelled_rdn y x ≡ b
+    above : rdn_below y x ≡ true → (z : Rdn) → In z (others x (once xs)) → not (same_spelled_rdn y z) ≡ true
+    above t z i =
+        let w = of_filter (λ u. not (same_spelled_rdn x u)) z (once xs) i in
+        let later : rdn_below z x ≡ false = r.1.0 z (of_once z xs w.0) in
+        elim (true_or_false (same_spelled_rdn y z)) [
+          | inl s ↦ absurd (let u : rdn_below z x ≡ true = ap (λ (k : KeyRdn). is_lt (rdn_cmp k (key_of_rdn x))) (sym (same_keys y z s)) ∙ t in cc)
+          | inr s ↦ ap not s
+        ]
+
+    by : (b : Bool) → same_spelled_rdn y x ≡ b → others_last (rs ++ y ∷ []) xs ≡ rs ++ y ∷ others y (once xs)
+        → others_last ((rs ++ y ∷ []) ++ x ∷ []) xs ≡ (rs ++ y ∷ []) ++ x ∷ others x (once xs)
         → others_last ((rs ++ y ∷ []) ++ cond b [] (x ∷ [])) xs ≡ rs ++ y ∷ cond (not (same_spelled_rdn y x)) (x ∷ others y (others x (once xs))) (others y (others x (once xs)))
-    by true e =
+    by true e f g =
         ap (λ (l : List Rdn). others_last l xs) (append-nil (rs ++ y ∷ []))
-        ∙ kept_more rs y xs tail
+        ∙ f
         ∙ ap (λ (l : List Rdn). rs ++ y ∷ l) (
           sym (filter_all (λ z. not (same_spelled_rdn y z)) (λ z. not (same_spelled_rdn x z)) (once xs)
           (λ z i t. ap (λ (k : KeyRdn). not (same_rdn k (key_of_rdn z))) (sym (same_keys y x e)) ∙ t))
           ∙ sym (ap (λ (c : Bool). cond (not c) (x ∷ others y (others x (once xs))) (others y (others x (once xs)))) e))
-    by false e =
-        kept_more (rs ++ y ∷ []) x xs r.1
+    by false e f g =
+        g
         ∙ append_assoc rs (y ∷ []) (x ∷ others x (once xs))
         ∙ ap (λ (l : List Rdn). rs ++ y ∷ l) (
-          ap (λ (l : List Rdn). x ∷ l) (sym (all_kept (λ z. not (same_spelled_rdn y z)) (others x (once xs)) above))
+          ap (λ (l : List Rdn). x ∷ l) (sym (all_kept (λ z. not (same_spelled_rdn y z)) (others x (once xs)) (above (below e))))
           ∙ sym (ap (λ (c : Bool). cond (not c) (x ∷ others y (others x (once xs))) (others y (others x (once xs)))) e))
-      where
-        below : rdn_below y x ≡ true
-        below = by_order (rdn_below y x) (rdn_below x y) (sym (apart_or_same y x) ∙ ap not e) (r.0 x here)
-          where
-            by_order : (a b : Bool) → (a || b) ≡ true → b ≡ false → a ≡ true
-            by_order true b p q = refl
-            by_order false true p q = cc
-            by_order false false p q = cc
-
-        above : (z : Rdn) → In z (others x (once xs)) → not (same_spelled_rdn y z) ≡ true
-        above z i =
-            let w = of_filter (λ u. not (same_spelled_rdn x u)) z (once xs) i in
-            let later : rdn_below z x ≡ false = r.1.0 z (of_once z xs w.0) in
-            elim (true_or_false (same_spelled_rdn y z)) [
-              | inl s ↦ absurd (let t : rdn_below z x ≡ true = ap (λ (k : KeyRdn). is_lt (rdn_cmp k (key_of_rdn x))) (sym (same_keys y z s)) ∙ below in cc)
-              | inr s ↦ ap not s
-            ]
 
 -- of a list in order it's what the definition keeps
 once_of : (rs : List Rdn) → Rising rdn_below rs → others_last [] rs ≡ once rs
@@ -184,3 +184,9 @@ last_some (x ∷ n) r e = ap (λ (y : Rdn). y ∷ []) (inside (last_rdn (x ∷ n
 pub last_none : (n : Name) → None ≡ slice_get n (length n - 1) → last_in n ≡ []
 last_none [] e = refl
 last_none (x ∷ n) e = (let q : None ≡ Some (last_rdn (x ∷ n)) = e ∙ last_at (x ∷ n) ∙ last_of_name x n in cc)
+
+pub last_same : (kept : List Rdn) (x r : Rdn) (o : Ordering) (b : Bool) → Some x ≡ slice_get kept (length kept - 1)
+    → o ≡ rdn_cmp (key_of_rdn x) (key_of_rdn r) → b ≡ is_eq o → b ≡ some_and (λ y. same_spelled_rdn y r) (last_of kept)
+last_same kept x r o b e f g =
+    g ∙ ap is_eq f ∙ sym (rdn_ties (key_of_rdn x) (key_of_rdn r))
+    ∙ ap (λ (z : Option Rdn). some_and (λ y. same_spelled_rdn y r) z) (e ∙ last_at kept)

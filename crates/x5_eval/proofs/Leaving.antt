@@ -42,11 +42,11 @@ order_alone Less = refl
 order_alone Equal = refl
 order_alone Greater = refl
 
-heads : (a z : KeyRdn) (as zs : Key) → a ∷ as ≡ z ∷ zs → a ≡ z
-heads a z as zs e = cc
+heads : (a z : KeyRdn) (k l : Key) → a ∷ k ≡ z ∷ l → a ≡ z
+heads a z k l e = cc
 
-tails_of : (a z : KeyRdn) (as zs : Key) → a ∷ as ≡ z ∷ zs → as ≡ zs
-tails_of a z as zs e = cc
+tails_of : (a z : KeyRdn) (k l : Key) → a ∷ k ≡ z ∷ l → k ≡ l
+tails_of a z k l e = cc
 
 last_order : (at : Key) (n o : Name) → length (key_of n) ≡ length at + 1 → take (length at) (key_of n) ≡ at
     → length (key_of o) ≡ length at + 1 → take (length at) (key_of o) ≡ at
@@ -128,25 +128,25 @@ module _ (at : Name) where
         (λ x e. ap (λ (b : Bool). cond b (lasts x) []) (sym (below_reached (key_of (p x))) ∙ e))
         apart xs
 
+    abbrev counting : List B → List Name
+    counting xs = map p (filter t xs)
+
     -- those of the members that count are what the definition takes
     pub lasts_are : (xs : List B) → flat_map below xs ≡ map last_rdn (filter (λ n. is_child base (key_of n)) (map p (filter t xs)))
     lasts_are [] = refl
     lasts_are (x ∷ xs) = by (t x) (is_child base (key_of (p x))) refl (lasts_are xs)
       where
-        abbrev rest : List Name
-        rest = map p (filter t xs)
-
         named : (n : Name) → is_child base (key_of n) ≡ true → last_in n ≡ last_rdn n ∷ []
         named [] e = absurd (let w : 0 ≡ length base + 1 = (Decides-eqb 0 (length base + 1)).0 (both_true (0 == (length base + 1)) (is_prefix base []) e).0 in omega (arith, w))
         named (r ∷ rs) e = refl
 
-        by : (b c : Bool) → is_child base (key_of (p x)) ≡ c → flat_map below xs ≡ map last_rdn (filter (λ n. is_child base (key_of n)) rest)
+        by : (b c : Bool) → is_child base (key_of (p x)) ≡ c → flat_map below xs ≡ map last_rdn (filter (λ n. is_child base (key_of n)) (counting xs))
             → cond c (cond b (last_in (p x)) []) [] ++ flat_map below xs ≡ map last_rdn (filter (λ n. is_child base (key_of n)) (map p (cond b (x ∷ filter t xs) (filter t xs))))
         by true true e q =
             (λ i. named (p x) e i ++ q i)
-            ∙ sym (ap (λ (c : Bool). map last_rdn (cond c (p x ∷ filter (λ n. is_child base (key_of n)) rest) (filter (λ n. is_child base (key_of n)) rest))) e)
+            ∙ sym (ap (λ (c : Bool). map last_rdn (cond c (p x ∷ filter (λ n. is_child base (key_of n)) (counting xs)) (filter (λ n. is_child base (key_of n)) (counting xs)))) e)
         by true false e q =
-            q ∙ sym (ap (λ (c : Bool). map last_rdn (cond c (p x ∷ filter (λ n. is_child base (key_of n)) rest) (filter (λ n. is_child base (key_of n)) rest))) e)
+            q ∙ sym (ap (λ (c : Bool). map last_rdn (cond c (p x ∷ filter (λ n. is_child base (key_of n)) (counting xs)) (filter (λ n. is_child base (key_of n)) (counting xs)))) e)
         by false true e q = q
         by false false e q = q
 
@@ -158,6 +158,9 @@ all_left {A} (x ∷ xs) = ap (λ (l : List A). x ∷ l) (all_left xs)
 module _ (r : Request) (h : Holdings) where
   abbrev alone : Held → Bool
   alone c = not (masters_pin h (key_of c.prefix))
+
+  abbrev stamped : List Copy → List Held
+  stamped ks = map (λ k. k.held) (filter (λ k. is_some k.stamp) ks)
 
   counted : (ks : List Copy) (b : Bool) → may_copy r ≡ b
       → map (λ k. k.held.prefix) (filter (counts r h) ks)
@@ -171,18 +174,15 @@ module _ (r : Request) (h : Holdings) where
       ap (λ (b : Bool). map (λ k. k.held.prefix) (cond (b && (is_some k.stamp && alone k.held)) (k ∷ filter (counts r h) ks) (filter (counts r h) ks))) e
       ∙ by (is_some k.stamp) (alone k.held) refl (counted ks true e)
     where
-      abbrev rest : List Held
-      rest = map (λ k. k.held) (filter (λ k. is_some k.stamp) ks)
-
       by : (a b : Bool) → alone k.held ≡ b
-          → map (λ k. k.held.prefix) (filter (counts r h) ks) ≡ map (λ c. c.prefix) (filter alone rest)
+          → map (λ k. k.held.prefix) (filter (counts r h) ks) ≡ map (λ c. c.prefix) (filter alone (stamped ks))
           → map (λ k. k.held.prefix) (cond (a && b) (k ∷ filter (counts r h) ks) (filter (counts r h) ks))
           ≡ map (λ c. c.prefix) (filter alone (map (λ k. k.held) (cond a (k ∷ filter (λ k. is_some k.stamp) ks) (filter (λ k. is_some k.stamp) ks))))
       by false b p q = q
       by true true p q =
           ap (λ (l : List Name). k.held.prefix ∷ l) q
-          ∙ sym (ap (λ (z : Bool). map (λ c. c.prefix) (cond z (k.held ∷ filter alone rest) (filter alone rest))) p)
-      by true false p q = q ∙ sym (ap (λ (z : Bool). map (λ c. c.prefix) (cond z (k.held ∷ filter alone rest) (filter alone rest))) p)
+          ∙ sym (ap (λ (z : Bool). map (λ c. c.prefix) (cond z (k.held ∷ filter alone (stamped ks)) (filter alone (stamped ks)))) p)
+      by true false p q = q ∙ sym (ap (λ (z : Bool). map (λ c. c.prefix) (cond z (k.held ∷ filter alone (stamped ks)) (filter alone (stamped ks)))) p)
 
   -- all that the agent answers itself or asks for by these references
   module _ (ks : List Specific) (at : Name) where

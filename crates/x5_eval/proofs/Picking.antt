@@ -115,26 +115,26 @@ module _ {B R : Type 0} (key : B → Key) (lt : R → R → Bool) (weak : IsStri
       let w = member r i in
       told_at r w.0 w.1 w.2 ∙ nothing w.0 (ap (reaches base depth) w.2 ∙ e)
 
+  abbrev under : List KeyRow → List KeyRow
+  under rs = filter (stands_under base) rs
+
   rows_told : (rs : List KeyRow) → ((r : KeyRow) → In r rs → In r rows) → flat_map (at_place g xs) (reached rs) ≡ flat_map told rs
   rows_told [] h = refl
   rows_told (r ∷ rs) h = by (stands_under base r) (in_reach depth r) refl refl (rows_told rs (λ s i. h s (there i)))
     where
-      abbrev under : List KeyRow
-      under = filter (stands_under base) rs
-
       passed : reaches base depth r.0 ≡ false → flat_map (at_place g xs) (reached rs) ≡ flat_map told rs
           → flat_map (at_place g xs) (reached rs) ≡ told r ++ flat_map told rs
       passed e q = q ∙ sym (ap (λ (l : List R). l ++ flat_map told rs) (none_told r (h r here) e))
 
       by : (a b : Bool) → stands_under base r ≡ a → in_reach depth r ≡ b
           → flat_map (at_place g xs) (reached rs) ≡ flat_map told rs
-          → flat_map (at_place g xs) (map own_place (filter (in_reach depth) (cond a (r ∷ under) under))) ≡ told r ++ flat_map told rs
+          → flat_map (at_place g xs) (map own_place (filter (in_reach depth) (cond a (r ∷ under rs) (under rs)))) ≡ told r ++ flat_map told rs
       by false b p s q = passed (reach_of base depth r ∙ ap (λ (c : Bool). c && in_reach depth r) p) q
       by true false p s q =
-          ap (λ (c : Bool). flat_map (at_place g xs) (map own_place (cond c (r ∷ filter (in_reach depth) under) (filter (in_reach depth) under)))) s
+          ap (λ (c : Bool). flat_map (at_place g xs) (map own_place (cond c (r ∷ filter (in_reach depth) (under rs)) (filter (in_reach depth) (under rs))))) s
           ∙ passed (reach_of base depth r ∙ (λ i. p i && s i)) q
       by true true p s q =
-          ap (λ (c : Bool). flat_map (at_place g xs) (map own_place (cond c (r ∷ filter (in_reach depth) under) (filter (in_reach depth) under)))) s
+          ap (λ (c : Bool). flat_map (at_place g xs) (map own_place (cond c (r ∷ filter (in_reach depth) (under rs)) (filter (in_reach depth) (under rs))))) s
           ∙ (λ i. head_told r (h r here) (reach_of base depth r ∙ (λ j. p j && s j)) i ++ q i)
 
   pub picked : AreAlike lt weak (flat_map (at_place g xs) (places_to (map key xs) base depth)) (flat_map f xs)

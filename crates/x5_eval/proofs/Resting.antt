@@ -147,11 +147,11 @@ module _ (h : Holdings) (m : Chained) (subset : Subset) where
         by None q = refl
         by (Some x) q =
             let same : key_at x ≡ key_of n.at = (key_decides (key_at x) (key_of n.at)).0 (of_find (λ (y : Named). same_key (key_at y) (key_of n.at)) x c.entries q).1 in
-            ap (λ (b : Bool). cond b (wide_by x.name (treated_below h m c (key_of x.name)) h.me n.agents) []) (
-              elim (true_or_false (in_scope subset base (key_of x.name))) [
-                | inl t ↦ absurd (let u : is_prefix base (key_of n.at) ≡ true = ap (is_prefix base) (sym same) ∙ scope_within subset base (key_of x.name) t in cc)
-                | inr t ↦ t
-              ])
+            let out : in_scope subset base (key_of x.name) ≡ false = elim (true_or_false (in_scope subset base (key_of x.name))) [
+              | inl t ↦ absurd (let u : is_prefix base (key_of n.at) ≡ true = ap (is_prefix base) (sym same) ∙ scope_within subset base (key_of x.name) t in cc)
+              | inr t ↦ t
+            ] in
+            ap (λ (b : Bool). cond b (wide_by x.name (treated_below h m c (key_of x.name)) h.me n.agents) []) out
 
     told_target : (n : Nssr) (r : Reference) → In r (nssr_needs h m subset c n) → key_of r.target ≡ key_of n.at
     told_target n r i = by (entry_at c.entries (key_of n.at)) refl i

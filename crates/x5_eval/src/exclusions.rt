@@ -58,10 +58,13 @@ fn add_copy(
 ) -> Result<(), NoMemory>
     ensures { OnOk result (rdns.new.items ≡ rdns.old.items ++ at_place (copy_last (request_view request.now) (holdings_view state.now)) (map copy_view state.now.copies) place) }
 {
-    match state.copies().get(place) {
-        Some(copied) if is_counted(state, request, copied) => add_last(copied.prefix(), rdns),
-        _ => Ok(()),
+    let Some(copied) = state.copies().get(place) else {
+        return Ok(());
+    };
+    if !is_counted(state, request, copied) {
+        return Ok(());
     }
+    add_last(copied.prefix(), rdns)
 }
 
 /// Adds that of the reference at the place.
@@ -190,13 +193,14 @@ fn treated(
 ) -> Result<Vec<Rdn>, NoMemory>
     ensures { IfOk result (λ rdns. (q : Rdn) → filter (ties rdn_below q) rdns.items ≡ filter (ties rdn_below q) (map last_rdn (treated_pins (request_view request.now) (holdings_view state.now) (map specific_view held.now.subordinate) (key_of at.now)))) }
 {
-    let depth = at.rdns().len() + 1;
+    let name = at.rdns();
+    let depth = name.len() + 1;
     let mut rdns = Vec::new(alloc);
-    let own = state.own_at_depth(alloc, at.rdns(), depth)?;
+    let own = state.own_at_depth(alloc, name, depth)?;
     add_owns(state, &own, &mut rdns)?;
-    let copies = state.copies_at_depth(alloc, at.rdns(), depth)?;
+    let copies = state.copies_at_depth(alloc, name, depth)?;
     add_copies(state, request, &copies, &mut rdns)?;
-    let pins = held.subordinate_at_depth(alloc, at.rdns(), depth)?;
+    let pins = held.subordinate_at_depth(alloc, name, depth)?;
     add_pins(held.subordinate(), &pins, &mut rdns)?;
     Ok(rdns)
 }
