@@ -2,7 +2,6 @@
 use Rattle.std.proofs.Common.{◌≡◌, ℕ, zero, suc, ◌+◌, ◌<◌, ◌≤◌, List, [], ◌∷◌, ◌++◌, map, length, drop, get_or, append_assoc, append-nil, refl, sym, ap, subst, ◌∙◌, arith, Option, Some, None, Result, Ok, Err, OnOk}
 use Rattle.std.specs.List.{flat_map, slice_get}
 use Rattle.std.specs.Option.{option_map}
-use Rattle.x5_model.specs.Members.{In}
 use Rattle.x5_model.specs.Words.{in_option}
 use Rattle.x5_model.specs.References.{Reference}
 use Rattle.x5_model.proofs.Lists.{in_left, in_right}

@@ -1,10 +1,9 @@
 -- Whether a request may be answered from a context with a prefix: from one that is mastered, or else from the copy, of which there is
 -- one at most, where it was refreshed and copies may be used.
-use Rattle.std.proofs.Common.{◌≡◌, ℕ, Bool, true, false, cond, not, ◌&&◌, ◌||◌, inl, inr, List, [], ◌∷◌, ◌++◌, map, refl, sym, ap, subst, ◌∙◌, ◌<◌, zero, suc, length, get_or, arith, Option, Some, None}
+use Rattle.std.proofs.Common.{◌≡◌, ℕ, Bool, true, false, cond, not, ◌&&◌, ◌||◌, List, [], ◌∷◌, ◌++◌, map, refl, sym, ap, ◌∙◌, ◌<◌, zero, suc, length, get_or, arith, Option, Some, None}
 use Rattle.std.specs.List.{filter, find, list_any, slice_get}
 use Rattle.std.specs.Option.{is_some, is_none, option_map}
 use Rattle.x5_model.specs.Words.{distinct, has}
-use Rattle.x5_model.specs.Members.{In, here, there}
 use Rattle.x5_model.specs.Keys.{Key, same_key}
 use Rattle.x5_model.specs.Values.{Name, key_of}
 use Rattle.x5_model.specs.Entries.{Named}
@@ -19,7 +18,7 @@ use Rattle.x5_holdings.specs.Known.{IsPlaceOf, IsKnown}
 use Rattle.x5_holdings.specs.State.{Kept, CopyKept, State, are_once, brought_for, copy_view, held_view, holdings_view, stamp_of}
 use Rattle.x5_holdings.specs.declared.holdings.Pin.{Pin}
 use Rattle.x5_model_run.specs.Holdings.{known_pin}
-use Rattle.x5_eval.proofs.Adding.{get_mapped, map_twice}
+use Rattle.x5_eval.proofs.Adding.{map_twice}
 
 found_any : {A : Type 0} (test : A → Bool) (xs : List A) → is_some (find test xs) ≡ list_any test xs
 found_any test [] = refl

@@ -1,6 +1,6 @@
 -- What a reference for an NSSR leaves out, each once: of a list in order those that aren't the same as the one before are those that
 -- the definition keeps, and a sort before or after makes no difference.
-use Rattle.std.proofs.Common.{◌≡◌, ℕ, ◌+◌, ◌-◌, Bool, true, false, cond, not, ◌&&◌, ◌||◌, inl, inr, suc, List, [], ◌∷◌, ◌++◌, length, map, refl, sym, ap, subst, ◌∙◌, append_assoc, append-nil, arith, Option, Some, None}
+use Rattle.std.proofs.Common.{◌≡◌, ℕ, ◌-◌, Bool, true, false, cond, not, ◌||◌, inl, inr, suc, List, [], ◌∷◌, ◌++◌, length, refl, sym, ap, subst, ◌∙◌, append_assoc, append-nil, arith, Option, Some, None}
 use Rattle.std.proofs.lemmas.List.MinMax.{ranks_by}
 use Rattle.std.specs.List.{filter, slice_get}
 use Rattle.std.specs.List.Sorted.{ties}
@@ -13,7 +13,7 @@ use Rattle.x5_model.specs.Members.{In, here, there}
 use Rattle.x5_model.specs.Keys.{KeyRdn, same_rdn, rdn_cmp}
 use Rattle.x5_model.specs.Values.{Rdn, Name, key_of_rdn, last_rdn}
 use Rattle.x5_model.proofs.KeyLaws.{rdn_decides, rdn_cmp_total, rdn_ties}
-use Rattle.x5_model.proofs.Lists.{in_first, of_filter, not_true, true_or_false}
+use Rattle.x5_model.proofs.Lists.{in_first, of_filter, true_or_false}
 use Rattle.x5_model_run.specs.Journal.{same_spelled_rdn}
 use Rattle.x5_model_run.specs.Needs.{rdn_below, once}
 use Rattle.x5_model_serve.specs.Answering.{first_each}
@@ -118,15 +118,15 @@ kept_more rs y (x ∷ xs) r =
         ap (λ (l : List Rdn). others_last l xs) (append-nil (rs ++ y ∷ []))
         ∙ f
         ∙ ap (λ (l : List Rdn). rs ++ y ∷ l) (
-          sym (filter_all (λ z. not (same_spelled_rdn y z)) (λ z. not (same_spelled_rdn x z)) (once xs)
-          (λ z i t. ap (λ (k : KeyRdn). not (same_rdn k (key_of_rdn z))) (sym (same_keys y x e)) ∙ t))
-          ∙ sym (ap (λ (c : Bool). cond (not c) (x ∷ others y (others x (once xs))) (others y (others x (once xs)))) e))
+        sym (filter_all (λ z. not (same_spelled_rdn y z)) (λ z. not (same_spelled_rdn x z)) (once xs)
+        (λ z i t. ap (λ (k : KeyRdn). not (same_rdn k (key_of_rdn z))) (sym (same_keys y x e)) ∙ t))
+        ∙ sym (ap (λ (c : Bool). cond (not c) (x ∷ others y (others x (once xs))) (others y (others x (once xs)))) e))
     by false e f g =
         g
         ∙ append_assoc rs (y ∷ []) (x ∷ others x (once xs))
         ∙ ap (λ (l : List Rdn). rs ++ y ∷ l) (
-          ap (λ (l : List Rdn). x ∷ l) (sym (all_kept (λ z. not (same_spelled_rdn y z)) (others x (once xs)) (above (below e))))
-          ∙ sym (ap (λ (c : Bool). cond (not c) (x ∷ others y (others x (once xs))) (others y (others x (once xs)))) e))
+        ap (λ (l : List Rdn). x ∷ l) (sym (all_kept (λ z. not (same_spelled_rdn y z)) (others x (once xs)) (above (below e))))
+        ∙ sym (ap (λ (c : Bool). cond (not c) (x ∷ others y (others x (once xs))) (others y (others x (once xs)))) e))
 
 -- of a list in order it's what the definition keeps
 once_of : (rs : List Rdn) → Rising rdn_below rs → others_last [] rs ≡ once rs

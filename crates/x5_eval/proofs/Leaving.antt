@@ -1,5 +1,5 @@
 -- The last RDNs of pins just below an entry, as rows of pins lead to them, are those of the definition, put in order.
-use Rattle.std.proofs.Common.{◌≡◌, ℕ, zero, suc, ◌+◌, Bool, true, false, cond, not, ◌&&◌, ◌==◌, inl, inr, List, [], ◌∷◌, ◌++◌, length, map, take, refl, sym, ap, subst, ◌∙◌, arith, Option, Some, None}
+use Rattle.std.proofs.Common.{◌≡◌, ℕ, ◌+◌, Bool, true, false, cond, not, ◌&&◌, ◌==◌, inl, inr, List, [], ◌∷◌, ◌++◌, length, map, take, refl, sym, ap, ◌∙◌, arith, Option, Some}
 use Rattle.std.proofs.lemmas.Bool.Decides.{Decides-eqb}
 use Rattle.std.proofs.lemmas.List.{map-append}
 use Rattle.std.specs.Cmp.{tied_itself}
@@ -9,14 +9,14 @@ use Rattle.std.specs.Option.{is_some}
 use Rattle.std.specs.Ordering.{is_lt, ordering_then}
 use Rattle.std.specs.declared.cmp.Ordering.{Ordering}
 use Rattle.std.specs.declared.cmp.Ordering.TheVariants.{Less, Equal, Greater}
-use Rattle.x5_model.specs.Members.{In, here, there}
+use Rattle.x5_model.specs.Members.{In}
 use Rattle.x5_model.specs.Keys.{Key, KeyRdn, is_prefix, is_child, rdn_cmp, key_cmp, key_below}
 use Rattle.x5_model.specs.Values.{Rdn, Name, key_of, key_of_rdn, last_rdn}
 use Rattle.x5_model.specs.Requests.{Request}
 use Rattle.x5_model.proofs.KeyLaws.{key_decides, rdn_cmp_total}
 use Rattle.x5_model.proofs.Lists.{both_true, in_first}
 use Rattle.x5_model_tree.specs.World.{Specific}
-use Rattle.x5_model_run.specs.Holdings.{Held, Copy, Holdings, masters_pin, may_copy, usable_copies, served}
+use Rattle.x5_model_run.specs.Holdings.{Held, Copy, Holdings, masters_pin, may_copy, usable_copies}
 use Rattle.x5_model_run.specs.Needs.{rdn_below}
 use Rattle.x5_model_theory.proofs.Stages.{key_length}
 use Rattle.x5_ops.specs.KnowledgeViews.{specific_view}
@@ -198,9 +198,9 @@ module _ (r : Request) (h : Holdings) where
         ++ flat_map (below at (λ (k : Specific). k.pin) (λ k. true)) ks
     treated_are =
         ap (map last_rdn) (
-          ap (filter child) (ap (λ (l : List Name). l ++ map (λ k. k.pin) ks) (map-append (λ (c : Held). c.prefix) h.own copied))
-          ∙ filter_joined child (map (λ c. c.prefix) h.own ++ map (λ c. c.prefix) copied) (map (λ k. k.pin) ks)
-          ∙ ap (λ (l : List Name). l ++ filter child (map (λ k. k.pin) ks)) (filter_joined child (map (λ c. c.prefix) h.own) (map (λ c. c.prefix) copied)))
+        ap (filter child) (ap (λ (l : List Name). l ++ map (λ k. k.pin) ks) (map-append (λ (c : Held). c.prefix) h.own copied))
+        ∙ filter_joined child (map (λ c. c.prefix) h.own ++ map (λ c. c.prefix) copied) (map (λ k. k.pin) ks)
+        ∙ ap (λ (l : List Name). l ++ filter child (map (λ k. k.pin) ks)) (filter_joined child (map (λ c. c.prefix) h.own) (map (λ c. c.prefix) copied)))
         ∙ map-append last_rdn (filter child (map (λ c. c.prefix) h.own) ++ filter child (map (λ c. c.prefix) copied)) (filter child (map (λ k. k.pin) ks))
         ∙ (λ i. map-append last_rdn (filter child (map (λ c. c.prefix) h.own)) (filter child (map (λ c. c.prefix) copied)) i ++ map last_rdn (filter child (map (λ k. k.pin) ks)))
         ∙ (λ i. (own_part i ++ copy_part i) ++ pin_part i)
@@ -281,10 +281,10 @@ module _ (s : State) (r : Request) (subs : List code.Specific) (at : Name) where
       → AreAlike rdn_below rdn_weak r3 (map last_rdn (treated_pins r h ks (key_of at)))
   treated_by own copies pins r0 r1 r2 r3 o c p e0 e1 e2 e3 =
       treated_alike r h ks at r3 (
-        e3
-        ∙ ap (λ (l : List Rdn). l ++ flat_map (at_place pin_last ks) pins) (
-          e2 ∙ ap (λ (l : List Rdn). l ++ flat_map (at_place (copy_last r h) h.copies) copies) (
-            e1 ∙ ap (λ (l : List Rdn). l ++ flat_map (at_place own_last h.own) own) e0))
-        ∙ (λ i. (flat_map (at_place own_last h.own) ((o ∙ ap deep own_keys_are) i)
-        ++ flat_map (at_place (copy_last r h) h.copies) ((c ∙ ap deep copy_keys_are) i))
-        ++ flat_map (at_place pin_last ks) ((p ∙ ap deep pin_keys_are) i)))
+      e3
+      ∙ ap (λ (l : List Rdn). l ++ flat_map (at_place pin_last ks) pins) (
+      e2 ∙ ap (λ (l : List Rdn). l ++ flat_map (at_place (copy_last r h) h.copies) copies) (
+      e1 ∙ ap (λ (l : List Rdn). l ++ flat_map (at_place own_last h.own) own) e0))
+      ∙ (λ i. (flat_map (at_place own_last h.own) ((o ∙ ap deep own_keys_are) i)
+      ++ flat_map (at_place (copy_last r h) h.copies) ((c ∙ ap deep copy_keys_are) i))
+      ++ flat_map (at_place pin_last ks) ((p ∙ ap deep pin_keys_are) i)))

@@ -1,17 +1,17 @@
 -- What rows of names lead to is, class by class, what a test of all members leaves: rows stand by keys, and those that are passed
 -- over give nothing.
-use Rattle.std.proofs.Common.{◌≡◌, ℕ, zero, suc, ◌+◌, Bool, true, false, cond, ◌&&◌, ◌==◌, inl, inr, List, [], ◌∷◌, ◌++◌, length, map, refl, sym, ap, subst, ◌∙◌, arith, Option, Some, None}
+use Rattle.std.proofs.Common.{◌≡◌, ℕ, suc, ◌+◌, Bool, true, false, cond, ◌&&◌, inl, inr, List, [], ◌∷◌, ◌++◌, map, refl, sym, ap, subst, ◌∙◌, arith, Option, Some, None}
 use Rattle.std.specs.Cmp.{IsStrictWeakOrder}
-use Rattle.std.specs.List.{filter, flat_map, enumerate_from, slice_get}
+use Rattle.std.specs.List.{filter, flat_map, slice_get}
 use Rattle.std.specs.List.Sorted.{ties}
-use Rattle.x5_model.specs.Words.{in_option, sorted}
+use Rattle.x5_model.specs.Words.{in_option}
 use Rattle.x5_model.specs.Members.{In, here, there}
 use Rattle.x5_model.specs.Keys.{Key, is_prefix, same_key, key_below}
 use Rattle.x5_model.proofs.KeyLaws.{key_decides}
 use Rattle.x5_model.proofs.Lists.{in_first}
 use Rattle.x5_model.proofs.Ascending.{of_sorted}
 use Rattle.x5_holdings.specs.Rows.{KeyRow, numbered, rows_of}
-use Rattle.x5_holdings.specs.Runs.{run_of, stands_under}
+use Rattle.x5_holdings.specs.Runs.{stands_under}
 use Rattle.x5_eval.specs.Numbers.{in_reach, own_place, reaches}
 use Rattle.x5_eval.specs.Rest.{at_place, places_to}
 use Rattle.x5_eval.proofs.Classes.{AreAlike, flat_sorted}
@@ -78,10 +78,10 @@ module _ {B R : Type 0} (key : B → Key) (lt : R → R → Bool) (weak : IsStri
   row_at n [] h r i = elim i [ ]
   row_at n (y ∷ ys) h r i = elim (in_first r (key y, n) (rows_from (n + 1) (map key ys)) i) [
     | inl e ↦ (
-        y,
-        ap (slice_get xs) (ap (λ (x : KeyRow). x.1) e ∙ plus_none n) ∙ h 0 y refl,
-        sym (ap (λ (x : KeyRow). x.0) e),
-      )
+      y,
+      ap (slice_get xs) (ap (λ (x : KeyRow). x.1) e ∙ plus_none n) ∙ h 0 y refl,
+      sym (ap (λ (x : KeyRow). x.0) e),
+    )
     | inr j ↦ row_at (n + 1) ys (λ k z q. ap (slice_get xs) (plus_one n k) ∙ h (suc k) z q) r j
   ]
 
@@ -140,7 +140,7 @@ module _ {B R : Type 0} (key : B → Key) (lt : R → R → Bool) (weak : IsStri
   pub picked : AreAlike lt weak (flat_map (at_place g xs) (places_to (map key xs) base depth)) (flat_map f xs)
   picked q =
       ap (λ (l : List R). filter (ties lt q) l) (
-        rows_told (rows_of (map key xs)) (λ r i. of_sorted by_key r rows (subst (λ (l : List KeyRow). In r l) (rows_by_key (map key xs)) i))
-        ∙ ap (flat_map told) (rows_by_key (map key xs)))
+      rows_told (rows_of (map key xs)) (λ r i. of_sorted by_key r rows (subst (λ (l : List KeyRow). In r l) (rows_by_key (map key xs)) i))
+      ∙ ap (flat_map told) (rows_by_key (map key xs)))
       ∙ flat_sorted lt weak by_key told told_apart rows q
       ∙ ap (λ (l : List R). filter (ties lt q) l) members_told

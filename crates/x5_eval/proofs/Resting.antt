@@ -1,13 +1,13 @@
 -- The references for the rest of a list or search, as rows of pins and of NSSRs lead to them, are those of the definition, put in
 -- order.
-use Rattle.std.proofs.Common.{◌≡◌, ℕ, zero, suc, ◌+◌, ◌<◌, nat_lt, Bool, true, false, cond, not, ◌&&◌, ◌||◌, ◌==◌, inl, inr, List, [], ◌∷◌, ◌++◌, length, map, take, refl, sym, ap, subst, ◌∙◌, arith, append-nil, Option, Some, None}
+use Rattle.std.proofs.Common.{◌≡◌, ℕ, ◌+◌, ◌<◌, nat_lt, Bool, true, false, cond, not, ◌&&◌, ◌==◌, inl, inr, List, [], ◌∷◌, ◌++◌, length, map, take, refl, sym, ap, subst, ◌∙◌, append-nil, Option, Some, None}
 use Rattle.std.proofs.lemmas.Bool.Decides.{Decides-eqb, Decides-ltb}
-use Rattle.std.specs.List.{filter, find, flat_map}
+use Rattle.std.specs.List.{filter, flat_map}
 use Rattle.std.specs.List.Sorted.{ties}
 use Rattle.std.specs.Option.{is_none, is_some, option_map}
-use Rattle.x5_model.specs.Words.{in_option, sorted}
+use Rattle.x5_model.specs.Words.{in_option}
 use Rattle.x5_model.specs.Members.{In, here, there}
-use Rattle.x5_model.specs.Keys.{Key, is_root, same_key, is_prefix, is_child, key_below}
+use Rattle.x5_model.specs.Keys.{Key, is_root, same_key, is_prefix, key_below}
 use Rattle.x5_model.specs.Values.{Rdn, Name, key_of}
 use Rattle.x5_model.specs.Entries.{Named}
 use Rattle.x5_model.specs.Requests.{Subset, Base, OneLevel, WholeSubtree}
@@ -29,10 +29,10 @@ use Rattle.x5_ops.specs.KnowledgeViews.{nssr_view, specific_view}
 use Rattle.x5_ops.specs.declared.knowledge.Nssr as nssr
 use Rattle.x5_ops.specs.declared.knowledge.Specific as specific
 use Rattle.x5_holdings.specs.Runs.{run_of}
-use Rattle.x5_eval.specs.Numbers.{in_reach, own_place, reaches}
+use Rattle.x5_eval.specs.Numbers.{own_place, reaches}
 use Rattle.x5_eval.specs.Rest.{AreAlike, AreKnown, are_known, at_place, depth_in, entry_needs, places_to, pin_needs, root_needs, wide_to, wide_by, nssr_needs, context_needs, unnamed}
 use Rattle.x5_eval.proofs.Adding.{map_twice}
-use Rattle.x5_eval.proofs.Classes.{alike_sorted, alike_joined}
+use Rattle.x5_eval.proofs.Classes.{alike_joined}
 use Rattle.x5_eval.proofs.Picking.{picked}
 use Rattle.x5_eval.proofs.Taking.{taken_weak, below_first}
 

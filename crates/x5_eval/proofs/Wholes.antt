@@ -1,5 +1,5 @@
 -- The references for the rest below all contexts: what each adds, one behind the other, put in order.
-use Rattle.std.proofs.Common.{◌≡◌, ℕ, ◌+◌, ◌<◌, ◌≤◌, List, [], ◌∷◌, ◌++◌, length, map, drop, get_or, refl, sym, ap, subst, ◌∙◌, append_assoc, append-nil, Some}
+use Rattle.std.proofs.Common.{◌≡◌, ℕ, ◌+◌, ◌<◌, ◌≤◌, List, [], ◌++◌, length, map, drop, get_or, refl, sym, ap, subst, ◌∙◌, append_assoc, append-nil, Some}
 use Rattle.std.specs.List.{filter, flat_map}
 use Rattle.std.specs.List.Sorted.{ties}
 use Rattle.x5_model.specs.Words.{sorted}
@@ -67,9 +67,9 @@ module _ (h : Holdings) (m : Chained) (subset : Subset) (is : Some subset ≡ su
       → root_needs h m subset ++ flat_map asked (map view xs) ≡ walked_needs h m
   whole view xs e =
       ap (λ (r : List Reference). root_needs h m subset ++ r) (
-        sym (unnamed_needs h m subset (map view xs))
-        ∙ ap (flat_map asked) (map_twice view unnamed xs ∙ e)
-        ∙ unnamed_needs h m subset (left h m))
+      sym (unnamed_needs h m subset (map view xs))
+      ∙ ap (flat_map asked) (map_twice view unnamed xs ∙ e)
+      ∙ unnamed_needs h m subset (left h m))
       ∙ sym (walked_are h m subset is)
 
   pub root_known : (n : ℕ) → AreKnown n (rest_of_parts h m) → AreKnown n (root_needs h m subset)

@@ -135,7 +135,9 @@ fn add_all(
     ensures { OnOk result (map (reference_view names.now) found.new ≡ map (reference_view names.now) found.old ++ flat_map (at_place (pin_needs (holdings_view state.now) (chained_view names.now message.now) (subset_view subset)) (map specific_view references.now)) places.now) }
 {
     for &place in places {
-        add_at(alloc, names, state, message, subset, references, place, found)?;
+        add_at(
+            alloc, names, state, message, subset, references, place, found,
+        )?;
     }
     Ok(())
 }
@@ -183,7 +185,9 @@ fn add_below(
 {
     let places = pins_below(alloc, held, &message.target, subset)?;
     let references = held.subordinate();
-    add_all(alloc, names, state, message, subset, references, &places, found)
+    add_all(
+        alloc, names, state, message, subset, references, &places, found,
+    )
 }
 
 /// Whether the name is still to be resolved, and the agent holds what it takes for that. No memory.
@@ -201,7 +205,9 @@ fn resolves(state: &Holdings, message: &Chained) -> bool
 fn is_unknown(state: &Holdings, message: &Chained) -> bool
     ensures { result ≡ is_none (known_pin (request_view message.now.request) (holdings_view state.now) (key_of message.now.target)) }
 {
-    state.known(&message.request, message.target.rdns()).is_none()
+    state
+        .known(&message.request, message.target.rdns())
+        .is_none()
 }
 
 /// Whether the base is the root, and the agent answers it itself. No memory.
@@ -235,7 +241,16 @@ fn add_root(
         return Ok(());
     }
     let places = places_of(alloc, state.root_under(message.target.rdns()))?;
-    add_all(alloc, names, state, message, subset, state.root(), &places, found)
+    add_all(
+        alloc,
+        names,
+        state,
+        message,
+        subset,
+        state.root(),
+        &places,
+        found,
+    )
 }
 
 /// The reference to the agent for what it masters below the entry, but for the exclusions.
@@ -352,7 +367,9 @@ fn add_nssr(
 {
     let agents = nssr.agents.as_slice();
     match entry_name(alloc, held, &nssr.at)? {
-        Some(name) => add_entry(alloc, names, state, message, subset, held, agents, &name, found),
+        Some(name) => add_entry(
+            alloc, names, state, message, subset, held, agents, &name, found,
+        ),
         None => Ok(()),
     }
 }

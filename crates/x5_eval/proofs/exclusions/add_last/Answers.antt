@@ -1,5 +1,5 @@
 -- The last RDN, if there is one.
-use Rattle.std.proofs.Common.{◌≡◌, [], ◌∷◌, ◌++◌, List, Bor, ap, sym, ◌∙◌, None, Some}
+use Rattle.std.proofs.Common.{[], ◌∷◌, ◌++◌, List, ap, sym, ◌∙◌}
 use Rattle.std.specs.Option.{option_copied}
 use Rattle.x5_model.specs.Values.{Rdn}
 use Rattle.x5_eval.proofs.Adding.{no_more}
@@ -10,8 +10,8 @@ pub returns-in_ok-push : goal.returns-in_ok-push
 returns-in_ok-push c =
     c.in_ok-push.ensures.items
     ∙ ap (λ (l : List Rdn). c.args.rdns.now.items ++ l) (
-      (λ i. c.in_ok-clone.ensures.cases i ∷ [])
-      ∙ sym (last_some c.args.name.now c.in-Some.last.now (sym (ap option_copied c.in-Some.is) ∙ c.last.ensures)))
+    (λ i. c.in_ok-clone.ensures.cases i ∷ [])
+    ∙ sym (last_some c.args.name.now c.in-Some.last.now (sym (ap option_copied c.in-Some.is) ∙ c.last.ensures)))
 
 pub returns-in_default : goal.returns-in_default
 returns-in_default c =

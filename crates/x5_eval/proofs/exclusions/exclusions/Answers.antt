@@ -1,6 +1,6 @@
 -- Put in order, and each once.
-use Rattle.std.proofs.Common.{◌≡◌, ◌∙◌, [], map, ap}
-use Rattle.x5_model.specs.Values.{Rdn, key_of, last_rdn}
+use Rattle.std.proofs.Common.{◌∙◌, [], map, ap}
+use Rattle.x5_model.specs.Values.{key_of, last_rdn}
 use Rattle.x5_ops.specs.KnowledgeViews.{specific_view}
 use Rattle.x5_ops.specs.RequestViews.{request_view}
 use Rattle.x5_holdings.specs.State.{holdings_view}

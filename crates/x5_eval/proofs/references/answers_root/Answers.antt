@@ -1,6 +1,6 @@
 -- Each of the four things that the definition asks.
 use Rattle.std.proofs.Common.{arith, ◌≡◌, false, ap, sym, true, ◌∙◌}
-use Rattle.std.specs.Option.{is_none, is_some}
+use Rattle.std.specs.Option.{is_none}
 use Rattle.x5_ops.specs.ReferenceViews.{chained_view}
 use Rattle.x5_holdings.specs.State.{holdings_view}
 use Rattle.x5_eval.proofs.Answered.{none_of_some}

@@ -1,5 +1,5 @@
 -- The node is that of the entry, whose name this is.
-use Rattle.std.proofs.Common.{◌≡◌, None, Some, ap, sym, subst, ◌∙◌}
+use Rattle.std.proofs.Common.{◌≡◌, None, Some, sym, subst, ◌∙◌}
 use Rattle.std.specs.Option.{option_map}
 use Rattle.x5_model.specs.Entries.{Named}
 use Rattle.x5_model.specs.Values.{key_of}

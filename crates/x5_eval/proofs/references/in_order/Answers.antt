@@ -1,10 +1,9 @@
 -- The closure compares by targets and kinds, and a stable sort has one outcome.
-use Rattle.std.proofs.Common.{Bool, List, map, rules, of_calls, sym, ap, ◌∙◌}
+use Rattle.std.proofs.Common.{Bool, map, rules, of_calls, ap, ◌∙◌}
 use Rattle.std.proofs.lemmas.Fn.{always_returns_same}
 use Rattle.std.specs.Ordering.{is_lt}
 use Rattle.x5_model.specs.Words.{sorted}
 use Rattle.x5_model.specs.Values.{key_of}
-use Rattle.x5_model.specs.References as model
 use Rattle.x5_model_run.specs.Journal.{is_wide}
 use Rattle.x5_model_serve.specs.Answering.{taken_before}
 use Rattle.x5_ops.specs.ReferenceViews.{kind_view, reference_view}

@@ -1,7 +1,7 @@
 -- One that is mastered, or else the copy.
-use Rattle.std.proofs.Common.{◌≡◌, Bor, List, Some, ap, get_or, length, sym, ◌∙◌}
+use Rattle.std.proofs.Common.{Bor, List, ap, sym, ◌∙◌}
 use Rattle.std.specs.List.{slice_get}
-use Rattle.std.specs.Option.{is_some, option_map}
+use Rattle.std.specs.Option.{is_some}
 use Rattle.x5_model.specs.Values.{Name, key_of}
 use Rattle.x5_model_run.specs.Holdings.{copy_at, held_at, served}
 use Rattle.x5_ops.specs.RequestViews.{request_view}
