@@ -14,3 +14,11 @@ pub mod Firsts
 pub mod Entering
 pub mod Rises
 pub mod Classes
+pub mod Adding
+pub mod Picking
+pub mod Taking
+pub mod Excluding
+pub mod Answered
+pub mod Resting
+pub mod Leaving
+pub mod Wholes

@@ -2,8 +2,11 @@
 //! a read or compare, with its source.
 #![tactic(auto)]
 
+mod exclusions;
 mod naming;
+mod points;
 mod reading;
+mod references;
 mod scope;
 mod shown;
 mod subsets;
