@@ -10,5 +10,5 @@ use Rattle.x5_eval.proofs.exclusions.add_own.Goals as goal
 pub returns-in-None : goal.returns-in-None
 returns-in-None c =
     no_more c.args.rdns.now.items _ (none_at own_last held_view c.args.state.now.own c.args.place
-    (ap (λ (l : List Kept). slice_get l c.args.place) (sym c.own.ensures)
+    (ap (λ (l : List Kept). slice_get l c.args.place) (sym c.own.ensures.own)
     ∙ none_got c.own.result.now c.args.place c.get.result c.get.ensures.lookup c.in-None.is))
