@@ -4,7 +4,7 @@ pub mod Within
 pub mod Chosen
 pub mod Gathering
 pub mod Joining
-pub mod Visits
+pub mod Visiting
 pub mod Ordered
 pub mod Descending
 pub mod Showing
@@ -14,3 +14,7 @@ pub mod Firsts
 pub mod Entering
 pub mod Rises
 pub mod Classes
+pub mod Parting
+pub mod Numbered
+pub mod Choosing
+pub mod Unders

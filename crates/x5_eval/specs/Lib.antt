@@ -4,3 +4,4 @@ pub mod Shown
 pub mod Numbers
 pub mod Spots
 pub mod Visited
+pub mod Walks

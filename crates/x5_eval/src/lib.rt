@@ -3,9 +3,11 @@
 #![tactic(auto)]
 
 mod naming;
+mod numbers;
 mod reading;
 mod scope;
 mod shown;
 mod subsets;
+mod visits;
 
 pub use reading::{read_copy, read_own};
