@@ -18,3 +18,4 @@ pub mod Parting
 pub mod Numbered
 pub mod Choosing
 pub mod Unders
+pub mod Walked

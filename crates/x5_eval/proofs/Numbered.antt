@@ -1,18 +1,25 @@
 -- What stands at a number: a context that is mastered, a copy, or nothing past the last.
-use Rattle.std.proofs.Common.{◌≡◌, ℕ, ◌+◌, ◌-◌, ◌<◌, ◌≤◌, nat_lt, Bool, true, false, cond, not, ◌&&◌, ◌||◌, inl, inr, List, [], ◌∷◌, length, refl, sym, ap, subst, ◌∙◌, arith, Option, Some, None}
+use Rattle.std.proofs.Common.{◌≡◌, ℕ, ◌+◌, ◌-◌, ◌<◌, ◌≤◌, nat_lt, Bool, true, false, cond, not, ◌&&◌, ◌||◌, inl, inr, List, [], ◌∷◌, length, map, refl, sym, ap, subst, ◌∙◌, arith, Option, Some, None}
 use Rattle.std.proofs.lemmas.List.{length-map}
 use Rattle.std.proofs.lemmas.Option.{slice_get-map}
-use Rattle.std.specs.List.{slice_get}
+use Rattle.std.specs.List.{filter, slice_get}
 use Rattle.std.specs.Option.{is_some, option_map}
-use Rattle.x5_model.specs.Words.{in_option}
+use Rattle.x5_model.specs.Words.{in_option, sorted}
 use Rattle.x5_model.specs.Members.{In}
-use Rattle.x5_model.specs.Values.{Name, key_of}
-use Rattle.x5_model.specs.Requests.{Request}
+use Rattle.x5_model.specs.Keys.{Key, key_below, parent, same_key}
+use Rattle.x5_model.specs.Values.{Name, key_of, name_above}
+use Rattle.x5_model.specs.Requests.{Subset, Request}
+use Rattle.x5_model_tree.specs.Tree.{is_there}
+use Rattle.x5_model_tree.specs.Ask.{in_subset}
 use Rattle.x5_model_run.specs.Holdings.{Held, Copy, may_copy, masters_pin}
 use Rattle.x5_holdings.specs.State.{Kept, CopyKept, State, IsBrought, held_view, copy_view, shadow_view, holdings_view, stamp_of, brought_entries, brought_references, brought_nssrs}
-use Rattle.x5_eval.specs.Numbers.{copy_number, counts, held_number, is_held, no_copy, pin_number, prefix_number, stamp_number}
+use Rattle.x5_dse.specs.Linked.{Node, entries_of, id_of, node_at, node_key}
+use Rattle.x5_holdings.specs.Rows.{KeyRow}
+use Rattle.x5_holdings.proofs.Knowing.{upper_key}
+use Rattle.x5_eval.specs.Numbers.{copy_number, copy_pins, copy_place, in_reach, is_under, own_place, counts, held_number, is_held, no_copy, number_below, own_pins, pin_number, prefix_number, stamp_number}
 use Rattle.x5_eval.specs.Spots.{IsHeld, IsHeldAt, held_as}
 use Rattle.x5_eval.proofs.Numbering.{copy_held, past_none}
+use Rattle.x5_eval.proofs.Ordered.{sorted_same}
 
 below_test : (n m : ℕ) → n < m → nat_lt n m ≡ true
 below_test n m l = grind (arith, l)
@@ -163,3 +170,62 @@ counts_copy r s place k e =
   where
     back : (length s.own + place) - length s.own ≡ place
     back = omega arith
+
+-- ---- their prefixes
+own_prefixes : (ks : List Kept) → map (λ c. key_of c.prefix) (map held_view ks) ≡ map (λ k. key_of k.prefix) ks
+own_prefixes [] = refl
+own_prefixes (k ∷ ks) = ap (λ (l : List Key). key_of k.prefix ∷ l) (own_prefixes ks)
+
+copy_prefixes : (ks : List CopyKept) → map (λ c. key_of c.held.prefix) (map copy_view ks) ≡ map (λ k. key_of k.prefix) ks
+copy_prefixes [] = refl
+copy_prefixes (k ∷ ks) = ap (λ (l : List Key). key_of k.prefix ∷ l) (copy_prefixes ks)
+
+pub own_pins_are : (s : State) → map (λ k. key_of k.prefix) s.own ≡ own_pins (holdings_view s)
+own_pins_are s = sym (own_prefixes s.own)
+
+pub copy_pins_are : (s : State) → map (λ k. key_of k.prefix) s.copies ≡ copy_pins (holdings_view s)
+copy_pins_are s = sym (copy_prefixes s.copies)
+
+-- ---- their order
+module _ (s : State) (root : Name) (is_root : root ≡ []) where
+  pub prefix_same : (n : ℕ) → prefix_number (holdings_view s) root n ≡ (held_number (holdings_view s) n).prefix
+  prefix_same n = ap (λ (r : Name). prefix_number (holdings_view s) r n) is_root ∙ prefix_is s n
+
+  pub ordered : (ns : List ℕ)
+      → sorted (λ a b. key_below (key_of (prefix_number (holdings_view s) root a)) (key_of (prefix_number (holdings_view s) root b))) ns
+      ≡ sorted (number_below (holdings_view s)) ns
+  ordered ns = sorted_same (λ a b. key_below (key_of (prefix_number (holdings_view s) root a)) (key_of (prefix_number (holdings_view s) root b)))
+      (number_below (holdings_view s)) ns
+      (λ x y i j. λ k. key_below (key_of (prefix_same y k)) (key_of (prefix_same x k)))
+
+-- ---- rows
+pub all_left : (rows : List KeyRow) → rows ≡ filter (in_reach None) rows
+all_left [] = refl
+all_left (r ∷ rows) = ap (λ (l : List KeyRow). r ∷ l) (all_left rows)
+
+pub copy_places : (s : State) (rows : List KeyRow) → map (λ p. length s.own + p) (map own_place rows) ≡ map (copy_place (holdings_view s)) rows
+copy_places s [] = refl
+copy_places s (r ∷ rows) = λ i. (sym (length-map s.own held_view) i + r.1) ∷ copy_places s rows i
+
+-- ---- an entry that stands at a key
+pub found_there : (nodes : List Node) (key : Key) → is_some (option_map id_of (node_at nodes key)) ≡ is_there (entries_of nodes) key
+found_there [] key = refl
+found_there (n ∷ ns) key = by (same_key (node_key n) key) (found_there ns key)
+  where
+    by : (b : Bool) → is_some (option_map id_of (node_at ns key)) ≡ is_there (entries_of ns) key
+        → is_some (option_map id_of (cond b (Some n) (node_at ns key))) ≡ (b || is_there (entries_of ns) key)
+    by true e = refl
+    by false e = e
+
+-- ---- whether one stands under another
+module _ (s : State) (root : Name) (is_root : root ≡ []) (base : Key) (subset : Subset) (above n : ℕ) (p upper : Name)
+    (at : p ≡ prefix_number (holdings_view s) root n) (up : upper ≡ name_above p) (within : in_subset subset base (key_of p) ≡ true) where
+  pin_is : key_of p ≡ pin_number (holdings_view s) n
+  pin_is = ap key_of (at ∙ prefix_same s root is_root n)
+
+  pub under_tested : (b : Bool) → b ≡ is_there (held_number (holdings_view s) above).entries (key_of upper)
+      → b ≡ is_under (holdings_view s) base subset (held_number (holdings_view s) above) n
+  under_tested b e =
+      e ∙ ap (is_there (held_number (holdings_view s) above).entries) (ap key_of up ∙ upper_key p (length p - 1) refl ∙ ap parent pin_is)
+      ∙ sym (ap (λ (t : Bool). t && is_there (held_number (holdings_view s) above).entries (parent (pin_number (holdings_view s) n)))
+      (ap (in_subset subset base) (sym pin_is) ∙ within))

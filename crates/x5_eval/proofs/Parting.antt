@@ -1,5 +1,5 @@
 -- What one context shows of a list or search: by the subset that the message asks for, and in the order of keys.
-use Rattle.std.proofs.Common.{◌≡◌, ℕ, Bool, true, false, ◌&&◌, List, [], ◌∷◌, map, refl, sym, ap, subst, ◌∙◌, Option, Some}
+use Rattle.std.proofs.Common.{◌≡◌, ℕ, Bool, true, false, ◌&&◌, List, [], ◌∷◌, map, refl, sym, ap, subst, ◌∙◌, Option, Some, None}
 use Rattle.std.specs.List.{filter}
 use Rattle.std.specs.Option.{is_some}
 use Rattle.x5_model.specs.Words.{in_option, ascending}
@@ -9,7 +9,7 @@ use Rattle.x5_model.specs.Values.{Name, key_of}
 use Rattle.x5_model.specs.Entries.{Named}
 use Rattle.x5_model.specs.Filters.{Filter}
 use Rattle.x5_model.specs.Truth.{selects_entry}
-use Rattle.x5_model.specs.Requests.{Subset, Selection, Body, ListBelow, Search}
+use Rattle.x5_model.specs.Requests.{Subset, Selection, Body, Read, Compare, ListBelow, Search, AddEntry, RemoveEntry, ModifyEntry, ModifyDn}
 use Rattle.x5_model.specs.References.{Chained}
 use Rattle.x5_model.specs.Answers.{EntryInfo, Sub, Source, Outcome, Answer, Listed, Found}
 use Rattle.x5_model.proofs.Lists.{both_true, and_true, of_filter}
@@ -19,6 +19,7 @@ use Rattle.x5_model_tree.specs.Ask.{in_subset, info_of, sub_of}
 use Rattle.x5_model_tree.proofs.Order.{named_chain}
 use Rattle.x5_model_run.specs.Journal.{is_done, is_wide}
 use Rattle.x5_model_run.specs.Holdings.{Held}
+use Rattle.x5_model_run.specs.Placed.{is_query_below}
 use Rattle.x5_model_run.specs.Needs.{by_pin, subset_in, subset_of}
 use Rattle.x5_model_parts.specs.Parts.{asks_for}
 use Rattle.x5_model_serve.specs.Answering.{before_sub, before_info, is_in_order}
@@ -85,3 +86,18 @@ module _ (m : Chained) (c : Held) (rising : ascending named_below c.entries ≡ 
 
       pub search_rises : ascending before_info infos ≡ true
       search_rises = ap (ascending before_info) infos_are ∙ infos_rise f selection (λ key. is_some stamp)
+
+-- a list or search asks for some subset
+pub asks : (m : Chained) → is_query_below m.request.body ≡ true → None ≡ subset_of m → ⊥
+asks m q e = by (by_pin m) m.request.body q e
+  where
+    by : (pinned : Bool) (b : Body) → is_query_below b ≡ true → None ≡ subset_in pinned b → ⊥
+    by true (ListBelow name) q e = cc
+    by false (ListBelow name) q e = cc
+    by pinned (Search base subset f selection) q e = cc
+    by pinned (Read name selection) q e = cc
+    by pinned (Compare name a) q e = cc
+    by pinned (AddEntry name attributes) q e = cc
+    by pinned (RemoveEntry name) q e = cc
+    by pinned (ModifyEntry name changes) q e = cc
+    by pinned (ModifyDn name rdn drops) q e = cc

@@ -4,7 +4,7 @@
 ghost use Rattle.std.specs.Prelude.{◌≡◌, ◌<◌, ◌+◌, ◌⊎◌, ℕ, length, map, true, IfOk};
 ghost use Rattle.std.specs.Option.{option_map};
 ghost use Rattle.std.specs.List.{filter};
-ghost use Rattle.x5_model.specs.Keys.{Key, IsPrefix};
+ghost use Rattle.x5_model.specs.Keys.{Key, IsPrefix, key_cmp};
 ghost use Rattle.x5_model.specs.Members.{In};
 ghost use Rattle.x5_model.specs.Values.{key_of};
 ghost use Rattle.x5_model.specs.Words.{sorted};
@@ -19,6 +19,7 @@ ghost use Rattle.x5_eval.specs.Spots.{IsHeldAt};
 
 use crate::subsets::is_in_subset;
 use std::alloc::Global;
+use std::cmp::Ordering;
 use x5_holdings::{Copied, Held, Holdings, Row};
 use x5_memory::NoMemory;
 use x5_names::{Name, Rdn};
@@ -125,13 +126,19 @@ fn is_counted(state: &Holdings, request: &Request, copied: &Copied) -> bool
 
 /// The same of the copy at the place, which there need not be. No memory.
 fn is_counted_at(state: &Holdings, request: &Request, place: usize) -> bool
-    ensures counts { result ≡ counts (request_view request.now) (holdings_view state.now) (copy_number (holdings_view state.now) (length state.now.own + place)) }
-    ensures within { result ≡ true → place < length state.now.copies }
+    ensures { result ≡ counts (request_view request.now) (holdings_view state.now) (copy_number (holdings_view state.now) (length state.now.own + place)) }
 {
     match state.copies().get(place) {
         Some(copied) => is_counted(state, request, copied),
         None => false,
     }
+}
+
+/// The sum, where it can be told: no memory holds as much.
+pub(crate) fn sum(a: usize, b: usize) -> Result<usize, NoMemory>
+    ensures { IfOk result (λ sum. sum ≡ a + b) }
+{
+    a.checked_add(b).ok_or(NoMemory)
 }
 
 /// The numbers of those copies at the places from which the request may be answered.
@@ -147,7 +154,7 @@ fn counted(
     let mut numbers = Vec::new(alloc);
     for &place in places {
         if is_counted_at(state, request, place) {
-            numbers.push(count + place)?;
+            numbers.push(sum(count, place)?)?;
         }
     }
     Ok(numbers)
@@ -171,6 +178,13 @@ pub(crate) fn served_within(
     Ok(numbers)
 }
 
+/// How a context's prefix stands to another's; past the last it's the one given. No memory.
+fn compare(state: &Holdings, a: usize, b: usize, other: &Name) -> Ordering
+    ensures { result ≡ key_cmp (key_of (prefix_number (holdings_view state.now) other.now a)) (key_of (prefix_number (holdings_view state.now) other.now b)) }
+{
+    prefix_at(state, a, other).cmp_key(prefix_at(state, b, other))
+}
+
 /// These in the order of their prefixes; those of one prefix stay in their order.
 pub(crate) fn in_order(
     alloc: Global,
@@ -181,7 +195,7 @@ pub(crate) fn in_order(
 {
     let root = Name::root(alloc);
     let mut numbers = numbers;
-    numbers.sort_by(|a, b| prefix_at(state, *a, &root).cmp_key(prefix_at(state, *b, &root)))?;
+    numbers.sort_by(|a, b| compare(state, *a, *b, &root))?;
     Ok(numbers)
 }
 

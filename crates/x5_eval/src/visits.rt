@@ -10,7 +10,7 @@ ghost use Rattle.x5_eval.specs.Numbers.{served_numbers};
 ghost use Rattle.x5_eval.specs.Visited.{adds, order};
 ghost use Rattle.x5_eval.specs.Walks.{HasMarks, IsDescendedIn, IsVisitedIn};
 
-use crate::numbers::numbers_under;
+use crate::numbers::{numbers_under, sum};
 use std::alloc::Global;
 use x5_holdings::Holdings;
 use x5_memory::NoMemory;
@@ -65,7 +65,8 @@ impl Visits {
         self.seen[number] = deeper + 1;
         push_first(&mut self.entered, number, before)?;
         self.descend(alloc, state, message, subset, number, deeper)?;
-        push_first(&mut self.left, number, before)
+        push_first(&mut self.left, number, before)?;
+        Ok(())
     }
 
     /// Comes to the contexts so deep below the one of the number.
@@ -87,16 +88,31 @@ impl Visits {
         if deeper == 0 {
             return Ok(());
         }
-        let below = numbers_under(
-            alloc,
-            state,
-            &message.request,
-            &message.target,
-            subset,
-            number,
-        )?;
-        for &next in below.as_slice() {
-            self.visit(alloc, state, message, subset, next, deeper - 1)?;
+        let request = &message.request;
+        let below = numbers_under(alloc, state, request, &message.target, subset, number)?;
+        self.visit_all(alloc, state, message, subset, &below, deeper - 1)?;
+        Ok(())
+    }
+
+    /// Comes to these contexts, each with all so deep below it.
+    #[cycle(walk)]
+    fn visit_all(
+        &mut self,
+        alloc: Global,
+        state: &Holdings,
+        message: &Chained,
+        subset: Subset,
+        numbers: &[usize],
+        deeper: usize,
+    ) -> Result<(), NoMemory>
+        requires marks { HasMarks (holdings_view state.now) self.old }
+        requires within { (n : ℕ) → In n numbers.now → n < length state.now.own + length state.now.copies }
+        requires levels { deeper ≤ 16 }
+        ensures marks { IfOk result (λ _. HasMarks (holdings_view state.now) self.new) }
+        ensures visited { IfOk result (λ _. IsVisitedIn (request_view message.now.request) (holdings_view state.now) (key_of message.now.target) (subset_view subset) deeper numbers.now self.old self.new) }
+    {
+        for &number in numbers {
+            self.visit(alloc, state, message, subset, number, deeper)?;
         }
         Ok(())
     }
@@ -114,14 +130,12 @@ pub(crate) fn walk(
     ensures entered { IfOk result (λ visits. visits.entered.items ≡ adds [] (order (model.numbers_under (request_view message.now.request) (holdings_view state.now) (key_of message.now.target) (subset_view subset)) false 16 begins.now)) }
     ensures left { IfOk result (λ visits. visits.left.items ≡ adds [] (order (model.numbers_under (request_view message.now.request) (holdings_view state.now) (key_of message.now.target) (subset_view subset)) true 16 begins.now)) }
 {
-    let count = state.own().len() + state.copies().len();
+    let count = sum(state.own().len(), state.copies().len())?;
     let mut visits = Visits {
         entered: Vec::new(alloc),
         left: Vec::new(alloc),
         seen: Vec::from_elem(alloc, 0, count)?,
     };
-    for &number in begins {
-        visits.visit(alloc, state, message, subset, number, LEVELS)?;
-    }
+    visits.visit_all(alloc, state, message, subset, begins, LEVELS)?;
     Ok(visits)
 }
