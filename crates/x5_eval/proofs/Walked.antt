@@ -1,6 +1,7 @@
 -- The walk step by step: a context that is passed over, one to which it comes, and contexts one after the other.
-use Rattle.std.proofs.Common.{◌≡◌, ℕ, zero, suc, ◌+◌, ◌<◌, ◌≤◌, Bool, true, false, ◌⊎◌, inl, inr, List, [], ◌∷◌, ◌++◌, length, get_or, set, take, replicate, refl, sym, ap, subst, ◌∙◌, arith}
+use Rattle.std.proofs.Common.{◌≡◌, ℕ, zero, suc, ◌+◌, ◌<◌, ◌≤◌, Bool, true, false, ◌⊎◌, inl, inr, List, [], ◌∷◌, ◌++◌, length, get_or, set, take, replicate, refl, sym, ap, subst, ◌∙◌, arith, Some}
 use Rattle.std.proofs.lemmas.List.{length-map, length-replicate}
+use Rattle.std.proofs.lemmas.Option.{get_or_from_slice_get, slice_get-get_or}
 use Rattle.x5_model.specs.Members.{In}
 use Rattle.x5_model.proofs.Lists.{in_first}
 use Rattle.x5_model.specs.Keys.{Key}
@@ -15,6 +16,13 @@ use Rattle.x5_eval.specs.declared.visits.Visits.{Visits}
 use Rattle.x5_eval.proofs.Visiting.{descended_none, descended_some, visit_known, visit_more, visit_none, visit_through}
 use Rattle.x5_eval.proofs.Choosing.{served_below, under_served}
 
+-- what stands there, whatever would stand past the last
+itself : (xs : List ℕ) (i n : ℕ) → i < length xs → n ≡ get_or xs i 0 → n ≡ get_or xs i n
+itself xs i n l e = sym (get_or_from_slice_get xs i n n (slice_get-get_or xs i 0 l ∙ ap Some (sym e)))
+
+pub mark_read : (xs : List ℕ) (i n : ℕ) → i < length xs → n ≡ get_or xs i n → n ≡ get_or xs i 0
+mark_read xs i n l e = sym (get_or_from_slice_get xs i n 0 (slice_get-get_or xs i n l ∙ ap Some (sym e)))
+
 -- it has its marks, and came to these
 pub record Came (r : Request) (h : Holdings) (base : Key) (subset : Subset) (deep : ℕ) (cs : List ℕ) (old new : Visits) : Type 0 where
   pub marks : HasMarks h new
@@ -25,12 +33,12 @@ module _ (r : Request) (h : Holdings) (base : Key) (subset : Subset) where
   came_none deep v marks = record { marks = marks; visited = visit_none (numbers_under r h base subset) (rank h) deep (walked_of v) }
 
   -- one more
-  pub came_more : (deep : ℕ) (numbers : List ℕ) (i n : ℕ) (a b c : Visits) → i < length numbers → n ≡ get_or numbers i n
+  pub came_more : (deep : ℕ) (numbers : List ℕ) (i n : ℕ) (a b c : Visits) → i < length numbers → n ≡ get_or numbers i 0
       → Came r h base subset deep (take i numbers) a b → HasMarks h c → IsVisitedIn r h base subset deep (n ∷ []) b c
       → Came r h base subset deep (take (i + 1) numbers) a c
   came_more deep numbers i n a b c l e came marks visited = record {
     marks = marks;
-    visited = subst (λ (cs : List ℕ). IsVisitedIn r h base subset deep cs a c) (sym (taken numbers i n l e))
+    visited = subst (λ (cs : List ℕ). IsVisitedIn r h base subset deep cs a c) (sym (taken numbers i n l (itself numbers i n l e)))
         (visit_more (numbers_under r h base subset) (rank h) deep (take i numbers) (n ∷ []) (walked_of a) (walked_of b) (walked_of c) came.visited visited);
   }
 
@@ -55,6 +63,13 @@ module _ (r : Request) (h : Holdings) (base : Key) (subset : Subset) where
 
       rises : (p n : ℕ) → p ≡ c → In n (numbers_under r h base subset c) → rank h p < rank h n
       rises p n e j = subst (λ (q : ℕ). rank h q < rank h n) (sym e) (rising n j)
+
+  pub below_all : (deep less c : ℕ) (v w : Visits) (cs : List ℕ) → suc less ≡ deep → cs ≡ numbers_under r h base subset c
+      → ((n : ℕ) → In n cs → rank h c < rank h n) → IsVisitedIn r h base subset less cs v w → IsDescendedIn r h base subset deep c v w
+  below_all deep less c v w cs d e rising visited =
+      subst (λ (k : ℕ). IsDescendedIn r h base subset k c v w) d
+      (all_below less c v w (λ n i. rising n (subst (λ (l : List ℕ). In n l) (sym e) i))
+      (subst (λ (l : List ℕ). IsVisitedIn r h base subset less l v w) e visited))
 
   pub none_below : (deep c : ℕ) (v : Visits) → deep ≡ 0 → IsDescendedIn r h base subset deep c v v
   none_below deep c v e = subst (λ (d : ℕ). IsDescendedIn r h base subset d c v v) (sym e)
@@ -110,3 +125,6 @@ under_count r s base subset above n i = served_count r s n (under_served (holdin
 pub marks_made : (s : State) (marks : List ℕ) (count : ℕ) → marks ≡ replicate count 0 → count ≡ length s.own + length s.copies
     → length marks ≡ length (holdings_view s).own + length (holdings_view s).copies
 marks_made s marks count e f = ap length e ∙ length-replicate count 0 ∙ f ∙ sym (count_is s)
+
+pub has_room : (s : State) (v : Visits) (n : ℕ) → HasMarks (holdings_view s) v → n < length s.own + length s.copies → n < length v.seen.items
+has_room s v n marks l = subst (λ (k : ℕ). n < k) (sym (marks ∙ count_is s)) l
