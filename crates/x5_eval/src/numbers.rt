@@ -240,11 +240,7 @@ fn those_under(
 
 /// Where the prefixes of contexts in the subset stand that begin with this one: at or below a name, and with how many RDNs. No
 /// memory.
-fn reach<'a>(
-    prefix: &'a Name,
-    base: &'a Name,
-    subset: Subset,
-) -> (&'a [Rdn], Option<usize>)
+fn reach<'a>(prefix: &'a Name, base: &'a Name, subset: Subset) -> (&'a [Rdn], Option<usize>)
     ensures { (pin : Key) → in_subset (subset_view subset) (key_of base.now) pin ≡ true → IsPrefix (key_of prefix.now) pin → reaches (key_of result.0.now) result.1 pin ≡ true }
 {
     match subset {
@@ -258,7 +254,11 @@ fn reach<'a>(
 fn longer<'a>(name: &'a Name, other: &'a Name) -> &'a Name
     ensures { (result.now ≡ name.now) ⊎ (result.now ≡ other.now) }
 {
-    if name.len() > other.len() { name } else { other }
+    if name.len() > other.len() {
+        name
+    } else {
+        other
+    }
 }
 
 /// The numbers of the contexts that the request may be answered from, in the subset just below an entry of the one of this number,

@@ -206,7 +206,9 @@ pub(crate) fn part_in(
             outcome,
         }),
         Body::Search {
-            filter, selection, ..
+            filter,
+            selection,
+            ..
         } => Ok(Answer::Found {
             entries: Listed::from_vec(infos_in(
                 alloc, held, copy, base, subset, filter, selection,

@@ -38,9 +38,13 @@ visit-returns-clause-visited n c =
     c.in_ok-push_first-2.ensures.first c.in_ok-push_first-2.ensures.again c.in_ok-descend.ensures.descended
 
 pub visit_all-visit-requires : goal.visit_all-visit-requires
-visit_all-visit-requires n c =
-    (omega (arith, c.decreases), (c.loop-number.invariant.marks,
-    (c.requires.within _ (in_get c.args.numbers.now c.loop-number.number-index 0 c.loop-number-test.true), c.requires.levels)))
+visit_all-visit-requires n c = (
+  omega (arith, c.decreases),
+  (
+    c.loop-number.invariant.marks,
+    (c.requires.within _ (in_get c.args.numbers.now c.loop-number.number-index 0 c.loop-number-test.true), c.requires.levels),
+  ),
+)
 
 pub visit_all-loop-number-preserved : goal.visit_all-loop-number-preserved
 visit_all-loop-number-preserved n c =
