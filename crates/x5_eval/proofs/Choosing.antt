@@ -1,6 +1,6 @@
 -- Contexts that are chosen by a test among those that rows of pins lead to, put in order, are by their numbers those that pass the
 -- test among all.
-use Rattle.std.proofs.Common.{◌≡◌, ℕ, ◌+◌, ◌<◌, nat_lt, Bool, true, cond, not, ◌&&◌, ◌||◌, inl, inr, List, [], ◌∷◌, length, map, refl, sym, ap, subst, ◌∙◌, arith, Option}
+use Rattle.std.proofs.Common.{◌≡◌, ℕ, ◌+◌, ◌<◌, nat_lt, Bool, true, cond, not, ◌&&◌, ◌||◌, inl, inr, List, [], ◌∷◌, length, map, refl, ap, subst, ◌∙◌, arith, Option}
 use Rattle.std.specs.List.{filter}
 use Rattle.std.specs.Option.{is_some}
 use Rattle.std.proofs.lemmas.List.{length-map}

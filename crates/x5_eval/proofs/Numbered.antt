@@ -1,23 +1,22 @@
 -- What stands at a number: a context that is mastered, a copy, or nothing past the last.
-use Rattle.std.proofs.Common.{◌≡◌, ℕ, ◌+◌, ◌-◌, ◌<◌, ◌≤◌, nat_lt, Bool, true, false, cond, not, ◌&&◌, ◌||◌, inl, inr, List, [], ◌∷◌, length, map, refl, sym, ap, subst, ◌∙◌, arith, Option, Some, None}
+use Rattle.std.proofs.Common.{◌≡◌, ℕ, ◌+◌, ◌-◌, ◌<◌, ◌≤◌, nat_lt, Bool, true, false, cond, ◌&&◌, ◌||◌, List, [], ◌∷◌, length, map, refl, sym, ap, subst, ◌∙◌, arith, Option, Some, None}
 use Rattle.std.proofs.lemmas.List.{length-map}
 use Rattle.std.proofs.lemmas.Option.{slice_get-map}
 use Rattle.std.specs.List.{filter, slice_get}
 use Rattle.std.specs.Option.{is_some, option_map}
 use Rattle.x5_model.specs.Words.{in_option, sorted}
-use Rattle.x5_model.specs.Members.{In}
 use Rattle.x5_model.specs.Keys.{Key, key_below, parent, same_key}
 use Rattle.x5_model.specs.Values.{Name, key_of, name_above}
 use Rattle.x5_model.specs.Requests.{Subset, Request}
 use Rattle.x5_model_tree.specs.Tree.{is_there}
 use Rattle.x5_model_tree.specs.Ask.{in_subset}
-use Rattle.x5_model_run.specs.Holdings.{Held, Copy, may_copy, masters_pin}
-use Rattle.x5_holdings.specs.State.{Kept, CopyKept, State, IsBrought, held_view, copy_view, shadow_view, holdings_view, stamp_of, brought_entries, brought_references, brought_nssrs}
+use Rattle.x5_model_run.specs.Holdings.{Held, Copy, may_copy}
+use Rattle.x5_holdings.specs.State.{Kept, CopyKept, State, IsBrought, held_view, copy_view, shadow_view, holdings_view, stamp_of, brought_entries}
 use Rattle.x5_dse.specs.Linked.{Node, entries_of, id_of, node_at, node_key}
 use Rattle.x5_holdings.specs.Rows.{KeyRow}
 use Rattle.x5_holdings.proofs.Knowing.{upper_key}
 use Rattle.x5_eval.specs.Numbers.{copy_number, copy_pins, copy_place, in_reach, is_under, own_place, counts, held_number, is_held, no_copy, number_below, own_pins, pin_number, prefix_number, stamp_number}
-use Rattle.x5_eval.specs.Spots.{IsHeld, IsHeldAt, held_as}
+use Rattle.x5_eval.specs.Spots.{IsHeldAt, held_as}
 use Rattle.x5_eval.proofs.Numbering.{copy_held, past_none}
 use Rattle.x5_eval.proofs.Ordered.{sorted_same}
 

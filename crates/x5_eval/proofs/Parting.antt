@@ -11,7 +11,7 @@ use Rattle.x5_model.specs.Filters.{Filter}
 use Rattle.x5_model.specs.Truth.{selects_entry}
 use Rattle.x5_model.specs.Requests.{Subset, Selection, Body, Read, Compare, ListBelow, Search, AddEntry, RemoveEntry, ModifyEntry, ModifyDn}
 use Rattle.x5_model.specs.References.{Chained}
-use Rattle.x5_model.specs.Answers.{EntryInfo, Sub, Source, Outcome, Answer, Listed, Found}
+use Rattle.x5_model.specs.Answers.{EntryInfo, Sub, Source, Outcome, Listed, Found}
 use Rattle.x5_model.proofs.Lists.{both_true, and_true, of_filter}
 use Rattle.x5_model.proofs.Ascending.{filter_ascending}
 use Rattle.x5_model_tree.specs.Tree.{key_at, named_below}
@@ -22,7 +22,7 @@ use Rattle.x5_model_run.specs.Holdings.{Held}
 use Rattle.x5_model_run.specs.Placed.{is_query_below}
 use Rattle.x5_model_run.specs.Needs.{by_pin, subset_in, subset_of}
 use Rattle.x5_model_parts.specs.Parts.{asks_for}
-use Rattle.x5_model_serve.specs.Answering.{before_sub, before_info, is_in_order}
+use Rattle.x5_model_serve.specs.Answering.{before_sub, before_info}
 use Rattle.x5_model_joins.proofs.Telling.{list_picks}
 use Rattle.x5_model_joins.proofs.Entries.{list_order}
 use Rattle.x5_eval.specs.Shown.{subs_shown, infos_shown, source_of, whole, shown_by}

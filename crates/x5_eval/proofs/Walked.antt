@@ -1,5 +1,5 @@
 -- The walk step by step: a context that is passed over, one to which it comes, and contexts one after the other.
-use Rattle.std.proofs.Common.{◌≡◌, ℕ, zero, suc, ◌+◌, ◌<◌, ◌≤◌, Bool, true, false, ◌⊎◌, inl, inr, List, [], ◌∷◌, ◌++◌, length, get_or, set, take, replicate, refl, sym, ap, subst, ◌∙◌, arith, Some}
+use Rattle.std.proofs.Common.{◌≡◌, ℕ, zero, suc, ◌+◌, ◌<◌, true, false, inl, inr, List, [], ◌∷◌, ◌++◌, length, get_or, set, take, replicate, refl, sym, ap, subst, ◌∙◌, arith, Some}
 use Rattle.std.proofs.lemmas.List.{length-map, length-replicate}
 use Rattle.std.proofs.lemmas.Option.{get_or_from_slice_get, slice_get-get_or}
 use Rattle.x5_model.specs.Members.{In}
@@ -9,8 +9,8 @@ use Rattle.x5_model.specs.Requests.{Subset, Request}
 use Rattle.x5_model_run.specs.Holdings.{Holdings}
 use Rattle.x5_holdings.specs.State.{State, holdings_view, held_view, copy_view}
 use Rattle.x5_holdings.proofs.Numbered.{taken}
-use Rattle.x5_eval.specs.Numbers.{numbers_under, pin_number, served_numbers}
-use Rattle.x5_eval.specs.Visited.{adds, order, Walked, IsSound, IsVisited, IsDescended}
+use Rattle.x5_eval.specs.Numbers.{numbers_under, served_numbers}
+use Rattle.x5_eval.specs.Visited.{adds, order, Walked, IsSound, IsVisited}
 use Rattle.x5_eval.specs.Walks.{HasMarks, IsDescendedIn, IsVisitedIn, rank, walked_of}
 use Rattle.x5_eval.specs.declared.visits.Visits.{Visits}
 use Rattle.x5_eval.proofs.Visiting.{descended_none, descended_some, visit_known, visit_more, visit_none, visit_through}

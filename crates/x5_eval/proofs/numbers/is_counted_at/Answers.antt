@@ -1,5 +1,5 @@
 -- The copy at the place is the one of its number.
-use Rattle.std.proofs.Common.{◌≡◌, ℕ, List, Bor, sym, subst, ap, ◌∙◌, Option, Some, None}
+use Rattle.std.proofs.Common.{◌≡◌, List, Bor, sym, subst, ap, ◌∙◌, Option, Some, None}
 use Rattle.std.specs.List.{slice_get}
 use Rattle.std.specs.Slice.{IsItemAt}
 use Rattle.x5_ops.specs.RequestViews.{request_view}

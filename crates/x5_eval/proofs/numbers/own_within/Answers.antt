@@ -1,6 +1,5 @@
 -- The rows are those of the prefixes.
 use Rattle.std.proofs.Common.{ℕ, List, map, sym, ap, ◌∙◌, Option}
-use Rattle.std.specs.List.{filter}
 use Rattle.x5_model.specs.Keys.{Key}
 use Rattle.x5_model.specs.Values.{key_of}
 use Rattle.x5_holdings.specs.Runs.{long_places, run_of}

@@ -1,5 +1,4 @@
 -- The walk begins with nothing seen.
-use Rattle.std.proofs.Common.{ℕ}
 use Rattle.x5_model.specs.Values.{key_of}
 use Rattle.x5_ops.specs.RequestViews.{request_view, subset_view}
 use Rattle.x5_holdings.specs.State.{holdings_view}

@@ -1,5 +1,5 @@
 -- Each step is the walk's own.
-use Rattle.std.proofs.Common.{◌≡◌, ℕ, suc, ◌+◌, ◌-◌, ◌<◌, List, get_or, length, set, refl, subst, rules, arith, ◌∙◌}
+use Rattle.std.proofs.Common.{◌≡◌, ℕ, suc, ◌+◌, ◌-◌, List, get_or, refl, subst, arith, ◌∙◌}
 use Rattle.std.specs.Vec.{with_item}
 use Rattle.x5_dse.proofs.Spots.{in_get}
 use Rattle.x5_model.specs.Members.{In}

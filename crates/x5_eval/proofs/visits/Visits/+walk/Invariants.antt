@@ -1,9 +1,8 @@
 -- What is called looks at fewer levels, or is further in. The walk came to those of the numbers so far.
-use Rattle.std.proofs.Common.{◌≡◌, ◌+◌, ◌*◌, take}
+use Rattle.std.proofs.Common.{◌+◌, ◌*◌, take}
 use Rattle.x5_model.specs.Values.{key_of}
 use Rattle.x5_ops.specs.RequestViews.{request_view, subset_view}
 use Rattle.x5_holdings.specs.State.{holdings_view}
-use Rattle.x5_eval.specs.Walks.{HasMarks, IsVisitedIn}
 use Rattle.x5_eval.proofs.Walked.{Came}
 use Rattle.x5_eval.proofs.visits.Visits.+walk.Given as goal
 
