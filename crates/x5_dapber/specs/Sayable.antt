@@ -1,5 +1,5 @@
--- Values of types of messages for whose parts the code has types: each type of an attribute is an object identifier, and
--- sizes, ids and codes have four octets at most. What octets spell of a request is such a value.
+-- Values of types of messages for whose parts the code has types: each type of an attribute is an object identifier,
+-- and sizes, ids and codes have four octets at most. What octets spell of a request is such a value.
 use Rattle.std.specs.Prelude.{◌≡◌, ℕ, ◌<◌, ◌^◌, ◌==◌, Bool, true, false, List, [], ◌∷◌, All}
 use Rattle.std.specs.declared.option.Option.TheVariants.{Some}
 use Rattle.x5_model.specs.Normal.{is_oid}
@@ -75,7 +75,8 @@ IsItem n = ⊥
 
 abbrev mutual
   pub IsFilter : Node → Type 0
-  IsFilter (Chosen tag n) = pick (tag == 0) (IsItem n) (pick (tag == 1) (HasFilters n) (pick (tag == 2) (HasFilters n) (IsFilter n)))
+  IsFilter (Chosen tag n) =
+      pick (tag == 0) (IsItem n) (pick (tag == 1) (HasFilters n) (pick (tag == 2) (HasFilters n) (IsFilter n)))
   IsFilter n = ⊥
 
   pub HasFilters : Node → Type 0
@@ -103,7 +104,8 @@ AreParts code ns =
     pick (code == 1) (OfThree (λ name selection controls. IsSelection selection) ns)
     (pick (code == 2) (OfThree (λ name assertion controls. IsAssertion assertion) ns)
     (pick (code == 4) (OfTwo (λ name controls. Unit {0}) ns)
-    (pick (code == 5) (OfFive (λ base subset filter selection controls. IsCount subset × IsFilter filter × IsSelection selection) ns)
+    (pick (code == 5) (OfFive (λ base subset filter selection controls. IsCount subset × IsFilter filter
+    × IsSelection selection) ns)
     (pick (code == 6) (OfThree (λ name attributes controls. All IsAttribute (parts attributes)) ns)
     (pick (code == 7) (OfTwo (λ name controls. Unit {0}) ns)
     (pick (code == 8) (OfThree (λ name changes controls. All IsChange (parts changes)) ns)
@@ -114,5 +116,6 @@ IsArgument code n = AreControls (last_node (parts n)) × AreParts code (parts n)
 
 abbrev pub IsRequest : Node → Type 0
 IsRequest (Chosen tag n) =
-    OfThree (λ id code argument. IsCount id × IsCount code × IsArgument (in_option 0 (λ k. k) (number_in code)) argument) (parts n)
+    OfThree (λ id code argument. IsCount id × IsCount code
+    × IsArgument (in_option 0 (λ k. k) (number_in code)) argument) (parts n)
 IsRequest n = ⊥

@@ -4,7 +4,7 @@ pub mod Within
 pub mod Chosen
 pub mod Gathering
 pub mod Joining
-pub mod Visits
+pub mod Visiting
 pub mod Ordered
 pub mod Descending
 pub mod Showing
@@ -22,3 +22,8 @@ pub mod Answered
 pub mod Resting
 pub mod Leaving
 pub mod Wholes
+pub mod Parting
+pub mod Numbered
+pub mod Choosing
+pub mod Unders
+pub mod Walked

@@ -5,3 +5,4 @@ pub mod Numbers
 pub mod Spots
 pub mod Rest
 pub mod Visited
+pub mod Walks

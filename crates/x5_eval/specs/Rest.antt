@@ -1,5 +1,5 @@
--- The references for the rest of a list or search, piece by piece: those to pins below a context, and those for an NSSR (X.518,
--- section 19.3). Where a list is put in order afterwards, only the order of those that tie is of account.
+-- The references for the rest of a list or search, piece by piece: those to pins below a context, and those for an NSSR
+-- (X.518, section 19.3). Where a list is put in order afterwards, only the order of those that tie is of account.
 use Rattle.std.specs.Prelude.{◌≡◌, ℕ, ◌+◌, nat_lt, Bool, true, if◌then◌else◌, List, [], ◌∷◌, ◌++◌, map, slice_get}
 use Rattle.std.specs.List.{filter, list_all}
 use Rattle.std.specs.List.Sorted.{ties}
@@ -17,7 +17,8 @@ use Rattle.x5_model_tree.specs.World.{Specific, Nssr}
 use Rattle.x5_model_tree.specs.Tree.{entry_at}
 use Rattle.x5_model_run.specs.Journal.{same_spelled_rdn}
 use Rattle.x5_model_run.specs.Holdings.{Held, Copy, Holdings, served}
-use Rattle.x5_model_run.specs.Needs.{reference, others, answers_root, below_needs, in_scope, to_each, treated_below, wide_needs}
+use Rattle.x5_model_run.specs.Needs.{reference, others, answers_root, below_needs, in_scope, to_each, treated_below}
+use Rattle.x5_model_run.specs.Needs.{wide_needs}
 use Rattle.x5_model_serve.specs.Answering.{taken_before}
 use Rattle.x5_holdings.specs.Runs.{run_of}
 use Rattle.x5_eval.specs.Numbers.{counts, in_reach, own_place}
@@ -98,7 +99,8 @@ copy_last r h k = if counts r h k then last_in k.held.prefix else []
 abbrev pub pin_last : Specific → List Rdn
 pin_last k = last_in k.pin
 
--- the pins just below an entry of a context that the agent answers itself, or asks for by a subordinate reference of the context
+-- the pins just below an entry of a context that the agent answers itself, or asks for by a subordinate reference of
+-- the context
 abbrev pub treated_pins : Request → Holdings → List Specific → Key → List Name
 treated_pins r h ks at = filter (λ p. is_child at (key_of p)) (map (λ d. d.prefix) (served r h) ++ map (λ k. k.pin) ks)
 

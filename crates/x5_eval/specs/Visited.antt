@@ -16,6 +16,11 @@ abbrev pub order : (ℕ → List ℕ) → Bool → ℕ → List ℕ → List ℕ
 order next behind zero level = level
 order next behind (suc n) level = flat_map (λ c. place_beside behind c (order next behind n (next c))) level
 
+-- what is so many levels deep below a context, without itself
+abbrev pub below : (ℕ → List ℕ) → Bool → ℕ → ℕ → List ℕ
+below next behind zero c = []
+below next behind (suc n) c = order next behind n (next c)
+
 -- a list, and of others those that it doesn't have yet
 abbrev pub adds : List ℕ → List ℕ → List ℕ
 adds before [] = before
@@ -57,3 +62,9 @@ abbrev pub IsVisited : (ℕ → List ℕ) → (ℕ → ℕ) → ℕ → List ℕ
 IsVisited next rank deep cs old new =
     (pending : List ℕ) → AreAbove rank pending cs → IsSound next rank pending old
     → IsVisit next rank pending (order next false deep cs) (order next true deep cs) old new
+
+-- of a context that the walk is at it came to what is as deep below
+abbrev pub IsDescended : (ℕ → List ℕ) → (ℕ → ℕ) → ℕ → ℕ → Walked → Walked → Type 0
+IsDescended next rank deep c old new =
+    (pending : List ℕ) → AreAbove rank pending (c ∷ []) → IsSound next rank (c ∷ pending) old
+    → IsVisit next rank (c ∷ pending) (below next false deep c) (below next true deep c) old new

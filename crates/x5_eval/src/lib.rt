@@ -4,11 +4,13 @@
 
 mod exclusions;
 mod naming;
+mod numbers;
 mod points;
 mod reading;
 mod references;
 mod scope;
 mod shown;
 mod subsets;
+mod visits;
 
 pub use reading::{read_copy, read_own};

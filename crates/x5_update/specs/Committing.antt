@@ -1,5 +1,5 @@
--- What is committed of an update: the context of its target changes, and the change is noted in that context's log with the
--- agent's moment; nothing else does (X.511, section 11; X.525, section 9).
+-- What is committed of an update: the context of its target changes, and the change is noted in that context's log with
+-- the agent's moment; nothing else does (X.511, section 11; X.525, section 9).
 use Rattle.std.specs.Prelude.{◌≡◌, ℕ, slice_get, slice_set}
 use Rattle.std.specs.declared.option.Option.TheVariants.{Some}
 use Rattle.x5_model.specs.Requests.{Request}

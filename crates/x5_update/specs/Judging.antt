@@ -1,5 +1,5 @@
--- What the master of an update's target makes of it by what it holds and knows itself: it refuses it, or passes it once the
--- agents of a reference, if one is due, are probed (X.511, section 11; X.518, section 19.1).
+-- What the master of an update's target makes of it by what it holds and knows itself: it refuses it, or passes it once
+-- the agents of a reference, if one is due, are probed (X.511, section 11; X.518, section 19.1).
 use Rattle.std.specs.Prelude.{◌≡◌, ℕ, true, List, [], ◌∷◌}
 use Rattle.std.specs.declared.option.Option.{Option}
 use Rattle.std.specs.declared.option.Option.TheVariants.{None, Some}

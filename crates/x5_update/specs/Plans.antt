@@ -1,5 +1,5 @@
--- An update that the master's ground passes, as a change of the target's context and as the step that its log keeps (X.511,
--- section 11; X.525, section 9). Steps name entries as the master spells them, which is this project's own.
+-- An update that the master's ground passes, as a change of the target's context and as the step that its log keeps
+-- (X.511, section 11; X.525, section 9). Steps name entries as the master spells them, which is this project's own.
 use Rattle.std.specs.Prelude.{◌≡◌, ℕ, Bool, not, ◌&&◌, ◌++◌, ◌∷◌, [], slice_get, IsTrue, List, length}
 use Rattle.std.specs.declared.option.Option.TheVariants.{Some}
 use Rattle.std.specs.declared.result.Result.{Result}
@@ -46,7 +46,8 @@ IsChangeOf c body change = ⊥
 -- the step that tells it
 abbrev pub IsStepOf : Kept → Body → Step → Type 0
 IsStepOf c (AddEntry name attributes) (steps.Add e) =
-    (above : Named) × (entry_at (entries_of c.nodes.nodes) (parent (key_of name)) ≡ Some above) × (e ≡ new_entry above name attributes)
+    (above : Named) × (entry_at (entries_of c.nodes.nodes) (parent (key_of name)) ≡ Some above)
+    × (e ≡ new_entry above name attributes)
 IsStepOf c (RemoveEntry name) (steps.Remove n) =
     (old : Named) × (entry_at (entries_of c.nodes.nodes) (key_of name) ≡ Some old) × (n ≡ old.name)
 IsStepOf c (ModifyEntry name list) (steps.Modify e) =

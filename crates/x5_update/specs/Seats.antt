@@ -1,5 +1,5 @@
--- The target of an update at its master: the context whose prefix is the longest pin on the way that the agent knows, and the
--- node of the target's entry there (X.518, section 18).
+-- The target of an update at its master: the context whose prefix is the longest pin on the way that the agent knows,
+-- and the node of the target's entry there (X.518, section 18).
 use Rattle.std.specs.Prelude.{◌≡◌, ℕ, true, slice_get}
 use Rattle.std.specs.declared.option.Option.TheVariants.{Some}
 use Rattle.x5_model.specs.Keys.{Key}

@@ -6,7 +6,7 @@ use Rattle.std.proofs.lemmas.List.{get_or-set_same, get_or-set_other}
 use Rattle.x5_model.specs.Words.{has}
 use Rattle.x5_model.specs.Members.{In, here, there}
 use Rattle.x5_model.proofs.Lists.{true_or_false, or_left, or_right, either_true, in_first, in_left, in_right, in_either, in_flat, of_flat}
-use Rattle.x5_eval.specs.Visited.{place_beside, order, adds, Walked, IsDone, IsSound, AreAbove, IsVisit, IsVisited}
+use Rattle.x5_eval.specs.Visited.{place_beside, order, adds, Walked, IsDone, IsSound, AreAbove, IsVisit, IsVisited, IsDescended, below}
 
 -- ---- lists of numbers
 
@@ -219,7 +219,6 @@ module _ (next : ℕ → List ℕ) (rank : ℕ → ℕ) where
   module _ (n c : ℕ) (v v1 v2 v3 : Walked) (pre post : List ℕ)
       (first : order next false n (c ∷ []) ≡ c ∷ pre) (last : order next true n (c ∷ []) ≡ post ++ c ∷ [])
       (alike : (d : ℕ) → In d post → In d pre)
-      (rising : AreAbove rank (c ∷ []) (next c))
       (room : c < length v.seen)
       (seen_is : v1.seen ≡ set v.seen c (suc n))
       (entered_is : (get_or v.seen c 0 ≡ 0 → v1.entered ≡ v.entered ++ c ∷ []) × (0 < get_or v.seen c 0 → v1.entered ≡ v.entered))
@@ -227,7 +226,7 @@ module _ (next : ℕ → List ℕ) (rank : ℕ → ℕ) where
       (seen_then : v3.seen ≡ v2.seen)
       (entered_then : v3.entered ≡ v2.entered)
       (left_then : (get_or v.seen c 0 ≡ 0 → v3.left ≡ v2.left ++ c ∷ []) × (0 < get_or v.seen c 0 → v3.left ≡ v2.left))
-      (visited : (pending : List ℕ) → AreAbove rank pending (next c) → IsSound next rank pending v1 → IsVisit next rank pending pre post v1 v2)
+      (visited : (pending : List ℕ) → AreAbove rank pending (c ∷ []) → IsSound next rank (c ∷ pending) v1 → IsVisit next rank (c ∷ pending) pre post v1 v2)
       (pending : List ℕ) (above : AreAbove rank pending (c ∷ [])) (sound : IsSound next rank pending v) where
     seen_here : get_or v1.seen c 0 ≡ suc n
     seen_here = ap (λ (l : List ℕ). get_or l c 0) seen_is ∙ get_or-set_same v.seen c (suc n) 0 room
@@ -262,12 +261,6 @@ module _ (next : ℕ → List ℕ) (rank : ℕ → ℕ) where
     abbrev within : List ℕ
     within = c ∷ pending
 
-    above_next : AreAbove rank within (next c)
-    above_next p d i j = elim (in_first p c pending i) [
-      | inl e ↦ rising p d (subst (λ (x : ℕ). In x (c ∷ [])) (sym e) here) j
-      | inr k ↦ (let l : rank p < rank c = above p c k here in let m : rank c < rank d = rising c d here j in omega (arith, l, m))
-    ]
-
     not_here : (x : ℕ) → (In x within → ⊥) → x ≡ c → ⊥
     not_here x f e = f (subst (λ (y : ℕ). In y within) (sym e) here)
 
@@ -297,7 +290,7 @@ module _ (next : ℕ → List ℕ) (rank : ℕ → ℕ) where
         known x (inr i) = old_known x (inr (subst (λ (l : List ℕ). In x l) left_is i))
 
     deep_visit : IsVisit next rank within pre post v1 v2
-    deep_visit = visited within above_next sound_one
+    deep_visit = visited pending above sound_one
 
     not_below : In c pre → ⊥
     not_below i = (let l : rank c < rank c = deep_visit.below c c here i in omega (arith, l))
@@ -376,3 +369,48 @@ module _ (next : ℕ → List ℕ) (rank : ℕ → ℕ) where
           ap (λ (l : List ℕ). get_or l p 0) seen_then ∙ deep_visit.kept p (there i)
           ∙ seen_there p (λ e. not_pending pending c above (subst (λ (x : ℕ). In x pending) e i)));
     }
+
+  -- ---- what is below one
+  below_first : (n c : ℕ) → order next false n (c ∷ []) ≡ c ∷ below next false n c
+  below_first zero c = refl
+  below_first (suc n) c = order_one next false n c
+
+  below_last : (n c : ℕ) → order next true n (c ∷ []) ≡ below next true n c ++ c ∷ []
+  below_last zero c = refl
+  below_last (suc n) c = order_one next true n c
+
+  below_alike : (n c d : ℕ) → In d (below next true n c) → In d (below next false n c)
+  below_alike zero c d i = i
+  below_alike (suc n) c d i = other_order next n (next c) d i
+
+  pub descended_none : (c : ℕ) (v : Walked) → IsDescended next rank 0 c v v
+  descended_none c v pending above sound = record {
+    comes = refl;
+    leaves = refl;
+    sound = sound;
+    below = λ p d i j. elim j [ ];
+    kept = λ p i. refl;
+  }
+
+  pub descended_some : (n c : ℕ) (v w : Walked) → AreAbove rank (c ∷ []) (next c) → IsVisited next rank n (next c) v w
+      → IsDescended next rank (suc n) c v w
+  descended_some n c v w rising visited pending above sound = visited (c ∷ pending) above_next sound
+    where
+      above_next : AreAbove rank (c ∷ pending) (next c)
+      above_next p d i j = elim (in_first p c pending i) [
+        | inl e ↦ rising p d (subst (λ (x : ℕ). In x (c ∷ [])) (sym e) here) j
+        | inr k ↦ (let l : rank p < rank c = above p c k here in let m : rank c < rank d = rising c d here j in omega (arith, l, m))
+      ]
+
+  pub visit_through : (n c : ℕ) (v v1 v2 v3 : Walked)
+      → c < length v.seen
+      → v1.seen ≡ set v.seen c (suc n)
+      → (get_or v.seen c 0 ≡ 0 → v1.entered ≡ v.entered ++ c ∷ []) × (0 < get_or v.seen c 0 → v1.entered ≡ v.entered)
+      → v1.left ≡ v.left
+      → v3.seen ≡ v2.seen
+      → v3.entered ≡ v2.entered
+      → (get_or v.seen c 0 ≡ 0 → v3.left ≡ v2.left ++ c ∷ []) × (0 < get_or v.seen c 0 → v3.left ≡ v2.left)
+      → IsDescended next rank n c v1 v2 → IsVisited next rank n (c ∷ []) v v3
+  visit_through n c v v1 v2 v3 room seen entered left seen_then entered_then left_then descended =
+      visit_new n c v v1 v2 v3 (below next false n c) (below next true n c) (below_first n c) (below_last n c) (below_alike n c)
+      room seen entered left seen_then entered_then left_then descended
