@@ -112,8 +112,6 @@ fn agent_with(
         specific,
         cross,
         crosses,
-        specific_keys: _,
-        cross_keys: _,
     } = references;
     DescribedAgent {
         spec: AgentSpec {

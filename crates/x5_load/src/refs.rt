@@ -24,18 +24,36 @@ use x5_world_members::{
 /// Shadow agents of a reference at most.
 const MOST_SHADOWS: u32 = 8;
 
-/// References of an agent so far: those of each kind, no two to one name, and of each in the order of the file whether it's a cross
-/// reference. A name is found among those of a kind without a walk through the others.
+/// References of an agent: those of each kind, and of each in the order of the file whether it's a cross reference.
 #[derive(Drop)]
 pub(crate) struct References {
     pub(crate) specific: Vec<Specific>,
     pub(crate) cross: Vec<Cross>,
     pub(crate) crosses: Vec<bool>,
-    pub(crate) specific_keys: KeySet,
-    pub(crate) cross_keys: KeySet,
 }
 
 impl Model for References {
+    ghost use Rattle.std.specs.Prelude.{map};
+    ghost use Rattle.x5_model_world.specs.AgentText as model;
+    ghost use Rattle.x5_ops.specs.KnowledgeViews.{specific_view, cross_view};
+
+    ghost Value = { model.References };
+
+    ghost view = { λ r. record { subordinate = map specific_view r.specific.items; cross = map cross_view r.cross.items; crosses = r.crosses.items } };
+}
+
+/// References of an agent so far: those of each kind, no two to one name, and of each in the order of the file whether it's a cross
+/// reference. A name is found among those of a kind without a walk through the others.
+#[derive(Drop)]
+struct KeyedReferences {
+    specific: Vec<Specific>,
+    cross: Vec<Cross>,
+    crosses: Vec<bool>,
+    specific_keys: KeySet,
+    cross_keys: KeySet,
+}
+
+impl Model for KeyedReferences {
     ghost use Rattle.std.specs.Prelude.{◌≡◌, map};
     ghost use Rattle.x5_model_world.specs.AgentText as model;
     ghost use Rattle.x5_ops.specs.KnowledgeViews.{specific_view, cross_view};
@@ -60,12 +78,23 @@ fn is_cross(word: &str) -> Option<bool>
     None
 }
 
-impl References {
-    /// No references yet. No memory.
-    fn new(alloc: Global) -> References
-        ensures { result ≡ model.no_references }
+impl KeyedReferences {
+    /// The references themselves. No memory.
+    fn into_references(self) -> References
+        ensures { result ≡ self }
     {
         References {
+            specific: self.specific,
+            cross: self.cross,
+            crosses: self.crosses,
+        }
+    }
+
+    /// No references yet. No memory.
+    fn new(alloc: Global) -> KeyedReferences
+        ensures { result ≡ model.no_references }
+    {
+        KeyedReferences {
             specific: Vec::new(alloc),
             cross: Vec::new(alloc),
             crosses: Vec::new(alloc),
@@ -88,11 +117,11 @@ impl References {
 
     /// The references with one more cross reference, to whose name there is none.
     #[tactic(auto, using(crate::proofs::Pins::cross_more, crate::proofs::Pins::cross_keys))]
-    fn with_cross(self, pin: Name, access: Access) -> Result<References, NoMemory>
+    fn with_cross(self, pin: Name, access: Access) -> Result<KeyedReferences, NoMemory>
         requires { has_key (model.pin_keys self.cross) (key_of pin) ≡ false }
         ensures { IfOk result (λ r. r ≡ model.with_reference self true (record { pin = pin; access = access })) }
     {
-        let References {
+        let KeyedReferences {
             specific,
             mut cross,
             mut crosses,
@@ -103,7 +132,7 @@ impl References {
         cross_keys.add(key)?;
         crosses.push(true)?;
         cross.push(Cross { pin, access })?;
-        Ok(References {
+        Ok(KeyedReferences {
             specific,
             cross,
             crosses,
@@ -119,11 +148,11 @@ impl References {
         alloc: Global,
         pin: Name,
         access: Access,
-    ) -> Result<References, NoMemory>
+    ) -> Result<KeyedReferences, NoMemory>
         requires { has_key (model.pin_keys self.subordinate) (key_of pin) ≡ false }
         ensures { IfOk result (λ r. r ≡ model.with_reference self false (record { pin = pin; access = access })) }
     {
-        let References {
+        let KeyedReferences {
             mut specific,
             cross,
             mut crosses,
@@ -139,7 +168,7 @@ impl References {
             pin,
             access,
         })?;
-        Ok(References {
+        Ok(KeyedReferences {
             specific,
             cross,
             crosses,
@@ -156,7 +185,7 @@ impl References {
         cross: bool,
         pin: Name,
         access: Access,
-    ) -> Result<References, NoMemory>
+    ) -> Result<KeyedReferences, NoMemory>
         requires { has_key (model.pin_keys (model.of_kind self cross)) (key_of pin) ≡ false }
         ensures { IfOk result (λ r. r ≡ model.with_reference self cross (record { pin = pin; access = access })) }
     {
@@ -174,7 +203,7 @@ fn reference_in(
     alloc: Global,
     names: &AgentNames,
     place: &Place<'_>,
-    before: &References,
+    before: &KeyedReferences,
     value: &Value,
 ) -> Result<(bool, Name, Access), LoadFault>
     ensures read { Reads (λ r. model.with_reference before.now r.0 (record { pin = r.1; access = r.2 })) result (model.reference_behind names.now (path_of place.now) before.now (view value.now)) }
@@ -208,13 +237,29 @@ fn reference_behind(
     alloc: Global,
     names: &AgentNames,
     place: &Place<'_>,
-    before: References,
+    before: KeyedReferences,
     value: &Value,
-) -> Result<References, LoadFault>
+) -> Result<KeyedReferences, LoadFault>
     ensures { Reads (λ r. r) result (model.reference_behind names.now (path_of place.now) before (view value.now)) }
 {
     let (cross, pin, access) = reference_in(alloc, names, place, &before, value)?;
     let references = before.with(alloc, cross, pin, access)?;
+    Ok(references)
+}
+
+/// The references that a list describes, with the keys of their names.
+fn keyed_behind(
+    alloc: Global,
+    names: &AgentNames,
+    place: &Place<'_>,
+    items: &[Value],
+) -> Result<KeyedReferences, LoadFault>
+    ensures { Reads (λ r. r) result (model.references_behind names.now (path_of place.now) 0 model.no_references (items_view items.now)) }
+{
+    let mut references = KeyedReferences::new(alloc);
+    for (i, item) in items.iter().enumerate() {
+        references = reference_behind(alloc, names, &Place::Item(&*place, i), references, item)?;
+    }
     Ok(references)
 }
 
@@ -227,9 +272,6 @@ pub(crate) fn references_behind(
 ) -> Result<References, LoadFault>
     ensures { Reads (λ r. r) result (model.references_behind names.now (path_of place.now) 0 model.no_references (items_view items.now)) }
 {
-    let mut references = References::new(alloc);
-    for (i, item) in items.iter().enumerate() {
-        references = reference_behind(alloc, names, &Place::Item(&*place, i), references, item)?;
-    }
-    Ok(references)
+    let keyed = keyed_behind(alloc, names, place, items)?;
+    Ok(keyed.into_references())
 }

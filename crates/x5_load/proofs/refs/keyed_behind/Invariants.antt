@@ -2,7 +2,7 @@ use Rattle.std.proofs.Common.{◌≡◌, drop}
 use Rattle.serde_json.specs.View.{items_view}
 use Rattle.x5_model_world.specs.AgentText as model
 use Rattle.x5_world_members.specs.Paths.{path_of}
-use Rattle.x5_load.proofs.refs.references_behind.Given as goal
+use Rattle.x5_load.proofs.refs.keyed_behind.Given as goal
 
 abbrev pub invariant-loop-i : goal.invariant-loop-i
 invariant-loop-i l =
