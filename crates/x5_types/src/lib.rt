@@ -2,6 +2,7 @@
 //! contents say (X.690, section 8).
 #![tactic(auto)]
 
+mod alike;
 mod bits;
 mod component;
 mod form;
@@ -10,10 +11,10 @@ mod leaf;
 mod node;
 mod number;
 mod oid;
-mod same;
 mod table;
 mod text;
 
+pub use crate::alike::same;
 pub use crate::bits::read_bits;
 pub use crate::form::{
     Alternative, BitLeaf, Choices, Codes, Component, Content, Given, Leaf, Letters, Named, Numbers,
@@ -23,7 +24,6 @@ pub use crate::leaf::{leaf_node, read_leaf};
 pub use crate::node::{Bytes, Characters, Node};
 pub use crate::number::is_among;
 pub use crate::oid::is_short;
-pub use crate::same::same;
 pub use crate::table::{BIT_SEGMENT, SEGMENT, layout};
 pub use crate::text::{is_length, is_numeric, is_printable, is_text};
 pub use x5_memory::NoMemory;

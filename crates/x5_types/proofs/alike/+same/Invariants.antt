@@ -3,7 +3,7 @@ use Rattle.std.proofs.Common.{◌≡◌, drop, length, map}
 use Rattle.std.specs.Cmp.Lexicographic.{pointwise}
 use Rattle.x5_model_typed.specs.Nodes as nodes
 use Rattle.x5_types.specs.NodeView.{node_view}
-use Rattle.x5_types.proofs.same.+same.Given as goal
+use Rattle.x5_types.proofs.alike.+same.Given as goal
 
 abbrev pub invariant-loop-i : goal.invariant-loop-i
 invariant-loop-i l =

@@ -5,7 +5,7 @@ use Rattle.x5_model_typed.specs.Nodes as nodes
 use Rattle.x5_types.specs.declared.node.Node.{Node}
 use Rattle.x5_types.specs.NodeView.{node_view}
 use Rattle.x5_types.proofs.Sameness.{same_lengths, same_many, uneven, vec_lengths}
-use Rattle.x5_types.proofs.same.+same.Goals as goal
+use Rattle.x5_types.proofs.alike.+same.Goals as goal
 
 pub returns-then-len : goal.returns-then-len
 returns-then-len t c =
