@@ -14,7 +14,8 @@ use crate::plans::planned;
 use crate::probes::probe;
 use std::alloc::Global;
 use x5_holdings::Holdings;
-use x5_ops::{AgentNames, Chained, ChangeFault, Reference};
+use x5_know::AgentNames;
+use x5_ops::{Chained, ChangeFault, Reference};
 
 /// Judges an update at the agent that has its target, and does nothing (X.511, section 11; X.518, section 19.1). By what the
 /// agent holds and knows itself it's refused, with the first error; or it's passed, with the reference to the agents that are to

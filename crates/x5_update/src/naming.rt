@@ -7,8 +7,9 @@ ghost use Rattle.x5_model_run.specs.Needs as needs;
 ghost use Rattle.x5_ops.specs.ReferenceViews.{access_view};
 
 use std::alloc::Global;
+use x5_know::AgentNames;
 use x5_memory::NoMemory;
-use x5_ops::{AccessList, AccessPoint, AgentId, AgentList, AgentNames, Listed};
+use x5_ops::{AccessList, AccessPoint, AgentId, AgentList, Listed};
 
 /// The agent as one that a reference names.
 fn point(names: &AgentNames, agent: AgentId) -> Result<AccessPoint, NoMemory>

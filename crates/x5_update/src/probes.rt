@@ -14,9 +14,10 @@ use crate::naming::others;
 use crate::values::{copied_name, last_of, new_name};
 use std::alloc::Global;
 use x5_holdings::{Held, Holdings};
+use x5_know::AgentNames;
 use x5_memory::NoMemory;
 use x5_names::Name;
-use x5_ops::{AccessList, AgentNames, Body, Listed, Progress, RefType, Reference};
+use x5_ops::{AccessList, Body, Listed, Progress, RefType, Reference};
 
 /// The new name that an update gives an entry; none where it gives none.
 fn new_name_of(alloc: Global, body: &Body) -> Result<Option<Name>, NoMemory>
