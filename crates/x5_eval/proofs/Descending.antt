@@ -15,7 +15,7 @@ use Rattle.x5_model_serve.specs.Walking.{just_under, beside, descent, each_once}
 use Rattle.x5_eval.specs.Visited.{place_beside, order, adds}
 use Rattle.x5_eval.proofs.Gathering.{filter_joined}
 use Rattle.x5_eval.proofs.Ordered.{filters_swapped}
-use Rattle.x5_eval.proofs.Visits.{add, of_has_number}
+use Rattle.x5_eval.proofs.Visiting.{add, of_has_number}
 
 -- ---- the descent
 module _ (held : ℕ → Held) (next : ℕ → List ℕ) (all : List Held) (base : Key) (subset : Subset)

@@ -4,7 +4,7 @@ pub mod Within
 pub mod Chosen
 pub mod Gathering
 pub mod Joining
-pub mod Visits
+pub mod Visiting
 pub mod Ordered
 pub mod Descending
 pub mod Showing
@@ -14,3 +14,16 @@ pub mod Firsts
 pub mod Entering
 pub mod Rises
 pub mod Classes
+pub mod Adding
+pub mod Picking
+pub mod Taking
+pub mod Excluding
+pub mod Answered
+pub mod Resting
+pub mod Leaving
+pub mod Wholes
+pub mod Parting
+pub mod Numbered
+pub mod Choosing
+pub mod Unders
+pub mod Walked

@@ -37,7 +37,7 @@ at_numbers {A} key place g n (x ∷ xs) f = λ i.
     plus_one n j = omega arith
 
 -- the numbers of a list
-numbers_within : (key : Key) (n : ℕ) (keys : List Key) (r : KeyRow) → In r (rows_from n keys) → (n ≤ r.1) × (r.1 < n + length keys)
+pub numbers_within : (key : Key) (n : ℕ) (keys : List Key) (r : KeyRow) → In r (rows_from n keys) → (n ≤ r.1) × (r.1 < n + length keys)
 numbers_within key n [] r i = elim i [ ]
 numbers_within key n (k ∷ keys) r i = elim (in_first r (k, n) (rows_from (n + 1) keys) i) [
   | inl e ↦ (let s : r.1 ≡ n = ap (λ (x : KeyRow). x.1) e in (omega (arith, s), omega (arith, s)))

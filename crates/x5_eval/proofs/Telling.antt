@@ -79,7 +79,7 @@ entry_of_node (n ∷ ns) key = by (same_key (node_key n) key) (entry_of_node ns 
     by true e = refl
     by false e = e
 
-entries_ascending : (nodes : List Node) → ascending node_below nodes ≡ true → ascending named_below (entries_of nodes)
+pub entries_ascending : (nodes : List Node) → ascending node_below nodes ≡ true → ascending named_below (entries_of nodes)
     ≡ true
 entries_ascending [] h = refl
 entries_ascending (n ∷ []) h = refl

@@ -1,13 +1,15 @@
--- The contexts that an agent holds by numbers: those that it masters by their places, its copies behind them (X.518, section
+-- The contexts that an agent holds by numbers: those that it masters by their places, its copies behind them (X.518,
+-- section
 -- 19.3: evaluation of list and search). The numbers are this project's own.
-use Rattle.std.specs.Prelude.{ℕ, ◌+◌, ◌-◌, nat_lt, Bool, true, not, ◌&&◌, ◌==◌, if◌then◌else◌, List, [], ◌++◌, length, map, slice_get}
+use Rattle.std.specs.Prelude.{ℕ, ◌+◌, ◌-◌, nat_lt, Bool, true, not, ◌&&◌, ◌||◌, ◌==◌, if◌then◌else◌, List, [], ◌++◌}
+use Rattle.std.specs.Prelude.{length, map, slice_get}
 use Rattle.std.specs.List.{filter}
 use Rattle.std.specs.Option.{is_some}
 use Rattle.std.specs.declared.option.Option.{Option}
 use Rattle.std.specs.declared.option.Option.TheVariants.{None, Some}
 use Rattle.x5_model.specs.Words.{in_option, sorted, first_of}
 use Rattle.x5_model.specs.Keys.{Key, key_below, is_prefix, parent}
-use Rattle.x5_model.specs.Values.{key_of}
+use Rattle.x5_model.specs.Values.{Name, key_of}
 use Rattle.x5_model.specs.Requests.{Subset, Request}
 use Rattle.x5_model_tree.specs.Tree.{is_there}
 use Rattle.x5_model_tree.specs.Ask.{in_subset}
@@ -36,6 +38,19 @@ held_number h n = in_option (copy_number h n).held (λ c. c) (slice_get h.own n)
 
 abbrev pub pin_number : Holdings → ℕ → Key
 pin_number h n = key_of (held_number h n).prefix
+
+-- its prefix, as it's spelled where it stands; past the last another name
+abbrev pub prefix_number : Holdings → Name → ℕ → Name
+prefix_number h other n =
+    in_option (in_option other (λ k. k.held.prefix) (slice_get h.copies (n - length h.own))) (λ c. c.prefix)
+    (slice_get h.own n)
+
+-- something is held there, and of when it is: a copy's stamp
+abbrev pub is_held : Holdings → ℕ → Bool
+is_held h n = nat_lt n (length h.own) || is_some (copy_number h n).stamp
+
+abbrev pub stamp_number : Holdings → ℕ → Option ℕ
+stamp_number h n = if nat_lt n (length h.own) then None else (copy_number h n).stamp
 
 -- the request may be answered from the copy, and its context isn't mastered
 abbrev pub counts : Request → Holdings → Copy → Bool

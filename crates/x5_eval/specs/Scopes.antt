@@ -1,5 +1,5 @@
--- The entries of one context that a list or search asks for (X.511, section 10): those in the subset below the base, and of a
--- search those for which its filter is true.
+-- The entries of one context that a list or search asks for (X.511, section 10): those in the subset below the base,
+-- and of a search those for which its filter is true.
 use Rattle.std.specs.Prelude.{ℕ, Bool, false, ◌&&◌, ◌↔◌, List, map}
 use Rattle.std.specs.List.{filter}
 use Rattle.x5_model.specs.Words.{in_option}

@@ -1,5 +1,5 @@
--- What one context shows of a list or search, with the context as the source (X.511, section 10; X.518, section 19). The
--- stamp is that of a copy.
+-- What one context shows of a list or search, with the context as the source (X.511, section 10; X.518, section 19).
+-- The stamp is that of a copy.
 use Rattle.std.specs.Prelude.{ℕ, false, ◌&&◌, List, [], ◌∷◌, map}
 use Rattle.std.specs.List.{filter}
 use Rattle.std.specs.Option.{is_some}

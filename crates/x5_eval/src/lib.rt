@@ -2,10 +2,15 @@
 //! a read or compare, with its source.
 #![tactic(auto)]
 
+mod exclusions;
 mod naming;
+mod numbers;
+mod points;
 mod reading;
+mod references;
 mod scope;
 mod shown;
 mod subsets;
+mod visits;
 
 pub use reading::{read_copy, read_own};

@@ -7,17 +7,20 @@ ghost use Rattle.x5_model.specs.Values.{key_of};
 ghost use Rattle.x5_model.specs.Words.{distinct, same_octets, sorted};
 ghost use Rattle.x5_model_tree.specs.Ask as model;
 ghost use Rattle.x5_model_tree.specs.Tree.{key_at};
-ghost use Rattle.x5_model_serve.specs.Answering.{before_info};
+ghost use Rattle.x5_model_run.specs.Placed.{is_query_below};
+ghost use Rattle.x5_model_serve.specs.Answering.{before_info, is_in_order};
 ghost use Rattle.x5_match.specs.FilterView.{filter_view};
 ghost use Rattle.x5_ops.specs.AnswerViews.{answer_view, info_view, outcome_view, source_view, sub_view};
+ghost use Rattle.x5_ops.specs.ReferenceViews.{chained_view};
 ghost use Rattle.x5_ops.specs.RequestViews.{body_view, selection_view, subset_view};
 ghost use Rattle.x5_dse.specs.Linked.{entries_of, is_live};
-ghost use Rattle.x5_eval.specs.Shown.{nothing_by, whole};
-ghost use Rattle.x5_eval.specs.Spots.{AreLive, AreNamed, info_shown, sub_shown};
+ghost use Rattle.x5_eval.specs.Shown.{nothing_by, shown_by, whole};
+ghost use Rattle.x5_eval.specs.Spots.{AreLive, AreNamed, held_as, info_shown, sub_shown};
 
 use crate::naming::source;
 use crate::reading::info_at;
 use crate::scope::{nodes_found, nodes_in};
+use crate::subsets::subset_of;
 use std::alloc::Global;
 use x5_dse::{DseTree, NodeId};
 use x5_holdings::Held;
@@ -26,7 +29,8 @@ use x5_match::Filter;
 use x5_memory::NoMemory;
 use x5_names::Name;
 use x5_ops::{
-    AgentId, Answer, Body, EntryInfo, Listed, Moment, Outcome, Selection, SourceList, Sub, Subset,
+    AgentId, Answer, Body, Chained, EntryInfo, Listed, Moment, Outcome, Selection, SourceList, Sub,
+    Subset,
 };
 
 /// What a list says of the entry at the node; `copy` says that it comes from a shadow.
@@ -91,7 +95,7 @@ fn in_order(infos: Vec<EntryInfo>) -> Result<Vec<EntryInfo>, NoMemory>
 }
 
 /// What a list finds in the context, in the order of keys.
-pub(crate) fn subs_in(
+fn subs_in(
     alloc: Global,
     held: &Held,
     copy: bool,
@@ -107,7 +111,7 @@ pub(crate) fn subs_in(
 }
 
 /// What a search finds in the context, in the order of keys.
-pub(crate) fn infos_in(
+fn infos_in(
     alloc: Global,
     held: &Held,
     copy: bool,
@@ -125,7 +129,7 @@ pub(crate) fn infos_in(
 }
 
 /// The context alone as the source.
-pub(crate) fn source_alone(
+fn source_alone(
     alloc: Global,
     names: &AgentNames,
     me: AgentId,
@@ -167,5 +171,51 @@ pub(crate) fn nothing(alloc: Global, body: &Body) -> Answer
             outcome: complete(alloc),
         },
         _ => Answer::Changed,
+    }
+}
+
+/// What a context shows of a list or search: its entries that are asked for, in the order of their keys, with the context as the
+/// source, by its prefix as its holder spells it. `stamp` is that of a copy; marks say what comes from a shadow.
+pub(crate) fn part_in(
+    alloc: Global,
+    names: &AgentNames,
+    me: AgentId,
+    message: &Chained,
+    prefix: &Name,
+    held: &Held,
+    stamp: Option<Moment>,
+) -> Result<Answer, NoMemory>
+    requires there { me < length names.now }
+    requires apart { distinct same_octets names.now ≡ true }
+    requires query { is_query_below (body_view message.now.request.body) ≡ true }
+    ensures part { IfOk result (λ a. answer_view names.now a ≡ shown_by (body_view message.now.request.body) (chained_view names.now message.now) me stamp (held_as prefix.now held.now)) }
+    ensures order { IfOk result (λ a. is_in_order (answer_view names.now a) ≡ true) }
+{
+    let Some(subset) = subset_of(message) else {
+        unreachable!()
+    };
+    let sources = source_alone(alloc, names, me, prefix, stamp)?;
+    let outcome = complete(alloc);
+    let _ = held.tree().len();
+    let copy = stamp.is_some();
+    let base = &message.target;
+    match &message.request.body {
+        Body::List { .. } => Ok(Answer::Listed {
+            subs: Listed::from_vec(subs_in(alloc, held, copy, base, subset)?),
+            sources,
+            outcome,
+        }),
+        Body::Search {
+            filter,
+            selection,
+            ..
+        } => Ok(Answer::Found {
+            entries: Listed::from_vec(infos_in(
+                alloc, held, copy, base, subset, filter, selection,
+            )?),
+            sources,
+            outcome,
+        }),
+        _ => unreachable!(),
     }
 }
