@@ -27,3 +27,4 @@ pub mod Numbered
 pub mod Choosing
 pub mod Unders
 pub mod Walked
+pub mod Begun

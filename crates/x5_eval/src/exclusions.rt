@@ -123,7 +123,7 @@ fn compare_pairs(a: &Pair, b: &Pair) -> Ordering
 }
 
 /// The order of the RDNs of these pairs: pair by pair, a beginning first.
-fn compare_rdns(a: &[Pair], b: &[Pair]) -> Ordering
+pub(crate) fn compare_rdns(a: &[Pair], b: &[Pair]) -> Ordering
     ensures { result ≡ rdn_cmp (key_of_rdn a.now) (key_of_rdn b.now) }
 {
     for (i, pair) in a.iter().enumerate() {

@@ -2,6 +2,7 @@
 //! a read or compare, with its source.
 #![tactic(auto)]
 
+mod beginning;
 mod exclusions;
 mod naming;
 mod numbers;

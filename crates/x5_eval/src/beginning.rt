@@ -1,0 +1,193 @@
+//! The contexts at which an agent's part of a list or search begins, by their numbers (X.518, section 19).
+
+ghost use Rattle.std.specs.Prelude.{◌≡◌, ◌&&◌, ◌==◌, ℕ, List, not, length, IfOk};
+ghost use Rattle.x5_model.specs.Keys.{Key, is_child, same_key};
+ghost use Rattle.x5_model.specs.Values.{key_of};
+ghost use Rattle.x5_model_tree.specs.Ask as model;
+ghost use Rattle.x5_model.specs.Words.{has};
+ghost use Rattle.x5_model.specs.Requests as requests;
+ghost use Rattle.x5_model_tree.specs.Tree.{is_there};
+ghost use Rattle.x5_model_run.specs.Journal.{same_spelled_rdn};
+ghost use Rattle.x5_model_run.specs.Needs as needs;
+ghost use Rattle.x5_model_run.specs.Needs.{begins_at, found_at_pin, found_at_root, found_below, found_by_name, found_in};
+ghost use Rattle.x5_ops.specs.ReferenceViews.{chained_view};
+ghost use Rattle.x5_ops.specs.RequestViews.{request_view, subset_view};
+ghost use Rattle.x5_holdings.specs.Known.{IsFirst};
+ghost use Rattle.x5_holdings.specs.State.{holdings_view};
+ghost use Rattle.x5_eval.specs.Numbers.{held_number, prefix_number};
+ghost use Rattle.x5_eval.specs.Walks.{Begins};
+
+use crate::exclusions::compare_rdns;
+use crate::numbers::{has_entry, in_order, own_within, prefix_at, served_within};
+use crate::subsets::is_in_subset;
+use std::alloc::Global;
+use x5_holdings::{Holdings, Pin};
+use x5_memory::NoMemory;
+use x5_names::{Name, Rdn};
+use x5_ops::{Chained, Progress, Subset};
+
+/// Whether a prefix has one RDN, and is in the subset. No memory.
+fn is_first_level(base: &Name, subset: Subset, prefix: &Name) -> bool
+    ensures { result ≡ ((length prefix.now == 1) && model.in_subset (subset_view subset) (key_of base.now) (key_of prefix.now)) }
+{
+    prefix.len() == 1 && is_in_subset(subset, base.key(), prefix.key())
+}
+
+/// At a first-level agent below the root: those with one RDN.
+fn at_root(
+    alloc: Global,
+    state: &Holdings,
+    message: &Chained,
+    subset: Subset,
+) -> Result<Vec<usize>, NoMemory>
+    ensures { IfOk result (λ numbers. (names : List (List ℕ)) → Begins (request_view message.now.request) (holdings_view state.now) (found_at_root (holdings_view state.now) (chained_view names message.now) (subset_view subset)) numbers.items) }
+{
+    let base = &message.target;
+    if state.superior().is_some() || !base.is_root() {
+        return Ok(Vec::new(alloc));
+    }
+    let root = Name::root(alloc);
+    let mut numbers = served_within(alloc, state, &message.request, base.rdns(), Some(1))?;
+    numbers.retain(|number| is_first_level(base, subset, prefix_at(state, *number, &root)));
+    in_order(alloc, state, numbers)
+}
+
+/// Whether the context of the number is that of the pin; past the last it's that of the other name. No memory.
+fn is_at(state: &Holdings, number: usize, pin: &Name, other: &Name) -> bool
+    ensures { result ≡ same_key (key_of (prefix_number (holdings_view state.now) other.now number)) (key_of pin.now) }
+{
+    prefix_at(state, number, other).is_same(pin)
+}
+
+/// Whether besides it has an entry of the target. No memory.
+fn has_target(state: &Holdings, number: usize, pin: &Name, target: &Name, other: &Name) -> bool
+    ensures { result ≡ (same_key (key_of (prefix_number (holdings_view state.now) other.now number)) (key_of pin.now) && is_there (held_number (holdings_view state.now) number).entries (key_of target.now)) }
+{
+    is_at(state, number, pin, other) && has_entry(state, number, target)
+}
+
+/// Those of the longest known pin on the way to the target that have the target.
+fn with_target(
+    alloc: Global,
+    state: &Holdings,
+    message: &Chained,
+    pin: &Name,
+) -> Result<Vec<usize>, NoMemory>
+    ensures { IfOk result (λ numbers. (names : List (List ℕ)) → Begins (request_view message.now.request) (holdings_view state.now) (found_in (holdings_view state.now) (chained_view names message.now) (key_of pin.now)) numbers.items) }
+{
+    let root = Name::root(alloc);
+    let target = &message.target;
+    let depth = Some(pin.len());
+    let mut numbers = served_within(alloc, state, &message.request, pin.rdns(), depth)?;
+    numbers.retain(|number| has_target(state, *number, pin, target, &root));
+    in_order(alloc, state, numbers)
+}
+
+/// The name of what is known. No memory.
+fn name_of<'a>(state: &'a Holdings, pin: Pin<'a>) -> &'a Name
+    ensures { (r : requests.Request) (key : Key) → IsFirst r (holdings_view state.now) key pin → key_of result.now ≡ key }
+{
+    match pin {
+        Pin::Own(place) => state.own()[place].prefix(),
+        Pin::Copy(place) => state.copies()[place].prefix(),
+        Pin::Subordinate(reference) => &reference.pin,
+        Pin::Cross(reference) => &reference.pin,
+    }
+}
+
+/// Whether the target is still to be resolved, and the agent holds as much of it as was resolved so far. No memory.
+fn resolves(state: &Holdings, message: &Chained) -> bool
+    ensures { (names : List (List ℕ)) → result ≡ needs.resolves (holdings_view state.now) (chained_view names message.now) }
+{
+    match message.progress {
+        Progress::NotStarted => true,
+        Progress::Proceeding(k) => state.holds_within(message.target.rdns(), k as usize),
+        Progress::Completed => false,
+    }
+}
+
+/// Where the target is still to be resolved: in the contexts of the longest known pin on the way, or below the root.
+fn by_name(
+    alloc: Global,
+    state: &Holdings,
+    message: &Chained,
+    subset: Subset,
+) -> Result<Vec<usize>, NoMemory>
+    ensures { IfOk result (λ numbers. (names : List (List ℕ)) → Begins (request_view message.now.request) (holdings_view state.now) (found_by_name (holdings_view state.now) (chained_view names message.now) (subset_view subset)) numbers.items) }
+{
+    if !resolves(state, message) {
+        return Ok(Vec::new(alloc));
+    }
+    match state.known(&message.request, message.target.rdns()) {
+        None => at_root(alloc, state, message, subset),
+        Some(pin) => with_target(alloc, state, message, name_of(state, pin)),
+    }
+}
+
+/// Whether the prefix's last RDN is excluded. No memory.
+fn is_excluded(exclusions: &[Rdn], last: &Rdn) -> bool
+    ensures { result ≡ has same_spelled_rdn exclusions.now last.now }
+{
+    exclusions
+        .iter()
+        .any(|rdn| compare_rdns(rdn.pairs(), last.pairs()).is_eq())
+}
+
+/// Whether a context of this prefix is one that a nonSpecific reference asks for: just below its entry, and not excluded. No memory.
+fn is_asked_below(exclusions: &[Rdn], base: &Name, subset: Subset, prefix: &Name) -> bool
+    ensures { result ≡ (is_child (key_of base.now) (key_of prefix.now) && (model.in_subset (subset_view subset) (key_of base.now) (key_of prefix.now) && not (needs.is_excluded exclusions.now prefix.now))) }
+{
+    let Some(last) = prefix.last() else {
+        return false;
+    };
+    is_in_subset(Subset::One, base.key(), prefix.key())
+        && is_in_subset(subset, base.key(), prefix.key())
+        && !is_excluded(exclusions, last)
+}
+
+/// Below the entry of a nonSpecific reference: those that the agent masters just below it, but for those excluded.
+fn below(
+    alloc: Global,
+    state: &Holdings,
+    message: &Chained,
+    subset: Subset,
+) -> Result<Vec<usize>, NoMemory>
+    ensures { IfOk result (λ numbers. (names : List (List ℕ)) → Begins (request_view message.now.request) (holdings_view state.now) (found_below (holdings_view state.now) (chained_view names message.now) (subset_view subset)) numbers.items) }
+{
+    let root = Name::root(alloc);
+    let base = &message.target;
+    let exclusions = message.exclusions.as_slice();
+    let mut numbers = own_within(alloc, state, base.rdns(), Some(base.len() + 1))?;
+    numbers.retain(|number| {
+        is_asked_below(exclusions, base, subset, prefix_at(state, *number, &root))
+    });
+    in_order(alloc, state, numbers)
+}
+
+/// Those of the pin that a reference named.
+fn at_pin(alloc: Global, state: &Holdings, message: &Chained) -> Result<Vec<usize>, NoMemory>
+    ensures { IfOk result (λ numbers. (names : List (List ℕ)) → Begins (request_view message.now.request) (holdings_view state.now) (found_at_pin (holdings_view state.now) (chained_view names message.now)) numbers.items) }
+{
+    let root = Name::root(alloc);
+    let pin = &message.target;
+    let depth = Some(pin.len());
+    let mut numbers = served_within(alloc, state, &message.request, pin.rdns(), depth)?;
+    numbers.retain(|number| is_at(state, *number, pin, &root));
+    in_order(alloc, state, numbers)
+}
+
+/// The contexts at which the agent's part begins, in the order of their prefixes.
+pub(crate) fn begins(
+    alloc: Global,
+    state: &Holdings,
+    message: &Chained,
+    subset: Subset,
+) -> Result<Vec<usize>, NoMemory>
+    ensures { IfOk result (λ numbers. (names : List (List ℕ)) → Begins (request_view message.now.request) (holdings_view state.now) (begins_at (holdings_view state.now) (chained_view names message.now) (subset_view subset)) numbers.items) }
+{
+    match message.progress {
+        Progress::Completed if message.kind.is_wide() => below(alloc, state, message, subset),
+        Progress::Completed => at_pin(alloc, state, message),
+        _ => by_name(alloc, state, message, subset),
+    }
+}
