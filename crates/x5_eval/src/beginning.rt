@@ -1,12 +1,14 @@
 //! The contexts at which an agent's part of a list or search begins, by their numbers (X.518, section 19).
 
-ghost use Rattle.std.specs.Prelude.{◌≡◌, ◌&&◌, ◌==◌, ℕ, List, not, length, IfOk};
-ghost use Rattle.x5_model.specs.Keys.{Key, is_child, same_key};
+ghost use Rattle.std.specs.Prelude.{◌≡◌, ◌&&◌, ◌==◌, ℕ, List, not, length, slice_get, IfOk};
+ghost use Rattle.std.specs.List.{list_any};
+ghost use Rattle.x5_model.specs.Keys.{Key, is_child, is_root, same_key};
 ghost use Rattle.x5_model.specs.Values.{key_of};
 ghost use Rattle.x5_model_tree.specs.Ask as model;
-ghost use Rattle.x5_model.specs.Words.{has};
+ghost use Rattle.x5_model.specs.Words.{in_option};
 ghost use Rattle.x5_model.specs.Requests as requests;
 ghost use Rattle.x5_model_tree.specs.Tree.{is_there};
+ghost use Rattle.x5_model_run.specs.Holdings.{is_first_level};
 ghost use Rattle.x5_model_run.specs.Journal.{same_spelled_rdn};
 ghost use Rattle.x5_model_run.specs.Needs as needs;
 ghost use Rattle.x5_model_run.specs.Needs.{begins_at, found_at_pin, found_at_root, found_below, found_by_name, found_in};
@@ -17,7 +19,7 @@ ghost use Rattle.x5_holdings.specs.State.{holdings_view};
 ghost use Rattle.x5_eval.specs.Numbers.{held_number, prefix_number};
 ghost use Rattle.x5_eval.specs.Walks.{Begins};
 
-use crate::exclusions::compare_rdns;
+use crate::exclusions::is_same;
 use crate::numbers::{has_entry, in_order, own_within, prefix_at, served_within};
 use crate::subsets::is_in_subset;
 use std::alloc::Global;
@@ -27,10 +29,17 @@ use x5_names::{Name, Rdn};
 use x5_ops::{Chained, Progress, Subset};
 
 /// Whether a prefix has one RDN, and is in the subset. No memory.
-fn is_first_level(base: &Name, subset: Subset, prefix: &Name) -> bool
+fn is_at_first_level(base: &Name, subset: Subset, prefix: &Name) -> bool
     ensures { result ≡ ((length prefix.now == 1) && model.in_subset (subset_view subset) (key_of base.now) (key_of prefix.now)) }
 {
     prefix.len() == 1 && is_in_subset(subset, base.key(), prefix.key())
+}
+
+/// Whether the agent is first-level, and the name is the root. No memory.
+fn answers_root(state: &Holdings, base: &Name) -> bool
+    ensures { result ≡ (is_first_level (holdings_view state.now) && is_root (key_of base.now)) }
+{
+    state.superior().is_none() && base.is_root()
 }
 
 /// At a first-level agent below the root: those with one RDN.
@@ -43,12 +52,12 @@ fn at_root(
     ensures { IfOk result (λ numbers. (names : List (List ℕ)) → Begins (request_view message.now.request) (holdings_view state.now) (found_at_root (holdings_view state.now) (chained_view names message.now) (subset_view subset)) numbers.items) }
 {
     let base = &message.target;
-    if state.superior().is_some() || !base.is_root() {
+    if !answers_root(state, base) {
         return Ok(Vec::new(alloc));
     }
     let root = Name::root(alloc);
     let mut numbers = served_within(alloc, state, &message.request, base.rdns(), Some(1))?;
-    numbers.retain(|number| is_first_level(base, subset, prefix_at(state, *number, &root)));
+    numbers.retain(|number| is_at_first_level(base, subset, prefix_at(state, *number, &root)));
     in_order(alloc, state, numbers)
 }
 
@@ -83,13 +92,33 @@ fn with_target(
     in_order(alloc, state, numbers)
 }
 
-/// The name of what is known. No memory.
-fn name_of<'a>(state: &'a Holdings, pin: Pin<'a>) -> &'a Name
+/// The prefix of the context that is mastered at the place, or the other one where there is none. No memory.
+fn own_name<'a>(state: &'a Holdings, place: usize, other: &'a Name) -> &'a Name
+    ensures { result.now ≡ in_option other.now (λ c. c.prefix) (slice_get (holdings_view state.now).own place) }
+{
+    match state.own().get(place) {
+        Some(held) => held.prefix(),
+        None => other,
+    }
+}
+
+/// The same of a copy. No memory.
+fn copy_name<'a>(state: &'a Holdings, place: usize, other: &'a Name) -> &'a Name
+    ensures { result.now ≡ in_option other.now (λ k. k.held.prefix) (slice_get (holdings_view state.now).copies place) }
+{
+    match state.copies().get(place) {
+        Some(copied) => copied.prefix(),
+        None => other,
+    }
+}
+
+/// The name of what is known; of a place where nothing is the other one. No memory.
+fn name_of<'a>(state: &'a Holdings, pin: Pin<'a>, other: &'a Name) -> &'a Name
     ensures { (r : requests.Request) (key : Key) → IsFirst r (holdings_view state.now) key pin → key_of result.now ≡ key }
 {
     match pin {
-        Pin::Own(place) => state.own()[place].prefix(),
-        Pin::Copy(place) => state.copies()[place].prefix(),
+        Pin::Own(place) => own_name(state, place, other),
+        Pin::Copy(place) => copy_name(state, place, other),
         Pin::Subordinate(reference) => &reference.pin,
         Pin::Cross(reference) => &reference.pin,
     }
@@ -120,17 +149,15 @@ fn by_name(
     }
     match state.known(&message.request, message.target.rdns()) {
         None => at_root(alloc, state, message, subset),
-        Some(pin) => with_target(alloc, state, message, name_of(state, pin)),
+        Some(pin) => with_target(alloc, state, message, name_of(state, pin, &message.target)),
     }
 }
 
 /// Whether the prefix's last RDN is excluded. No memory.
 fn is_excluded(exclusions: &[Rdn], last: &Rdn) -> bool
-    ensures { result ≡ has same_spelled_rdn exclusions.now last.now }
+    ensures { result ≡ list_any (λ rdn. same_spelled_rdn rdn last.now) exclusions.now }
 {
-    exclusions
-        .iter()
-        .any(|rdn| compare_rdns(rdn.pairs(), last.pairs()).is_eq())
+    exclusions.iter().any(|rdn| is_same(rdn, last))
 }
 
 /// Whether a context of this prefix is one that a nonSpecific reference asks for: just below its entry, and not excluded. No memory.
