@@ -22,7 +22,7 @@ use Rattle.x5_holdings.specs.State.{State, holdings_view}
 use Rattle.x5_eval.specs.Numbers.{held_number, number_below, own_reach, prefix_number, reaches, served_reach}
 use Rattle.x5_eval.specs.Walks.{Begins}
 use Rattle.x5_eval.proofs.Choosing.{begun_own, begun_served}
-use Rattle.x5_eval.proofs.Excluding.{last_is}
+use Rattle.x5_eval.proofs.Excluding.{last_rdn_is}
 use Rattle.x5_eval.proofs.Numbered.{prefix_same}
 use Rattle.x5_eval.proofs.Rises.{reaches_base, reaches_one}
 
@@ -34,7 +34,7 @@ none_begin r h cs all e f = record {
 }
   where
     nowhere : (n : ℕ) → In n [] → ⊥
-    nowhere n ()
+    nowhere n i = elim i [ ]
 
 -- the definition's contexts are these
 pub begin_those : (r : Request) (h : Holdings) (cs ds : List Held) (all : List ℕ) → cs ≡ ds → Begins r h cs all → Begins r h ds all
@@ -155,4 +155,4 @@ any_has (y ∷ ys) x = ap (λ (b : Bool). same_spelled_rdn y x || b) (any_has ys
 
 pub excluded_is : (exclusions : List Rdn) (p : Name) (x : Rdn) (b : Bool) → Some x ≡ slice_get p (length p - 1)
     → b ≡ list_any (λ rdn. same_spelled_rdn rdn x) exclusions → b ≡ is_excluded exclusions p
-excluded_is exclusions p x b e f = f ∙ any_has exclusions x ∙ ap (has same_spelled_rdn exclusions) (sym (last_is p x e))
+excluded_is exclusions p x b e f = f ∙ any_has exclusions x ∙ ap (has same_spelled_rdn exclusions) (sym (last_rdn_is p x e))

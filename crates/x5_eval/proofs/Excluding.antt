@@ -192,9 +192,9 @@ pub last_same : (kept : List Rdn) (x r : Rdn) (b : Bool) → Some x ≡ slice_ge
     → b ≡ some_and (λ y. same_spelled_rdn y r) (last_of kept)
 last_same kept x r b e f = f ∙ ap (λ (z : Option Rdn). some_and (λ y. same_spelled_rdn y r) z) (e ∙ last_at kept)
 
-pub last_is : (n : Name) (r : Rdn) → Some r ≡ slice_get n (length n - 1) → last_rdn n ≡ r
-last_is [] r e = cc
-last_is (x ∷ n) r e = inside (last_rdn (x ∷ n)) r (sym (last_of_name x n) ∙ sym (last_at (x ∷ n)) ∙ sym e)
+pub last_rdn_is : (n : Name) (r : Rdn) → Some r ≡ slice_get n (length n - 1) → last_rdn n ≡ r
+last_rdn_is [] r e = cc
+last_rdn_is (x ∷ n) r e = inside (last_rdn (x ∷ n)) r (sym (last_of_name x n) ∙ sym (last_at (x ∷ n)) ∙ sym e)
   where
     inside : (a b : Rdn) → Some a ≡ Some b → a ≡ b
     inside a b q = cc
