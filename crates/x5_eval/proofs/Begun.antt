@@ -13,11 +13,17 @@ use Rattle.x5_model.proofs.KeyLaws.{key_decides}
 use Rattle.x5_model.proofs.Lists.{both_true, and_true, of_find}
 use Rattle.x5_model.proofs.Prefixes.{prefix_decides, root_is_prefix}
 use Rattle.x5_model_tree.specs.Tree.{is_there}
+use Rattle.x5_model_tree.specs.World.{Specific}
 use Rattle.x5_model_tree.specs.Ask.{in_subset}
-use Rattle.x5_model_run.specs.Holdings.{Held, Copy, Holdings, held_at, copy_at, served}
-use Rattle.x5_model_run.specs.Journal.{same_spelled_rdn}
-use Rattle.x5_model_run.specs.Needs.{is_excluded}
+use Rattle.x5_model_run.specs.Holdings.{Held, Copy, Holdings, held_at, copy_at, served, known_pin}
+use Rattle.x5_model_run.specs.Journal.{is_wide, same_spelled_rdn}
+use Rattle.x5_model_run.specs.Needs.{is_excluded, begins_at, begins_by, found_at_pin, found_at_root, found_below, found_by_name, found_in, resolves, specific_at}
 use Rattle.x5_model_serve.specs.Walking.{pin_below}
+use Rattle.x5_ops.specs.ReferenceViews.{chained_view, kind_view, progress_view}
+use Rattle.x5_ops.specs.RequestViews.{request_view}
+use Rattle.x5_ops.specs.declared.references.Chained.{Chained}
+use Rattle.x5_ops.specs.declared.references.Progress.{Progress}
+use Rattle.x5_ops.specs.declared.references.Progress.TheVariants.{NotStarted, Proceeding, Completed}
 use Rattle.x5_holdings.specs.State.{State, holdings_view}
 use Rattle.x5_eval.specs.Numbers.{held_number, number_below, own_reach, prefix_number, reaches, served_reach}
 use Rattle.x5_eval.specs.Walks.{Begins}
@@ -148,6 +154,9 @@ module _ (p : Key) (other : Name) where
       by None q t = cc
       by (Some k) q t = (key_decides (key_of k.held.prefix) p).0 (of_find (λ (d : Copy). same_key (key_of d.held.prefix) p) k h.copies q).1
 
+  pub pin_known : (ks : List Specific) (k : Specific) → specific_at ks p ≡ Some k → key_of k.pin ≡ p
+  pin_known ks k e = (key_decides (key_of k.pin) p).0 (of_find (λ (d : Specific). same_key (key_of d.pin) p) k ks e).1
+
 -- ---- what is excluded
 pub any_has : (exclusions : List Rdn) (x : Rdn) → list_any (λ rdn. same_spelled_rdn rdn x) exclusions ≡ has same_spelled_rdn exclusions x
 any_has [] x = refl
@@ -156,3 +165,67 @@ any_has (y ∷ ys) x = ap (λ (b : Bool). same_spelled_rdn y x || b) (any_has ys
 pub excluded_is : (exclusions : List Rdn) (p : Name) (x : Rdn) (b : Bool) → Some x ≡ slice_get p (length p - 1)
     → b ≡ list_any (λ rdn. same_spelled_rdn rdn x) exclusions → b ≡ is_excluded exclusions p
 excluded_is exclusions p x b e f = f ∙ any_has exclusions x ∙ ap (has same_spelled_rdn exclusions) (sym (last_rdn_is p x e))
+
+pub left_out : (child within excluded : Bool) → excluded ≡ true → false ≡ (child && (within && not excluded))
+left_out true true excluded e = ap not (sym e)
+left_out true false excluded e = refl
+left_out false within excluded e = refl
+
+pub left_in : (child within excluded t : Bool) → excluded ≡ false → t ≡ (child && within) → t ≡ (child && (within && not excluded))
+left_in true true excluded t e f = f ∙ ap not (sym e)
+left_in true false excluded t e f = f
+left_in false within excluded t e f = f
+
+-- ---- which of them the definition names
+pub if_true : {A : Type 0} (b : Bool) (xs ys : List A) → b ≡ true → xs ≡ cond b xs ys
+if_true b xs ys e = ap (λ (t : Bool). cond t xs ys) (sym e)
+
+pub if_false : {A : Type 0} (b : Bool) (xs ys : List A) → b ≡ false → ys ≡ cond b xs ys
+if_false b xs ys e = ap (λ (t : Bool). cond t xs ys) (sym e)
+
+module _ (h : Holdings) (names : List (List ℕ)) (m : Chained) (subset : Subset) where
+  abbrev here : Progress → List Held
+  here p = begins_by h (chained_view names m) subset (progress_view p)
+
+  abbrev resolved : List Held
+  resolved = here Completed
+
+  pub begin_below : m.progress ≡ Completed → is_wide (kind_view m.kind) ≡ true → found_below h (chained_view names m) subset ≡ begins_at h (chained_view names m) subset
+  begin_below e w =
+      if_true (is_wide (kind_view m.kind)) (found_below h (chained_view names m) subset) (found_at_pin h (chained_view names m)) w
+      ∙ ap here (sym e)
+
+  pub begin_at_pin : m.progress ≡ Completed → is_wide (kind_view m.kind) ≡ false → found_at_pin h (chained_view names m) ≡ begins_at h (chained_view names m) subset
+  begin_at_pin e w =
+      if_false (is_wide (kind_view m.kind)) (found_below h (chained_view names m) subset) (found_at_pin h (chained_view names m)) w
+      ∙ ap here (sym e)
+
+  pub begin_by_name : (m.progress ≡ Completed → ⊥) → found_by_name h (chained_view names m) subset ≡ begins_at h (chained_view names m) subset
+  begin_by_name f = by m.progress f
+    where
+      by : (p : Progress) → (p ≡ Completed → ⊥) → found_by_name h (chained_view names m) subset ≡ here p
+      by NotStarted g = refl
+      by (Proceeding k) g = refl
+      by Completed g = absurd (g refl)
+
+  -- where it isn't resolved here
+  pub name_nowhere : resolves h (chained_view names m) ≡ false → found_by_name h (chained_view names m) subset ≡ []
+  name_nowhere e =
+      sym (if_false (resolves h (chained_view names m))
+      (in_option (found_at_root h (chained_view names m) subset) (found_in h (chained_view names m)) (known_pin (request_view m.request) h (key_of m.target))) [] e)
+
+  -- with nothing known on the way, and with a pin
+  pub name_at_root : resolves h (chained_view names m) ≡ true → known_pin (request_view m.request) h (key_of m.target) ≡ None
+      → found_at_root h (chained_view names m) subset ≡ found_by_name h (chained_view names m) subset
+  name_at_root e f =
+      ap (λ (o : Option Key). in_option (found_at_root h (chained_view names m) subset) (found_in h (chained_view names m)) o) (sym f)
+      ∙ if_true (resolves h (chained_view names m))
+      (in_option (found_at_root h (chained_view names m) subset) (found_in h (chained_view names m)) (known_pin (request_view m.request) h (key_of m.target))) [] e
+
+  pub name_at_pin : (p key : Key) → resolves h (chained_view names m) ≡ true → known_pin (request_view m.request) h (key_of m.target) ≡ Some key → p ≡ key
+      → found_in h (chained_view names m) p ≡ found_by_name h (chained_view names m) subset
+  name_at_pin p key e f g =
+      ap (found_in h (chained_view names m)) g
+      ∙ ap (λ (o : Option Key). in_option (found_at_root h (chained_view names m) subset) (found_in h (chained_view names m)) o) (sym f)
+      ∙ if_true (resolves h (chained_view names m))
+      (in_option (found_at_root h (chained_view names m) subset) (found_in h (chained_view names m)) (known_pin (request_view m.request) h (key_of m.target))) [] e

@@ -114,7 +114,7 @@ fn copy_name<'a>(state: &'a Holdings, place: usize, other: &'a Name) -> &'a Name
 
 /// The name of what is known; of a place where nothing is the other one. No memory.
 fn name_of<'a>(state: &'a Holdings, pin: Pin<'a>, other: &'a Name) -> &'a Name
-    ensures { (r : requests.Request) (key : Key) → IsFirst r (holdings_view state.now) key pin → key_of result.now ≡ key }
+    ensures { (r : requests.Request) (key : Key) → IsFirst r (holdings_view state.now) key pin.entry → key_of result.now ≡ key }
 {
     match pin {
         Pin::Own(place) => own_name(state, place, other),
@@ -160,6 +160,14 @@ fn is_excluded(exclusions: &[Rdn], last: &Rdn) -> bool
     exclusions.iter().any(|rdn| is_same(rdn, last))
 }
 
+/// Whether the prefix stands just below the base, and is in the subset. No memory.
+fn is_just_below(base: &Name, subset: Subset, prefix: &Name) -> bool
+    ensures { result ≡ (is_child (key_of base.now) (key_of prefix.now) && model.in_subset (subset_view subset) (key_of base.now) (key_of prefix.now)) }
+{
+    is_in_subset(Subset::One, base.key(), prefix.key())
+        && is_in_subset(subset, base.key(), prefix.key())
+}
+
 /// Whether a context of this prefix is one that a nonSpecific reference asks for: just below its entry, and not excluded. No memory.
 fn is_asked_below(exclusions: &[Rdn], base: &Name, subset: Subset, prefix: &Name) -> bool
     ensures { result ≡ (is_child (key_of base.now) (key_of prefix.now) && (model.in_subset (subset_view subset) (key_of base.now) (key_of prefix.now) && not (needs.is_excluded exclusions.now prefix.now))) }
@@ -167,9 +175,10 @@ fn is_asked_below(exclusions: &[Rdn], base: &Name, subset: Subset, prefix: &Name
     let Some(last) = prefix.last() else {
         return false;
     };
-    is_in_subset(Subset::One, base.key(), prefix.key())
-        && is_in_subset(subset, base.key(), prefix.key())
-        && !is_excluded(exclusions, last)
+    if is_excluded(exclusions, last) {
+        return false;
+    }
+    is_just_below(base, subset, prefix)
 }
 
 /// Below the entry of a nonSpecific reference: those that the agent masters just below it, but for those excluded.
