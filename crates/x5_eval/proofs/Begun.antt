@@ -6,8 +6,8 @@ use Rattle.std.proofs.lemmas.List.{length-map}
 use Rattle.x5_model.specs.Words.{has, in_option, sorted}
 use Rattle.x5_model.specs.Members.{In}
 use Rattle.x5_model.specs.Keys.{Key, same_key, is_child, is_prefix, is_root}
-use Rattle.x5_model.specs.Values.{Rdn, Name, key_of, key_of_rdn, last_rdn}
-use Rattle.x5_model.specs.Requests.{Subset, OneLevel, Request}
+use Rattle.x5_model.specs.Values.{Rdn, Name, key_of, key_of_rdn}
+use Rattle.x5_model.specs.Requests.{Subset, Request}
 use Rattle.x5_model.proofs.Decide.{nat_same_decides}
 use Rattle.x5_model.proofs.KeyLaws.{key_decides}
 use Rattle.x5_model.proofs.Lists.{both_true, and_true, of_find}

@@ -1,5 +1,5 @@
 -- Those of the pin are kept, in order.
-use Rattle.std.proofs.Common.{ℕ, ap, ◌∙◌, rules, of_calls, Some}
+use Rattle.std.proofs.Common.{ap, ◌∙◌, rules, of_calls, Some}
 use Rattle.std.proofs.lemmas.Fn.{filter_same}
 use Rattle.x5_model.specs.Keys.{same_key}
 use Rattle.x5_model.specs.Values.{Name, key_of}

@@ -1,5 +1,5 @@
 -- Those with one RDN are kept, in order.
-use Rattle.std.proofs.Common.{◌==◌, ◌&&◌, ℕ, length, sym, ap, ◌∙◌, rules, of_calls, Some}
+use Rattle.std.proofs.Common.{◌==◌, ◌&&◌, length, sym, ap, ◌∙◌, rules, of_calls, Some}
 use Rattle.std.specs.List.{filter}
 use Rattle.std.proofs.lemmas.Fn.{filter_same}
 use Rattle.x5_model.specs.Keys.{is_root}
