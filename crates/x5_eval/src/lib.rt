@@ -3,6 +3,7 @@
 #![tactic(auto)]
 
 mod exclusions;
+mod local;
 mod naming;
 mod numbers;
 mod points;
