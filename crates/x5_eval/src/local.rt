@@ -19,6 +19,7 @@ ghost use Rattle.x5_eval.specs.Numbers.{held_number, is_held, served_numbers};
 ghost use Rattle.x5_eval.specs.Parts.{AreNumbers, part_shown};
 ghost use Rattle.x5_eval.specs.Rest.{unnamed};
 ghost use Rattle.x5_eval.specs.Shown.{nothing_by};
+ghost use Rattle.x5_eval.specs.Spots.{IsHeld};
 ghost use Rattle.x5_eval.specs.Walks.{Begins};
 
 use crate::numbers::{held_at, prefix_at, stamp_at};
@@ -51,6 +52,17 @@ pub(crate) fn walked(
     walk(alloc, state, message, subset, begins)
 }
 
+/// What is held of the context of the number. No memory.
+fn held_there(state: &Holdings, number: usize) -> &Held
+    requires { is_held (holdings_view state.now) number ≡ true }
+    ensures { IsHeld (holdings_view state.now) number result.now }
+{
+    let Some(held) = held_at(state, number) else {
+        unreachable!()
+    };
+    held
+}
+
 /// What is held of the contexts of these numbers.
 pub(crate) fn held_of<'a>(
     alloc: Global,
@@ -58,14 +70,11 @@ pub(crate) fn held_of<'a>(
     numbers: &[usize],
 ) -> Result<Vec<&'a Held>, NoMemory>
     requires { (n : ℕ) → In n numbers.now → is_held (holdings_view state.now) n ≡ true }
-    ensures { IfOk result (λ held. map (λ c. unnamed (held_view c.now)) held.items ≡ map (λ n. unnamed (held_number (holdings_view state.now) n)) numbers.now) }
+    ensures { IfOk result (λ all. map (λ c. unnamed (held_view c.now)) all.items ≡ map (λ n. unnamed (held_number (holdings_view state.now) n)) numbers.now) }
 {
     let mut all = Vec::new(alloc);
     for &number in numbers {
-        let Some(held) = held_at(state, number) else {
-            unreachable!()
-        };
-        all.push(held)?;
+        all.push(held_there(state, number))?;
     }
     Ok(all)
 }
@@ -87,9 +96,7 @@ fn part_at(
 {
     let root = Name::root(alloc);
     let prefix = prefix_at(state, number, &root);
-    let Some(held) = held_at(state, number) else {
-        unreachable!()
-    };
+    let held = held_there(state, number);
     let stamp = stamp_at(state, number);
     part_in(alloc, names, state.me(), message, prefix, held, stamp)
 }
