@@ -28,3 +28,4 @@ pub mod Choosing
 pub mod Unders
 pub mod Walked
 pub mod Coming
+pub mod Joined
