@@ -1,5 +1,5 @@
 -- The parts that contexts show by their numbers are of one kind, and joined they are the agent's own part.
-use Rattle.std.proofs.Common.{◌≡◌, ℕ, ◌+◌, ◌<◌, Bool, true, false, cond, ◌||◌, ◌⊎◌, inl, inr, List, [], ◌∷◌, ◌++◌, map, length, drop, take, get_or, append_assoc, refl, sym, ap, subst, ◌∙◌, arith, Option, Some}
+use Rattle.std.proofs.Common.{◌≡◌, ℕ, ◌+◌, ◌<◌, Bool, true, false, ◌&&◌, ◌||◌, ◌⊎◌, inl, inr, List, [], ◌∷◌, ◌++◌, map, length, drop, take, get_or, append_assoc, refl, sym, ap, subst, ◌∙◌, arith, Option, Some}
 use Rattle.std.proofs.lemmas.Option.{get_or_from_slice_get, slice_get-get_or}
 use Rattle.std.specs.List.{list_all}
 use Rattle.x5_model.specs.Words.{distinct}
@@ -91,7 +91,7 @@ module _ (names : List (List ℕ)) where
   all_seen : (t : Answer → Bool) (u : model.Answer → Bool) → ((a : Answer) → t a ≡ u (answer_view names a)) → (parts : List Answer)
       → list_all t parts ≡ list_all u (map (answer_view names) parts)
   all_seen t u f [] = refl
-  all_seen t u f (p ∷ ps) = λ i. cond (f p i) (all_seen t u f ps i) false
+  all_seen t u f (p ∷ ps) = λ i. f p i && all_seen t u f ps i
 
   module _ (m : Chained) (h : Holdings) where
     all_listed : (name : Name) (ns : List ℕ) → list_all listed (map (part_shown (ListBelow name) m h) ns) ≡ true
@@ -144,7 +144,7 @@ module _ (s : State) (names : List (List ℕ)) (m : Chained) (ns : List ℕ) (q 
     ]
       where
         alone : (t : Answer → Bool) → t a ≡ true → list_all t (a ∷ []) ≡ true
-        alone t e = ap (λ (b : Bool). cond b true false) e
+        alone t e = ap (λ (b : Bool). b && true) e
 
     module _ (once : are_once s.copies ≡ true) (from : AreNumbers m.request h (entered h m) ns)
         (order : (n : ℕ) → In n ns → is_in_order (part_shown m.request.body m h n) ≡ true) where

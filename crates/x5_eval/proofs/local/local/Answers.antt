@@ -1,5 +1,4 @@
 -- The parts are of one kind, and joined they are the agent's own part.
-use Rattle.std.proofs.Common.{Bool, IsTrue, true, ◌≡◌, sym, subst}
 use Rattle.x5_ops.specs.AnswerViews.{answer_view}
 use Rattle.x5_ops.specs.ReferenceViews.{chained_view}
 use Rattle.x5_ops.specs.RequestViews.{body_view, request_view}
@@ -17,8 +16,8 @@ merge-requires-clause-filled c = some_parts c.args.names.now c.in_ok-parts.field
 
 pub merge-requires-clause-alike : goal.merge-requires-clause-alike
 merge-requires-clause-alike c =
-    subst IsTrue (sym (parts_alike c.args.state.now c.args.names.now (chained_view c.args.names.now c.args.message.now) c.args.entered.now
-    c.requires.query c.in_ok-parts.field-0 c.in_ok-parts.ensures.parts)) tt
+    parts_alike c.args.state.now c.args.names.now (chained_view c.args.names.now c.args.message.now) c.args.entered.now
+    c.requires.query c.in_ok-parts.field-0 c.in_ok-parts.ensures.parts
 
 pub returns-clause-part : goal.returns-clause-part
 returns-clause-part c =
