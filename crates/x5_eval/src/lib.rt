@@ -3,7 +3,9 @@
 #![tactic(auto)]
 
 mod beginning;
+mod evaluating;
 mod exclusions;
+mod local;
 mod naming;
 mod numbers;
 mod points;
@@ -14,4 +16,5 @@ mod shown;
 mod subsets;
 mod visits;
 
+pub use evaluating::evaluate;
 pub use reading::{read_copy, read_own};
