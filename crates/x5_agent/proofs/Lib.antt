@@ -5,3 +5,4 @@ pub mod Replying
 pub mod Asking
 pub mod Saying
 pub mod Serving
+pub mod Queries

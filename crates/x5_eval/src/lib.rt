@@ -2,10 +2,12 @@
 //! a read or compare, with its source.
 #![tactic(auto)]
 
+mod evaluating;
 mod naming;
 mod reading;
 mod scope;
 mod shown;
 mod subsets;
 
+pub use evaluating::evaluate;
 pub use reading::{read_copy, read_own};
