@@ -11,6 +11,18 @@ use Rattle.x5_agent.proofs.Queries.{begins_at_root}
 use Rattle.x5_agent.proofs.Saying.{asked_known, nowhere_by}
 use Rattle.x5_agent.proofs.resolving.at_name.Goals as goal
 
+pub part-requires-clause-query : goal.part-requires-clause-query
+part-requires-clause-query c =
+    root_query (holdings_view c.args.state.now) (chained_view c.args.names.now c.args.message.now) c.requires.unrefused
+    c.requires.fit (subst (Finds c.args.state.now (chained_view c.args.names.now c.args.message.now)) c.in-Root.is
+    (c.find.ensures c.args.names.now))
+
+pub part-requires-clause-begins : goal.part-requires-clause-begins
+part-requires-clause-begins c =
+    begins_at_root (holdings_view c.args.state.now) (chained_view c.args.names.now c.args.message.now)
+    (part-requires-clause-query c) (subst (Finds c.args.state.now (chained_view c.args.names.now c.args.message.now))
+    c.in-Root.is (c.find.ensures c.args.names.now))
+
 pub asked-requires-clause-there : goal.asked-requires-clause-there
 asked-requires-clause-there c =
     asked_known c.args.state.now (chained_view c.args.names.now c.args.message.now) c.in-Go.kind c.in-Go.progress
