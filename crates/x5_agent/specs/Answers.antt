@@ -1,8 +1,8 @@
 -- What an agent makes of a message by what it holds (X.518, sections 18 and 19: name resolution, evaluation), in the
 -- words of the definitions of both.
-use Rattle.std.specs.Prelude.{◌≡◌, ℕ, ◌⊎◌, Bool, true, false, List, [], ◌∷◌, length, map, slice_get}
+use Rattle.std.specs.Prelude.{◌≡◌, ℕ, ◌≤◌, ◌⊎◌, Bool, true, false, List, [], ◌∷◌, length, map, slice_get}
 use Rattle.std.specs.declared.option.Option.TheVariants.{Some}
-use Rattle.x5_model.specs.References.{Supplier, Reference, Chained}
+use Rattle.x5_model.specs.References.{Next, Supplier, Reference, Chained}
 use Rattle.x5_model.specs.Answers.{Reply, Answered, Failed, Referred}
 use Rattle.x5_model_tree.specs.Ask.{is_update}
 use Rattle.x5_model_run.specs.Holdings.{Held, Copy, Holdings}
@@ -13,6 +13,7 @@ use Rattle.x5_model_serve.specs.Finding as finding
 use Rattle.x5_model_serve.specs.Answering.{reply_in_own, reply_in_copy, local_part, rest_of_parts}
 use Rattle.x5_model_serve.specs.Serving.{begins_parts, hand}
 use Rattle.x5_holdings.specs.State.{CopyKept, State, holdings_view}
+use Rattle.x5_find.specs.Ways as ways
 use Rattle.x5_ops.specs.ReferenceViews.{reference_view}
 use Rattle.x5_ops.specs.AnswerViews.{answer_view, reply_view}
 use Rattle.x5_ops.specs.declared.answers.Answer as ops
@@ -24,6 +25,13 @@ use Rattle.x5_serve.specs.declared.network.Found.TheVariants as found
 -- a reference by which the name goes on from there names agents of a world that has so many
 abbrev pub KnowsThem : ℕ → Holdings → Chained → Type 0
 KnowsThem n h m = (r : Reference) → finding.find h m ≡ finding.Onward r → are_agents n r.agents ≡ true
+
+-- What it counts of a name fits an octet (X.518, section 10.5: nextRDNToBeResolved): the RDNs of the longest known pin on
+-- the way, and how far a reference leads by which the name goes on.
+pub record IsNear (s : State) (m : Chained) : Type 0 where
+  pub pin : ways.IsNear s m
+  pub onward : (r : Reference) (k : ℕ) → finding.find (holdings_view s) m ≡ finding.Onward r → r.progress ≡ Next k
+      → k ≤ 255
 
 -- the target is in a context that is mastered, or in a copy that answers, and this is the reply there
 abbrev pub IsReplied : Holdings → Chained → Reply → Type 0

@@ -1,6 +1,6 @@
 //! Where the name of a message ends at an agent, and what it's answered there.
 
-ghost use Rattle.std.specs.Prelude.{◌≡◌, ◌<◌, ◌≤◌, ◌&&◌, ℕ, List, true, false, None, length, IfOk};
+ghost use Rattle.std.specs.Prelude.{◌≡◌, ◌<◌, ◌&&◌, ℕ, List, true, false, None, length, IfOk};
 ghost use Rattle.x5_model.specs.Entries.{Named};
 ghost use Rattle.x5_model.specs.Statics.{fault_of};
 ghost use Rattle.x5_model.specs.Words.{same_octets, distinct};
@@ -18,7 +18,7 @@ ghost use Rattle.x5_ops.specs.ReferenceViews.{chained_view, reference_view};
 ghost use Rattle.x5_ops.specs.RequestViews.{body_view, request_view};
 ghost use Rattle.x5_ops.specs.AnswerViews.{reply_view};
 ghost use Rattle.x5_serve.specs.Networks.{IsFound};
-ghost use Rattle.x5_agent.specs.Answers.{KnowsThem, IsAtSupplier, IsSaid, is_failed};
+ghost use Rattle.x5_agent.specs.Answers.{KnowsThem, IsAtSupplier, IsNear, IsSaid, is_failed};
 
 use crate::naming::{asked, one, others, reference};
 use std::alloc::Global;
@@ -51,7 +51,7 @@ fn wide(
     agents: &[AgentId],
 ) -> Result<Reference, NoMemory>
     requires apart { distinct same_octets names.now ≡ true }
-    requires short { length message.now.target ≤ 16 }
+    requires near { IsNear state.now (chained_view names.now message.now) }
     requires known { KnowsThem (length names.now) (holdings_view state.now) (chained_view names.now message.now) }
     requires found { finds.IsMulticast state.now (chained_view names.now message.now) own node agents.now }
     ensures { IfOk result (λ r. finding.find (holdings_view state.now) (chained_view names.now message.now) ≡ finding.Onward (reference_view names.now r)) }
@@ -79,7 +79,7 @@ fn supplier(
     copy: usize,
 ) -> Result<Reference, NoMemory>
     requires apart { distinct same_octets names.now ≡ true }
-    requires short { length message.now.target ≤ 16 }
+    requires near { IsNear state.now (chained_view names.now message.now) }
     requires known { KnowsThem (length names.now) (holdings_view state.now) (chained_view names.now message.now) }
     requires found { IsAtSupplier state.now (chained_view names.now message.now) copy }
     ensures { IfOk result (λ r. finding.find (holdings_view state.now) (chained_view names.now message.now) ≡ finding.Onward (reference_view names.now r)) }
@@ -120,7 +120,7 @@ fn in_copy(
     requires alone { looks_at_one (body_view message.now.request.body) ≡ true }
     requires unrefused { fault_of (body_view message.now.request.body) ≡ None }
     requires fit { fits (chained_view names.now message.now) ≡ true }
-    requires short { length message.now.target ≤ 16 }
+    requires near { IsNear state.now (chained_view names.now message.now) }
     requires known { KnowsThem (length names.now) (holdings_view state.now) (chained_view names.now message.now) }
     requires found { finds.IsCopyHere state.now (chained_view names.now message.now) copy node }
     ensures { IfOk result (λ found. IsSaid names.now (holdings_view state.now) (chained_view names.now message.now) found) }
@@ -207,7 +207,7 @@ fn at_copy(
     requires apart { distinct same_octets names.now ≡ true }
     requires unrefused { fault_of (body_view message.now.request.body) ≡ None }
     requires fit { fits (chained_view names.now message.now) ≡ true }
-    requires short { length message.now.target ≤ 16 }
+    requires near { IsNear state.now (chained_view names.now message.now) }
     requires known { KnowsThem (length names.now) (holdings_view state.now) (chained_view names.now message.now) }
     requires rest { name_agents (length names.now) (rest_of_parts (holdings_view state.now) (chained_view names.now message.now)) ≡ true }
     requires found { finds.IsCopyHere state.now (chained_view names.now message.now) copy node }
@@ -230,7 +230,7 @@ fn at_name(
     requires apart { distinct same_octets names.now ≡ true }
     requires unrefused { fault_of (body_view message.now.request.body) ≡ None }
     requires fit { fits (chained_view names.now message.now) ≡ true }
-    requires short { length message.now.target ≤ 16 }
+    requires near { IsNear state.now (chained_view names.now message.now) }
     requires known { KnowsThem (length names.now) (holdings_view state.now) (chained_view names.now message.now) }
     requires rest { name_agents (length names.now) (rest_of_parts (holdings_view state.now) (chained_view names.now message.now)) ≡ true }
     requires named { (is_done (chained_view names.now message.now).progress && is_wide (chained_view names.now message.now).kind) ≡ false }
@@ -275,7 +275,7 @@ pub fn find(
     requires apart { distinct same_octets names.now ≡ true }
     requires unrefused { fault_of (body_view message.now.request.body) ≡ None }
     requires fit { fits (chained_view names.now message.now) ≡ true }
-    requires short { length message.now.target ≤ 16 }
+    requires near { IsNear state.now (chained_view names.now message.now) }
     requires known { KnowsThem (length names.now) (holdings_view state.now) (chained_view names.now message.now) }
     requires rest { name_agents (length names.now) (rest_of_parts (holdings_view state.now) (chained_view names.now message.now)) ≡ true }
     ensures { IfOk result (λ found. (s : Scene) (j : Journal) → holds_now s j (hand state.now.me (chained_view names.now message.now)) ≡ holdings_view state.now → IsFound s names.now j (hand state.now.me (chained_view names.now message.now)) found) }
