@@ -6,3 +6,4 @@ pub mod Asking
 pub mod Saying
 pub mod Serving
 pub mod Queries
+pub mod Near

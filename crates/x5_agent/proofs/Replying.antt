@@ -26,7 +26,6 @@ use Rattle.x5_dse.specs.Linked.{Node, has_id, entries_of, id_of, name_in, named_
 use Rattle.x5_holdings.specs.State.{Kept, CopyKept, State, copy_view, holdings_view, brought_entries, stamp_of}
 use Rattle.x5_find.specs.Finds.{IsCopyHere, IsLowest}
 use Rattle.x5_agent.specs.Answers.{KnowsThem, IsAtSupplier, is_failed}
-use Rattle.x5_agent.proofs.Shortness.{onward_within}
 use Rattle.x5_agent.proofs.Queries.{query_passes}
 use Rattle.x5_agent.proofs.Alone.{unfinished, failed_from, fails_alike, answers, to_supplier}
 
@@ -178,9 +177,6 @@ module _ (s : State) (own : ℕ) (node : NodeId) (named : Named) (low : IsLowest
 
 module _ (h : Holdings) (m : Chained) (k : ℕ) (kept : Name) (kind : RefType) (agents : List ℕ)
     (e : finding.find h m ≡ finding.Onward (proceeding k kept m.target kind agents)) where
-  pub proceeding_short : k ≤ length m.target + 1
-  proceeding_short = onward_within h m (proceeding k kept m.target kind agents) e
-
   pub proceeding_known : (n : ℕ) → KnowsThem n h m → are_agents n agents ≡ true
   proceeding_known n knows = knows (proceeding k kept m.target kind agents) e
 
