@@ -1,11 +1,12 @@
 //! An agent's own part of a list or search, with the references for the rest (X.518, section 19.3).
 
-ghost use Rattle.std.specs.Prelude.{◌≡◌, ◌<◌, ◌∷◌, [], true, None, length, map, IfOk};
+ghost use Rattle.std.specs.Prelude.{◌≡◌, ◌<◌, ◌∷◌, [], nat_lt, true, length, map, IfOk};
+ghost use Rattle.std.specs.List.{list_all};
 ghost use Rattle.x5_model.specs.Answers as model;
-ghost use Rattle.x5_model.specs.Statics.{fault_of};
+ghost use Rattle.x5_model.specs.Members.{In};
+ghost use Rattle.x5_model.specs.References.{Reference};
 ghost use Rattle.x5_model.specs.Words.{distinct, same_octets};
-ghost use Rattle.x5_model_heard.specs.Told.{name_agents};
-ghost use Rattle.x5_model_run.specs.Placed.{fits, is_query_below};
+ghost use Rattle.x5_model_run.specs.Placed.{is_query_below};
 ghost use Rattle.x5_model_serve.specs.Answering.{local_part, rest_of_parts};
 ghost use Rattle.x5_holdings.specs.State.{holdings_view};
 ghost use Rattle.x5_merge.specs.Merging.{are_alike};
@@ -28,10 +29,8 @@ pub fn evaluate(
 ) -> Result<(Answer, ReferenceList), NoMemory>
     requires there { state.now.me < length names.now }
     requires apart { distinct same_octets names.now ≡ true }
-    requires unrefused { fault_of (body_view message.now.request.body) ≡ None }
-    requires fit { fits (chained_view names.now message.now) ≡ true }
     requires query { is_query_below (body_view message.now.request.body) ≡ true }
-    requires rest { name_agents (length names.now) (rest_of_parts (holdings_view state.now) (chained_view names.now message.now)) ≡ true }
+    requires known { (r : Reference) → In r (rest_of_parts (holdings_view state.now) (chained_view names.now message.now)) → list_all (λ a. nat_lt a (length names.now)) r.agents ≡ true }
     ensures part { IfOk result (λ parts. local_part (holdings_view state.now) (chained_view names.now message.now) ≡ model.Answered (answer_view names.now parts.0)) }
     ensures rest { IfOk result (λ parts. rest_of_parts (holdings_view state.now) (chained_view names.now message.now) ≡ map (reference_view names.now) parts.1) }
     ensures kind { IfOk result (λ parts. are_alike (parts.0 ∷ []) ≡ true) }
