@@ -118,11 +118,11 @@ module _ (h : Holdings) (all : holdings_counted h ≡ true) where
             (of_all (λ (x : Specific). is_counted x.pin) w.0 h.cross
             (both_true (pins_counted h.root) (pins_counted h.cross) references_counted).1 w.1)
         | inl j ↦ elim (in_either n (prefixes h) (map (λ (k : Specific). k.pin) (subordinates r h)) j) [
-              | inl l ↦ prefixes_counted n l
-              | inr l ↦
-                  let w = of_map (λ (k : Specific). k.pin) n (subordinates r h) l in
-                  subst (λ (x : Name). is_counted x ≡ true) (sym w.2) (subordinates_counted r w.0 w.1)
-            ]
+          | inl l ↦ prefixes_counted n l
+          | inr l ↦
+              let w = of_map (λ (k : Specific). k.pin) n (subordinates r h) l in
+              subst (λ (x : Name). is_counted x ≡ true) (sym w.2) (subordinates_counted r w.0 w.1)
+        ]
       ]
 
   known_bounds : (m : Chained) → Bounds 254 h m

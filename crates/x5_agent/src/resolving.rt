@@ -155,8 +155,6 @@ fn part(
 ) -> Result<Found, NoMemory>
     requires there { state.now.me < length names.now }
     requires apart { distinct same_octets names.now ≡ true }
-    requires unrefused { fault_of (body_view message.now.request.body) ≡ None }
-    requires fit { fits (chained_view names.now message.now) ≡ true }
     requires query { is_query_below (body_view message.now.request.body) ≡ true }
     requires rest { name_agents (length names.now) (rest_of_parts (holdings_view state.now) (chained_view names.now message.now)) ≡ true }
     requires begins { begins_parts (hand state.now.me (chained_view names.now message.now)) (finding.find (holdings_view state.now) (chained_view names.now message.now)) ≡ true }
@@ -189,9 +187,7 @@ fn at_own(
     if is_query(&message.request.body) {
         return part(alloc, names, state, message);
     }
-    Ok(Found::Told(read_own(
-        alloc, names, state, message, own, node,
-    )?))
+    Ok(Found::Told(read_own(alloc, names, state, message, own, node)?))
 }
 
 /// What is made of a message whose target is in a copy that may be used.
