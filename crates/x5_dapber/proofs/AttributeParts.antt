@@ -3,9 +3,11 @@ use Rattle.std.proofs.Common.{◌≡◌, refl, sym, ◌∙◌, List, [], ◌∷�
 use Rattle.x5_model.specs.Assertions.{offered}
 use Rattle.x5_model.specs.Requests as requests
 use Rattle.x5_model.specs.Values as values
+use Rattle.x5_model_messages.specs.Replies as replies
 use Rattle.x5_model_messages.specs.Terms as terms
 use Rattle.x5_model_typed.specs.Nodes as nodes
 use Rattle.x5_model_typed.specs.Rules as rules
+use Rattle.x5_ops.specs.AnswerViews.{shown_view}
 use Rattle.x5_ops.specs.RequestViews.{attribute_view}
 use Rattle.x5_ops.specs.declared.requests.Attribute.{Attribute}
 use Rattle.x5_syntax.specs.TypeView.{type_view}
@@ -56,3 +58,16 @@ attribute_said a n type vs items members two kind same said are =
     ∙ values_said (terms.type_in type) items (map node_view members) said
     ∙ ap (λ (l : List nodes.Node). map (λ v. offered (terms.type_in type) (rules.value_in v)) l) are)
     ∙ sym (ap terms.attribute_in (as_two n type vs two))
+
+shown_values : (vs : List Value) → map (λ v. terms.value_node (value_view v)) vs ≡ map terms.value_node (map value_view vs)
+shown_values [] = refl
+shown_values (v ∷ vs) = ap (λ (ns : List nodes.Node). terms.value_node (value_view v) ∷ ns) (shown_values vs)
+
+-- what an answer shows of an attribute has its values as they are
+pub shown_is : (a : Attribute) (kind vs : nodes.Node) (slice : List Value) → kind ≡ terms.type_node (type_view a.kind)
+    → vs ≡ terms.node_of (map (λ v. terms.value_node (value_view v)) slice) → slice ≡ a.values
+    → terms.node_of (kind ∷ vs ∷ []) ≡ replies.shown_node (shown_view a)
+shown_is a kind vs slice is_kind are same =
+    ap₂ (λ (x y : nodes.Node). terms.node_of (x ∷ y ∷ [])) is_kind
+    (are ∙ ap (λ (l : List Value). terms.node_of (map (λ v. terms.value_node (value_view v)) l)) same
+    ∙ ap terms.node_of (shown_values a.values))

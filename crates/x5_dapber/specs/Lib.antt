@@ -1,2 +1,3 @@
+pub mod ReplyViews
 pub mod Results
 pub mod Sayable

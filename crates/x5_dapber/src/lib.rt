@@ -13,10 +13,12 @@ mod read_arguments;
 mod read_attributes;
 mod read_filters;
 mod read_values;
+mod references;
+mod replies;
 mod values;
 
 pub use crate::fault::WireFault;
-pub use crate::messages::{decode_request, encode_request};
+pub use crate::messages::{decode_request, encode_reply, encode_request};
 pub use x5_memory::NoMemory;
 pub use x5_typed::BerFault;
 pub use x5_writer::WriteFault;

@@ -1,8 +1,10 @@
 //! Whole messages of a user (X.519, section 7), as octets.
 ghost use Rattle.std.specs.Prelude.{◌≡◌, ℕ, IfOk, Result, Ok};
+ghost use Rattle.x5_dapber.specs.ReplyViews.{told_reply};
 ghost use Rattle.x5_dapber.specs.Results.{IsWritten, Decodes, IsRead};
 ghost use Rattle.x5_model.specs.Requests as model;
 ghost use Rattle.x5_model_messages.specs.Laws.{IsBody};
+ghost use Rattle.x5_model_messages.specs.Replies as replies;
 ghost use Rattle.x5_model_messages.specs.Requests as requests;
 ghost use Rattle.x5_model_typed.specs.Judged as judged;
 ghost use Rattle.x5_model_typed.specs.Named as named;
@@ -18,9 +20,10 @@ use crate::arguments::argument_node;
 use crate::fault::WireFault;
 use crate::parts::{chosen, number, three};
 use crate::read_arguments::request_in;
+use crate::replies::reply_node;
 use std::alloc::Global;
 use x5_memory::NoMemory;
-use x5_ops::Request;
+use x5_ops::{Reply, Request};
 use x5_syntax::Octets;
 use x5_typed::read;
 use x5_types::{Named, Node};
@@ -46,6 +49,27 @@ pub fn encode_request(alloc: Global, id: u32, request: &Request) -> Result<Octet
 {
     let node = request_node(alloc, id, request)?;
     Ok(Octets::new(write(alloc, Named::DapRequest, &node)?))
+}
+
+/// The code of a referral to a user (X.511, section 12.6).
+const REFERRAL: u32 = 4;
+
+/// The canonical octets of what is answered to a user: a result of the operation with the code, an error or a referral, with
+/// the id of the request (X.519, section 7; X.690, section 10).
+///
+/// # Errors
+/// `Misfit` exactly where there are none: the answer isn't one of that operation, or passes a limit of messages. Or that
+/// memory ran out.
+pub fn encode_reply(
+    alloc: Global,
+    id: u32,
+    operation: u8,
+    reply: &Reply,
+) -> Result<Octets, WriteFault>
+    ensures { IsWritten (canonical_octets table named.DapAnswer (replies.reply_node replies.to_user id (told_reply operation reply.now))) result }
+{
+    let node = reply_node(alloc, REFERRAL, id, operation, reply)?;
+    Ok(Octets::new(write(alloc, Named::DapAnswer, &node)?))
 }
 
 /// The id and the request of a user's message (X.519, section 7): of octets that are one spelling of it and nothing else.

@@ -103,3 +103,25 @@ pub(crate) fn five<'a>(
     parts.push(e)?;
     Ok(many(parts))
 }
+
+pub(crate) fn six<'a>(
+    alloc: Global,
+    a: Node<'a>,
+    b: Node<'a>,
+    c: Node<'a>,
+    d: Node<'a>,
+    e: Node<'a>,
+    f: Node<'a>,
+) -> Result<Node<'a>, NoMemory>
+    ensures { IfOk result (λ n. node_view n ≡ node_of (node_view a.entry ∷ node_view b.entry ∷ node_view c.entry
+        ∷ node_view d.entry ∷ node_view e.entry ∷ node_view f.entry ∷ [])) }
+{
+    let mut parts = Vec::new(alloc);
+    parts.push(a)?;
+    parts.push(b)?;
+    parts.push(c)?;
+    parts.push(d)?;
+    parts.push(e)?;
+    parts.push(f)?;
+    Ok(many(parts))
+}
