@@ -1,13 +1,14 @@
--- What a read or compare finds where a name is resolved: nothing of it is completed, the root isn't what it asks for,
--- and a copy answers it exactly where the copy's reply is no error.
-use Rattle.std.proofs.Common.{◌≡◌, Bool, true, false, not, ◌&&◌, ◌||◌, List, [], ◌∷◌, ◌++◌, map, length, refl, ap, ◌∙◌, Option, Some, None, arith}
+-- What a read or compare finds where a name is resolved: nothing of it is completed, and a copy answers it exactly where
+-- the copy's reply is no error. And the root is what a list or search alone asks for.
+use Rattle.std.proofs.Common.{◌≡◌, ◌≤◌, ◌-◌, nat_lt, Bool, true, false, not, ◌&&◌, ◌||◌, List, [], ◌∷◌, ◌++◌, map, length, refl, ap, ◌∙◌, Option, Some, None, arith, ltb-false}
 use Rattle.std.specs.Option.{is_some}
 use Rattle.std.specs.List.{flat_map, filter}
 use Rattle.std.proofs.lemmas.Bool.Decides.{Decides-eqb}
+use Rattle.std.proofs.lemmas.List.{length-take-le}
 use Rattle.x5_model.specs.Members.{In}
 use Rattle.x5_model.specs.Words.{is_empty, first_of, when}
 use Rattle.x5_model.specs.Keys.{Key, same_key, is_root}
-use Rattle.x5_model.specs.Values.{TypeRef, Name, key_of}
+use Rattle.x5_model.specs.Values.{TypeRef, Name, key_of, name_above}
 use Rattle.x5_model.specs.Entries.{Named}
 use Rattle.x5_model.specs.Filters.{Assertion}
 use Rattle.x5_model.specs.Selections.{selection_fault}
@@ -25,6 +26,7 @@ use Rattle.x5_model_run.specs.Needs.{target_of, fails, copy_answers, subset_in, 
 use Rattle.x5_model_run.specs.Placed.{fits, is_query_below}
 use Rattle.x5_model_heard.specs.Kept.{looks_at_one}
 use Rattle.x5_model_serve.specs.Answering.{reply_from}
+use Rattle.x5_model_theory.proofs.Stages.{key_length}
 use Rattle.x5_model_serve.specs.Finding as finding
 use Rattle.x5_agent.specs.Answers.{is_failed}
 use Rattle.x5_agent.proofs.Shortness.{root_asked}
@@ -92,23 +94,37 @@ no_name [] x e r = cc
 no_name (y ∷ ys) x e r = absurd (let z : length (key_of (y ∷ ys)) ≡ 0 = (Decides-eqb (length (key_of
     (y ∷ ys))) 0).0 r in omega (arith, z))
 
-one_named : (b : Body) → looks_at_one b ≡ true → fault_of b ≡ None → is_root (key_of (target_of b)) ≡ true → ⊥
-one_named (Read name s) e f r = no_name name _ (unnamed (Read name s) f) r
-one_named (Compare name a) e f r = no_name name _ (unnamed (Compare name a) f) r
-one_named (ListBelow name) e f r = cc
-one_named (Search name s g l) e f r = cc
-one_named (AddEntry name a) e f r = cc
-one_named (RemoveEntry name) e f r = cc
-one_named (ModifyEntry name c) e f r = cc
-one_named (ModifyDn name x d) e f r = cc
+unless : (b : Bool) (x : DirError) → when b x ≡ [] → b ≡ false
+unless true x e = cc
+unless false x e = refl
 
-pub not_root : (h : Holdings) (m : Chained) → looks_at_one m.request.body ≡ true → fault_of m.request.body ≡ None
-    → fits m ≡ true → finding.find h m ≡ finding.Root → ⊥
-not_root h m one fault fit e =
+-- what stands above a name of two RDNs isn't the root
+no_parent : (n : Name) (x : DirError) → when (nat_lt (length n) 2) x ≡ [] → is_root (key_of (name_above n)) ≡ true → ⊥
+no_parent n x e r =
+    let long : 2 ≤ length n = ltb-false (length n) 2 (unless (nat_lt (length n) 2) x e) in
+    let none : length (key_of (name_above n)) ≡ 0 = (Decides-eqb (length (key_of (name_above n))) 0).0 r in
+    let same = key_length (name_above n) in
+    let kept = length-take-le (length n - 1) n (omega arith) in
+    absurd (omega (arith, long, none, same, kept))
+
+root_named : (b : Body) → fault_of b ≡ None → is_root (key_of (target_of b)) ≡ true → is_query_below b ≡ true
+root_named (Read name s) f r = absurd (no_name name _ (unnamed (Read name s) f) r)
+root_named (Compare name a) f r = absurd (no_name name _ (unnamed (Compare name a) f) r)
+root_named (ListBelow name) f r = refl
+root_named (Search name s g l) f r = refl
+root_named (AddEntry name a) f r = absurd (no_parent name _ (unnamed (AddEntry name a) f) r)
+root_named (RemoveEntry name) f r = absurd (no_name name _ (unnamed (RemoveEntry name) f) r)
+root_named (ModifyEntry name c) f r = absurd (no_name name _ (unnamed (ModifyEntry name c) f) r)
+root_named (ModifyDn name x d) f r = absurd (no_name name _ (unnamed (ModifyDn name x d) f) r)
+
+-- the root is the base of a list or search alone
+pub root_query : (h : Holdings) (m : Chained) → fault_of m.request.body ≡ None → fits m ≡ true
+    → finding.find h m ≡ finding.Root → is_query_below m.request.body ≡ true
+root_query h m fault fit e =
     let same : key_of (target_of m.request.body) ≡ key_of m.target =
     (key_decides (key_of (target_of m.request.body)) (key_of m.target)).0
     (both_true (same_name (target_of m.request.body) m.target) _ fit).0 in
-    one_named m.request.body one fault (ap is_root same ∙ root_asked h m e)
+    root_named m.request.body fault (ap is_root same ∙ root_asked h m e)
 
 -- ---- copies
 

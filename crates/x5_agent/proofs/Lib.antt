@@ -5,3 +5,5 @@ pub mod Replying
 pub mod Asking
 pub mod Saying
 pub mod Serving
+pub mod Queries
+pub mod Near

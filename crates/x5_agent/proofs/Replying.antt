@@ -1,6 +1,6 @@
 -- What is found in a copy is what its reply says: where that is no error the copy answers, and else the supplier is
 -- asked. And the lowest entry on the way has a name that is no longer than the target.
-use Rattle.std.proofs.Common.{◌≡◌, ℕ, zero, suc, ◌+◌, ◌-◌, ◌≤◌, Bool, true, false, ◌||◌, if◌then◌else◌, List, [], ◌∷◌, ◌++◌, take, drop, length, get_or, Option, Some, None, refl, sym, ap, subst, ◌∙◌}
+use Rattle.std.proofs.Common.{◌≡◌, ℕ, zero, suc, ◌-◌, Bool, true, false, ◌||◌, if◌then◌else◌, List, [], ◌∷◌, ◌++◌, take, drop, length, get_or, Option, Some, None, refl, sym, ap, subst, ◌∙◌}
 use Rattle.std.specs.List.{slice_get}
 use Rattle.std.specs.Option.{is_some, option_map}
 use Rattle.x5_model.specs.Members.{In, here, there}
@@ -9,12 +9,14 @@ use Rattle.x5_model.specs.Values.{Name, key_of}
 use Rattle.x5_model.specs.Entries.{Named}
 use Rattle.x5_model.specs.References.{Next, Supplier, RefType, Chained}
 use Rattle.x5_model.specs.Answers.{Reply}
+use Rattle.x5_model.specs.Statics.{fault_of}
 use Rattle.x5_model.proofs.Lists.{in_map}
 use Rattle.x5_model_tree.specs.Tree.{tree_of, is_there}
 use Rattle.x5_model_tree.specs.Ask.{ask_marked, ask}
 use Rattle.x5_model_run.specs.Holdings.{Copy, Holdings}
 use Rattle.x5_model_run.specs.Needs.{fails, reference, copy_answers, supplier_needs, proceeding}
-use Rattle.x5_model_run.specs.Placed.{fits}
+use Rattle.x5_model_run.specs.Journal.{is_done}
+use Rattle.x5_model_run.specs.Placed.{fits, is_query_below}
 use Rattle.x5_model_heard.specs.Kept.{looks_at_one}
 use Rattle.x5_model_heard.specs.Told.{are_agents}
 use Rattle.x5_model_serve.specs.Finding as finding
@@ -24,7 +26,7 @@ use Rattle.x5_dse.specs.Linked.{Node, has_id, entries_of, id_of, name_in, named_
 use Rattle.x5_holdings.specs.State.{Kept, CopyKept, State, copy_view, holdings_view, brought_entries, stamp_of}
 use Rattle.x5_find.specs.Finds.{IsCopyHere, IsLowest}
 use Rattle.x5_agent.specs.Answers.{KnowsThem, IsAtSupplier, is_failed}
-use Rattle.x5_agent.proofs.Shortness.{onward_within}
+use Rattle.x5_agent.proofs.Queries.{query_passes}
 use Rattle.x5_agent.proofs.Alone.{unfinished, failed_from, fails_alike, answers, to_supplier}
 
 pub same_some : {A : Type 0} (x y : A) → Some x ≡ Some y → x ≡ y
@@ -107,6 +109,34 @@ module _ (s : State) (m : Chained) (copy : ℕ) (node : NodeId) (e : IsCopyHere 
     pub at_supplier : is_failed y ≡ true → IsAtSupplier s m copy
     at_supplier f = record { kept = e.kept; held = e.held; found = asks_supplier (sym failed ∙ f) }
 
+-- a copy that may be used answers each list or search of what it has
+module _ (s : State) (m : Chained) (copy : ℕ) (node : NodeId) (e : IsCopyHere s m copy node)
+    (query : is_query_below m.request.body ≡ true) (fault : fault_of m.request.body ≡ None) (fit : fits m ≡ true) where
+  abbrev that_copy : Copy
+  that_copy = copy_view e.kept
+
+  there_is : is_there that_copy.held.entries (key_of m.target) ≡ true
+  there_is =
+      ap (λ (o : Option (Kept × ℕ)). is_there (brought_entries o) (key_of m.target)) e.refreshed
+      ∙ is_there_by e.brought.0.nodes.nodes (key_of m.target) node e.at
+
+  it_answers : copy_answers (holdings_view s) m that_copy ≡ true
+  it_answers =
+      answers (holdings_view s) m that_copy e.usable
+      (ap (λ (o : Option (Kept × ℕ)). is_some (stamp_of o)) e.refreshed)
+      (in_map copy_view e.kept s.copies (got_in s.copies copy e.kept e.held)) there_is
+      (query_passes m that_copy.held.entries query fault fit there_is)
+
+  pub copy_begins : finding.find (holdings_view s) m ≡ finding.CopyHere that_copy
+  copy_begins = e.found ∙ by (is_done m.progress)
+    where
+      by : (d : Bool) → (if d then finding.CopyHere that_copy else finding.in_copy (holdings_view s) m that_copy)
+          ≡ finding.CopyHere that_copy
+      by true = refl
+      by false =
+          ap (λ (b : Bool). if b then finding.CopyHere that_copy else finding.by_first (supplier_needs (holdings_view s)
+          m that_copy) finding.Stuck) it_answers
+
 -- ---- the lowest entry on the way
 
 live_with : (nodes : List Node) (id : NodeId) (n : Node) → node_with nodes id ≡ Some n → is_live nodes id ≡ true
@@ -147,9 +177,6 @@ module _ (s : State) (own : ℕ) (node : NodeId) (named : Named) (low : IsLowest
 
 module _ (h : Holdings) (m : Chained) (k : ℕ) (kept : Name) (kind : RefType) (agents : List ℕ)
     (e : finding.find h m ≡ finding.Onward (proceeding k kept m.target kind agents)) where
-  pub proceeding_short : k ≤ length m.target + 1
-  proceeding_short = onward_within h m (proceeding k kept m.target kind agents) e
-
   pub proceeding_known : (n : ℕ) → KnowsThem n h m → are_agents n agents ≡ true
   proceeding_known n knows = knows (proceeding k kept m.target kind agents) e
 

@@ -185,8 +185,16 @@ pub last_none : (n : Name) → None ≡ slice_get n (length n - 1) → last_in n
 last_none [] e = refl
 last_none (x ∷ n) e = (let q : None ≡ Some (last_rdn (x ∷ n)) = e ∙ last_at (x ∷ n) ∙ last_of_name x n in cc)
 
-pub last_same : (kept : List Rdn) (x r : Rdn) (o : Ordering) (b : Bool) → Some x ≡ slice_get kept (length kept - 1)
-    → o ≡ rdn_cmp (key_of_rdn x) (key_of_rdn r) → b ≡ is_eq o → b ≡ some_and (λ y. same_spelled_rdn y r) (last_of kept)
-last_same kept x r o b e f g =
-    g ∙ ap is_eq f ∙ sym (rdn_ties (key_of_rdn x) (key_of_rdn r))
-    ∙ ap (λ (z : Option Rdn). some_and (λ y. same_spelled_rdn y r) z) (e ∙ last_at kept)
+pub same_by : (a b : Rdn) (o : Ordering) (t : Bool) → o ≡ rdn_cmp (key_of_rdn a) (key_of_rdn b) → t ≡ is_eq o → t ≡ same_spelled_rdn a b
+same_by a b o t e f = f ∙ ap is_eq e ∙ sym (rdn_ties (key_of_rdn a) (key_of_rdn b))
+
+pub last_same : (kept : List Rdn) (x r : Rdn) (b : Bool) → Some x ≡ slice_get kept (length kept - 1) → b ≡ same_spelled_rdn x r
+    → b ≡ some_and (λ y. same_spelled_rdn y r) (last_of kept)
+last_same kept x r b e f = f ∙ ap (λ (z : Option Rdn). some_and (λ y. same_spelled_rdn y r) z) (e ∙ last_at kept)
+
+pub last_rdn_is : (n : Name) (r : Rdn) → Some r ≡ slice_get n (length n - 1) → last_rdn n ≡ r
+last_rdn_is [] r e = cc
+last_rdn_is (x ∷ n) r e = inside (last_rdn (x ∷ n)) r (sym (last_of_name x n) ∙ sym (last_at (x ∷ n)) ∙ sym e)
+  where
+    inside : (a b : Rdn) → Some a ≡ Some b → a ≡ b
+    inside a b q = cc

@@ -10,7 +10,7 @@ pub mod Descending
 pub mod Showing
 pub mod Numbering
 pub mod Reaching
-pub mod Firsts
+pub mod Singles
 pub mod Entering
 pub mod Rises
 pub mod Classes
@@ -27,3 +27,6 @@ pub mod Numbered
 pub mod Choosing
 pub mod Unders
 pub mod Walked
+pub mod Begun
+pub mod Coming
+pub mod Joined

@@ -63,7 +63,7 @@ module _ (h : Holdings) where
   less_back : (m i : ℕ) → (m + (0 + i)) - m ≡ i
   less_back m i = omega arith
 
-  copies_are : map (copy_number h) (copy_numbers h) ≡ h.copies
+  pub copies_are : map (copy_number h) (copy_numbers h) ≡ h.copies
   copies_are = at_numbers (λ c. key_of c.held.prefix) (copy_place h) (copy_number h) 0 h.copies
       (λ i k y e. ap (λ (o : Option Copy). in_option no_copy (λ c. c) o) (ap (slice_get h.copies) (less_back (length h.own) i) ∙ e))
 

@@ -6,3 +6,4 @@ pub mod Spots
 pub mod Rest
 pub mod Visited
 pub mod Walks
+pub mod Parts

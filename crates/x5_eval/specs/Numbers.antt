@@ -1,13 +1,12 @@
 -- The contexts that an agent holds by numbers: those that it masters by their places, its copies behind them (X.518,
--- section
--- 19.3: evaluation of list and search). The numbers are this project's own.
+-- section 19.3: evaluation of list and search). The numbers are this project's own.
 use Rattle.std.specs.Prelude.{ℕ, ◌+◌, ◌-◌, nat_lt, Bool, true, not, ◌&&◌, ◌||◌, ◌==◌, if◌then◌else◌, List, [], ◌++◌}
 use Rattle.std.specs.Prelude.{length, map, slice_get}
 use Rattle.std.specs.List.{filter}
 use Rattle.std.specs.Option.{is_some}
 use Rattle.std.specs.declared.option.Option.{Option}
 use Rattle.std.specs.declared.option.Option.TheVariants.{None, Some}
-use Rattle.x5_model.specs.Words.{in_option, sorted, first_of}
+use Rattle.x5_model.specs.Words.{in_option, sorted}
 use Rattle.x5_model.specs.Keys.{Key, key_below, is_prefix, parent}
 use Rattle.x5_model.specs.Values.{Name, key_of}
 use Rattle.x5_model.specs.Requests.{Subset, Request}
@@ -82,10 +81,6 @@ abbrev pub numbers_under : Request → Holdings → Key → Subset → ℕ → L
 numbers_under r h base subset n =
     sorted (number_below h) (filter (is_under h base subset (held_number h n)) (served_numbers r h))
 
--- of contexts with one pin the first
-abbrev pub first_number : List Key → Key → ℕ
-first_number pins pin = in_option 0 own_place (first_of (run_of pins pin))
-
 -- ---- those that rows of pins lead to
 
 -- the rows with so many RDNs, or all
@@ -107,7 +102,3 @@ served_reach r h at depth = own_reach h at depth ++ copy_reach r h at depth
 abbrev pub reaches : Key → Option ℕ → Key → Bool
 reaches at None pin = is_prefix at pin
 reaches at (Some depth) pin = is_prefix at pin && (length pin == depth)
-
--- the first number that has the same pin
-abbrev pub first_place : Holdings → ℕ → ℕ
-first_place h n = if nat_lt n (length h.own) then first_number (own_pins h) (pin_number h n) else n

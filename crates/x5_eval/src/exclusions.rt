@@ -142,6 +142,13 @@ fn compare_rdns(a: &[Pair], b: &[Pair]) -> Ordering
     }
 }
 
+/// Whether both have the same key. No memory.
+pub(crate) fn is_same(a: &Rdn, b: &Rdn) -> bool
+    ensures { result ≡ same_spelled_rdn a.now b.now }
+{
+    compare_rdns(a.pairs(), b.pairs()).is_eq()
+}
+
 /// These in the order of their keys; those of one key stay in their order.
 fn in_order(rdns: Vec<Rdn>) -> Result<Vec<Rdn>, NoMemory>
     ensures { IfOk result (λ all. all.items ≡ sorted rdn_below rdns.items) }
@@ -156,7 +163,7 @@ fn is_last(kept: &[Rdn], rdn: &Rdn) -> bool
     ensures { result ≡ some_and (λ x. same_spelled_rdn x rdn.now) (last_of kept.now) }
 {
     match kept.last() {
-        Some(last) => compare_rdns(last.pairs(), rdn.pairs()).is_eq(),
+        Some(last) => is_same(last, rdn),
         None => false,
     }
 }

@@ -2,7 +2,10 @@
 //! a read or compare, with its source.
 #![tactic(auto)]
 
+mod beginning;
+mod evaluating;
 mod exclusions;
+mod local;
 mod naming;
 mod numbers;
 mod points;
@@ -13,4 +16,5 @@ mod shown;
 mod subsets;
 mod visits;
 
+pub use evaluating::evaluate;
 pub use reading::{read_copy, read_own};

@@ -12,7 +12,7 @@ use Rattle.x5_model.specs.Values.{key_of, key_of_rdn}
 use Rattle.x5_model.specs.Requests.{Request}
 use Rattle.x5_model.specs.References.{Chained}
 use Rattle.x5_model.proofs.KeyLaws.{key_decides}
-use Rattle.x5_model.proofs.Prefixes.{prefix_decides, prefix_length}
+use Rattle.x5_model.proofs.Prefixes.{prefix_decides}
 use Rattle.x5_model.proofs.Lists.{of_find}
 use Rattle.x5_model_tree.specs.World.{Specific}
 use Rattle.x5_model_tree.specs.Tree.{longest}
@@ -27,7 +27,7 @@ use Rattle.x5_dse.specs.Linked.{prefix_of}
 use Rattle.x5_holdings.specs.Known.{IsLongest}
 use Rattle.x5_holdings.specs.State.{Kept, CopyKept, State, IsKept, held_view, copy_view, holdings_view, are_once}
 use Rattle.x5_holdings.specs.declared.holdings.Pin.TheVariants.{Subordinate, Cross}
-use Rattle.x5_find.specs.Ways.{IsOwnPin, IsCopyPin}
+use Rattle.x5_find.specs.Ways.{IsOwnPin, IsCopyPin, IsNear}
 use Rattle.x5_find.proofs.Ways.{by_known, at_own, at_copy}
 
 -- ---- lists
@@ -96,13 +96,12 @@ module _ (s : State) (m : Chained) (place : ℕ) where
           (of_find (λ (c : Copy). same_key (key_of c.held.prefix) pin.key) (copy_view kept) (holdings_view s).copies
           copy_found).1
 
-      -- its prefix has no more RDNs than the name
-      pub copy_short : length kept.prefix ≤ length m.target
-      copy_short =
-          let p : length pin.key ≤ length (key_of m.target) = prefix_length pin.key (key_of m.target)
-          (on_way (map key_of (known_pins m.request (holdings_view s))) (key_of m.target) pin.key pin.longest) in
+      -- its prefix has no more RDNs than an octet counts
+      pub copy_near : IsNear s m → length kept.prefix ≤ 255
+      copy_near near =
           let k : length (key_of kept.prefix) ≡ length pin.key = ap length copy_key in
-          omega (arith, length-map kept.prefix key_of_rdn, length-map m.target key_of_rdn)
+          let l : length pin.key ≤ 255 = near pin.key pin.longest in
+          omega (arith, length-map kept.prefix key_of_rdn, k, l)
 
 -- no two copies are of one context, as the definitions see them
 pub copies_once : (s : State) → are_once s.copies ≡ true → distinct same_key
@@ -117,18 +116,18 @@ copies_once s e = ap (λ (l : List Key). distinct same_key l) (same s.copies) �
 -- ---- the pins of references
 
 module _ (r : Request) (h : Holdings) (name : Key) where
-  pin_short : (ks : List Specific) (key : Key) (k : Specific) → specific_at ks key ≡ Some k → known_pin r h name ≡
-      Some key → length k.pin ≤ length name
-  pin_short ks key k e l =
-      let same : key_of k.pin ≡ key = (key_decides (key_of k.pin) key).0
-      (of_find (λ (x : Specific). same_key (key_of x.pin) key) k ks e).1 in
-      let n : length (key_of k.pin) ≡ length key = ap length same in
-      let p : length key ≤ length name = prefix_length key name (on_way (map key_of (known_pins r h)) name key l) in
-      omega (arith, length-map k.pin key_of_rdn)
+  module _ (near : (p : Key) → known_pin r h name ≡ Some p → length p ≤ 255) where
+    pin_near : (ks : List Specific) (key : Key) (k : Specific) → specific_at ks key ≡ Some k
+        → known_pin r h name ≡ Some key → length k.pin ≤ 255
+    pin_near ks key k e l =
+        let same : key_of k.pin ≡ key = (key_decides (key_of k.pin) key).0
+        (of_find (λ (x : Specific). same_key (key_of x.pin) key) k ks e).1 in
+        let n : length (key_of k.pin) ≡ length key = ap length same in
+        let p : length key ≤ 255 = near key l in
+        omega (arith, length-map k.pin key_of_rdn, n, p)
 
-  pub subordinate_short : (k : Bor knowledge.Specific) → IsLongest r h name (Subordinate k) → length k.now.pin ≤
-      length name
-  subordinate_short k e = pin_short (subordinates r h) e.key (specific_view k.now) e.first.2 e.longest
+    pub subordinate_near : (k : Bor knowledge.Specific) → IsLongest r h name (Subordinate k) → length k.now.pin ≤ 255
+    subordinate_near k e = pin_near (subordinates r h) e.key (specific_view k.now) e.first.2 e.longest
 
-  pub cross_short : (k : Bor knowledge_cross.Cross) → IsLongest r h name (Cross k) → length k.now.pin ≤ length name
-  cross_short k e = pin_short h.cross e.key (cross_view k.now) e.first.3 e.longest
+    pub cross_near : (k : Bor knowledge_cross.Cross) → IsLongest r h name (Cross k) → length k.now.pin ≤ 255
+    cross_near k e = pin_near h.cross e.key (cross_view k.now) e.first.3 e.longest

@@ -1,7 +1,10 @@
 -- Which part of the definition speaks of a message.
-use Rattle.std.specs.Prelude.{◌≡◌, ℕ, false}
+use Rattle.std.specs.Prelude.{◌≡◌, ℕ, ◌≤◌, false, length}
+use Rattle.std.specs.declared.option.Option.TheVariants.{Some}
+use Rattle.x5_model.specs.Keys.{Key}
 use Rattle.x5_model.specs.Values.{key_of}
 use Rattle.x5_model.specs.References.{Chained}
+use Rattle.x5_model_run.specs.Holdings.{known_pin}
 use Rattle.x5_model_run.specs.Journal.{is_done}
 use Rattle.x5_model_serve.specs.Finding.{find, resolved}
 use Rattle.x5_holdings.specs.State.{State, holdings_view}
@@ -19,3 +22,7 @@ IsOwnPin s m own = IsLongest m.request (holdings_view s) (key_of m.target) (Own 
 
 abbrev pub IsCopyPin : State → Chained → ℕ → Type 0
 IsCopyPin s m copy = IsLongest m.request (holdings_view s) (key_of m.target) (Copy copy)
+
+-- the longest known pin on the way has no more RDNs than an octet counts (X.518, section 10.5: nextRDNToBeResolved)
+abbrev pub IsNear : State → Chained → Type 0
+IsNear s m = (p : Key) → known_pin m.request (holdings_view s) (key_of m.target) ≡ Some p → length p ≤ 255

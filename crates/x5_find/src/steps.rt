@@ -1,6 +1,6 @@
 //! The resolution of a name at an agent.
 
-ghost use Rattle.std.specs.Prelude.{◌≡◌, ◌≤◌, [], ◌&&◌, ◌==◌, false, true, not, List, ℕ, length, None, Some};
+ghost use Rattle.std.specs.Prelude.{◌≡◌, [], ◌&&◌, ◌==◌, false, true, not, List, ℕ, None, Some};
 ghost use Rattle.std.specs.List.{list_any};
 ghost use Rattle.x5_model.specs.Values.{key_of};
 ghost use Rattle.x5_model_run.specs.Journal.{is_done, is_wide};
@@ -12,7 +12,7 @@ ghost use Rattle.x5_ops.specs.RequestViews.{request_view};
 ghost use Rattle.x5_holdings.specs.Known.{IsPlaceOf};
 ghost use Rattle.x5_holdings.specs.State.{copy_view, holdings_view};
 ghost use Rattle.x5_find.specs.Finds.{Finds};
-ghost use Rattle.x5_find.specs.Ways.{IsResolved, IsOwnPin, IsCopyPin};
+ghost use Rattle.x5_find.specs.Ways.{IsResolved, IsOwnPin, IsCopyPin, IsNear};
 
 use crate::found::{Found, Via};
 use x5_holdings::{Holdings, Pin};
@@ -88,7 +88,7 @@ fn in_own<'a>(state: &'a Holdings, message: &'a Chained, own: usize) -> Found<'a
 fn in_copy<'a>(state: &'a Holdings, message: &'a Chained, copy: usize) -> Found<'a>
     requires resolved { (names : List (List ℕ)) → IsResolved state.now (chained_view names message.now) }
     requires pin { IsCopyPin state.now (chained_view [] message.now) copy }
-    requires length { length message.now.target ≤ 16 }
+    requires near { IsNear state.now (chained_view [] message.now) }
     ensures { (names : List (List ℕ)) → Finds state.now (chained_view names message.now) result }
 {
     let copied = &state.copies()[copy];
@@ -108,7 +108,7 @@ fn in_copy<'a>(state: &'a Holdings, message: &'a Chained, copy: usize) -> Found<
 /// Where the resolution of a name ends that is still to be resolved.
 fn resolve<'a>(state: &'a Holdings, message: &'a Chained) -> Found<'a>
     requires resolved { (names : List (List ℕ)) → IsResolved state.now (chained_view names message.now) }
-    requires length { length message.now.target ≤ 16 }
+    requires near { IsNear state.now (chained_view [] message.now) }
     ensures { (names : List (List ℕ)) → Finds state.now (chained_view names message.now) result }
 {
     match state.known(&message.request, message.target.rdns()) {
@@ -175,11 +175,11 @@ fn completed<'a>(state: &'a Holdings, message: &'a Chained) -> Found<'a>
 }
 
 /// Where the resolution of the message's name ends at the agent that holds this (X.518, section 18: Find DSE). It's for a
-/// message that fits, with a target of 16 RDNs at most, and not for a completed name that came by a nonSpecific reference: that
-/// is evaluated below its entry. No memory.
+/// message that fits, at an agent whose pins have no more RDNs than an octet counts, and not for a completed name that came by a
+/// nonSpecific reference: that is evaluated below its entry. No memory.
 pub fn find<'a>(state: &'a Holdings, message: &'a Chained) -> Found<'a>
     requires fits { fits (chained_view [] message.now) ≡ true }
-    requires length { length message.now.target ≤ 16 }
+    requires near { IsNear state.now (chained_view [] message.now) }
     requires specific { (is_done (progress_view message.now.progress) && is_wide (kind_view message.now.kind)) ≡ false }
     ensures { (names : List (List ℕ)) → Finds state.now (chained_view names message.now) result }
 {

@@ -21,12 +21,12 @@ use Rattle.x5_model_known.specs.Holding.{access_names, references_name, nssrs_na
 
 -- ---- what an agent holds is of the world
 
-at_place : (xs : List Agent) (i : ℕ) (a : Agent) → slice_get xs i ≡ Some a → In a xs
+pub at_place : (xs : List Agent) (i : ℕ) (a : Agent) → slice_get xs i ≡ Some a → In a xs
 at_place [] i a e = cc
 at_place (x ∷ xs) zero a e = (let p : x ≡ a = cc in subst (λ (y : Agent). In y (x ∷ xs)) p here)
 at_place (x ∷ xs) (suc i) a e = there (at_place xs i a e)
 
-of_held : (before : List Key) (cs : List Context) (c : Context) → In c (held_contexts before cs) → In c cs
+pub of_held : (before : List Key) (cs : List Context) (c : Context) → In c (held_contexts before cs) → In c cs
 of_held before [] c i = elim i [ ]
 of_held before (x ∷ cs) c i =
     go (has same_key before (key_of x.prefix)) i (of_held before cs c) (of_held (key_of x.prefix ∷ before) cs c)
@@ -40,7 +40,7 @@ of_held before (x ∷ cs) c i =
       | inr k ↦ there (g k)
     ]
 
-of_first : (before : List Key) (gs : List Agreement) (g : Agreement) → In g (first_agreements before gs) → In g gs
+pub of_first : (before : List Key) (gs : List Agreement) (g : Agreement) → In g (first_agreements before gs) → In g gs
 of_first before [] g i = elim i [ ]
 of_first before (x ∷ gs) g i =
     go (has same_key before (key_of x.context)) i (of_first before gs g) (of_first (key_of x.context ∷ before) gs g)

@@ -489,6 +489,14 @@ module _ (n : ℕ) where
         ap (λ (b : Bool). superior_names n h.superior && (b && elsewhere h)) (own_same r h h.own),
       )
 
+  module _ (h : Holdings) (m : Chained) (all : holdings_name n h ≡ true) where
+    pub onward_there : (r : Reference) → find h m ≡ Onward r → are_agents n r.agents ≡ true
+    onward_there r e = onward_named h m (names_of h all) r e
+
+    pub rest_there : name_agents n (rest_of_parts h m) ≡ true
+    rest_there =
+        all_named (rest_of_parts h m) (λ r i. parts_named h m (names_of h all) r (rest_is_needed h m r i))
+
   module _ (s : Scene) (hold : HoldAgents n s) where
     now_named : (j : Journal) (k : Hand) → there k.receiver ≡ true → Names (holds_now s j k)
     now_named j k e = by (has ◌==◌ j.accepted k.receiver)

@@ -1,3 +1,5 @@
 pub mod Finding
 pub mod Describing
+pub mod Counted
 pub mod Replying
+pub mod Resolving

@@ -1,2 +1,4 @@
 pub mod Holding
+pub mod Counted
 pub mod Replying
+pub mod Resolving

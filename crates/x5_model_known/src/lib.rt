@@ -4,7 +4,9 @@
 #![tactic(auto)]
 
 ghost use Rattle.x5_model_known.specs.Holding.{KnowledgeNamesAgents, KnowledgeStays, DescribedNameAgents, DescribedAreThemselves, DescribedNamesApart};
+ghost use Rattle.x5_model_known.specs.Counted.{DescribedCounted, CountedStays};
 ghost use Rattle.x5_model_known.specs.Replying.{RepliesNameAgents};
+ghost use Rattle.x5_model_known.specs.Resolving.{ResolvesAlike, UnresolvedIsStuck};
 
 /// Where what agents hold names agents of the world alone, so do the references that they find, need for a list or search, and
 /// probe by, even after an update: that changes entries, and neither whose the holdings are nor whom they name.
@@ -22,8 +24,22 @@ pub fn described()
     ensures names { DescribedNamesApart }
 {}
 
+/// An octet counts the RDNs of each name that an agent knows of a world that a file describes, and one more; an update changes none
+/// of these names.
+#[tactic(auto, using(crate::proofs::Counted::described_counted, crate::proofs::Counted::counted_stays))]
+pub fn counting()
+    ensures described { DescribedCounted }
+    ensures stays { CountedStays }
+{}
+
 /// So does the reply to every request: in its references, in the sources of its answer, and in the item of a loop.
 #[tactic(auto, using(crate::proofs::Replying::replies_name_agents))]
 pub fn replies()
     ensures { RepliesNameAgents }
+{}
+
+/// An agent resolves as many names after an update as before, and of an update's name that it doesn't resolve it finds nothing.
+pub fn resolution()
+    ensures alike { ResolvesAlike }
+    ensures stuck { UnresolvedIsStuck }
 {}

@@ -1,47 +1,59 @@
 -- A script that agents carry out is a run: block by block, each request by what holds at every line of a run,
 -- whatever its judge; all other blocks are judged alike.
-use Rattle.std.proofs.Common.{List, [], ◌∷◌, ◌++◌}
+use Rattle.std.proofs.Common.{◌≡◌, ℕ, List, [], ◌∷◌, ◌++◌, refl, subst}
 use Rattle.std.specs.List.{AllByRecursion}
+use Rattle.x5_model.specs.Requests.{Request}
+use Rattle.x5_model.specs.Answers.{Reply}
 use Rattle.x5_model_tree.specs.World.{World}
 use Rattle.x5_model_tree.specs.Consistent.{IsConsistent}
 use Rattle.x5_model_tree.specs.Described.{IsDescribed}
-use Rattle.x5_model_run.specs.History.{Did}
-use Rattle.x5_model_run.specs.Run.{Command, Blank, Asks, Changes, Drops, Updates, Block, Silent, Set, Replies, Refreshing, IsBlock, IsRun, begin, next}
+use Rattle.x5_model_run.specs.Journal.{Journal}
+use Rattle.x5_model_run.specs.History.{Did, Point}
+use Rattle.x5_model_run.specs.Run.{Command, Blank, Asks, Changes, Drops, Updates, Block, Silent, Set, Replies, Refreshing, Judge, IsBlock, IsRun, begin, next}
 use Rattle.x5_model_star.specs.Runs.{RightAndWhole}
 use Rattle.x5_model_settled.specs.Runs.{ByAgents, IsAskable, AgentsRunIsRun, AgentsPrintRun}
 use Rattle.x5_model_settled.proofs.Settled.{runs_are_right}
 
-before_last : {A : Type 0} (P : A → Type 0) (xs : List A) (x : A) → AllByRecursion P (xs ++ x ∷ [])
+pub before_last : {A : Type 0} (P : A → Type 0) (xs : List A) (x : A) → AllByRecursion P (xs ++ x ∷ [])
     → AllByRecursion P xs × P x
 before_last P [] x f = (tt, f.0)
 before_last P (y ∷ ys) x f = (let w = before_last P ys x f.1 in ((f.0, w.0), w.1))
+
+-- a block is judged by another judge, where that holds of requests; all other blocks are judged alike
+pub block_more : (judge other : Judge) (p : Point) (command : Command) (block : Block)
+    → ((first : ℕ) (r : Request) (j : Journal) (reply : Reply) → command ≡ Asks first r → judge p first r j reply
+    → other p first r j reply)
+    → IsBlock judge p command block → IsBlock other p command block
+block_more judge other p (Asks first r) (Replies j reply) more is = more first r j reply refl is
+block_more judge other p (Asks first r) Silent more is = absurd is
+block_more judge other p (Asks first r) Set more is = absurd is
+block_more judge other p (Asks first r) (Refreshing b) more is = absurd is
+block_more judge other p Blank Silent more is = tt
+block_more judge other p Blank Set more is = absurd is
+block_more judge other p Blank (Replies j reply) more is = absurd is
+block_more judge other p Blank (Refreshing b) more is = absurd is
+block_more judge other p (Changes o) Silent more is = absurd is
+block_more judge other p (Changes o) Set more is = tt
+block_more judge other p (Changes o) (Replies j reply) more is = absurd is
+block_more judge other p (Changes o) (Refreshing b) more is = absurd is
+block_more judge other p (Drops lost k) Silent more is = absurd is
+block_more judge other p (Drops lost k) Set more is = tt
+block_more judge other p (Drops lost k) (Replies j reply) more is = absurd is
+block_more judge other p (Drops lost k) (Refreshing b) more is = absurd is
+block_more judge other p (Updates number pushes total) Silent more is = absurd is
+block_more judge other p (Updates number pushes total) Set more is = absurd is
+block_more judge other p (Updates number pushes total) (Replies j reply) more is = absurd is
+block_more judge other p (Updates number pushes total) (Refreshing b) more is = is
 
 module _ (w : World) (described : IsDescribed w) (consistent : IsConsistent w) where
   alike : (commands : List Command) (blocks : List Block) (past : List Did) (command : Command) (block : Block)
       → IsRun ByAgents w commands blocks past → IsAskable w command
       → IsBlock ByAgents (record { described = w; past = past }) command block
       → IsBlock RightAndWhole (record { described = w; past = past }) command block
-  alike commands blocks past Blank Silent run may is = tt
-  alike commands blocks past Blank Set run may is = absurd is
-  alike commands blocks past Blank (Replies j reply) run may is = absurd is
-  alike commands blocks past Blank (Refreshing b) run may is = absurd is
-  alike commands blocks past (Asks first r) Silent run may is = absurd is
-  alike commands blocks past (Asks first r) Set run may is = absurd is
-  alike commands blocks past (Asks first r) (Replies j reply) run may is =
-      runs_are_right ByAgents w commands blocks past first r described consistent run may.0 j reply may.1 may.2 is
-  alike commands blocks past (Asks first r) (Refreshing b) run may is = absurd is
-  alike commands blocks past (Changes o) Silent run may is = absurd is
-  alike commands blocks past (Changes o) Set run may is = tt
-  alike commands blocks past (Changes o) (Replies j reply) run may is = absurd is
-  alike commands blocks past (Changes o) (Refreshing b) run may is = absurd is
-  alike commands blocks past (Drops reply k) Silent run may is = absurd is
-  alike commands blocks past (Drops reply k) Set run may is = tt
-  alike commands blocks past (Drops reply k) (Replies j other) run may is = absurd is
-  alike commands blocks past (Drops reply k) (Refreshing b) run may is = absurd is
-  alike commands blocks past (Updates number pushes total) Silent run may is = absurd is
-  alike commands blocks past (Updates number pushes total) Set run may is = absurd is
-  alike commands blocks past (Updates number pushes total) (Replies j reply) run may is = absurd is
-  alike commands blocks past (Updates number pushes total) (Refreshing b) run may is = is
+  alike commands blocks past command block run may =
+      block_more ByAgents RightAndWhole (record { described = w; past = past }) command block (λ first r j reply e is.
+      let asked : IsAskable w (Asks first r) = subst (IsAskable w) e may in
+      runs_are_right ByAgents w commands blocks past first r described consistent run asked.0 j reply asked.1 asked.2 is)
 
   runs : (commands : List Command) (blocks : List Block) (past : List Did) → AllByRecursion (IsAskable w) commands
       → IsRun ByAgents w commands blocks past → IsRun RightAndWhole w commands blocks past

@@ -16,7 +16,7 @@ use Rattle.x5_model_right.proofs.Whole.{requests_are_right}
 use Rattle.x5_model_settled.specs.Settled.{HasAgent, LinesAreSettled, RunsAreSettled, LinesAreRight, RunsAreRight}
 
 -- agents stay
-knowledge_stays : (w : World) (past : List Did) → NoneMoved past → knowledge_by w past ≡ w
+pub knowledge_stays : (w : World) (past : List Did) → NoneMoved past → knowledge_by w past ≡ w
 knowledge_stays w [] n = refl
 knowledge_stays w (d ∷ before) n = by d.deed n.0 (knowledge_stays w before n.1)
   where
@@ -49,7 +49,7 @@ lines_are_right w past first r described consistent none agent j reply short fre
 
 -- ---- runs move no contexts
 
-abbrev accepted_deed : Request → List ℕ → Deed
+abbrev pub accepted_deed : Request → List ℕ → Deed
 accepted_deed r [] = Nothing
 accepted_deed r (a ∷ more) = Accepts (map (λ x. record { agent = x; request = r }) (a ∷ more))
 
@@ -64,7 +64,7 @@ refreshed_none_moved (Problem n) = tt
 refreshed_none_moved (Missed a b) = tt
 refreshed_none_moved NotConsistent = tt
 
-did_none_move : (command : Command) (block : Block) → MovesNone (did_by command block).deed
+pub did_none_move : (command : Command) (block : Block) → MovesNone (did_by command block).deed
 did_none_move Blank block = tt
 did_none_move (Changes o) block = tt
 did_none_move (Drops reply n) block = tt
@@ -77,7 +77,7 @@ did_none_move (Updates number pushes total) Set = tt
 did_none_move (Updates number pushes total) (Replies j reply) = tt
 did_none_move (Updates number pushes total) (Refreshing b) = refreshed_none_moved b.outcome
 
-run_none_moved : (judge : Judge) (w : World) (commands : List Command) (blocks : List Block) (past : List Did)
+pub run_none_moved : (judge : Judge) (w : World) (commands : List Command) (blocks : List Block) (past : List Did)
     → IsRun judge w commands blocks past → NoneMoved past
 run_none_moved judge w commands blocks past begin = tt
 run_none_moved judge w commands blocks past (next {commands = cs} {blocks = bs} {past = before} command block run is) =

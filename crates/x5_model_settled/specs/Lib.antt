@@ -1,2 +1,4 @@
 pub mod Settled
 pub mod Runs
+pub mod Afterwards
+pub mod Held

@@ -6,6 +6,8 @@ ghost use Rattle.x5_model_run.specs.Right.{AnswersRight};
 ghost use Rattle.x5_model_star.specs.Runs.{RightAndWhole};
 ghost use Rattle.x5_model_settled.specs.Settled.{LinesAreSettled, RunsAreSettled, LinesAreRight, RunsAreRight};
 ghost use Rattle.x5_model_settled.specs.Runs.{AgentsRunIsRun, AgentsPrintRun};
+ghost use Rattle.x5_model_settled.specs.Afterwards.{HoldsAfter, HoldsOn, NetworkStays, MovedNoneAfter, KnowsAsDescribed, StampedAtFirst, StampedOn, StampedAfter};
+ghost use Rattle.x5_model_settled.specs.Held.{HeldAfterRequest, HeldIsHoldings, StepsAreAgents, StepsAreRight, StepsPrintRun, StepsArePerformed, StepsPrintPerformed, PerformedIsRight};
 
 /// Every line of a run is a setting of a user's request to an agent of the world, and so is every line that was led to without
 /// moving contexts (X.501, section 22).
@@ -27,4 +29,31 @@ pub fn running()
 pub fn carrying_out()
     ensures runs { AgentsRunIsRun }
     ensures prints { AgentsPrintRun }
+{}
+
+/// What agents hold at the next line is what they held, changed where a request's update was accepted (X.511, section 11); the
+/// network is as it was; and what these theorems ask of a line holds at the next one.
+pub fn afterwards()
+    ensures holds { HoldsAfter }
+    ensures still { HoldsOn }
+    ensures network { NetworkStays }
+    ensures moved { MovedNoneAfter }
+    ensures knows { KnowsAsDescribed }
+    ensures first { StampedAtFirst }
+    ensures on { StampedOn }
+    ensures stamped { StampedAfter }
+{}
+
+/// What agents hold, step by step, is their part of the one tree where knowledge is consistent and no copy is refreshed (X.501,
+/// section 22); so a script that they carry out step by step is one that they carry out, each answer is right, and what is printed
+/// of it is the output of such a run. One judge says both: what agents do, and that it is right where knowledge is consistent.
+pub fn stepping()
+    ensures after { HeldAfterRequest }
+    ensures holds { HeldIsHoldings }
+    ensures agents { StepsAreAgents }
+    ensures runs { StepsAreRight }
+    ensures prints { StepsPrintRun }
+    ensures performed { StepsArePerformed }
+    ensures printed { StepsPrintPerformed }
+    ensures right { PerformedIsRight }
 {}

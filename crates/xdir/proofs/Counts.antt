@@ -1,109 +1,92 @@
 -- The counts grow by those of a block for each command, as the output does, and their line behind that on knowledge is the
 -- summary of the run.
-use Rattle.std.proofs.Common.{◌≡◌, ℕ, List, [], ◌∷◌, ◌++◌, codes, Option, refl, sym, ap, subst, ◌∙◌}
-use Rattle.x5_model.specs.Requests.{Request}
-use Rattle.x5_model_tree.specs.Consistent.{Inconsistency}
-use Rattle.x5_model_tree.specs.Described.{IsDescribed}
-use Rattle.x5_model_tree.proofs.FirstBreach.{consistent_has_none}
-use Rattle.x5_model_run.specs.History.{sent_before}
-use Rattle.x5_model_run.specs.Run.{Command, Blank, Asks, Changes, Drops, Updates, Block, Silent, Replies, did_by}
-use Rattle.x5_model_output.specs.Output.{names_of, knowledge_line, run_text}
+use Rattle.std.proofs.Common.{◌≡◌, ℕ, List, [], ◌∷◌, ◌++◌, refl, ap, ◌∙◌, Result, Ok, Err, IfOk}
+use Rattle.x5_model_run.specs.History.{Did, Point}
+use Rattle.x5_model_run.specs.Run.{Command, Block, Silent, did_by, begin, next}
+use Rattle.x5_model_output.specs.Output.{run_text}
 use Rattle.x5_model_output.specs.Summary.{Counts, no_counts, both, block_counts, counts_of, capped_counts, summary_line}
-use Rattle.x5_model_star.specs.Star.{IsStar}
-use Rattle.x5_model_star.specs.Runs.{IsStarRun, begin, blank, read}
-use Rattle.x5_model_star.proofs.Consistency.{star_is_consistent}
-use Rattle.x5_model_star.proofs.Runs.{star_run_is_run}
+use Rattle.x5_model_run.specs.Refresh as refresh
+use Rattle.x5_model_settled.specs.Runs.{IsAskable}
+use Rattle.x5_model_settled.proofs.Steps.{steps_are_performed}
 use Rattle.x5_model_world.specs.WorldFile.{File}
 use Rattle.x5_know.specs.Moments.{moment_text}
-use Rattle.x5_dispatch.specs.Star.{AnswersStar}
-use Rattle.x5_ops.specs.declared.agents.AgentId.{AgentId}
-use Rattle.x5_ops.specs.declared.answers.Reply.{Reply}
 use Rattle.x5_ops.specs.declared.journal.Journal.{Journal}
-use Rattle.x5_ops.specs.declared.requests.Request.{Request as Asking}
-use Rattle.x5_report.specs.Blocks.{names_in}
 use Rattle.x5_report.specs.Counted.{IsOf}
-use Rattle.x5_report.specs.declared.report.LineOutcome.TheVariants.{Answered}
-use Rattle.x5_script.specs.declared.command.Command.{Command as Line}
-use Rattle.x5_script.specs.declared.command.Command.TheVariants.{Nothing, Ask, Outage, Refresh, Deliver, Lose}
-use Rattle.xdir.specs.Star.{IsTaken, run_view}
+use Rattle.x5_report.specs.declared.report.LineOutcome.{LineOutcome}
+use Rattle.x5_report.specs.declared.report.LineOutcome.TheVariants.{Set, Answered, Plain, Refreshed, NotConsistent}
+use Rattle.x5_world.specs.State.{Net, StandsAt, names_in}
+use Rattle.xdir.specs.declared.lines.Course.{Course}
+use Rattle.xdir.specs.Blocks.{Gives, IsTold, IsCourse}
+use Rattle.xdir.specs.Checked.{knowledge_text}
 use Rattle.xdir.specs.Counted.{CountsOneMore, AddsBlock, IsCounted}
 use Rattle.xdir.specs.Summed.{IsSummary}
-use Rattle.xdir.proofs.Known.{same_journal}
-use Rattle.xdir.proofs.SoFar.{IsAsked}
+use Rattle.xdir.specs.Taken.{Suits, point}
+use Rattle.xdir.proofs.SoFar.{and_last}
+use Rattle.xdir.proofs.Sound.{knowledge_is, none_refreshed}
 
-pub none_counted : (f : File) (counts : Counts) → counts ≡ no_counts → IsCounted f [] counts
-none_counted f counts e = record { blocks = []; past = []; runs = begin; counted = e }
+pub none_counted : (f : File) (net : Net) (counts : Counts) → StandsAt net (point f.world []) → counts ≡ no_counts → IsCounted f [] net counts
+none_counted f net counts stands e =
+    record { blocks = []; past = []; runs = begin; askable = tt; suits = tt; stands = stands; counted = e }
 
 -- a comment adds nothing
 silent_adds_none : (blocks : List Block) → counts_of blocks ≡ counts_of (blocks ++ Silent ∷ [])
 silent_adds_none [] = refl
 silent_adds_none (x ∷ xs) = ap (both (block_counts x)) (silent_adds_none xs)
 
-pub comment_adds : (f : File) (counts : Counts) → AddsBlock f Blank counts counts
-comment_adds f counts sent blocks before =
-    record { block = Silent; given = refl; counted = before ∙ ap capped_counts (silent_adds_none blocks) }
+pub comment_adds : (p : Point) (command : Command) (net : Net) (counts : Counts) → Gives p command net Silent → AddsBlock p command net counts counts
+comment_adds p command net counts gives blocks before =
+    record { block = Silent; gives = gives; counted = before ∙ ap capped_counts (silent_adds_none blocks) }
 
--- of what a run takes, all but requests are comments
-pub other_adds : (f : File) (agents : ℕ) (c : Line) (counts : Counts) → IsTaken agents c
-    → ((to : AgentId) (request : Asking) → c ≡ Ask to request → ⊥) → AddsBlock f (run_view c) counts counts
-other_adds f agents Nothing counts taken no_ask = comment_adds f counts
-other_adds f agents (Ask to request) counts taken no_ask = absurd (no_ask to request refl)
-other_adds f agents (Outage change) counts taken no_ask = absurd taken
-other_adds f agents (Refresh id push total) counts taken no_ask = absurd taken
-other_adds f agents (Deliver dsp to octets) counts taken no_ask = absurd taken
-other_adds f agents (Lose reply k) counts taken no_ask = absurd taken
+-- what came of a command is counted as its block
+told_of : (names : List (List ℕ)) (j : Journal) (o : LineOutcome) (b : Block) → IsTold names j o b → IsOf names j o b
+told_of names j Set b t = t
+told_of names j (Answered reply) b t = t
+told_of names j (Plain reply) b t = absurd t
+told_of names j (Refreshed number f heard) b t = absurd t
+told_of names j NotConsistent b t = (refresh.ended [] refresh.NotConsistent, refl, t.1)
 
--- what a star answers is counted as its block
-pub answer_adds : (f : File) (to : ℕ) (r : Request) (reply : Reply) (journal : Journal) (old new : Counts)
-    → ((sent : ℕ) → AnswersStar f.world sent to r reply journal)
-    → ((b : Block) (blocks : List Block) → IsOf (names_in f.world) journal (Answered reply) b → old ≡ capped_counts (counts_of blocks)
+pub course_adds : (p : Point) (command : Command) (net : Net) (c : Course) (old new : Counts) → IsCourse p command net c
+    → ((b : Block) (blocks : List Block) → IsOf (names_in p.described) c.journal c.outcome b → old ≡ capped_counts (counts_of blocks)
     → new ≡ capped_counts (counts_of (blocks ++ b ∷ [])))
-    → AddsBlock f (Asks to r) old new
-answer_adds f to r reply journal old new answers counts sent blocks before =
-    let a = answers sent in
+    → AddsBlock p command net old new
+course_adds p command net c old new course counts blocks before = record {
+  block = course.block;
+  gives = course.gives;
+  counted = counts course.block blocks (told_of (names_in p.described) c.journal c.outcome course.block course.told) before;
+}
+
+pub counted_more : (f : File) (commands : List Command) (net later : Net) (old new : Counts) → IsCounted f commands net old → (c : Command)
+    → IsAskable f.world c → Suits f.world c → ((past : List Did) → StandsAt net (point f.world past) → AddsBlock (point f.world past) c later old new)
+    → IsCounted f (commands ++ c ∷ []) later new
+counted_more f commands net later old new far c askable suits adds =
+    let m : CountsOneMore (point f.world far.past) c later far.blocks new = adds far.past far.stands far.blocks far.counted in
     record {
-      block = Replies a.sends a.answers;
-      given = (a.sends, a.answers, a.reads, refl);
-      counted = counts (Replies a.sends a.answers) blocks (a.sends, same_journal f sent to r reply journal a, ap (Replies a.sends) (sym a.reply_is)) before;
+      blocks = far.blocks ++ m.block ∷ [];
+      past = did_by c m.block ∷ far.past;
+      runs = next c m.block far.runs m.gives.is;
+      askable = and_last (IsAskable f.world) commands c far.askable askable;
+      suits = and_last (Suits f.world) commands c far.suits suits;
+      stands = m.gives.stands;
+      counted = m.counted;
     }
 
-module _ (f : File) (commands : List Command) (old new : Counts) (far : IsCounted f commands old) where
-  silent_more : (m : CountsOneMore f (sent_before far.past) Blank far.blocks new) → IsCounted f (commands ++ Blank ∷ []) new
-  silent_more m = record {
-    blocks = far.blocks ++ m.block ∷ [];
-    past = did_by Blank m.block ∷ far.past;
-    runs = subst (λ (b : Block). IsStarRun f.world (commands ++ Blank ∷ []) (far.blocks ++ b ∷ []) (did_by Blank b ∷ far.past)) (sym m.given) (blank far.runs);
-    counted = m.counted;
-  }
+pub is_summary : (f : File) (commands : List Command) (net : Net) (counts : Counts) → IsCounted f commands net counts
+    → (line text : List ℕ) → line ≡ knowledge_text f.world → text ≡ line ++ summary_line counts → IsSummary f commands text
+is_summary f commands net counts far line text line_is is =
+    let output = run_text f.world (moment_text f.start) commands far.blocks in
+    record {
+      output = output;
+      prints = record {
+        blocks = far.blocks;
+        past = far.past;
+        runs = steps_are_performed f.world commands far.blocks far.past far.stands.described (far.askable, λ consistent. none_refreshed f.world consistent commands far.suits) far.runs;
+        octets_are = refl;
+      };
+      sums_up = is
+          ∙ ap (λ (c : Counts). line ++ summary_line c) far.counted
+          ∙ ap (λ (first : List ℕ). first ++ summary_line (capped_counts (counts_of far.blocks))) (line_is ∙ knowledge_is f);
+    }
 
-  asked_more : (to : ℕ) (r : Request) → IsAsked f.world (Asks to r) → (m : CountsOneMore f (sent_before far.past) (Asks to r) far.blocks new)
-      → IsCounted f (commands ++ Asks to r ∷ []) new
-  asked_more to r asked m = record {
-    blocks = far.blocks ++ m.block ∷ [];
-    past = did_by (Asks to r) m.block ∷ far.past;
-    runs = subst (λ (b : Block). IsStarRun f.world (commands ++ Asks to r ∷ []) (far.blocks ++ b ∷ []) (did_by (Asks to r) b ∷ far.past)) (sym m.given.3)
-        (read to r m.given.0 m.given.1 far.runs asked.0 asked.1 m.given.2);
-    counted = m.counted;
-  }
-
-  pub counted_more : (c : Command) → IsAsked f.world c → AddsBlock f c old new → IsCounted f (commands ++ c ∷ []) new
-  counted_more Blank asked adds = silent_more (adds (sent_before far.past) far.blocks far.counted)
-  counted_more (Asks to r) asked adds = asked_more to r asked (adds (sent_before far.past) far.blocks far.counted)
-  counted_more (Changes outage) asked adds = absurd asked
-  counted_more (Drops reply number) asked adds = absurd asked
-  counted_more (Updates number pushes total) asked adds = absurd asked
-
-pub is_summary : (f : File) → IsDescribed f.world → IsStar f.world → (commands : List Command) (counts : Counts) → IsCounted f commands counts
-    → (text : List ℕ) → text ≡ codes "knowledge consistent\n" ++ summary_line counts → IsSummary f commands text
-is_summary f described star commands counts far text is = record {
-  output = run_text f.world (moment_text f.start) commands far.blocks;
-  prints = record {
-    blocks = far.blocks;
-    past = far.past;
-    runs = star_run_is_run f.world described star commands far.blocks far.past far.runs;
-    octets_are = refl;
-  };
-  sums_up = is
-      ∙ ap (λ (c : Counts). codes "knowledge consistent\n" ++ summary_line c) far.counted
-      ∙ sym (ap (λ (o : Option Inconsistency). knowledge_line (names_of f.world (moment_text f.start)) o ++ summary_line (capped_counts (counts_of far.blocks))) (consistent_has_none f.world (star_is_consistent f.world described star)));
-}
+pub if_ok_more : {T E : Type 0} {P Q : T → Type 0} (result : Result T E) → ((x : T) → P x → Q x) → IfOk result P → IfOk result Q
+if_ok_more (Ok x) more p = more x p
+if_ok_more (Err e) more p = p

@@ -1,4 +1,4 @@
--- What is written of a script over a star, and of the files that hold them.
+-- What is written of a script over a world, and of the files that hold them.
 use Rattle.std.proofs.Common.{◌≡◌, ◌≤◌, inl, inr, ℕ, List, [], map, length, IsSomeAnd, Option, Some, None, sym, ap, subst, ◌∙◌, Ok, Err, append-nil}
 use Rattle.x5_load.specs.Views.{Loads}
 use Rattle.x5_model_run.specs.Run.{Command}
@@ -6,12 +6,12 @@ use Rattle.x5_model_script.specs.Lines.{Asked}
 use Rattle.x5_model_script.specs.Lines as lines
 use Rattle.x5_model_script.specs.Script.{script_of}
 use Rattle.x5_model_script.specs.Words as words
-use Rattle.x5_model_star.specs.Star.{IsStar}
 use Rattle.x5_model_world.specs.Reading as model
 use Rattle.x5_model_world.specs.WorldFile.{File, Describes}
 use Rattle.x5_port.specs.Outside as outside
 use Rattle.x5_port.specs.Outside.{IsContent}
-use Rattle.x5_script.specs.Views.{IsLineFault, ReadsScript}
+use Rattle.x5_script.specs.Views.{IsLineFault, ReadsScript, command_view}
+use Rattle.x5_script.specs.declared.command.Command.{Command as Line}
 use Rattle.x5_script.specs.declared.command.ScriptFault.{ScriptFault}
 use Rattle.x5_script.specs.declared.command.ScriptFault.TheVariants as script
 use Rattle.x5_script.specs.declared.script.ScriptRefusal.{ScriptRefusal}
@@ -23,8 +23,8 @@ use Rattle.xdir.specs.declared.top.Status.{Status}
 use Rattle.xdir.specs.declared.top.Status.TheVariants.{Done, Refused, Usage, ReadFault, WriteFault, NoMemory, Inconsistent, TooLong}
 use Rattle.xdir.specs.Faults.{IsWorldLine, IsScriptLine, IsRefusalLine}
 use Rattle.xdir.specs.Outcomes.{IsReadable, most_octets}
-use Rattle.xdir.specs.Run.{names_in, lost_in, AsksFor, IsOutput, Runs, RunsSoFar, RefusesFile, no_json, faulty, RefusesStar, RefusesWorld, RefusesScript, faulty_line, not_yet, Refuses, Writes, TakesWorld, Reads}
-use Rattle.xdir.specs.Steps.{IsFirstOutput, WritesSuchLine, WritesRun, IsAskedOutput, IsFirstAskedOutput, IsNotYet, WritesAsked, IsScriptOutput, IsFirstScriptOutput, WritesScript, OfScript, WritesScriptFile, RefusesOver, WritesOver, ReadsOver, ReadsFile}
+use Rattle.xdir.specs.Run.{names_in, lost_in, AsksFor, IsOutput, Runs, RunsSoFar, RefusesFile, no_json, faulty, RefusesWorld, RefusesScript, faulty_line, not_yet, Refuses, Writes, TakesWorld, Reads}
+use Rattle.xdir.specs.Steps.{IsFirstOutput, WritesSuchLine, WritesRun, IsAskedOutput, IsFirstAskedOutput, IsNotYet, WritesAsked, IsScriptOutput, IsFirstScriptOutput, WritesScript, OfScript, WritesScriptFile, ReadsFile}
 use Rattle.xdir.proofs.Ends.{ends_more, rose_later, wrote_more, broke_more, such_ends}
 
 -- ---- what is asked for, as it is run
@@ -36,14 +36,14 @@ module _ (f : File) (asked : List Asked) (commands : List Command) (are : asked 
   first_asked : (text : List ℕ) → IsFirstOutput f commands text → IsFirstAskedOutput f asked text
   first_asked text p = record { commands = commands; are = are; first = p }
 
-  pub nothing : (text : List ℕ) → ⊥ → IsNotYet asked text
+  pub nothing : (text : List ℕ) → ⊥ → IsNotYet f.world asked text
   nothing text p = absurd p
 
   pub runs_asked : (status : Status) (old new : Option (List ℕ)) (before after : ℕ) → WritesRun status f commands old new before after
       → WritesAsked status f asked old new before after
   runs_asked status old new before after w = ends_more asked_output first_asked nothing status old new before after w
 
--- ---- a script over a star
+-- ---- a script over a world
 
 module _ (f : File) (octets : List ℕ) (asked : List Asked) (asks : AsksFor f.world octets asked) where
   pub as_commands : (commands : List Command) → asked ≡ map lines.Runs commands → AsksFor f.world octets (map lines.Runs commands)
@@ -55,12 +55,26 @@ module _ (f : File) (octets : List ℕ) (asked : List Asked) (asks : AsksFor f.w
   first_script : (text : List ℕ) → IsFirstAskedOutput f asked text → IsFirstScriptOutput f octets text
   first_script text p = record { commands = p.commands; asked = as_commands p.commands p.are; first = p.first }
 
-  pub other_line : (text : List ℕ) → IsNotYet asked text → RefusesScript f.world octets text
+  pub other_line : (text : List ℕ) → IsNotYet f.world asked text → RefusesScript f.world octets text
   other_line text p = not_yet asked p.before asks p.first p.is_line
 
   pub runs_script : (status : Status) (old new : Option (List ℕ)) (before after : ℕ) → WritesAsked status f asked old new before after
       → WritesScript status f octets old new before after
   runs_script status old new before after w = ends_more script_output first_script other_line status old new before after w
+
+-- as it was read, given the names of the agents and how many replies are lost
+pub asked_for : (f : File) (names : List (List ℕ)) (lost : ℕ) (octets : List ℕ) (cs items : List Line) → names ≡ names_in f.world → lost ≡ lost_in f.world
+    → cs ≡ items → script_of names lost octets ≡ Ok (map command_view items) → AsksFor f.world octets (map command_view cs)
+asked_for f names lost octets cs items same_names same_lost same e =
+    subst (λ (ns : List (List ℕ)). script_of ns (lost_in f.world) octets ≡ Ok (map command_view cs)) same_names
+    (subst (λ (n : ℕ). script_of names n octets ≡ Ok (map command_view cs)) same_lost
+    (subst (λ (xs : List Line). script_of names lost octets ≡ Ok (map command_view xs)) (sym same) e))
+
+pub refused_for : (f : File) (names : List (List ℕ)) (lost : ℕ) (octets : List ℕ) (refusal : ScriptRefusal) → names ≡ names_in f.world → lost ≡ lost_in f.world
+    → ReadsScript (Err refusal) names lost octets → ReadsScript (Err refusal) (names_in f.world) (lost_in f.world) octets
+refused_for f names lost octets refusal same_names same_lost h =
+    subst (λ (ns : List (List ℕ)). ReadsScript (Err refusal) ns (lost_in f.world) octets) same_names
+    (subst (λ (n : ℕ). ReadsScript (Err refusal) names n octets) same_lost h)
 
 -- the line of a script's first line that is refused
 refuses_as : (f : File) (octets : List ℕ) (number : ℕ) (fault : ScriptFault) → IsLineFault number fault (script_of (names_in f.world) (lost_in f.world) octets)
@@ -90,48 +104,6 @@ pub of_file : (told : Option (List outside.File)) (name octets : List ℕ) (f : 
     → WritesScriptFile status told name f old new before after
 of_file told name octets f is status old new before after w =
     ends_more (λ text p. (octets, is, p)) (λ text p. (octets, is, p)) (λ text p. (octets, is, p)) status old new before after w
-
--- ---- over a world that is a star, or none
-
-pub over_star : (told : Option (List outside.File)) (name : List ℕ) (f : File) → IsStar f.world → (text : List ℕ)
-    → OfScript told name (RefusesScript f.world) text → RefusesOver told name f text
-over_star told name f star text p = inr (star, p)
-
-pub star_over : (told : Option (List outside.File)) (name : List ℕ) (f : File) → IsStar f.world
-    → (status : Status) (old new : Option (List ℕ)) (before after : ℕ) → WritesScriptFile status told name f old new before after
-    → WritesOver status told name f old new before after
-star_over told name f star status old new before after w =
-    ends_more (λ text p. p) (λ text p. p) (over_star told name f star) status old new before after w
-
-pub none_over : (told : Option (List outside.File)) (name : List ℕ) (f : File)
-    → (status : Status) (old new : Option (List ℕ)) (before after : ℕ) → WritesSuchLine status (RefusesStar f) old new before after
-    → WritesOver status told name f old new before after
-none_over told name f status old new before after w =
-    such_ends (λ text p. inl p) (OfScript told name (IsScriptOutput f)) (OfScript told name (IsFirstScriptOutput f)) status old new before after w
-
-pub star_reads : (told : Option (List outside.File)) (name : List ℕ) (f : File) → IsStar f.world
-    → (status : Status) (before after : ℕ) (failed old new : Option (List ℕ)) → ReadsFile status name told before after failed
-    → ReadsOver status f name told before after failed old new
-star_reads told name f star Done before after failed old new r = r
-star_reads told name f star Refused before after failed old new r = inr r
-star_reads told name f star WriteFault before after failed old new r = inr r
-star_reads told name f star NoMemory before after failed old new r = tt
-star_reads told name f star ReadFault before after failed old new r = (star, r.0, r.1)
-star_reads told name f star TooLong before after failed old new r = (star, r)
-star_reads told name f star Usage before after failed old new r = absurd r
-star_reads told name f star Inconsistent before after failed old new r = r
-
-pub none_reads : (told : Option (List outside.File)) (name : List ℕ) (f : File)
-    → (status : Status) (before after rising risen : ℕ) (failed old new : Option (List ℕ)) → WritesSuchLine status (RefusesStar f) old new rising risen
-    → ReadsOver status f name told before after failed old new
-none_reads told name f Refused before after rising risen failed old new w = inl w
-none_reads told name f WriteFault before after rising risen failed old new w = inl w.1
-none_reads told name f NoMemory before after rising risen failed old new w = tt
-none_reads told name f Done before after rising risen failed old new w = absurd w
-none_reads told name f ReadFault before after rising risen failed old new w = absurd w
-none_reads told name f TooLong before after rising risen failed old new w = absurd w
-none_reads told name f Usage before after rising risen failed old new w = w
-none_reads told name f Inconsistent before after rising risen failed old new w = w
 
 -- the line of a file that is no JSON, or in which something is wrong
 pub wrong : (octets : List ℕ) (fault : LoadFault) → Loads (Err fault) octets → (text : List ℕ) → IsWorldLine fault text → RefusesFile octets text
@@ -181,47 +153,39 @@ module _ (told : Option (List outside.File)) (names : FileNames) (octets : List 
       };
     }
 
-    no_star_of : (text : List ℕ) → RefusesStar f text → RefusesWorld told names.world text
-    no_star_of text r =
-        record { world = octets; world_is = octets_is; refuses = inr (record { file = f; described = described; refuses = r }) }
-
-    pub refusal_of : (text : List ℕ) → RefusesOver told names.script f text → Refuses told names text
-    refusal_of text (inl r) = inl (no_star_of text r)
-    refusal_of text (inr p) = inr (record {
+    pub refusal_of : (text : List ℕ) → OfScript told names.script (RefusesScript f.world) text → Refuses told names text
+    refusal_of text p = inr (record {
       world = octets;
-      script = p.1.0;
+      script = p.0;
       world_is = octets_is;
-      script_is = p.1.1;
+      script_is = p.1;
       file = f;
       described = described;
-      star = p.0;
-      refuses = p.1.2;
+      refuses = p.2;
     })
 
-    pub of_files : (status : Status) (old new : Option (List ℕ)) (before after : ℕ) → WritesOver status told names.script f old new before after
+    pub of_files : (status : Status) (old new : Option (List ℕ)) (before after : ℕ) → WritesScriptFile status told names.script f old new before after
         → Writes status told names old new before after
     of_files status old new before after w = ends_more run_of first_of refusal_of status old new before after w
 
-    takes : IsReadable told names.world → IsStar f.world → TakesWorld told names.world
-    takes r star = record { readable = r; world = octets; world_is = octets_is; file = f; described = described; star = star }
+    takes : IsReadable told names.world → TakesWorld told names.world
+    takes r = record { readable = r; world = octets; world_is = octets_is; file = f; described = described }
 
     pub reads_both : (status : Status) (first before after : ℕ) (failed old new : Option (List ℕ)) → IsReadable told names.world → first ≤ before
-        → ReadsOver status f names.script told before after failed old new → Reads status names told first after failed old new
+        → ReadsFile status names.script told before after failed → Reads status names told first after failed old new
     reads_both Done first before after failed old new r le o = (r, o)
-    reads_both Refused first before after failed old new r le (inl o) = (r, inl (wrote_more no_star_of old new o))
-    reads_both Refused first before after failed old new r le (inr o) = (r, inr o)
-    reads_both WriteFault first before after failed old new r le (inl o) = (r, inl (broke_more no_star_of old new o))
-    reads_both WriteFault first before after failed old new r le (inr o) = (r, inr o)
+    reads_both Refused first before after failed old new r le o = (r, inr o)
+    reads_both WriteFault first before after failed old new r le o = (r, inr o)
     reads_both NoMemory first before after failed old new r le o = tt
-    reads_both ReadFault first before after failed old new r le o = (rose_later first before after le o.1, inr (o.2, takes r o.0))
-    reads_both TooLong first before after failed old new r le o = inr (o.1, takes r o.0)
+    reads_both ReadFault first before after failed old new r le o = (rose_later first before after le o.0, inr (o.1, takes r))
+    reads_both TooLong first before after failed old new r le o = inr (o, takes r)
     reads_both Usage first before after failed old new r le o = absurd o
     reads_both Inconsistent first before after failed old new r le o = o
 
   -- one that isn't
   module _ (fault : LoadFault) (faults : Loads (Err fault) octets) where
     pub wrong_as : (text : List ℕ) → IsWorldLine fault text → RefusesWorld told names.world text
-    wrong_as text is = record { world = octets; world_is = octets_is; refuses = inl (wrong octets fault faults text is) }
+    wrong_as text is = record { world = octets; world_is = octets_is; refuses = wrong octets fault faults text is }
 
     pub refuses_file : (status : Status) (old new : Option (List ℕ)) (before after : ℕ) → WritesSuchLine status (IsWorldLine fault) old new before after
         → Writes status told names old new before after

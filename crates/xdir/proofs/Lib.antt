@@ -1,10 +1,11 @@
 pub mod Ends
+pub mod Sound
 pub mod SoFar
-pub mod Known
+pub mod Courses
 pub mod Files
-pub mod Shapes
-pub mod Agents
+pub mod Beginning
 pub mod Taken
+pub mod Targets
 pub mod Few
 pub mod Checks
 pub mod Summaries
@@ -14,3 +15,4 @@ pub mod Mapped
 pub mod Telling
 pub mod Trees
 pub mod TreeEnds
+pub mod Named

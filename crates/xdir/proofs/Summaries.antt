@@ -1,10 +1,9 @@
--- What is written of the summary of a script over a star, and of the files that hold them.
+-- What is written of the summary of a script over a world, and of the files that hold them.
 use Rattle.std.proofs.Common.{◌≡◌, inl, inr, ◌⊎◌, ℕ, List, map, Option, sym, ap, ◌∙◌, Ok, Err, append-nil}
 use Rattle.x5_load.specs.Views.{Loads}
 use Rattle.x5_model_run.specs.Run.{Command}
 use Rattle.x5_model_script.specs.Lines.{Asked}
 use Rattle.x5_model_script.specs.Lines as lines
-use Rattle.x5_model_star.specs.Star.{IsStar}
 use Rattle.x5_model_world.specs.WorldFile.{File, Describes}
 use Rattle.x5_port.specs.Outside as outside
 use Rattle.x5_port.specs.Outside.{IsContent}
@@ -15,11 +14,11 @@ use Rattle.x5_world_members.specs.declared.fault.LoadFault.{LoadFault}
 use Rattle.xdir.specs.declared.top.Status.{Status}
 use Rattle.xdir.specs.declared.top.Status.TheVariants.{Done, Refused, Usage, ReadFault, WriteFault, NoMemory, Inconsistent, TooLong}
 use Rattle.xdir.specs.Faults.{IsWorldLine, IsRefusalLine}
-use Rattle.xdir.specs.Run.{names_in, lost_in, AsksFor, RefusesStar}
+use Rattle.xdir.specs.Run.{names_in, lost_in, AsksFor}
 use Rattle.xdir.specs.Steps.{WritesSuchLine, OfScript}
-use Rattle.xdir.specs.Summed.{IsSummary, Sums, EndsAtOnce, WritesSummed, SumsRun, IsAskedSummary, SumsAsked, IsScriptSummary, SumsScript, SumsScriptFile, SumsOver}
+use Rattle.xdir.specs.Summed.{IsSummary, Sums, EndsAtOnce, WritesSummed, SumsRun, IsAskedSummary, SumsAsked, IsScriptSummary, SumsScript, SumsScriptFile}
 use Rattle.xdir.proofs.Ends.{wrote_more, broke_more}
-use Rattle.xdir.proofs.Files.{nothing, as_commands, other_line, refused_as, over_star, refusal_of, wrong_as}
+use Rattle.xdir.proofs.Files.{nothing, as_commands, other_line, refused_as, refusal_of, wrong_as}
 
 -- what is said of the texts may say less
 module _ {output refusal output' refusal' : List ℕ → Type 0} (out : (text : List ℕ) → output text → output' text) (refuse : (text : List ℕ) → refusal text → refusal' text) where
@@ -85,20 +84,6 @@ pub sums_of_file : (told : Option (List outside.File)) (name octets : List ℕ) 
 sums_of_file told name octets f is status old new before after w =
     at_once_more (λ text p. (octets, is, p)) (λ text p. (octets, is, p)) status old new before after w
 
--- ---- over a world that is a star, or none
-
-pub sums_star : (told : Option (List outside.File)) (name : List ℕ) (f : File) → IsStar f.world
-    → (status : Status) (old new : Option (List ℕ)) (before after : ℕ) → SumsScriptFile status told name f old new before after
-    → SumsOver status told name f old new before after
-sums_star told name f star status old new before after w =
-    at_once_more (λ text p. p) (over_star told name f star) status old new before after w
-
-pub sums_none : (told : Option (List outside.File)) (name : List ℕ) (f : File)
-    → (status : Status) (old new : Option (List ℕ)) (before after : ℕ) → WritesSuchLine status (RefusesStar f) old new before after
-    → SumsOver status told name f old new before after
-sums_none told name f status old new before after w =
-    such_at_once (λ text p. inl p) (OfScript told name (IsScriptSummary f)) status old new before after w
-
 -- ---- over the world that another file describes, or that is none
 
 module _ (told : Option (List outside.File)) (names : FileNames) (octets : List ℕ) (octets_is : IsContent told names.world octets) where
@@ -120,7 +105,7 @@ module _ (told : Option (List outside.File)) (names : FileNames) (octets : List 
       sums_up = p.2.sums.sums_up;
     }
 
-    pub sums_files : (status : Status) (old new : Option (List ℕ)) (before after : ℕ) → SumsOver status told names.script f old new before after
+    pub sums_files : (status : Status) (old new : Option (List ℕ)) (before after : ℕ) → SumsScriptFile status told names.script f old new before after
         → WritesSummed status told names old new before after
     sums_files status old new before after w =
         at_once_more summary_of_files (refusal_of told names octets octets_is f described) status old new before after w

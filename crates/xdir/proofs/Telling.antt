@@ -1,9 +1,8 @@
 -- What is printed of a reply of the one tree is what the tree tells, whatever names are printed with: the tree names no agents.
-use Rattle.std.proofs.Common.{◌≡◌, ℕ, Bool, true, false, ◌||◌, ◌&&◌, List, [], ◌∷◌, ◌++◌, map, refl, sym, ap, subst, ◌∙◌, codes, Option, None, Some, Result, Ok, Err, IfOk}
+use Rattle.std.proofs.Common.{◌≡◌, ℕ, Bool, true, false, ◌&&◌, List, [], ◌∷◌, ◌++◌, map, refl, sym, ap, subst, ◌∙◌, codes, Option, None, Some, Result, Ok, Err, IfOk}
 use Rattle.std.specs.Prelude.{OnOk}
-use Rattle.std.specs.Option.{option_map}
 use Rattle.std.specs.List.{list_all}
-use Rattle.x5_model.specs.Words.{same_octets, in_option}
+use Rattle.x5_model.specs.Words.{same_octets}
 use Rattle.x5_model.specs.Requests.{Request, Read, Compare, ListBelow, Search, AddEntry, RemoveEntry, ModifyEntry, ModifyDn, Body}
 use Rattle.x5_model.specs.Statics.{fault_of}
 use Rattle.x5_model.specs.Answers as told
@@ -22,9 +21,8 @@ use Rattle.x5_model_output.specs.Plain.{plain_reply_lines, told_lines, tree_left
 use Rattle.x5_model_output.proofs.Telling.{plain_is_told}
 use Rattle.x5_know.specs.Moments.{Start}
 use Rattle.x5_one.specs.Replies.{reply_of}
-use Rattle.x5_ops.specs.AgentNames.{agent_of}
 use Rattle.x5_ops.specs.AnswerViews.{reply_view, source_view}
-use Rattle.x5_ops.specs.ReferenceViews.{reference_view, item_view}
+use Rattle.x5_ops.specs.ReferenceViews.{reference_view}
 use Rattle.x5_ops.specs.declared.answers.Answer.TheVariants as answers
 use Rattle.x5_ops.specs.declared.answers.DirError.TheVariants as errors
 use Rattle.x5_ops.specs.declared.answers.Reply.{Reply}

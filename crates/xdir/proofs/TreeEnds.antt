@@ -4,7 +4,6 @@ use Rattle.x5_load.specs.Views.{Loads}
 use Rattle.x5_model_script.specs.Lines.{Asked}
 use Rattle.x5_model_script.specs.Script.{script_of}
 use Rattle.x5_model_script.specs.Words as words
-use Rattle.x5_model_tree.specs.Consistent.{IsConsistent}
 use Rattle.x5_model_world.specs.WorldFile.{File, Describes}
 use Rattle.x5_port.specs.Outside as outside
 use Rattle.x5_port.specs.Outside.{IsContent, Rose, with_octets, TookPrefix}
@@ -19,11 +18,11 @@ use Rattle.xdir.specs.declared.top.Status.{Status}
 use Rattle.xdir.specs.declared.top.Status.TheVariants.{Done, Refused, Usage, ReadFault, WriteFault, NoMemory, Inconsistent, TooLong}
 use Rattle.xdir.specs.Checked.{knowledge_text, IsInconsistent, ReadsChecked}
 use Rattle.xdir.specs.Faults.{IsWorldLine, IsScriptLine, IsRefusalLine}
-use Rattle.xdir.specs.Outcomes.{Wrote, Broke, IsReadable}
+use Rattle.xdir.specs.Outcomes.{IsReadable}
 use Rattle.xdir.specs.Run.{names_in, lost_in, AsksFor}
 use Rattle.xdir.specs.Steps.{WritesSuchLine, OfScript}
 use Rattle.xdir.specs.Text.{refused_line_text}
-use Rattle.xdir.specs.Tree.{TakesBoth, Tells, TellsSoFar, TellsNone, RefusesFirst, RefusesALine, RefusesSecond, RefusesEither, EndsTree, WritesTree, TakesFirst, ReadsTree, IsTold, IsToldSoFar, IsNoTree, TellsLines, OfLines, TellsScript, TellsFile}
+use Rattle.xdir.specs.Tree.{TakesBoth, Tells, TellsSoFar, TellsNone, RefusesFirst, RefusesALine, RefusesEither, EndsTree, WritesTree, TakesFirst, ReadsTree, IsTold, IsToldSoFar, IsNoTree, TellsLines, OfLines, TellsScript, TellsFile}
 use Rattle.xdir.proofs.Ends.{rose_later, wrote_more, broke_more}
 use Rattle.xdir.proofs.Files.{wrong}
 

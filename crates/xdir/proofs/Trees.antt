@@ -1,12 +1,12 @@
 -- What the one tree prints grows by a block for each line, as the tree stands that the lines before have left.
-use Rattle.std.proofs.Common.{◌≡◌, ◌≤◌, ◌<◌, ◌+◌, ◌++◌, inl, inr, ℕ, suc, List, [], ◌∷◌, length, map, codes, Option, Some, None, refl, sym, ap, subst, ◌∙◌, arith, append-nil, append_assoc}
+use Rattle.std.proofs.Common.{◌≡◌, ◌≤◌, ◌+◌, ◌++◌, inl, inr, ℕ, suc, List, [], ◌∷◌, length, map, codes, Option, refl, sym, ap, ◌∙◌, arith, append-nil, append_assoc}
 use Rattle.std.proofs.lemmas.List.{length-map}
 use Rattle.x5_know.specs.Moments.{moment_text}
 use Rattle.x5_model_output.specs.Output.{Names, names_of, knowledge_line}
 use Rattle.x5_model_output.specs.Plain.{tree_after, plain_text, plain_texts, tree_text}
 use Rattle.x5_model_run.specs.Run.{Command}
 use Rattle.x5_model_script.specs.Lines.{Asked}
-use Rattle.x5_model_tree.specs.Consistent.{Inconsistency, IsConsistent, first_breach}
+use Rattle.x5_model_tree.specs.Consistent.{IsConsistent, first_breach}
 use Rattle.x5_model_tree.specs.Masters.{whole}
 use Rattle.x5_model_tree.specs.Tree.{Tree}
 use Rattle.x5_model_tree.proofs.FirstBreach.{consistent_has_none}
@@ -16,7 +16,7 @@ use Rattle.x5_port.proofs.Octets.{with_octets-with_octets}
 use Rattle.xdir.proofs.Ends.{rose_later, took_after}
 use Rattle.xdir.proofs.Mapped.{map-snoc}
 use Rattle.xdir.specs.Outcomes.{Wrote}
-use Rattle.xdir.specs.Tree.{plain_command, IsTreeText, IsTold, IsToldSoFar, IsNoTree, TellsLines}
+use Rattle.xdir.specs.Tree.{plain_command, IsTreeText, IsTold, TellsLines}
 use Rattle.xdir.specs.declared.top.Status.TheVariants.{WriteFault, NoMemory}
 
 -- the tree after these lines

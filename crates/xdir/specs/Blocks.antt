@@ -1,41 +1,87 @@
--- The block of one command of a run over the star that a file describes, and what is written of it.
-use Rattle.std.specs.Prelude.{◌≡◌, ℕ, List, [], Option}
-use Rattle.x5_model.specs.Requests.{Request}
-use Rattle.x5_model.specs.Answers.{Reply}
-use Rattle.x5_model_run.specs.Journal.{Journal}
-use Rattle.x5_model_run.specs.Run.{Command, Blank, Asks, Changes, Drops, Updates, Replies}
-use Rattle.x5_model_output.specs.Output.{names_of, block_text}
-use Rattle.x5_model_star.specs.Reads.{IsStarRead}
+-- What comes of one command of a run, by what agents do with a request (X.518, sections 17 to 21), and what is written
+-- of it.
+use Rattle.std.specs.Prelude.{◌≡◌, ℕ, true, List, [], Option, None, Some}
 use Rattle.x5_know.specs.Moments.{moment_text}
+use Rattle.x5_model_output.specs.Output.{names_of, block_text}
+use Rattle.x5_model_run.specs.History.{Did, Point}
+use Rattle.x5_model_run.specs.Run as model
+use Rattle.x5_model_run.specs.Run.{Command, Block, Silent, did_by}
+use Rattle.x5_model_run.specs.Journal as messages
+use Rattle.x5_model_run.specs.Refresh as refresh
+use Rattle.x5_model_settled.specs.Held.{BySteps}
 use Rattle.x5_model_world.specs.WorldFile.{File}
+use Rattle.x5_ops.specs.AnswerViews.{reply_view}
+use Rattle.x5_ops.specs.declared.journal.Journal.{Journal}
 use Rattle.x5_port.specs.Outside.{Rose}
+use Rattle.x5_report.specs.Blocks.{block_known, IsJournal}
+use Rattle.x5_report.specs.declared.report.LineOutcome.{LineOutcome}
+use Rattle.x5_report.specs.declared.report.LineOutcome.TheVariants.{Set, Answered, Plain, Refreshed, NotConsistent}
+use Rattle.x5_world.specs.State.{Net, StandsAt, after, names_in}
+use Rattle.xdir.specs.Outcomes.{Wrote, Broke}
+use Rattle.xdir.specs.Taken.{point}
+use Rattle.xdir.specs.declared.lines.Course.{Course}
 use Rattle.xdir.specs.declared.top.Status.{Status}
 use Rattle.xdir.specs.declared.top.Status.TheVariants.{Done, Refused, Usage, ReadFault, WriteFault, NoMemory}
 use Rattle.xdir.specs.declared.top.Status.TheVariants.{Inconsistent, TooLong}
-use Rattle.xdir.specs.Outcomes.{Wrote, Broke}
 
--- the text is the block of such a read, by the messages and the answer that the star gives after so many messages
-pub record IsReadBlock (f : File) (sent line to : ℕ) (r : Request) (text : List ℕ) : Type 0 where
-  pub journal : Journal
-  pub reply : Reply
-  pub reads : IsStarRead f.world sent to r journal reply
-  pub printed : text ≡ block_text (names_of f.world (moment_text f.start)) line (Asks to r) (Replies journal reply)
+-- at this line the command has this block, and then it's the network of the next line
+pub record Gives (p : Point) (command : Command) (net : Net) (block : Block) : Type 0 where
+  pub is : model.IsBlock BySteps p command block
+  pub stands : StandsAt net (after (did_by command block) p)
 
--- the text of a command's block: a comment has none
-abbrev pub IsBlock : File → ℕ → Command → List ℕ → Type 0
-IsBlock f line Blank text = text ≡ []
-IsBlock f line (Asks to r) text = (sent : ℕ) → IsReadBlock f sent line to r text
-IsBlock f line (Changes outage) text = ⊥
-IsBlock f line (Drops reply number) text = ⊥
-IsBlock f line (Updates number pushes total) text = ⊥
+-- the outcome and its messages stand for the block of a run
+abbrev pub IsTold : List (List ℕ) → Journal → LineOutcome → Block → Type 0
+IsTold names j Set b = b ≡ model.Set
+IsTold names j (Answered reply) b =
+    (m : messages.Journal) × IsJournal names j m × (b ≡ model.Replies m (reply_view names reply))
+IsTold names j (Plain reply) b = ⊥
+IsTold names j (Refreshed number f heard) b = ⊥
+IsTold names j NotConsistent b = (j.lines ≡ []) × (b ≡ model.Refreshing (refresh.ended [] refresh.NotConsistent))
+
+-- what came of a command: of a comment nothing is told
+pub record IsCourse (p : Point) (command : Command) (net : Net) (c : Course) : Type 0 where
+  pub block : Block
+  pub gives : Gives p command net block
+  pub told : IsTold (names_in p.described) c.journal c.outcome block
+  pub known : block_known (names_in p.described) c.journal c.outcome ≡ true
+
+abbrev pub IsCarriedOut : Point → Command → Net → Option Course → Type 0
+IsCarriedOut p command net None = Gives p command net Silent
+IsCarriedOut p command net (Some c) = IsCourse p command net c
+
+-- The text is what is printed of what came of a command in this line: the block of it in a run.
+pub record IsTextOf (f : File) (line : ℕ) (c : Course) (text : List ℕ) : Type 0 where
+  pub prints : (command : Command) (block : Block) → IsTold (names_in f.world) c.journal c.outcome block
+      → block_known (names_in f.world) c.journal c.outcome ≡ true
+      → text ≡ block_text (names_of f.world (moment_text f.start)) line command block
+
+-- what is written of it
+abbrev pub WritesCourse : Status → File → ℕ → Course → Option (List ℕ) → Option (List ℕ) → ℕ → ℕ → Type 0
+WritesCourse Done f line c old new before after = Wrote (IsTextOf f line c) old new
+WritesCourse WriteFault f line c old new before after = Rose before after × Broke (IsTextOf f line c) old new
+WritesCourse NoMemory f line c old new before after = new ≡ old
+WritesCourse Refused f line c old new before after = ⊥
+WritesCourse Usage f line c old new before after = ⊥
+WritesCourse ReadFault f line c old new before after = ⊥
+WritesCourse Inconsistent f line c old new before after = ⊥
+WritesCourse TooLong f line c old new before after = ⊥
+
+-- the text is the command's block; that of a comment is empty
+pub record IsBlockText (f : File) (past : List Did) (line : ℕ) (command : Command) (net : Net)
+    (text : List ℕ) : Type 0 where
+  pub block : Block
+  pub gives : Gives (point f.world past) command net block
+  pub printed : text ≡ block_text (names_of f.world (moment_text f.start)) line command block
 
 -- what is written of a command's block
-abbrev pub WritesBlock : Status → File → ℕ → Command → Option (List ℕ) → Option (List ℕ) → ℕ → ℕ → Type 0
-WritesBlock Done f line command old new before after = Wrote (IsBlock f line command) old new
-WritesBlock WriteFault f line command old new before after = Rose before after × Broke (IsBlock f line command) old new
-WritesBlock NoMemory f line command old new before after = new ≡ old
-WritesBlock Refused f line command old new before after = ⊥
-WritesBlock Usage f line command old new before after = ⊥
-WritesBlock ReadFault f line command old new before after = ⊥
-WritesBlock Inconsistent f line command old new before after = ⊥
-WritesBlock TooLong f line command old new before after = ⊥
+abbrev pub WritesBlock : Status → File → List Did → ℕ → Command → Net → Option (List ℕ) → Option (List ℕ) → ℕ → ℕ →
+    Type 0
+WritesBlock Done f past line command net old new before after = Wrote (IsBlockText f past line command net) old new
+WritesBlock WriteFault f past line command net old new before after =
+    Rose before after × Broke (IsBlockText f past line command net) old new
+WritesBlock NoMemory f past line command net old new before after = new ≡ old
+WritesBlock Refused f past line command net old new before after = ⊥
+WritesBlock Usage f past line command net old new before after = ⊥
+WritesBlock ReadFault f past line command net old new before after = ⊥
+WritesBlock Inconsistent f past line command net old new before after = ⊥
+WritesBlock TooLong f past line command net old new before after = ⊥

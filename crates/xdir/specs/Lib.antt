@@ -4,8 +4,7 @@ pub mod Outcomes
 pub mod Run
 pub mod Steps
 pub mod Faults
-pub mod Shape
-pub mod Star
+pub mod Taken
 pub mod Shown
 pub mod Checked
 pub mod Made

@@ -1,6 +1,7 @@
 -- What `run WORLD SCRIPT` reads and writes, by how it ends. The headline is `Runs`.
-use Rattle.std.specs.Prelude.{◌≡◌, ℕ, ◌+◌, ◌⊎◌, Bool, true, false, not, ◌&&◌, List, [], ◌++◌, length, map, Option, Some}
-use Rattle.std.specs.Prelude.{Ok, Err, ⊤}
+use Rattle.std.specs.Prelude.{◌≡◌, ℕ, ◌+◌, ◌⊎◌, Bool, true, false, List, [], ◌++◌, length, map, Option, Some, Ok}
+use Rattle.std.specs.Prelude.{Err, ⊤}
+use Rattle.std.specs.Option.{is_none}
 use Rattle.std.specs.List.{position}
 use Rattle.x5_know.specs.Moments.{moment_text}
 use Rattle.x5_model_output.specs.Output.{PrintsRun}
@@ -9,9 +10,8 @@ use Rattle.x5_model_script.specs.Lines.{Asked, Delivers}
 use Rattle.x5_model_script.specs.Lines as lines
 use Rattle.x5_model_script.specs.Script.{script_of}
 use Rattle.x5_model_script.specs.Words.{Fault}
-use Rattle.x5_model_star.specs.Reads.{is_read}
-use Rattle.x5_model_star.specs.Runs.{RightAndWhole}
-use Rattle.x5_model_star.specs.Star.{IsStar}
+use Rattle.x5_model_settled.specs.Held.{Performed}
+use Rattle.x5_model_tree.specs.Consistent.{first_breach}
 use Rattle.x5_model_tree.specs.World.{World}
 use Rattle.x5_model_world.specs.Reading.{Breach}
 use Rattle.x5_model_world.specs.WorldFile.{File, Describes, IsNoJson}
@@ -19,7 +19,7 @@ use Rattle.x5_port.specs.Outside as outside
 use Rattle.x5_port.specs.Outside.{IsContent, IsLonger, Rose}
 use Rattle.x5_words.specs.Forms.{FileNames}
 use Rattle.xdir.specs.Outcomes.{most_octets, Wrote, Broke, Ends, IsReadable}
-use Rattle.xdir.specs.Text.{not_json_text, no_star_text, refused_world_text, refused_line_text, not_yet_text}
+use Rattle.xdir.specs.Text.{not_json_text, refused_world_text, refused_line_text, not_yet_text}
 use Rattle.xdir.specs.declared.top.Status.{Status}
 use Rattle.xdir.specs.declared.top.Status.TheVariants.{Done, Refused, Usage, ReadFault, WriteFault, NoMemory}
 use Rattle.xdir.specs.declared.top.Status.TheVariants.{Inconsistent, TooLong}
@@ -35,19 +35,25 @@ lost_in w = length w.network.lost_replies
 abbrev pub AsksFor : World → List ℕ → List Asked → Type 0
 AsksFor w script asked = script_of (names_in w) (lost_in w) script ≡ Ok asked
 
--- a comment, or a read or a compare that may be chained: other lines are for no run so far
-abbrev pub is_other : Asked → Bool
-is_other (lines.Runs Blank) = false
-is_other (lines.Runs (Asks to r)) = not (is_read r.body && not r.controls.nochain)
-is_other (lines.Runs (Changes outage)) = true
-is_other (lines.Runs (Drops reply number)) = true
-is_other (lines.Runs (Updates number pushes total)) = true
-is_other (Delivers dsp to octets) = true
+-- whether knowledge is consistent: no condition fails
+abbrev pub is_sound : World → Bool
+is_sound w = is_none (first_breach w)
+
+-- A comment, a request, an outage or a loss is for every run. Over consistent knowledge no run refreshes a copy so far,
+-- over other knowledge each refresh has its line; octets are for no run so far.
+abbrev pub is_other : Bool → Asked → Bool
+is_other sound (lines.Runs Blank) = false
+is_other sound (lines.Runs (Asks to r)) = false
+is_other sound (lines.Runs (Changes outage)) = false
+is_other sound (lines.Runs (Drops reply number)) = false
+is_other sound (lines.Runs (Updates number pushes total)) = sound
+is_other sound (Delivers dsp to octets) = true
 
 -- The text is the output of a run of these commands over the world of this file: the line on knowledge, and for each
--- command one block, in order, which is right and whole at the point that the blocks before it lead to.
+-- command one block, in order: what agents do with it, by what they hold, at the point that the blocks before it lead
+-- to; and over consistent knowledge it's right and whole.
 abbrev pub IsOutput : File → List Command → List ℕ → Type 0
-IsOutput f commands text = PrintsRun RightAndWhole f.world (moment_text f.start) commands text
+IsOutput f commands text = PrintsRun Performed f.world (moment_text f.start) commands text
 
 -- The headline: these octets are the contents of both files, as far as the files tell them; the world file describes
 -- this world, the script asks for these commands, and the text is the output of a run of them. The rest of the script
@@ -74,29 +80,21 @@ pub data RefusesFile (world text : List ℕ) : Type 0 where
   no_json : IsNoJson world → text ≡ not_json_text → RefusesFile world text
   faulty : (b : Breach) → Describes world (Err b) → text ≡ refused_world_text b → RefusesFile world text
 
--- the world that the file describes is no star, and the text is its line
-abbrev pub RefusesStar : File → List ℕ → Type 0
-RefusesStar f text = (IsStar f.world → ⊥) × (text ≡ no_star_text)
-
-pub record DescribesNoStar (world text : List ℕ) : Type 0 where
-  pub file : File
-  pub described : Describes world (Ok file)
-  pub refuses : RefusesStar file text
-
 pub record RefusesWorld (told : Option (List outside.File)) (name text : List ℕ) : Type 0 where
   pub world : List ℕ
   pub world_is : IsContent told name world
-  pub refuses : RefusesFile world text ⊎ DescribesNoStar world text
+  pub refuses : RefusesFile world text
 
 -- the script has a line that is refused, or, where it has none, one that asks for what no run does so far; the first is
 -- told
 pub data RefusesScript (w : World) (script text : List ℕ) : Type 0 where
   faulty_line : (number : ℕ) (fault : Fault) → script_of (names_in w) (lost_in w) script ≡ Err (number, fault)
       → text ≡ refused_line_text number fault → RefusesScript w script text
-  not_yet : (asked : List Asked) (before : ℕ) → AsksFor w script asked → position is_other asked ≡ Some before
+  not_yet : (asked : List Asked) (before : ℕ) → AsksFor w script asked
+      → position (is_other (is_sound w)) asked ≡ Some before
       → text ≡ not_yet_text (before + 1) → RefusesScript w script text
 
--- over the star that the world file describes
+-- over the world that the file describes
 pub record RefusesLine (told : Option (List outside.File)) (names : FileNames) (text : List ℕ) : Type 0 where
   pub world : List ℕ
   pub script : List ℕ
@@ -104,7 +102,6 @@ pub record RefusesLine (told : Option (List outside.File)) (names : FileNames) (
   pub script_is : IsContent told names.script script
   pub file : File
   pub described : Describes world (Ok file)
-  pub star : IsStar file.world
   pub refuses : RefusesScript file.world script text
 
 abbrev pub Refuses : Option (List outside.File) → FileNames → List ℕ → Type 0
@@ -120,14 +117,13 @@ StopsAtWorld Refused told name old new = Wrote (RefusesWorld told name) old new
 StopsAtWorld WriteFault told name old new = Broke (RefusesWorld told name) old new
 StopsAtWorld other told name old new = ⊥
 
--- the world file is there, isn't too long, and describes a star
+-- the world file is there, isn't too long, and describes a world
 pub record TakesWorld (told : Option (List outside.File)) (name : List ℕ) : Type 0 where
   pub readable : IsReadable told name
   pub world : List ℕ
   pub world_is : IsContent told name world
   pub file : File
   pub described : Describes world (Ok file)
-  pub star : IsStar file.world
 
 -- What is known of the two files, by how a run ends. The script is read unless the world is refused, whose line is then
 -- what was written; so a fault of the script is told only where the world is taken.

@@ -1,15 +1,15 @@
 -- What the steps of a run read and write, from the described world on; and of a file that is read, by how that ends.
-use Rattle.std.specs.Prelude.{◌≡◌, ℕ, ◌+◌, List, ◌++◌, ◌⊎◌, map, Option, Some, ⊤}
+use Rattle.std.specs.Prelude.{◌≡◌, ℕ, ◌+◌, List, ◌++◌, map, Option, Some, ⊤}
 use Rattle.std.specs.List.{position}
 use Rattle.x5_model_run.specs.Run.{Command}
 use Rattle.x5_model_script.specs.Lines.{Asked}
 use Rattle.x5_model_script.specs.Lines as lines
-use Rattle.x5_model_star.specs.Star.{IsStar}
+use Rattle.x5_model_tree.specs.World.{World}
 use Rattle.x5_model_world.specs.WorldFile.{File}
 use Rattle.x5_port.specs.Outside as outside
 use Rattle.x5_port.specs.Outside.{IsContent, IsLonger, Rose, with_octets, TookPrefix}
 use Rattle.xdir.specs.Outcomes.{most_octets, Wrote, Broke, Ends, IsReadable}
-use Rattle.xdir.specs.Run.{AsksFor, is_other, IsOutput, RefusesStar, RefusesScript}
+use Rattle.xdir.specs.Run.{AsksFor, is_other, is_sound, IsOutput, RefusesScript}
 use Rattle.xdir.specs.Text.{not_yet_text}
 use Rattle.xdir.specs.declared.top.Status.{Status}
 use Rattle.xdir.specs.declared.top.Status.TheVariants.{Done, Refused, Usage, ReadFault, WriteFault, NoMemory}
@@ -44,7 +44,7 @@ WritesSuchLine TooLong P old new before after = ⊥
 WritesSuchLine Usage P old new before after = ⊥
 WritesSuchLine Inconsistent P old new before after = ⊥
 
--- what a run of these commands over the star of this file writes
+-- what a run of these commands over the world of this file writes
 abbrev pub WritesRun : Status → File → List Command → Option (List ℕ) → Option (List ℕ) → ℕ → ℕ → Type 0
 WritesRun status f commands old new before after =
     Ends (IsOutput f commands) (IsFirstOutput f commands) (λ text. ⊥) status old new before after
@@ -60,17 +60,17 @@ pub record IsFirstAskedOutput (f : File) (asked : List Asked) (text : List ℕ) 
   pub are : asked ≡ map lines.Runs commands
   pub first : IsFirstOutput f commands text
 
-pub record IsNotYet (asked : List Asked) (text : List ℕ) : Type 0 where
+pub record IsNotYet (w : World) (asked : List Asked) (text : List ℕ) : Type 0 where
   pub before : ℕ
-  pub first : position is_other asked ≡ Some before
+  pub first : position (is_other (is_sound w)) asked ≡ Some before
   pub is_line : text ≡ not_yet_text (before + 1)
 
 -- what a run of what is asked for writes
 abbrev pub WritesAsked : Status → File → List Asked → Option (List ℕ) → Option (List ℕ) → ℕ → ℕ → Type 0
 WritesAsked status f asked old new before after =
-    Ends (IsAskedOutput f asked) (IsFirstAskedOutput f asked) (IsNotYet asked) status old new before after
+    Ends (IsAskedOutput f asked) (IsFirstAskedOutput f asked) (IsNotYet f.world asked) status old new before after
 
--- the output of the script's commands over this star, and of the first of them
+-- the output of the script's commands over this world, and of the first of them
 pub record IsScriptOutput (f : File) (script text : List ℕ) : Type 0 where
   pub commands : List Command
   pub asked : AsksFor f.world script (map lines.Runs commands)
@@ -81,13 +81,13 @@ pub record IsFirstScriptOutput (f : File) (script text : List ℕ) : Type 0 wher
   pub asked : AsksFor f.world script (map lines.Runs commands)
   pub first : IsFirstOutput f commands text
 
--- what a run of this script over this star writes
+-- what a run of this script over this world writes
 abbrev pub WritesScript : Status → File → List ℕ → Option (List ℕ) → Option (List ℕ) → ℕ → ℕ → Type 0
 WritesScript status f script old new before after =
     Ends (IsScriptOutput f script) (IsFirstScriptOutput f script)
     (RefusesScript f.world script) status old new before after
 
--- what a run of the script in this file over this star writes
+-- what a run of the script in this file over this world writes
 abbrev pub OfScript : Option (List outside.File) → List ℕ → (List ℕ → List ℕ → Type 0) → List ℕ → Type 0
 OfScript told name P text = (script : List ℕ) × IsContent told name script × P script text
 
@@ -96,29 +96,6 @@ abbrev pub WritesScriptFile : Status → Option (List outside.File) → List ℕ
 WritesScriptFile status told name f old new before after =
     Ends (OfScript told name (IsScriptOutput f)) (OfScript told name (IsFirstScriptOutput f))
     (OfScript told name (RefusesScript f.world)) status old new before after
-
--- the line of a script over a star, or of a world that is none
-abbrev pub RefusesOver : Option (List outside.File) → List ℕ → File → List ℕ → Type 0
-RefusesOver told name f text = RefusesStar f text ⊎ (IsStar f.world × OfScript told name (RefusesScript f.world) text)
-
--- what a run over this world writes, star or not
-abbrev pub WritesOver : Status → Option (List outside.File) → List ℕ → File → Option (List ℕ) → Option (List ℕ) → ℕ →
-    ℕ → Type 0
-WritesOver status told name f old new before after =
-    Ends (OfScript told name (IsScriptOutput f)) (OfScript told name (IsFirstScriptOutput f))
-    (RefusesOver told name f) status old new before after
-
--- what is known of the script's file after such a run: it isn't read where the world is no star
-abbrev pub ReadsOver : Status → File → List ℕ → Option (List outside.File) → ℕ → ℕ → Option (List ℕ) → Option (List ℕ) →
-    Option (List ℕ) → Type 0
-ReadsOver Done f name told before after failed old new = IsReadable told name
-ReadsOver Refused f name told before after failed old new = Wrote (RefusesStar f) old new ⊎ IsReadable told name
-ReadsOver WriteFault f name told before after failed old new = Broke (RefusesStar f) old new ⊎ IsReadable told name
-ReadsOver NoMemory f name told before after failed old new = ⊤
-ReadsOver ReadFault f name told before after failed old new = IsStar f.world × Rose before after × (failed ≡ Some name)
-ReadsOver TooLong f name told before after failed old new = IsStar f.world × IsLonger told name most_octets
-ReadsOver Usage f name told before after failed old new = ⊥
-ReadsOver Inconsistent f name told before after failed old new = ⊥
 
 -- what is known of a file that is read, by how that ends: a script's over a world that was read, or one that is shown
 abbrev pub ReadsFile : Status → List ℕ → Option (List outside.File) → ℕ → ℕ → Option (List ℕ) → Type 0

@@ -11,7 +11,7 @@ use Rattle.x5_port.specs.Outside.{Rose}
 use Rattle.x5_words.specs.Forms.{FileNames}
 use Rattle.xdir.specs.Outcomes.{Wrote, Broke}
 use Rattle.xdir.specs.Run.{AsksFor, IsOutput, Runs, RefusesScript, Refuses}
-use Rattle.xdir.specs.Steps.{IsNotYet, OfScript, RefusesOver}
+use Rattle.xdir.specs.Steps.{IsNotYet, OfScript}
 use Rattle.xdir.specs.declared.top.Status.{Status}
 use Rattle.xdir.specs.declared.top.Status.TheVariants.{Done, Refused, Usage, ReadFault, WriteFault, NoMemory}
 use Rattle.xdir.specs.declared.top.Status.TheVariants.{Inconsistent, TooLong}
@@ -52,7 +52,7 @@ WritesSummed status told names old new before after =
 
 -- ---- the steps of such a run, from the described world on
 
--- what a summary of these commands over the star of this file writes
+-- what a summary of these commands over the world of this file writes
 abbrev pub SumsRun : Status → File → List Command → Option (List ℕ) → Option (List ℕ) → ℕ → ℕ → Type 0
 SumsRun status f commands old new before after =
     EndsAtOnce (IsSummary f commands) (λ text. ⊥) status old new before after
@@ -65,9 +65,9 @@ pub record IsAskedSummary (f : File) (asked : List Asked) (text : List ℕ) : Ty
 
 abbrev pub SumsAsked : Status → File → List Asked → Option (List ℕ) → Option (List ℕ) → ℕ → ℕ → Type 0
 SumsAsked status f asked old new before after =
-    EndsAtOnce (IsAskedSummary f asked) (IsNotYet asked) status old new before after
+    EndsAtOnce (IsAskedSummary f asked) (IsNotYet f.world asked) status old new before after
 
--- of the script's commands over this star
+-- of the script's commands over this world
 pub record IsScriptSummary (f : File) (script text : List ℕ) : Type 0 where
   pub commands : List Command
   pub asked : AsksFor f.world script (map lines.Runs commands)
@@ -77,15 +77,9 @@ abbrev pub SumsScript : Status → File → List ℕ → Option (List ℕ) → O
 SumsScript status f script old new before after =
     EndsAtOnce (IsScriptSummary f script) (RefusesScript f.world script) status old new before after
 
--- of the script in this file over this star
+-- of the script in this file over this world
 abbrev pub SumsScriptFile : Status → Option (List outside.File) → List ℕ → File → Option (List ℕ) → Option (List ℕ) →
     ℕ → ℕ → Type 0
 SumsScriptFile status told name f old new before after =
     EndsAtOnce (OfScript told name (IsScriptSummary f))
     (OfScript told name (RefusesScript f.world)) status old new before after
-
--- over this world, star or not
-abbrev pub SumsOver : Status → Option (List outside.File) → List ℕ → File → Option (List ℕ) → Option (List ℕ) → ℕ → ℕ →
-    Type 0
-SumsOver status told name f old new before after =
-    EndsAtOnce (OfScript told name (IsScriptSummary f)) (RefusesOver told name f) status old new before after

@@ -8,9 +8,6 @@ use Rattle.x5_model_world.specs.Reading.{Breach, BadShape, BadName, OverLimit, R
 abbrev pub not_json_text : List ℕ
 not_json_text = codes "refused world notJson\n"
 
-abbrev pub no_star_text : List ℕ
-no_star_text = codes "refused world notYet\n"
-
 -- the line of what is wrong in a world file, by its path
 abbrev pub at_path_text : List ℕ → List ℕ → List ℕ
 at_path_text word path = concat (codes "refused world " ∷ word ∷ codes " " ∷ path ∷ codes "\n" ∷ [])

@@ -69,7 +69,6 @@ fn at_column<W: fmt::Write>(f: &mut Formatter<W>, number: &str, column: &str) ->
 fn world_reason(reason: &str) -> &'static str {
     match reason {
         "notJson" => "this is no value of JSON in UTF-8",
-        "notYet" => "this describes no star of agents, and run takes no other world yet",
         "badShape" => "a member is missing, isn't known here, or hasn't the form that it must have",
         "badName" => "this is no name",
         "overLimit" => "this passes the limit that stands behind the path",
@@ -87,7 +86,8 @@ fn line_reason(reason: &str) -> &'static str {
         "filter" => "this is no filter",
         "hex" => "these are no octets in hexadecimal digits",
         "long" => "this line has more than 4,096 octets, or stands behind line 100,000",
-        "notYet" => "run takes read and compare alone so far",
+        "notYet" =>
+            "run takes no delivered octets yet, nor refreshes where the knowledge is consistent",
         _ => "",
     }
 }

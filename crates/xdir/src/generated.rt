@@ -3,16 +3,15 @@ ghost use Rattle.std.specs.Prelude.{◌≡◌, Some};
 ghost use Rattle.x5_gen.specs.Script.{script_text};
 ghost use Rattle.x5_gen.specs.World.{world_text};
 ghost use Rattle.x5_know.specs.WorldView.{world_view};
-ghost use Rattle.x5_load.specs.Views.{file_view};
+ghost use Rattle.x5_load.specs.Views.{IsNamed, file_view};
 ghost use Rattle.x5_model_tree.specs.Described.{IsDescribed};
 ghost use Rattle.xdir.specs.Generated.{WritesGenerated, made_files, made_names, script_name};
-ghost use Rattle.xdir.specs.Star.{IsReady, star_file};
 ghost use Rattle.xdir.specs.Steps.{Prints};
-ghost use Rattle.xdir.specs.Summed.{SumsOver, SumsScript, WritesSummed};
+ghost use Rattle.xdir.specs.Summed.{SumsScript, SumsScriptFile, WritesSummed};
+ghost use Rattle.xdir.specs.Taken.{IsBegun};
 
-use crate::refusals::{NO_STAR, put_refusal, refuse_world};
+use crate::refusals::refuse_world;
 use crate::run::Printed;
-use crate::star::{Star, find_star};
 use crate::top::{Status, run_octets};
 use std::alloc::Global;
 use x5_gen::{script_of, world_of};
@@ -20,6 +19,7 @@ use x5_know::Described;
 use x5_load::load;
 use x5_memory::NoMemory;
 use x5_port::Sink;
+use x5_world::World;
 
 /// Runs the script over the world that are made of the number, and prints a summary.
 pub fn run_made<K: Sink>(alloc: Global, number: u32, out: &mut K) -> Status
@@ -43,27 +43,40 @@ fn run_made_world<K: Sink>(alloc: Global, octets: &[u8], number: u32, out: &mut 
     }
 }
 
-/// Runs the script that is made of the number over a world, if that is a star.
+/// Runs the script that is made of the number over a world.
 fn run_made_over<K: Sink>(alloc: Global, world: Described, number: u32, out: &mut K) -> Status
-    requires { IsDescribed (world_view world) }
+    requires described { IsDescribed (world_view world) }
+    requires named { IsNamed world }
     ensures prints { Prints result }
-    ensures sums { SumsOver result (Some (made_files number)) script_name (file_view world) (K.octets out.old) (K.octets out.new) (K.fault_count out.old) (K.fault_count out.new) }
+    ensures sums { SumsScriptFile result (Some (made_files number)) script_name (file_view world) (K.octets out.old) (K.octets out.new) (K.fault_count out.old) (K.fault_count out.new) }
 {
-    match find_star(alloc, world) {
-        Ok(Some(star)) => run_made_script(alloc, &star, number, out),
-        Ok(None) => put_refusal(NO_STAR, out),
+    match World::new(alloc, &world) {
+        Ok(mut network) => run_made_script(alloc, &world, &mut network, number, out),
         Err(NoMemory) => Status::NoMemory,
     }
 }
 
-/// Runs the script that is made of the number over a star.
-fn run_made_script<K: Sink>(alloc: Global, star: &Star, number: u32, out: &mut K) -> Status
-    requires { IsReady star.now }
+/// Runs the script that is made of the number over a described world with its network.
+fn run_made_script<K: Sink>(
+    alloc: Global,
+    described: &Described,
+    network: &mut World,
+    number: u32,
+    out: &mut K,
+) -> Status
+    requires { IsBegun described.now network.old }
     ensures prints { Prints result }
-    ensures sums { SumsScript result (star_file star.now) (script_text number) (K.octets out.old) (K.octets out.new) (K.fault_count out.old) (K.fault_count out.new) }
+    ensures sums { SumsScript result (file_view described.now) (script_text number) (K.octets out.old) (K.octets out.new) (K.fault_count out.old) (K.fault_count out.new) }
 {
     match script_of(alloc, number) {
-        Ok(octets) => run_octets(alloc, Printed::Summary, star, octets.as_slice(), out),
+        Ok(octets) => run_octets(
+            alloc,
+            Printed::Summary,
+            described,
+            network,
+            octets.as_slice(),
+            out,
+        ),
         Err(NoMemory) => Status::NoMemory,
     }
 }

@@ -16,9 +16,6 @@ use x5_script::{ScriptFault, ScriptRefusal};
 /// What is printed of a world file that is no JSON.
 pub const NOT_JSON: &str = "refused world notJson\n";
 
-/// What is printed of a world that is no star.
-pub const NO_STAR: &str = "refused world notYet\n";
-
 fn path_line(alloc: Global, word: &str, path: &str) -> Result<String, AllocError>
     ensures { IfOk result (λ line. string_bytes line ≡ shown.at_path_text word.now path.now) }
 {
@@ -85,7 +82,7 @@ fn not_yet_line(alloc: Global, number: usize) -> Result<String, AllocError>
 }
 
 /// Prints the line of a file that isn't taken.
-pub fn put_refusal<K: Sink>(line: &str, out: &mut K) -> Status
+fn put_refusal<K: Sink>(line: &str, out: &mut K) -> Status
     ensures { WritesLine result line.now (K.octets out.old) (K.octets out.new) (K.fault_count out.old) (K.fault_count out.new) }
 {
     match put_all(out, line.as_bytes()) {

@@ -1,28 +1,32 @@
-//! A run of a script's commands over a star of agents: the line on knowledge, and a block for each command.
-ghost use Rattle.std.specs.Prelude.{◌≡◌, ℕ, ◌<◌, ◌≤◌, ◌+◌, All, IfOk, IfSome, MatchOption, length, map, not};
+//! A run of a script's commands: the line on knowledge, and a block for each command.
+ghost use Rattle.std.specs.Prelude.{◌≡◌, ℕ, ◌<◌, ◌≤◌, ◌+◌, List, All, length, map};
 ghost use Rattle.std.specs.List.{position};
+ghost use Rattle.x5_know.specs.WorldView.{world_view};
+ghost use Rattle.x5_load.specs.Views.{file_view};
+ghost use Rattle.x5_model_run.specs.History.{Did};
 ghost use Rattle.x5_model_script.specs.Named.{AreNamed};
-ghost use Rattle.x5_model_star.specs.Reads.{IsRead};
-ghost use Rattle.x5_ops.specs.RequestViews.{request_view};
 ghost use Rattle.x5_script.specs.Views.{command_view};
+ghost use Rattle.x5_world.specs.State.{HasRoom, StandsAt};
+ghost use Rattle.xdir.specs.Blocks.{WritesBlock, WritesCourse};
+ghost use Rattle.xdir.specs.Checked.{knowledge_text};
 ghost use Rattle.xdir.specs.Run.{is_other};
-ghost use Rattle.xdir.specs.Star.{IsReady, IsTaken, run_view, star_file};
 ghost use Rattle.xdir.specs.Steps.{Prints, WritesAsked, WritesRun};
-ghost use Rattle.xdir.specs.Blocks.{IsReadBlock, WritesBlock};
 ghost use Rattle.xdir.specs.Summed.{SumsAsked, SumsRun};
+ghost use Rattle.xdir.specs.Taken.{AsksShortNames, IsBegun, IsTaken, Suits, command_of, point, run_view};
 
+use crate::check::line_of;
+use crate::lines::{Course, carry_out};
 use crate::refusals::refuse_other;
-use crate::star::Star;
 use crate::summed::print_summary;
 use crate::top::Status;
 use std::alloc::Global;
-use x5_dispatch::{is_read, star_read};
+use x5_know::Described;
 use x5_memory::NoMemory;
-use x5_ops::{AgentId, Request};
 use x5_port::{Failed, Sink, put_all};
-use x5_report::{LineOutcome, block};
+use x5_report::block;
 use x5_script::Command;
 use x5_syntax::Text;
+use x5_world::World;
 
 /// What is printed of knowledge that holds together.
 pub const KNOWLEDGE: &str = "knowledge consistent\n";
@@ -36,80 +40,109 @@ pub enum Printed {
     Summary,
 }
 
-/// Whether a line asks for what no run does so far.
-fn is_other_line(command: &Command) -> bool
-    ensures { result ≡ is_other (command_view command.now) }
+/// Whether a line asks for what no run does so far, over knowledge that is consistent or isn't. No memory.
+fn is_other_line(is_consistent: bool, command: &Command) -> bool
+    ensures { result ≡ is_other is_consistent (command_view command.now) }
 {
     match command {
-        Command::Nothing => false,
-        Command::Ask { to: _, request } => !(is_read(&request.body) && !request.controls.nochain),
-        _ => true,
+        Command::Refresh { .. } => is_consistent,
+        Command::Deliver { .. } => true,
+        _ => false,
     }
 }
 
-/// How many lines stand before the first that asks for what no run does so far.
-fn first_other(commands: &[Command]) -> Option<usize>
-    ensures { result ≡ position (λ c. is_other (command_view c)) commands.now }
+/// How many lines stand before the first that asks for what no run does so far, over knowledge that is consistent or isn't.
+fn first_other(is_consistent: bool, commands: &[Command]) -> Option<usize>
+    ensures { result ≡ position (λ c. is_other is_consistent (command_view c)) commands.now }
 {
-    commands.iter().position(|command| is_other_line(command))
+    commands
+        .iter()
+        .position(|command| is_other_line(is_consistent, command))
 }
 
 /// Runs what a script's lines ask for, or prints the line of the first that asks for what no run does so far.
 pub fn run_commands<K: Sink>(
     alloc: Global,
     printed: Printed,
-    star: &Star,
+    described: &Described,
+    network: &mut World,
     commands: &[Command],
     out: &mut K,
 ) -> Status
-    requires ready { IsReady star.now }
+    requires begun { IsBegun described.now network.old }
     requires few { length commands.now ≤ 100000 }
-    requires named { All (AreNamed star.now.names) (map command_view commands.now) }
+    requires named { All (AreNamed network.old.names) (map command_view commands.now) }
+    requires short { All (λ c. AsksShortNames (command_of c)) (map command_view commands.now) }
     ensures prints { Prints result }
-    ensures writes { printed ≡ Printed.Blocks → WritesAsked result (star_file star.now) (map command_view commands.now) (K.octets out.old) (K.octets out.new) (K.fault_count out.old) (K.fault_count out.new) }
-    ensures sums { printed ≡ Printed.Summary → SumsAsked result (star_file star.now) (map command_view commands.now) (K.octets out.old) (K.octets out.new) (K.fault_count out.old) (K.fault_count out.new) }
+    ensures writes { printed ≡ Printed.Blocks → WritesAsked result (file_view described.now) (map command_view commands.now) (K.octets out.old) (K.octets out.new) (K.fault_count out.old) (K.fault_count out.new) }
+    ensures sums { printed ≡ Printed.Summary → SumsAsked result (file_view described.now) (map command_view commands.now) (K.octets out.old) (K.octets out.new) (K.fault_count out.old) (K.fault_count out.new) }
 {
-    match first_other(commands) {
+    let told = match line_of(alloc, described) {
+        Ok(told) => told,
+        Err(NoMemory) => return Status::NoMemory,
+    };
+    match first_other(told.is_consistent, commands) {
         Some(before) => refuse_other(alloc, before, out),
-        None => run_taken(alloc, printed, star, commands, out),
+        None => run_taken(
+            alloc,
+            printed,
+            described,
+            network,
+            told.line.as_str(),
+            commands,
+            out,
+        ),
     }
 }
 
-/// Runs commands that are all taken.
+/// Runs commands that are all taken, behind this line on knowledge.
 fn run_taken<K: Sink>(
     alloc: Global,
     printed: Printed,
-    star: &Star,
+    described: &Described,
+    network: &mut World,
+    knowledge: &str,
     commands: &[Command],
     out: &mut K,
 ) -> Status
-    requires ready { IsReady star.now }
+    requires begun { IsBegun described.now network.old }
+    requires knowledge { knowledge.now ≡ knowledge_text (world_view described.now) }
     requires few { length commands.now ≤ 100000 }
-    requires taken { All (IsTaken (length star.now.agents)) commands.now }
+    requires taken { All (IsTaken (length network.old.names)) commands.now }
+    requires suits { All (λ c. Suits (world_view described.now) (run_view c)) commands.now }
     ensures prints { Prints result }
-    ensures writes { printed ≡ Printed.Blocks → WritesRun result (star_file star.now) (map run_view commands.now) (K.octets out.old) (K.octets out.new) (K.fault_count out.old) (K.fault_count out.new) }
-    ensures sums { printed ≡ Printed.Summary → SumsRun result (star_file star.now) (map run_view commands.now) (K.octets out.old) (K.octets out.new) (K.fault_count out.old) (K.fault_count out.new) }
+    ensures writes { printed ≡ Printed.Blocks → WritesRun result (file_view described.now) (map run_view commands.now) (K.octets out.old) (K.octets out.new) (K.fault_count out.old) (K.fault_count out.new) }
+    ensures sums { printed ≡ Printed.Summary → SumsRun result (file_view described.now) (map run_view commands.now) (K.octets out.old) (K.octets out.new) (K.fault_count out.old) (K.fault_count out.new) }
 {
     match printed {
-        Printed::Blocks => print_run(alloc, star, commands, out),
-        Printed::Summary => print_summary(alloc, star, commands, out),
+        Printed::Blocks => print_run(alloc, described, network, knowledge, commands, out),
+        Printed::Summary => print_summary(alloc, described, network, knowledge, commands, out),
     }
 }
 
 /// Prints the line on knowledge, and the block of each command.
-fn print_run<K: Sink>(alloc: Global, star: &Star, commands: &[Command], out: &mut K) -> Status
-    requires ready { IsReady star.now }
+fn print_run<K: Sink>(
+    alloc: Global,
+    described: &Described,
+    network: &mut World,
+    knowledge: &str,
+    commands: &[Command],
+    out: &mut K,
+) -> Status
+    requires begun { IsBegun described.now network.old }
+    requires knowledge { knowledge.now ≡ knowledge_text (world_view described.now) }
     requires few { length commands.now ≤ 100000 }
-    requires taken { All (IsTaken (length star.now.agents)) commands.now }
+    requires taken { All (IsTaken (length network.old.names)) commands.now }
+    requires suits { All (λ c. Suits (world_view described.now) (run_view c)) commands.now }
     ensures prints { Prints result }
-    ensures writes { WritesRun result (star_file star.now) (map run_view commands.now) (K.octets out.old) (K.octets out.new) (K.fault_count out.old) (K.fault_count out.new) }
+    ensures writes { WritesRun result (file_view described.now) (map run_view commands.now) (K.octets out.old) (K.octets out.new) (K.fault_count out.old) (K.fault_count out.new) }
 {
-    match put_all(out, KNOWLEDGE.as_bytes()) {
+    match put_all(out, knowledge.as_bytes()) {
         Ok(()) => {}
         Err(Failed) => return Status::WriteFault,
     }
     for (place, command) in commands.iter().enumerate() {
-        match print_command(alloc, star, place, command, out) {
+        match print_command(alloc, described, network, place, command, out) {
             Status::Done => {}
             stopped => return stopped,
         }
@@ -120,45 +153,51 @@ fn print_run<K: Sink>(alloc: Global, star: &Star, commands: &[Command], out: &mu
 /// Prints the block of the command after so many; a comment has none.
 fn print_command<K: Sink>(
     alloc: Global,
-    star: &Star,
+    described: &Described,
+    network: &mut World,
     before: usize,
     command: &Command,
     out: &mut K,
 ) -> Status
-    requires ready { IsReady star.now }
-    requires taken { IsTaken (length star.now.agents) command.now }
+    requires taken { IsTaken (length network.old.names) command.now }
     requires few { before < 100000 }
+    requires room { HasRoom network.old before }
     ensures rising { K.fault_count out.old ≤ K.fault_count out.new }
-    ensures block { WritesBlock result (star_file star.now) (before + 1) (run_view command.now) (K.octets out.old) (K.octets out.new) (K.fault_count out.old) (K.fault_count out.new) }
+    ensures names { result ≡ Status.Done → network.new.names ≡ network.old.names }
+    ensures room_after { result ≡ Status.Done → HasRoom network.new (before + 1) }
+    ensures block { (past : List Did) → StandsAt network.old (point (world_view described.now) past) → Suits (world_view described.now) (run_view command.now) → WritesBlock result (file_view described.now) past (before + 1) (run_view command.now) network.new (K.octets out.old) (K.octets out.new) (K.fault_count out.old) (K.fault_count out.new) }
 {
-    match command {
-        Command::Ask { to, request } => match block_of(alloc, star, before, *to, request) {
-            Ok(text) => match put_all(out, text.as_str().as_bytes()) {
-                Ok(()) => Status::Done,
-                Err(Failed) => Status::WriteFault,
-            },
-            Err(NoMemory) => Status::NoMemory,
-        },
-        _ => Status::Done,
+    match carry_out(alloc, network, command) {
+        Ok(Some(course)) => print_course(alloc, described, before, &course, out),
+        Ok(None) => Status::Done,
+        Err(NoMemory) => Status::NoMemory,
     }
 }
 
-/// The block of a request after so many lines.
-fn block_of(
+/// Prints the block of what came of the command after so many.
+fn print_course<K: Sink>(
     alloc: Global,
-    star: &Star,
+    described: &Described,
     before: usize,
-    to: AgentId,
-    request: &Request,
-) -> Result<Text, NoMemory>
-    requires ready { IsReady star.now }
-    requires there { to < length star.now.agents }
-    requires reads { IsRead (request_view request.now) }
+    course: &Course,
+    out: &mut K,
+) -> Status
     requires few { before < 100000 }
-    ensures { IfOk result (λ text. (sent : ℕ) → IsReadBlock (star_file star.now) sent (before + 1) to (request_view request.now) text) }
+    ensures rising { K.fault_count out.old ≤ K.fault_count out.new }
+    ensures line { WritesCourse result (file_view described.now) (before + 1) course.now (K.octets out.old) (K.octets out.new) (K.fault_count out.old) (K.fault_count out.new) }
 {
-    let (reply, journal) = star_read(alloc, &star.agents, to, request)?;
     let line = before as u32 + 1;
-    let outcome = LineOutcome::Answered(reply);
-    block(alloc, &star.start, line, &journal, &outcome)
+    match block(
+        alloc,
+        &described.start,
+        line,
+        &course.journal,
+        &course.outcome,
+    ) {
+        Ok(text) => match put_all(out, text.as_str().as_bytes()) {
+            Ok(()) => Status::Done,
+            Err(Failed) => Status::WriteFault,
+        },
+        Err(NoMemory) => Status::NoMemory,
+    }
 }

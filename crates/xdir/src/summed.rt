@@ -1,39 +1,46 @@
 //! The summary of a run: what the blocks of its commands have, counted.
-ghost use Rattle.std.specs.Prelude.{◌≡◌, ◌<◌, ◌++◌, All, IfOk, OnOk, codes, length, map, string_bytes};
+ghost use Rattle.std.specs.Prelude.{◌≡◌, ℕ, ◌<◌, ◌≤◌, ◌+◌, ◌++◌, [], All, IfOk, OnOk, length, map, string_bytes};
+ghost use Rattle.x5_know.specs.WorldView.{world_view};
+ghost use Rattle.x5_load.specs.Views.{file_view};
 ghost use Rattle.x5_model_output.specs.Summary.{summary_line};
-ghost use Rattle.x5_model_run.specs.Run.{Asks};
-ghost use Rattle.x5_model_star.specs.Reads.{IsRead};
-ghost use Rattle.x5_ops.specs.RequestViews.{request_view};
+ghost use Rattle.x5_model_run.specs.History.{Point};
+ghost use Rattle.x5_model_world.specs.WorldFile.{File};
 ghost use Rattle.x5_report.specs.Counted.{totals_view};
+ghost use Rattle.x5_world.specs.State.{HasRoom, StandsAt};
+ghost use Rattle.xdir.specs.Checked.{knowledge_text};
 ghost use Rattle.xdir.specs.Counted.{AddsBlock, IsCounted};
-ghost use Rattle.xdir.specs.Star.{IsReady, IsTaken, run_view, star_file};
 ghost use Rattle.xdir.specs.Steps.{Prints};
 ghost use Rattle.xdir.specs.Summed.{IsSummary, SumsRun};
+ghost use Rattle.xdir.specs.Taken.{IsBegun, IsTaken, Suits, point, run_view};
 
-use crate::run::KNOWLEDGE;
-use crate::star::Star;
+use crate::lines::carry_out;
 use crate::top::Status;
 use std::alloc::Global;
-use x5_dispatch::star_read;
+use x5_know::Described;
 use x5_memory::NoMemory;
-use x5_ops::{AgentId, Request};
 use x5_port::{Failed, Sink, put_all};
-use x5_report::{LineOutcome, Totals, summary};
+use x5_report::{Totals, summary};
 use x5_script::Command;
+use x5_world::World;
 
 /// Prints the line on knowledge, and the counts of the commands' blocks.
 pub fn print_summary<K: Sink>(
     alloc: Global,
-    star: &Star,
+    described: &Described,
+    network: &mut World,
+    knowledge: &str,
     commands: &[Command],
     out: &mut K,
 ) -> Status
-    requires ready { IsReady star.now }
-    requires taken { All (IsTaken (length star.now.agents)) commands.now }
+    requires begun { IsBegun described.now network.old }
+    requires knowledge { knowledge.now ≡ knowledge_text (world_view described.now) }
+    requires few { length commands.now ≤ 100000 }
+    requires taken { All (IsTaken (length network.old.names)) commands.now }
+    requires suits { All (λ c. Suits (world_view described.now) (run_view c)) commands.now }
     ensures prints { Prints result }
-    ensures sums { SumsRun result (star_file star.now) (map run_view commands.now) (K.octets out.old) (K.octets out.new) (K.fault_count out.old) (K.fault_count out.new) }
+    ensures sums { SumsRun result (file_view described.now) (map run_view commands.now) (K.octets out.old) (K.octets out.new) (K.fault_count out.old) (K.fault_count out.new) }
 {
-    match summary_of(alloc, star, commands) {
+    match summary_of(alloc, network, knowledge, commands) {
         Ok(text) => match put_all(out, text.as_bytes()) {
             Ok(()) => Status::Done,
             Err(Failed) => Status::WriteFault,
@@ -43,34 +50,41 @@ pub fn print_summary<K: Sink>(
 }
 
 /// The line on knowledge, and the counts of the commands' blocks.
-fn summary_of(alloc: Global, star: &Star, commands: &[Command]) -> Result<String, NoMemory>
-    requires ready { IsReady star.now }
-    requires taken { All (IsTaken (length star.now.agents)) commands.now }
-    ensures { IfOk result (λ text. IsSummary (star_file star.now) (map run_view commands.now) (string_bytes text)) }
+fn summary_of(
+    alloc: Global,
+    network: &mut World,
+    knowledge: &str,
+    commands: &[Command],
+) -> Result<String, NoMemory>
+    requires room { HasRoom network.old 0 }
+    requires few { length commands.now ≤ 100000 }
+    requires taken { All (IsTaken (length network.old.names)) commands.now }
+    ensures { IfOk result (λ text. (f : File) → StandsAt network.old (point f.world []) → knowledge.now ≡ knowledge_text f.world → All (λ c. Suits f.world (run_view c)) commands.now → IsSummary f (map run_view commands.now) (string_bytes text)) }
 {
-    let totals = totals_of(alloc, star, commands)?;
-    text_of(alloc, &totals)
+    let totals = totals_of(alloc, network, commands)?;
+    text_of(alloc, knowledge, &totals)
 }
 
 /// The line on knowledge, and these counts.
-fn text_of(alloc: Global, totals: &Totals) -> Result<String, NoMemory>
-    ensures { IfOk result (λ text. string_bytes text ≡ codes "knowledge consistent\n" ++ summary_line (totals_view totals.now)) }
+fn text_of(alloc: Global, knowledge: &str, totals: &Totals) -> Result<String, NoMemory>
+    ensures { IfOk result (λ text. string_bytes text ≡ knowledge.now ++ summary_line (totals_view totals.now)) }
 {
     let line = summary(alloc, totals)?;
-    let mut text = String::from_str(alloc, KNOWLEDGE)?;
+    let mut text = String::from_str(alloc, knowledge)?;
     text.push_str(line.as_str())?;
     Ok(text)
 }
 
 /// The counts of the commands' blocks.
-fn totals_of(alloc: Global, star: &Star, commands: &[Command]) -> Result<Totals, NoMemory>
-    requires ready { IsReady star.now }
-    requires taken { All (IsTaken (length star.now.agents)) commands.now }
-    ensures { IfOk result (λ totals. IsCounted (star_file star.now) (map run_view commands.now) (totals_view totals)) }
+fn totals_of(alloc: Global, network: &mut World, commands: &[Command]) -> Result<Totals, NoMemory>
+    requires room { HasRoom network.old 0 }
+    requires few { length commands.now ≤ 100000 }
+    requires taken { All (IsTaken (length network.old.names)) commands.now }
+    ensures { IfOk result (λ totals. (f : File) → StandsAt network.old (point f.world []) → All (λ c. Suits f.world (run_view c)) commands.now → IsCounted f (map run_view commands.now) network.new (totals_view totals)) }
 {
     let mut totals = Totals::new();
     for command in commands {
-        count_command(alloc, star, command, &mut totals)?;
+        count_command(alloc, network, command, &mut totals)?;
     }
     Ok(totals)
 }
@@ -78,35 +92,22 @@ fn totals_of(alloc: Global, star: &Star, commands: &[Command]) -> Result<Totals,
 /// Adds the counts of a command's block; a comment has none.
 fn count_command(
     alloc: Global,
-    star: &Star,
+    network: &mut World,
     command: &Command,
     totals: &mut Totals,
 ) -> Result<(), NoMemory>
-    requires ready { IsReady star.now }
-    requires taken { IsTaken (length star.now.agents) command.now }
-    ensures { OnOk result (AddsBlock (star_file star.now) (run_view command.now) (totals_view totals.old) (totals_view totals.new)) }
+    requires taken { IsTaken (length network.old.names) command.now }
+    requires room { (lines : ℕ) × (HasRoom network.old lines × (lines < 100000)) }
+    ensures names { IfOk result (λ _. network.new.names ≡ network.old.names) }
+    ensures room_after { IfOk result (λ _. (lines : ℕ) → HasRoom network.old lines → HasRoom network.new (lines + 1)) }
+    ensures adds { OnOk result ((p : Point) → StandsAt network.old p → Suits p.described (run_view command.now) → AddsBlock p (run_view command.now) network.new (totals_view totals.old) (totals_view totals.new)) }
 {
-    match command {
-        Command::Ask { to, request } => count_answer(alloc, star, *to, request, totals),
-        _ => Ok(()),
+    let carried = carry_out(alloc, network, command)?;
+    match carried {
+        Some(course) => {
+            totals.count(&course.journal, &course.outcome);
+            Ok(())
+        }
+        None => Ok(()),
     }
-}
-
-/// Adds the counts of a request's block.
-fn count_answer(
-    alloc: Global,
-    star: &Star,
-    to: AgentId,
-    request: &Request,
-    totals: &mut Totals,
-) -> Result<(), NoMemory>
-    requires ready { IsReady star.now }
-    requires there { to < length star.now.agents }
-    requires reads { IsRead (request_view request.now) }
-    ensures { OnOk result (AddsBlock (star_file star.now) (Asks to (request_view request.now)) (totals_view totals.old) (totals_view totals.new)) }
-{
-    let (reply, journal) = star_read(alloc, &star.agents, to, request)?;
-    let outcome = LineOutcome::Answered(reply);
-    totals.count(&journal, &outcome);
-    Ok(())
 }

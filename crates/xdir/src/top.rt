@@ -1,23 +1,22 @@
 //! The top call: a run of a script over a world, a file that is made of a number, or what a file shows, from files to a sink.
 ghost use Rattle.std.specs.Prelude.{◌≡◌, ◌⊎◌, None, IfSome, true, map, string_bytes};
 ghost use Rattle.x5_know.specs.WorldView.{world_view};
-ghost use Rattle.x5_load.specs.Views.{file_view};
+ghost use Rattle.x5_load.specs.Views.{IsNamed, file_view};
 ghost use Rattle.x5_model_tree.specs.Described.{IsDescribed};
 ghost use Rattle.x5_words.specs.Forms.{form_in};
 ghost use Rattle.xdir.specs.Forms.{ReadsForm, WritesForm};
 ghost use Rattle.xdir.specs.Run.{Reads, Writes};
-ghost use Rattle.xdir.specs.Star.{IsReady, star_file};
-ghost use Rattle.xdir.specs.Steps.{Prints, ReadsFile, ReadsOver, WritesOver, WritesScript, WritesScriptFile};
-ghost use Rattle.xdir.specs.Summed.{SumsOver, SumsScript, SumsScriptFile, WritesSummed};
+ghost use Rattle.xdir.specs.Steps.{Prints, ReadsFile, WritesScript, WritesScriptFile};
+ghost use Rattle.xdir.specs.Summed.{SumsScript, SumsScriptFile, WritesSummed};
+ghost use Rattle.xdir.specs.Taken.{IsBegun};
 ghost use Rattle.xdir.specs.Words.{is_made};
 
 use crate::check::check_file;
 use crate::generated::run_made;
 use crate::made::{print_made_script, print_made_world};
-use crate::refusals::{NO_STAR, put_refusal, refuse_script, refuse_world};
+use crate::refusals::{refuse_script, refuse_world};
 use crate::run::{Printed, run_commands};
 use crate::show::show_file;
-use crate::star::{Star, find_star};
 use crate::tree::tree_files;
 use std::alloc::Global;
 use x5_know::Described;
@@ -26,6 +25,7 @@ use x5_memory::NoMemory;
 use x5_port::{FileFault, Files, Sink};
 use x5_script::read_script;
 use x5_words::{Words, read_words};
+use x5_world::World;
 
 /// The most octets of a file: 16 MiB.
 pub const MOST_OCTETS: usize = 16_777_216;
@@ -125,7 +125,7 @@ fn run_files<F: Files, K: Sink>(
     }
 }
 
-/// Runs the script of a file over a world, if that is a star.
+/// Runs the script of a file over a world.
 fn run_world<F: Files, K: Sink>(
     alloc: Global,
     printed: Printed,
@@ -134,55 +134,58 @@ fn run_world<F: Files, K: Sink>(
     files: &mut F,
     out: &mut K,
 ) -> Status
-    requires { IsDescribed (world_view world) }
-    ensures reads { ReadsOver result (file_view world) script.now (F.contents files.old) (F.fault_count files.old) (F.fault_count files.new) (F.last_failed files.new) (K.octets out.old) (K.octets out.new) }
-    ensures writes { printed ≡ Printed.Blocks → WritesOver result (F.contents files.old) script.now (file_view world) (K.octets out.old) (K.octets out.new) (K.fault_count out.old) (K.fault_count out.new) }
-    ensures sums { printed ≡ Printed.Summary → SumsOver result (F.contents files.old) script.now (file_view world) (K.octets out.old) (K.octets out.new) (K.fault_count out.old) (K.fault_count out.new) }
+    requires described { IsDescribed (world_view world) }
+    requires named { IsNamed world }
+    ensures reads { ReadsFile result script.now (F.contents files.old) (F.fault_count files.old) (F.fault_count files.new) (F.last_failed files.new) }
+    ensures writes { printed ≡ Printed.Blocks → WritesScriptFile result (F.contents files.old) script.now (file_view world) (K.octets out.old) (K.octets out.new) (K.fault_count out.old) (K.fault_count out.new) }
+    ensures sums { printed ≡ Printed.Summary → SumsScriptFile result (F.contents files.old) script.now (file_view world) (K.octets out.old) (K.octets out.new) (K.fault_count out.old) (K.fault_count out.new) }
 {
-    match find_star(alloc, world) {
-        Ok(Some(star)) => run_script(alloc, printed, &star, script, files, out),
-        Ok(None) => put_refusal(NO_STAR, out),
+    match World::new(alloc, &world) {
+        Ok(mut network) => run_script(alloc, printed, &world, &mut network, script, files, out),
         Err(NoMemory) => Status::NoMemory,
     }
 }
 
-/// Runs the script of a file over a star.
+/// Runs the script of a file over a described world with its network.
 fn run_script<F: Files, K: Sink>(
     alloc: Global,
     printed: Printed,
-    star: &Star,
+    described: &Described,
+    network: &mut World,
     script: &str,
     files: &mut F,
     out: &mut K,
 ) -> Status
-    requires { IsReady star.now }
+    requires { IsBegun described.now network.old }
     ensures reads { ReadsFile result script.now (F.contents files.old) (F.fault_count files.old) (F.fault_count files.new) (F.last_failed files.new) }
-    ensures writes { printed ≡ Printed.Blocks → WritesScriptFile result (F.contents files.old) script.now (star_file star.now) (K.octets out.old) (K.octets out.new) (K.fault_count out.old) (K.fault_count out.new) }
-    ensures sums { printed ≡ Printed.Summary → SumsScriptFile result (F.contents files.old) script.now (star_file star.now) (K.octets out.old) (K.octets out.new) (K.fault_count out.old) (K.fault_count out.new) }
+    ensures writes { printed ≡ Printed.Blocks → WritesScriptFile result (F.contents files.old) script.now (file_view described.now) (K.octets out.old) (K.octets out.new) (K.fault_count out.old) (K.fault_count out.new) }
+    ensures sums { printed ≡ Printed.Summary → SumsScriptFile result (F.contents files.old) script.now (file_view described.now) (K.octets out.old) (K.octets out.new) (K.fault_count out.old) (K.fault_count out.new) }
 {
     match files.read_whole(alloc, script, MOST_OCTETS) {
-        Ok(octets) => run_octets(alloc, printed, star, &octets, out),
+        Ok(octets) => run_octets(alloc, printed, described, network, &octets, out),
         Err(FileFault::Failed) => Status::ReadFault,
         Err(FileFault::TooLong) => Status::TooLong,
         Err(FileFault::NoMemory) => Status::NoMemory,
     }
 }
 
-/// Runs a script, or prints the line of its first line that isn't taken. A star loses no replies by itself.
+/// Runs a script, or prints the line of its first line that isn't taken.
 pub fn run_octets<K: Sink>(
     alloc: Global,
     printed: Printed,
-    star: &Star,
+    described: &Described,
+    network: &mut World,
     script: &[u8],
     out: &mut K,
 ) -> Status
-    requires { IsReady star.now }
+    requires { IsBegun described.now network.old }
     ensures prints { Prints result }
-    ensures writes { printed ≡ Printed.Blocks → WritesScript result (star_file star.now) script.now (K.octets out.old) (K.octets out.new) (K.fault_count out.old) (K.fault_count out.new) }
-    ensures sums { printed ≡ Printed.Summary → SumsScript result (star_file star.now) script.now (K.octets out.old) (K.octets out.new) (K.fault_count out.old) (K.fault_count out.new) }
+    ensures writes { printed ≡ Printed.Blocks → WritesScript result (file_view described.now) script.now (K.octets out.old) (K.octets out.new) (K.fault_count out.old) (K.fault_count out.new) }
+    ensures sums { printed ≡ Printed.Summary → SumsScript result (file_view described.now) script.now (K.octets out.old) (K.octets out.new) (K.fault_count out.old) (K.fault_count out.new) }
 {
-    match read_script(alloc, script, &star.names, 0) {
-        Ok(commands) => run_commands(alloc, printed, star, &commands, out),
+    let lost_replies = described.network.lost_replies.len();
+    match read_script(alloc, script, network.names(), lost_replies) {
+        Ok(commands) => run_commands(alloc, printed, described, network, &commands, out),
         Err(refusal) => refuse_script(alloc, refusal, out),
     }
 }

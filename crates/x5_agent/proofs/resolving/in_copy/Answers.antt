@@ -12,7 +12,9 @@ supplier-requires-clause-found c =
     c.in_ok-reply.ensures (sym (c.is_error.ensures c.args.names.now) ∙ c.if-is_error.true)
 
 pub returns : goal.returns
-returns c =
-    inr (copy_told c.args.state.now (chained_view c.args.names.now c.args.message.now) c.args.copy c.args.node
-    c.requires.found c.requires.alone c.requires.fit (reply_view c.args.names.now c.in_ok-reply.reply)
-    c.in_ok-reply.ensures (sym (c.is_error.ensures c.args.names.now) ∙ c.if-is_error.false))
+returns c = (
+  c.requires.alone,
+  inr (copy_told c.args.state.now (chained_view c.args.names.now c.args.message.now) c.args.copy
+      c.args.node c.requires.found c.requires.alone c.requires.fit (reply_view c.args.names.now c.in_ok-reply.reply)
+      c.in_ok-reply.ensures (sym (c.is_error.ensures c.args.names.now) ∙ c.if-is_error.false)),
+)

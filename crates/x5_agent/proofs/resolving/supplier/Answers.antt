@@ -1,14 +1,15 @@
 -- The copy's prefix is on the way to the target, and its supplier an agent of the network.
-use Rattle.std.proofs.Common.{◌≡◌, ◌+◌, ◌≤◌, List, [], ◌∷◌, map, length, get_or, Some, sym, ap, ◌∙◌, arith}
+use Rattle.std.proofs.Common.{◌≡◌, ◌≤◌, List, [], ◌∷◌, map, length, get_or, Some, refl, sym, ap, ◌∙◌, arith}
 use Rattle.std.specs.List.{slice_get}
 use Rattle.std.proofs.lemmas.Result.{IfOk-weaker}
 use Rattle.x5_model.specs.References.{Supplier}
+use Rattle.x5_model_run.specs.Needs.{proceeding}
 use Rattle.x5_model_serve.specs.Finding as finding
 use Rattle.x5_ops.specs.ReferenceViews.{access_view, chained_view, reference_view}
 use Rattle.x5_ops.specs.declared.references.Reference.{Reference}
 use Rattle.x5_holdings.specs.State.{CopyKept, holdings_view}
 use Rattle.x5_agent.proofs.Points.{first_known}
-use Rattle.x5_agent.proofs.Replying.{same_some, held_there, proceeding_short, proceeding_known, as_spelled}
+use Rattle.x5_agent.proofs.Replying.{same_some, held_there, proceeding_known, as_spelled}
 use Rattle.x5_agent.proofs.resolving.supplier.Goals as goal
 
 pub overflow_cast-progress : goal.overflow_cast-progress
@@ -21,10 +22,9 @@ overflow_cast-progress c =
     let same : k ≡ x = same_some k x (sym c.requires.found.held ∙ held) in
     let long : length k.prefix ≡ c.len.result =
     ap (λ (y : CopyKept). length y.prefix) same ∙ ap length (sym c.prefix-prefix.ensures.prefix) ∙ sym c.len.ensures in
-    let short : length k.prefix ≤ length c.args.message.now.target + 1 = proceeding_short
-    (holdings_view c.args.state.now) (chained_view c.args.names.now c.args.message.now) (length k.prefix) k.prefix
-    Supplier (k.supplier ∷ []) c.requires.found.found in
-    omega (arith, long, short, c.requires.short)
+    let near : length k.prefix ≤ 255 = c.requires.near.onward (proceeding (length k.prefix) k.prefix
+    c.args.message.now.target Supplier (k.supplier ∷ [])) (length k.prefix) c.requires.found.found refl in
+    omega (arith, long, near)
 
 pub one-requires-clause-there : goal.one-requires-clause-there
 one-requires-clause-there c =

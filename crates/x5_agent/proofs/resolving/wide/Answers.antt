@@ -1,14 +1,14 @@
 -- The lowest entry is on the way to the target, and the others are agents of the network.
-use Rattle.std.proofs.Common.{◌≡◌, ℕ, ◌+◌, ◌≤◌, true, map, length, sym, subst, ap, ◌∙◌, arith}
+use Rattle.std.proofs.Common.{◌≡◌, ℕ, ◌+◌, ◌≤◌, true, map, length, refl, sym, subst, ap, ◌∙◌, arith}
 use Rattle.std.proofs.lemmas.Result.{IfOk-weaker}
 use Rattle.x5_model.specs.References.{NonSpecific}
 use Rattle.x5_model_heard.specs.Told.{are_agents}
-use Rattle.x5_model_run.specs.Needs.{others}
+use Rattle.x5_model_run.specs.Needs.{others, proceeding}
 use Rattle.x5_model_serve.specs.Finding as finding
 use Rattle.x5_ops.specs.ReferenceViews.{access_view, chained_view, reference_view}
 use Rattle.x5_ops.specs.declared.references.Reference.{Reference}
 use Rattle.x5_holdings.specs.State.{holdings_view}
-use Rattle.x5_agent.proofs.Replying.{proceeding_short, proceeding_known, as_spelled}
+use Rattle.x5_agent.proofs.Replying.{proceeding_known, as_spelled}
 use Rattle.x5_agent.proofs.resolving.wide.Goals as goal
 
 pub overflow_cast-progress : goal.overflow_cast-progress
@@ -16,10 +16,10 @@ overflow_cast-progress c =
     let n = c.requires.found.named in
     let long : c.len.result ≡ length n.name =
     c.len.ensures ∙ ap length (c.in_ok-lowest.ensures n c.requires.found.lowest) in
-    let short : length n.name + 1 ≤ length c.args.message.now.target + 1 = proceeding_short
-    (holdings_view c.args.state.now) (chained_view c.args.names.now c.args.message.now) (length n.name + 1) n.name
-    NonSpecific (others c.args.state.now.me c.args.agents.now) c.requires.found.found in
-    omega (arith, long, short, c.requires.short)
+    let near : length n.name + 1 ≤ 255 = c.requires.near.onward (proceeding (length n.name + 1) n.name
+    c.args.message.now.target NonSpecific (others c.args.state.now.me c.args.agents.now)) (length n.name + 1)
+    c.requires.found.found refl in
+    omega (arith, long, near)
 
 pub others-requires-clause-there : goal.others-requires-clause-there
 others-requires-clause-there c =

@@ -8,7 +8,7 @@ use Rattle.x5_dse.specs.Linked.{Nodes, id_of, node_at}
 use Rattle.x5_holdings.specs.declared.held.Held.{Held}
 use Rattle.x5_holdings.specs.State.{CopyKept}
 use Rattle.x5_holdings.proofs.Holding.{got}
-use Rattle.x5_find.proofs.Places.{copy_within, copy_short}
+use Rattle.x5_find.proofs.Places.{copy_within, copy_near}
 use Rattle.x5_find.proofs.Ends.{copy_here, copy_lacks, copy_unusable, no_node, by_supplier}
 use Rattle.x5_find.proofs.steps.in_copy.Goals.{in-Some+in_default-find, in_default}
 use Rattle.x5_find.proofs.steps.in_copy.Goals as goal
@@ -26,14 +26,14 @@ returns-in-Some-find c = λ names.
 
 pub overflow_cast-result : goal.overflow_cast-result
 overflow_cast-result c =
-    let l : length c.index-copies-copy.result.prefix ≤ length c.args.message.now.target = copy_short c.args.state.now
+    let l : length c.index-copies-copy.result.prefix ≤ 255 = copy_near c.args.state.now
     (chained_view [] c.args.message.now) c.args.copy c.requires.pin c.index-copies-copy.result
     (got c.args.state.now.copies c.args.copy c.index-copies-copy.result
     (copy_within c.args.state.now (chained_view [] c.args.message.now) c.args.copy c.requires.pin)
     (c.index-copies-copy.is ∙ ap (λ (l : List CopyKept). get_or l c.args.copy c.index-copies-copy.result)
-    c.copies.ensures.copies)) in
+    c.copies.ensures.copies)) c.requires.near in
     let p : length c.prefix.result.now ≡ length c.index-copies-copy.result.prefix = ap length c.prefix.ensures.prefix in
-    omega (arith, c.len.ensures, l, p, c.requires.length)
+    omega (arith, c.len.ensures, l, p)
 
 pub returns : goal.returns
 returns c = λ names.

@@ -1,5 +1,5 @@
 use Rattle.std.proofs.Common.{◌≤◌, length, arith}
-use Rattle.xdir.proofs.Agents.{few_loaded, loaded}
+use Rattle.xdir.proofs.Beginning.{few_loaded, loaded}
 use Rattle.xdir.proofs.Checks.{knows, refuses}
 use Rattle.xdir.proofs.check.check_octets.Goals as goal
 

@@ -1,40 +1,13 @@
-use Rattle.std.proofs.Common.{Some, refl, sym, subst}
+use Rattle.std.proofs.Common.{Some}
 use Rattle.x5_gen.specs.Script.{script_text}
 use Rattle.x5_load.specs.Views.{file_view}
-use Rattle.x5_model_world.specs.WorldFile.{File}
 use Rattle.xdir.specs.Generated.{made_files, script_name}
-use Rattle.xdir.specs.Run.{RefusesStar}
-use Rattle.xdir.specs.Star.{star_file}
-use Rattle.xdir.specs.Summed.{SumsOver}
-use Rattle.xdir.specs.Text.{no_star_text}
-use Rattle.xdir.proofs.Agents.{found, found_none}
-use Rattle.xdir.proofs.Ends.{such_line, such_prints}
 use Rattle.xdir.proofs.Making.{script_made}
-use Rattle.xdir.proofs.Summaries.{sums_of_file, sums_star, sums_none}
+use Rattle.xdir.proofs.Summaries.{sums_of_file}
 use Rattle.xdir.proofs.generated.run_made_over.Goals as goal
 
-pub run_made_script-requires : goal.run_made_script-requires
-run_made_script-requires g c = (found c.args.world c.in-Ok-Some.field-0 c.in-Ok-Some.star c.in-Ok-Some.field-0-is c.in-Ok-Some.ensures).0
-
-pub returns-in-Ok-Some-clause-sums : goal.returns-in-Ok-Some-clause-sums
-returns-in-Ok-Some-clause-sums g c =
-    let s = found c.args.world c.in-Ok-Some.field-0 c.in-Ok-Some.star c.in-Ok-Some.field-0-is c.in-Ok-Some.ensures in
+pub returns-in-Ok-clause-sums : goal.returns-in-Ok-clause-sums
+returns-in-Ok-clause-sums g c =
     let told = Some (made_files c.args.number) in
-    let f = star_file c.in-Ok-Some.star in
-    subst (λ (f : File). SumsOver c.run_made_script.result told script_name f (g.K.Sink.octets c.args.out.now) (g.K.Sink.octets c.run_made_script.new.out) (g.K.Sink.fault_count c.args.out.now) (g.K.Sink.fault_count c.run_made_script.new.out)) (sym s.1)
-    (sums_star told script_name f s.0.star c.run_made_script.result (g.K.Sink.octets c.args.out.now) (g.K.Sink.octets c.run_made_script.new.out) (g.K.Sink.fault_count c.args.out.now) (g.K.Sink.fault_count c.run_made_script.new.out)
-    (sums_of_file told script_name (script_text c.args.number) f (script_made c.args.number) c.run_made_script.result (g.K.Sink.octets c.args.out.now) (g.K.Sink.octets c.run_made_script.new.out) (g.K.Sink.fault_count c.args.out.now) (g.K.Sink.fault_count c.run_made_script.new.out) c.run_made_script.ensures.sums))
-
-pub returns-in-Ok-None-clause-prints : goal.returns-in-Ok-None-clause-prints
-returns-in-Ok-None-clause-prints g c =
     let f = file_view c.args.world in
-    such_prints c.put_refusal.result (RefusesStar f) (g.K.Sink.octets c.args.out.now) (g.K.Sink.octets c.put_refusal.new.out) (g.K.Sink.fault_count c.args.out.now) (g.K.Sink.fault_count c.put_refusal.new.out)
-    (such_line (RefusesStar f) no_star_text (found_none c.args.world c.in-Ok-None.field-0 c.in-Ok-None.field-0-is c.in-Ok-None.ensures, refl)
-    c.put_refusal.result (g.K.Sink.octets c.args.out.now) (g.K.Sink.octets c.put_refusal.new.out) (g.K.Sink.fault_count c.args.out.now) (g.K.Sink.fault_count c.put_refusal.new.out) c.put_refusal.ensures)
-
-pub returns-in-Ok-None-clause-sums : goal.returns-in-Ok-None-clause-sums
-returns-in-Ok-None-clause-sums g c =
-    let f = file_view c.args.world in
-    sums_none (Some (made_files c.args.number)) script_name f c.put_refusal.result (g.K.Sink.octets c.args.out.now) (g.K.Sink.octets c.put_refusal.new.out) (g.K.Sink.fault_count c.args.out.now) (g.K.Sink.fault_count c.put_refusal.new.out)
-    (such_line (RefusesStar f) no_star_text (found_none c.args.world c.in-Ok-None.field-0 c.in-Ok-None.field-0-is c.in-Ok-None.ensures, refl)
-    c.put_refusal.result (g.K.Sink.octets c.args.out.now) (g.K.Sink.octets c.put_refusal.new.out) (g.K.Sink.fault_count c.args.out.now) (g.K.Sink.fault_count c.put_refusal.new.out) c.put_refusal.ensures)
+    sums_of_file told script_name (script_text c.args.number) f (script_made c.args.number) c.run_made_script.result (g.K.Sink.octets c.args.out.now) (g.K.Sink.octets c.run_made_script.new.out) (g.K.Sink.fault_count c.args.out.now) (g.K.Sink.fault_count c.run_made_script.new.out) c.run_made_script.ensures.sums

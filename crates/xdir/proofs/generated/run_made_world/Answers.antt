@@ -1,14 +1,14 @@
 use Rattle.std.proofs.Common.{Some}
 use Rattle.x5_load.specs.Views.{file_view}
 use Rattle.xdir.specs.Generated.{made_files, made_names}
-use Rattle.xdir.proofs.Agents.{loaded}
+use Rattle.xdir.proofs.Beginning.{loaded}
 use Rattle.xdir.proofs.Ends.{such_prints}
 use Rattle.xdir.proofs.Making.{world_made}
 use Rattle.xdir.proofs.Summaries.{sums_files, sums_refused_file}
 use Rattle.xdir.proofs.generated.run_made_world.Goals as goal
 
-pub run_made_over-requires : goal.run_made_over-requires
-run_made_over-requires g c = loaded c.in-Ok.world c.args.octets.now c.in-Ok.ensures.loads
+pub run_made_over-requires-clause-described : goal.run_made_over-requires-clause-described
+run_made_over-requires-clause-described g c = loaded c.in-Ok.world c.args.octets.now c.in-Ok.ensures.loads
 
 pub returns-in-Ok-clause-sums : goal.returns-in-Ok-clause-sums
 returns-in-Ok-clause-sums g c =

@@ -1,33 +1,43 @@
-use Rattle.std.proofs.Common.{◌+◌, [], List, ℕ, map, take, drop, refl, sym, subst, inl, arith}
+use Rattle.std.proofs.Common.{◌+◌, ◌∙◌, [], List, ℕ, length, map, take, drop, refl, sym, subst, inl, arith}
 use Rattle.std.proofs.lemmas.List.{take_all}
-use Rattle.xdir.specs.Star.{run_view, star_file}
+use Rattle.x5_load.specs.Views.{file_view}
 use Rattle.x5_model_run.specs.Run.{Command}
 use Rattle.x5_script.specs.declared.command.Command.{Command as Asked}
 use Rattle.xdir.specs.declared.top.Status.TheVariants.{Done}
-use Rattle.xdir.specs.Blocks.{WritesBlock}
+use Rattle.xdir.specs.Taken.{IsTaken, run_view}
 use Rattle.xdir.proofs.Mapped.{first_more, around, so_many}
-use Rattle.xdir.proofs.SoFar.{IsSoFar, of_nothing, first_output, so_far_more, writes_stopped, writes_all, prints_block, asked}
+use Rattle.xdir.proofs.SoFar.{IsSoFar, WritesNext, of_nothing, first_output, so_far_more, writes_stopped, writes_all, prints_next, taken_at, suits_at, askable_at}
 use Rattle.xdir.proofs.run.print_run.Goals as goal
 
 pub returns-in-Err-clause-writes : goal.returns-in-Err-clause-writes
-returns-in-Err-clause-writes g c = (
-  c.in-Err.ensures.failed,
-  record {
-    text = c.as_bytes.result.now;
-    is = inl (first_output (star_file c.args.star.now) c.requires.ready.described c.requires.ready.star (map run_view c.args.commands.now) [] (map run_view c.args.commands.now) c.as_bytes.result.now refl (of_nothing (star_file c.args.star.now) c.as_bytes.result.now c.as_bytes.ensures.value));
-    part = c.in-Err.ensures.taken;
-  },
-)
+returns-in-Err-clause-writes g c =
+    let f = file_view c.args.described.now in (
+      c.in-Err.ensures.failed,
+      record {
+        text = c.as_bytes.result.now;
+        is = inl (first_output f c.args.network.now (map run_view c.args.commands.now) [] (map run_view c.args.commands.now) c.as_bytes.result.now refl (of_nothing f c.args.network.now c.as_bytes.result.now c.requires.begun.stands (c.as_bytes.ensures.value ∙ c.requires.knowledge)));
+        part = c.in-Err.ensures.taken;
+      },
+    )
 
 pub loop-place-init : goal.loop-place-init
 loop-place-init g c = record {
   so_far = record {
     text = c.as_bytes.result.now;
-    is_text = of_nothing (star_file c.args.star.now) c.as_bytes.result.now c.as_bytes.ensures.value;
+    is_text = of_nothing (file_view c.args.described.now) c.args.network.now c.as_bytes.result.now c.requires.begun.stands (c.as_bytes.ensures.value ∙ c.requires.knowledge);
     whole = c.in-Ok.ensures.all;
   };
+  names = refl;
+  room = c.requires.begun.room;
   rising = c.put_all.ensures.rising;
 }
+
+pub print_command-requires-clause-taken : goal.print_command-requires-clause-taken
+print_command-requires-clause-taken g c =
+    let i = c.loop-place.place in
+    let x = c.index-commands-place.result in
+    subst (λ (names : List (List ℕ)). IsTaken (length names) x) (sym c.loop-place.invariant.names)
+    (taken_at (length c.args.network.now.names) c.args.commands.now i x c.loop-place-test.true c.index-commands-place.is c.requires.taken)
 
 pub returns-in_default : goal.returns-in_default
 returns-in_default g c =
@@ -36,17 +46,23 @@ returns-in_default g c =
     let x = c.index-commands-place.result in
     let is = c.index-commands-place.is in
     let within = c.loop-place-test.true in
-    let star = star_file c.args.star.now in
+    let f = file_view c.args.described.now in
+    let net = c.loop-place.network in
+    let later = c.print_command.new.network in
     let old = g.K.Sink.octets c.args.out.now in
     let mid = g.K.Sink.octets c.loop-place.out in
     let new = g.K.Sink.octets c.print_command.new.out in
     let before = g.K.Sink.fault_count c.loop-place.out in
     let after = g.K.Sink.fault_count c.print_command.new.out in
+    let far = c.loop-place.invariant.so_far in
+    let taken = subst (λ (names : List (List ℕ)). IsTaken (length names) x) (sym c.loop-place.invariant.names) (taken_at (length c.args.network.now.names) xs i x within is c.requires.taken) in
+    let suits = suits_at f.world xs i x within is c.requires.suits in
     record {
-      prints = prints_block c.print_command.result star (i + 1) (run_view x) mid new before after c.print_command.ensures.block;
-      writes = writes_stopped star c.requires.ready.described c.requires.ready.star c.print_command.result (map run_view xs) (map run_view (take i xs)) (run_view x) (map run_view (drop (i + 1) xs)) old mid new (g.K.Sink.fault_count c.args.out.now) before after
-          (around run_view xs i x within is) (asked c.args.star.now.agents xs i x within is c.requires.taken) c.in_default.not-Done c.loop-place.invariant.rising c.loop-place.invariant.so_far
-          (subst (λ (n : ℕ). WritesBlock c.print_command.result star (n + 1) (run_view x) mid new before after) (sym (so_many run_view xs i x within is)) c.print_command.ensures.block);
+      prints = prints_next c.print_command.result f (run_view x) (map run_view (take i xs)) (i + 1) net later old mid new before after far (λ past stands. c.print_command.ensures.block past stands suits);
+      writes = writes_stopped f (map run_view xs) (map run_view (take i xs)) (run_view x) (map run_view (drop (i + 1) xs)) (around run_view xs i x within is)
+          (askable_at net f.world far.is_text.past far.is_text.stands x taken) suits
+          c.print_command.result net later old mid new (g.K.Sink.fault_count c.args.out.now) before after c.in_default.not-Done c.loop-place.invariant.rising far
+          (subst (λ (n : ℕ). WritesNext c.print_command.result f (n + 1) (run_view x) net later mid new before after) (sym (so_many run_view xs i x within is)) (λ past stands. c.print_command.ensures.block past stands suits));
     }
 
 pub loop-place-preserved : goal.loop-place-preserved
@@ -56,20 +72,27 @@ loop-place-preserved g c =
     let x = c.index-commands-place.result in
     let is = c.index-commands-place.is in
     let within = c.loop-place-test.true in
-    let star = star_file c.args.star.now in
+    let f = file_view c.args.described.now in
+    let net = c.loop-place.network in
+    let later = c.print_command.new.network in
     let old = g.K.Sink.octets c.args.out.now in
     let mid = g.K.Sink.octets c.loop-place.out in
     let new = g.K.Sink.octets c.print_command.new.out in
     let before = g.K.Sink.fault_count c.loop-place.out in
     let after = g.K.Sink.fault_count c.print_command.new.out in
+    let far = c.loop-place.invariant.so_far in
+    let taken = subst (λ (names : List (List ℕ)). IsTaken (length names) x) (sym c.loop-place.invariant.names) (taken_at (length c.args.network.now.names) xs i x within is c.requires.taken) in
+    let suits = suits_at f.world xs i x within is c.requires.suits in
     record {
-      so_far = subst (λ (commands : List Command). IsSoFar star commands old new) (sym (first_more run_view xs i x within is))
-          (so_far_more star (map run_view (take i xs)) (run_view x) old mid new before after (asked c.args.star.now.agents xs i x within is c.requires.taken) c.loop-place.invariant.so_far
-          (subst (λ (n : ℕ). WritesBlock Done star (n + 1) (run_view x) mid new before after) (sym (so_many run_view xs i x within is)) c.in-Done.ensures.block));
+      so_far = subst (λ (commands : List Command). IsSoFar f commands later old new) (sym (first_more run_view xs i x within is))
+          (so_far_more f (map run_view (take i xs)) (run_view x) net later old mid new before after (askable_at net f.world far.is_text.past far.is_text.stands x taken) suits far
+          (subst (λ (n : ℕ). WritesNext Done f (n + 1) (run_view x) net later mid new before after) (sym (so_many run_view xs i x within is)) (λ past stands. c.in-Done.ensures.block past stands suits)));
+      names = c.in-Done.ensures.names refl ∙ c.loop-place.invariant.names;
+      room = c.in-Done.ensures.room_after refl;
       rising = omega arith;
     }
 
 pub returns-clause-writes : goal.returns-clause-writes
 returns-clause-writes g c =
-    writes_all (star_file c.args.star.now) c.requires.ready.described c.requires.ready.star (map run_view c.args.commands.now) (g.K.Sink.octets c.args.out.now) (g.K.Sink.octets c.loop-place.out)
-    (subst (λ (commands : List Asked). IsSoFar (star_file c.args.star.now) (map run_view commands) (g.K.Sink.octets c.args.out.now) (g.K.Sink.octets c.loop-place.out)) (take_all c.loop-place.place c.args.commands.now (omega arith)) c.loop-place.invariant.so_far)
+    writes_all (file_view c.args.described.now) (map run_view c.args.commands.now) c.loop-place.network (g.K.Sink.octets c.args.out.now) (g.K.Sink.octets c.loop-place.out)
+    (subst (λ (commands : List Asked). IsSoFar (file_view c.args.described.now) (map run_view commands) c.loop-place.network (g.K.Sink.octets c.args.out.now) (g.K.Sink.octets c.loop-place.out)) (take_all c.loop-place.place c.args.commands.now (omega arith)) c.loop-place.invariant.so_far)

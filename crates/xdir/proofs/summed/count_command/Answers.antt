@@ -1,9 +1,21 @@
-use Rattle.std.proofs.Common.{length}
 use Rattle.x5_report.specs.Counted.{totals_view}
-use Rattle.xdir.specs.Star.{star_file}
-use Rattle.xdir.proofs.Counts.{other_adds}
+use Rattle.x5_world.specs.State.{names_in}
+use Rattle.xdir.specs.Taken.{run_view}
+use Rattle.xdir.proofs.Counts.{comment_adds, course_adds}
+use Rattle.xdir.proofs.Courses.{carried, silent}
 use Rattle.xdir.proofs.summed.count_command.Goals as goal
 
-pub returns-in_default : goal.returns-in_default
-returns-in_default c =
-    other_adds (star_file c.args.star.now) (length c.args.star.now.agents) c.args.command.now (totals_view c.args.totals.now) c.requires.taken c.in_default.not-Ask
+pub returns-in-Some-clause-adds : goal.returns-in-Some-clause-adds
+returns-in-Some-clause-adds c = λ p stands suits.
+    let command = run_view c.args.command.now in
+    let net = c.carry_out.new.network in
+    course_adds p command net c.in-Some.course (totals_view c.args.totals.now) (totals_view c.count.new.self)
+    (carried p command net c.in_ok-carried.carried c.in-Some.course c.in-Some.is (c.in_ok-carried.ensures.carried p stands suits))
+    (c.count.ensures.of_run (names_in p.described))
+
+pub returns-in-None-clause-adds : goal.returns-in-None-clause-adds
+returns-in-None-clause-adds c = λ p stands suits.
+    let command = run_view c.args.command.now in
+    let net = c.carry_out.new.network in
+    comment_adds p command net (totals_view c.args.totals.now)
+    (silent p command net c.in_ok-carried.carried c.in-None.is (c.in_ok-carried.ensures.carried p stands suits))

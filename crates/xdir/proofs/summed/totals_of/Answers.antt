@@ -1,17 +1,32 @@
-use Rattle.std.proofs.Common.{List, map, take, sym, subst}
+use Rattle.std.proofs.Common.{◌∙◌, ℕ, List, length, map, take, refl, sym, subst, arith}
 use Rattle.std.proofs.lemmas.List.{take_all}
 use Rattle.x5_model_run.specs.Run.{Command}
 use Rattle.x5_report.specs.Counted.{totals_view}
 use Rattle.x5_script.specs.declared.command.Command.{Command as Asked}
 use Rattle.xdir.specs.Counted.{IsCounted}
-use Rattle.xdir.specs.Star.{run_view, star_file}
+use Rattle.xdir.specs.Taken.{IsTaken, point, run_view}
 use Rattle.xdir.proofs.Counts.{none_counted, counted_more}
 use Rattle.xdir.proofs.Mapped.{first_more}
-use Rattle.xdir.proofs.SoFar.{asked}
+use Rattle.xdir.proofs.SoFar.{askable_at, suits_at, taken_at}
 use Rattle.xdir.proofs.summed.totals_of.Goals as goal
 
 pub loop-command-init : goal.loop-command-init
-loop-command-init c = none_counted (star_file c.args.star.now) (totals_view c.new-totals.result) c.new-totals.ensures
+loop-command-init c = record {
+  counted = λ f stands suits. none_counted f c.args.network.now (totals_view c.new-totals.result) stands c.new-totals.ensures;
+  names = refl;
+  room = c.requires.room;
+}
+
+pub count_command-requires-clause-taken : goal.count_command-requires-clause-taken
+count_command-requires-clause-taken c =
+    subst (λ (names : List (List ℕ)). IsTaken (length names) c.command-item.result) (sym c.loop-command.invariant.names)
+    (taken_at (length c.args.network.now.names) c.args.commands.now c.loop-command.command-index c.command-item.result c.loop-command-test.true c.command-item.is c.requires.taken)
+
+pub count_command-requires-clause-room : goal.count_command-requires-clause-room
+count_command-requires-clause-room c =
+    let few = c.requires.few in
+    let within = c.loop-command-test.true in
+    (c.loop-command.command-index, (c.loop-command.invariant.room, omega (arith, few, within)))
 
 pub loop-command-preserved : goal.loop-command-preserved
 loop-command-preserved c =
@@ -19,13 +34,24 @@ loop-command-preserved c =
     let i = c.loop-command.command-index in
     let line = c.command-item.result in
     let within = c.loop-command-test.true in
-    let f = star_file c.args.star.now in
+    let net = c.loop-command.network in
+    let later = c.count_command.new.network in
+    let old = totals_view c.loop-command.totals in
     let new = totals_view c.count_command.new.totals in
-    subst (λ (commands : List Command). IsCounted f commands new) (sym (first_more run_view lines i line within c.command-item.is))
-    (counted_more f (map run_view (take i lines)) (totals_view c.loop-command.totals) new c.loop-command.invariant (run_view line)
-    (asked c.args.star.now.agents lines i line within c.command-item.is c.requires.taken) c.in_ok-count_command.ensures)
+    let taken = subst (λ (names : List (List ℕ)). IsTaken (length names) line) (sym c.loop-command.invariant.names)
+    (taken_at (length c.args.network.now.names) lines i line within c.command-item.is c.requires.taken) in
+    record {
+      counted = λ f stands suits.
+          let far : IsCounted f (map run_view (take i lines)) net old = c.loop-command.invariant.counted f stands suits in
+          let fits = suits_at f.world lines i line within c.command-item.is suits in
+          subst (λ (commands : List Command). IsCounted f commands later new) (sym (first_more run_view lines i line within c.command-item.is))
+          (counted_more f (map run_view (take i lines)) net later old new far (run_view line)
+          (askable_at net f.world far.past far.stands line taken) fits (λ past s. c.in_ok-count_command.ensures.adds (point f.world past) s fits));
+      names = c.in_ok-count_command.ensures.names ∙ c.loop-command.invariant.names;
+      room = c.in_ok-count_command.ensures.room_after i c.loop-command.invariant.room;
+    }
 
 pub returns : goal.returns
-returns c =
-    subst (λ (lines : List Asked). IsCounted (star_file c.args.star.now) (map run_view lines) (totals_view c.loop-command.totals))
-    (take_all c.loop-command.command-index c.args.commands.now c.loop-command-test.false) c.loop-command.invariant
+returns c = λ f stands suits.
+    subst (λ (lines : List Asked). IsCounted f (map run_view lines) c.loop-command.network (totals_view c.loop-command.totals))
+    (take_all c.loop-command.command-index c.args.commands.now c.loop-command-test.false) (c.loop-command.invariant.counted f stands suits)

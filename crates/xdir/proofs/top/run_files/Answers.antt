@@ -1,34 +1,34 @@
 use Rattle.std.proofs.Common.{ℕ, List, Option, sym, subst}
 use Rattle.x5_load.specs.Views.{file_view}
 use Rattle.x5_port.specs.Outside.{File, IsContent}
-use Rattle.xdir.specs.Steps.{ReadsOver, WritesOver}
-use Rattle.xdir.specs.Summed.{SumsOver}
-use Rattle.xdir.proofs.Agents.{loaded}
+use Rattle.xdir.specs.Steps.{ReadsFile, WritesScriptFile}
+use Rattle.xdir.specs.Summed.{SumsScriptFile}
+use Rattle.xdir.proofs.Beginning.{loaded}
 use Rattle.xdir.proofs.Files.{of_files, reads_both, refuses_file, reads_first, readable}
 use Rattle.xdir.proofs.Summaries.{sums_files, sums_refused_file}
 use Rattle.xdir.proofs.top.run_files.Goals as goal
 
-pub run_world-requires : goal.run_world-requires
-run_world-requires g c = loaded c.in-Ok-load.world c.deref.result.now c.in-Ok-load.ensures.loads
+pub run_world-requires-clause-described : goal.run_world-requires-clause-described
+run_world-requires-clause-described g c = loaded c.in-Ok-load.world c.deref.result.now c.in-Ok-load.ensures.loads
 
 pub returns-in-Ok-load-clause-reads : goal.returns-in-Ok-load-clause-reads
 returns-in-Ok-load-clause-reads g c =
     reads_both (g.F.Files.contents c.args.files.now) (record { world = c.args.world.now; script = c.args.script.now }) c.deref.result.now (subst (λ (octets : List ℕ). IsContent (g.F.Files.contents c.args.files.now) c.args.world.now octets) (sym c.deref.ensures.value) c.in-Ok.ensures.content) (file_view c.in-Ok-load.world) c.in-Ok-load.ensures.loads
     c.run_world.result (g.F.Files.fault_count c.args.files.now) (g.F.Files.fault_count c.read_whole.new.self) (g.F.Files.fault_count c.run_world.new.files) (g.F.Files.last_failed c.run_world.new.files) (g.K.Sink.octets c.args.out.now) (g.K.Sink.octets c.run_world.new.out)
     (readable (g.F.Files.contents c.args.files.now) c.args.world.now c.in-Ok.octets.items c.in-Ok.ensures.content c.in-Ok.ensures.fits) c.read_whole.ensures.rising
-    (subst (λ (told : Option (List File)). ReadsOver c.run_world.result (file_view c.in-Ok-load.world) c.args.script.now told (g.F.Files.fault_count c.read_whole.new.self) (g.F.Files.fault_count c.run_world.new.files) (g.F.Files.last_failed c.run_world.new.files) (g.K.Sink.octets c.args.out.now) (g.K.Sink.octets c.run_world.new.out)) c.read_whole.ensures.same_contents c.run_world.ensures.reads)
+    (subst (λ (told : Option (List File)). ReadsFile c.run_world.result c.args.script.now told (g.F.Files.fault_count c.read_whole.new.self) (g.F.Files.fault_count c.run_world.new.files) (g.F.Files.last_failed c.run_world.new.files)) c.read_whole.ensures.same_contents c.run_world.ensures.reads)
 
 pub returns-in-Ok-load-clause-writes : goal.returns-in-Ok-load-clause-writes
 returns-in-Ok-load-clause-writes g c = λ printed.
     of_files (g.F.Files.contents c.args.files.now) (record { world = c.args.world.now; script = c.args.script.now }) c.deref.result.now (subst (λ (octets : List ℕ). IsContent (g.F.Files.contents c.args.files.now) c.args.world.now octets) (sym c.deref.ensures.value) c.in-Ok.ensures.content) (file_view c.in-Ok-load.world) c.in-Ok-load.ensures.loads
     c.run_world.result (g.K.Sink.octets c.args.out.now) (g.K.Sink.octets c.run_world.new.out) (g.K.Sink.fault_count c.args.out.now) (g.K.Sink.fault_count c.run_world.new.out)
-    (subst (λ (told : Option (List File)). WritesOver c.run_world.result told c.args.script.now (file_view c.in-Ok-load.world) (g.K.Sink.octets c.args.out.now) (g.K.Sink.octets c.run_world.new.out) (g.K.Sink.fault_count c.args.out.now) (g.K.Sink.fault_count c.run_world.new.out)) c.read_whole.ensures.same_contents (c.run_world.ensures.writes printed))
+    (subst (λ (told : Option (List File)). WritesScriptFile c.run_world.result told c.args.script.now (file_view c.in-Ok-load.world) (g.K.Sink.octets c.args.out.now) (g.K.Sink.octets c.run_world.new.out) (g.K.Sink.fault_count c.args.out.now) (g.K.Sink.fault_count c.run_world.new.out)) c.read_whole.ensures.same_contents (c.run_world.ensures.writes printed))
 
 pub returns-in-Ok-load-clause-sums : goal.returns-in-Ok-load-clause-sums
 returns-in-Ok-load-clause-sums g c = λ printed.
     sums_files (g.F.Files.contents c.args.files.now) (record { world = c.args.world.now; script = c.args.script.now }) c.deref.result.now (subst (λ (octets : List ℕ). IsContent (g.F.Files.contents c.args.files.now) c.args.world.now octets) (sym c.deref.ensures.value) c.in-Ok.ensures.content) (file_view c.in-Ok-load.world) c.in-Ok-load.ensures.loads
     c.run_world.result (g.K.Sink.octets c.args.out.now) (g.K.Sink.octets c.run_world.new.out) (g.K.Sink.fault_count c.args.out.now) (g.K.Sink.fault_count c.run_world.new.out)
-    (subst (λ (told : Option (List File)). SumsOver c.run_world.result told c.args.script.now (file_view c.in-Ok-load.world) (g.K.Sink.octets c.args.out.now) (g.K.Sink.octets c.run_world.new.out) (g.K.Sink.fault_count c.args.out.now) (g.K.Sink.fault_count c.run_world.new.out)) c.read_whole.ensures.same_contents (c.run_world.ensures.sums printed))
+    (subst (λ (told : Option (List File)). SumsScriptFile c.run_world.result told c.args.script.now (file_view c.in-Ok-load.world) (g.K.Sink.octets c.args.out.now) (g.K.Sink.octets c.run_world.new.out) (g.K.Sink.fault_count c.args.out.now) (g.K.Sink.fault_count c.run_world.new.out)) c.read_whole.ensures.same_contents (c.run_world.ensures.sums printed))
 
 pub returns-in-Ok-clause-reads : goal.returns-in-Ok-clause-reads
 returns-in-Ok-clause-reads g c =

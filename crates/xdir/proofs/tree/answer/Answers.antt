@@ -1,5 +1,5 @@
 -- An update tells and leaves what it makes of the tree; a query leaves the tree.
-use Rattle.std.proofs.Common.{◌∙◌, ap, sym}
+use Rattle.std.proofs.Common.{◌∙◌, sym}
 use Rattle.x5_model_tree.specs.Ask.{ask}
 use Rattle.x5_one.specs.One.{tree_in}
 use Rattle.x5_one.specs.Replies.{no_source, source_at}

@@ -4,7 +4,7 @@ use Rattle.x5_load.specs.Views.{file_view}
 use Rattle.x5_port.specs.Outside.{File, IsContent}
 use Rattle.xdir.specs.Checked.{ReadsChecked}
 use Rattle.xdir.specs.Tree.{TellsFile}
-use Rattle.xdir.proofs.Agents.{loaded}
+use Rattle.xdir.proofs.Beginning.{loaded}
 use Rattle.xdir.proofs.Files.{readable}
 use Rattle.xdir.proofs.TreeEnds.{writes_tree, reads_tree, writes_refused, reads_refused}
 use Rattle.xdir.proofs.tree.tree_files.Goals as goal

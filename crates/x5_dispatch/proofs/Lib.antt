@@ -1,6 +1,0 @@
-pub mod Finding
-pub mod Naming
-pub mod OwnReplies
-pub mod Ways
-pub mod Reading
-pub mod Telling

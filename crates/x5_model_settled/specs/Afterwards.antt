@@ -1,0 +1,82 @@
+-- What agents hold at the line after a request, or after a line that changes nothing that they hold: so whoever keeps
+-- their holdings from line to line has those of the next one.
+use Rattle.std.specs.Prelude.{◌≡◌, ◌≤◌, ◌==◌, ℕ, Bool, true, false, if◌then◌else◌, List, [], ◌∷◌, length}
+use Rattle.std.specs.declared.option.Option.TheVariants.{Some}
+use Rattle.x5_model.specs.Words.{has}
+use Rattle.x5_model.specs.Values.{Name}
+use Rattle.x5_model.specs.Requests.{Request}
+use Rattle.x5_model.specs.Answers.{Reply}
+use Rattle.x5_model_tree.specs.World.{World}
+use Rattle.x5_model_tree.specs.Consistent.{IsConsistent}
+use Rattle.x5_model_tree.specs.Described.{IsDescribed}
+use Rattle.x5_model_run.specs.Journal.{Journal}
+use Rattle.x5_model_run.specs.Needs.{target_of, new_name}
+use Rattle.x5_model_run.specs.History.{Did, Point, knowledge_at, network_at, holdings_at, refresh_of}
+use Rattle.x5_model_run.specs.Stage.{budget}
+use Rattle.x5_model_run.specs.Chain.{scene_at}
+use Rattle.x5_model_run.specs.Run.{Command, Blank, Asks, Changes, Drops, Updates, Block, Replies, did_by}
+use Rattle.x5_model_updates.specs.Keeping.{MovesNone, NoneMoved}
+use Rattle.x5_model_verdicts.specs.Committing.{IsStamped}
+use Rattle.x5_model_serve.specs.Committed.{committed}
+use Rattle.x5_model_serve.specs.Serving.{IsRequest}
+use Rattle.x5_model_held.specs.Theorems.{is_still}
+use Rattle.x5_model_settled.specs.Settled.{HasAgent}
+
+-- the line of this world after these
+abbrev pub line_after : World → List Did → Point
+line_after w past = record { described = w; past = past }
+
+-- 1. What agents do with a request leaves each agent with what it held, changed where it accepted the update. Names
+-- have 16 RDNs at most, as all that are read have.
+abbrev pub HoldsAfter : Type 0
+HoldsAfter =
+    (w : World) (past : List Did) (first : ℕ) (r : Request) (j : Journal) (reply : Reply) (a : ℕ)
+    → IsDescribed w → IsConsistent w → NoneMoved past → IsStamped (line_after w past) → HasAgent w first
+    → length (target_of r.body) ≤ 16 → ((name : Name) → new_name r.body ≡ Some name → length name ≤ 16)
+    → IsRequest (scene_at (line_after w past) first r) (budget (line_after w past)) j reply
+    → holdings_at (line_after w (did_by (Asks first r) (Replies j reply) ∷ past)) a
+    ≡ (if has ◌==◌ j.accepted a then committed r (holdings_at (line_after w past) a)
+    else holdings_at (line_after w past) a)
+
+-- A line at which nothing is accepted, refreshed or moved leaves it with just that.
+abbrev pub HoldsOn : Type 0
+HoldsOn =
+    (w : World) (past : List Did) (d : Did) (a : ℕ) → is_still d.deed ≡ true
+    → holdings_at (line_after w (d ∷ past)) a ≡ holdings_at (line_after w past) a
+
+-- 2. A request leaves the network as it is, whatever was accepted.
+abbrev pub NetworkStays : Type 0
+NetworkStays =
+    (w : World) (past : List Did) (first : ℕ) (r : Request) (j : Journal) (reply : Reply)
+    → network_at (line_after w (did_by (Asks first r) (Replies j reply) ∷ past)) ≡ network_at (line_after w past)
+
+-- 3. What these theorems ask of a line holds at the next one. No command moves a context, so knowledge is what the file
+-- describes;
+abbrev pub MovedNoneAfter : Type 0
+MovedNoneAfter =
+    (past : List Did) (command : Command) (block : Block) → NoneMoved past → NoneMoved (did_by command block ∷ past)
+
+abbrev pub KnowsAsDescribed : Type 0
+KnowsAsDescribed = (w : World) (past : List Did) → NoneMoved past → knowledge_at (line_after w past) ≡ w
+
+-- and stamps are moments of lines before: so it is at first, after a line that refreshes no copy, and so after each
+-- command that is no refresh.
+abbrev pub StampedAtFirst : Type 0
+StampedAtFirst = (w : World) → IsStamped (line_after w [])
+
+abbrev pub StampedOn : Type 0
+StampedOn =
+    (w : World) (past : List Did) (d : Did) → MovesNone d.deed → ((agreement : ℕ) → refresh_of d.deed agreement ≡ [])
+    → IsStamped (line_after w past) → IsStamped (line_after w (d ∷ past))
+
+abbrev pub is_refresh : Command → Bool
+is_refresh Blank = false
+is_refresh (Asks to r) = false
+is_refresh (Changes o) = false
+is_refresh (Drops reply k) = false
+is_refresh (Updates number pushes total) = true
+
+abbrev pub StampedAfter : Type 0
+StampedAfter =
+    (w : World) (past : List Did) (command : Command) (block : Block) → is_refresh command ≡ false
+    → IsStamped (line_after w past) → IsStamped (line_after w (did_by command block ∷ past))

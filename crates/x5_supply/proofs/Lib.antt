@@ -1,0 +1,4 @@
+pub mod Placed
+pub mod Nodes
+pub mod Copying
+pub mod Counting

@@ -1,0 +1,7 @@
+-- Those so far, with those that are left, are all.
+use Rattle.std.proofs.Common.{◌≡◌, ◌++◌, drop, map}
+use Rattle.x5_supply.specs.Supplied as sent
+use Rattle.x5_supply.proofs.references.all.Given as goal
+
+abbrev pub invariant-loop-one : goal.invariant-loop-one
+invariant-loop-one l = l.references.items ++ map sent.reference (drop l.one-index l.given) ≡ map sent.reference l.given

@@ -1,0 +1,3 @@
+pub mod Supplied
+pub mod Answers
+pub mod Copying

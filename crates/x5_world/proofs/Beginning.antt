@@ -1,0 +1,217 @@
+-- The network that a file describes: what counts its contexts and the agents of its NSSRs is what the definitions count,
+-- each agent holds what is described of it, and so it's the network of the first line.
+use Rattle.std.proofs.Common.{◌≡◌, ℕ, ◌+◌, ◌<◌, ◌≤◌, ◌&&◌, ◌==◌, inl, inr, nat_le, List, [], ◌∷◌, length, map, refl, sym, ap, subst, ◌∙◌, arith, Option, slice_get, Some, length-append}
+use Rattle.std.specs.List.{flat_map, enumerate_from, list_all}
+use Rattle.std.specs.Option.{option_map}
+use Rattle.std.proofs.lemmas.Grind.{flat_map-append}
+use Rattle.std.proofs.lemmas.List.{length-map}
+use Rattle.std.proofs.lemmas.List.Sums.{sum_by-cons}
+use Rattle.std.proofs.lemmas.Bool.{leb-true}
+use Rattle.std.proofs.lemmas.Bool.Decides.{leb_tells}
+use Rattle.std.proofs.lemmas.Option.{slice_get-map, slice_get_past, slice_get_within}
+use Rattle.x5_model.specs.Words.{distinct, in_option, same_octets}
+use Rattle.x5_model.proofs.Lists.{both_true}
+use Rattle.x5_model_tree.specs.World.{Agent, Context, Network, Nssr, World}
+use Rattle.x5_model_tree.specs.Masters.{Mastered, mastered}
+use Rattle.x5_model_tree.specs.Described.{IsDescribed, are_agents, are_numbers, is_number, is_pair, most_cut, most_lost_messages, nssr_agents, same_pair}
+use Rattle.x5_model_run.specs.Holdings.{Holdings}
+use Rattle.x5_model_run.specs.History.{no_holdings}
+use Rattle.x5_model_run.specs.Stage.{nssr_pairs}
+use Rattle.x5_model_held.specs.Beginning.{described_holdings, holdings_described}
+use Rattle.x5_model_known.specs.Holding.{holdings_name}
+use Rattle.x5_model_known.proofs.Counted.{described_counted}
+use Rattle.x5_model_known.proofs.Describing.{described_name_agents, described_are_themselves, described_names_apart}
+use Rattle.x5_holdings.specs.State.{State, holdings_view}
+use Rattle.x5_know.specs.WorldView.{described_agent_view, world_view}
+use Rattle.x5_know.specs.declared.described.DescribedAgent.{DescribedAgent}
+use Rattle.x5_know.specs.declared.described.Described.{Described}
+use Rattle.x5_ops.specs.KnowledgeViews.{context_view, nssr_view}
+use Rattle.x5_ops.specs.declared.knowledge.ContextSpec.{ContextSpec}
+use Rattle.x5_ops.specs.declared.knowledge.Nssr as code
+use Rattle.x5_world.specs.Counts.{contexts_of, pairs_of_nssrs, pairs_of_contexts, pairs_of_agents}
+use Rattle.x5_world.specs.State.{Net, StandsAt, HasRoom, holdings_in, names_in}
+use Rattle.x5_world.specs.Sent.{IsHolder, IsNet}
+
+abbrev at : ℕ → Context → Mastered
+at k c = record { master = k; context = c }
+
+abbrev of_agent : ℕ × Agent → List Mastered
+of_agent a = map (λ c. record { master = a.0; context = c }) a.1.contexts
+
+contexts_from : (k : ℕ) (ds : List DescribedAgent)
+    → length (flat_map of_agent (enumerate_from k (map described_agent_view ds))) ≡ contexts_of ds
+contexts_from k [] = refl
+contexts_from k (d ∷ ds) =
+    let own : length (of_agent (k, described_agent_view d)) ≡ length d.spec.contexts =
+    length-map (map context_view d.spec.contexts) (at k) ∙ length-map d.spec.contexts context_view in
+    length-append (of_agent (k, described_agent_view d))
+    (flat_map of_agent (enumerate_from (k + 1) (map described_agent_view ds)))
+    ∙ (λ i. own i + contexts_from (k + 1) ds i)
+    ∙ sym (sum_by-cons (λ (a : DescribedAgent). length a.spec.contexts) d ds)
+
+pub contexts_are : (d : Described) → contexts_of d.agents ≡ length (mastered (world_view d))
+contexts_are d = sym (contexts_from 0 d.agents)
+
+abbrev in_nssr : List Nssr → List ℕ
+in_nssr ns = flat_map (λ n. n.agents) ns
+
+abbrev in_context : Mastered → List ℕ
+in_context m = flat_map (λ n. n.agents) m.context.nssrs
+
+nssrs_are : (ns : List code.Nssr) → length (in_nssr (map nssr_view ns)) ≡ pairs_of_nssrs ns
+nssrs_are [] = refl
+nssrs_are (n ∷ ns) =
+    length-append n.agents (in_nssr (map nssr_view ns)) ∙ ap (λ (k : ℕ). length n.agents + k) (nssrs_are ns)
+    ∙ sym (sum_by-cons (λ (x : code.Nssr). length x.agents) n ns)
+
+contexts_pairs : (k : ℕ) (cs : List ContextSpec)
+    → length (flat_map in_context (map (at k) (map context_view cs))) ≡ pairs_of_contexts cs
+contexts_pairs k [] = refl
+contexts_pairs k (c ∷ cs) =
+    length-append (in_context (at k (context_view c))) (flat_map in_context (map (at k) (map context_view cs)))
+    ∙ (λ i. nssrs_are c.nssr i + contexts_pairs k cs i)
+    ∙ sym (sum_by-cons (λ (x : ContextSpec). pairs_of_nssrs x.nssr) c cs)
+
+pairs_from : (k : ℕ) (ds : List DescribedAgent)
+    → length (flat_map in_context (flat_map of_agent (enumerate_from k (map described_agent_view ds))))
+    ≡ pairs_of_agents ds
+pairs_from k [] = refl
+pairs_from k (d ∷ ds) =
+    let more : List Mastered = flat_map of_agent (enumerate_from (k + 1) (map described_agent_view ds)) in
+    ap length (flat_map-append in_context (of_agent (k, described_agent_view d)) more)
+    ∙ length-append (flat_map in_context (of_agent (k, described_agent_view d))) (flat_map in_context more)
+    ∙ (λ i. contexts_pairs k d.spec.contexts i + pairs_from (k + 1) ds i)
+    ∙ sym (sum_by-cons (λ (a : DescribedAgent). pairs_of_contexts a.spec.contexts) d ds)
+
+pub pairs_are : (d : Described) → pairs_of_agents d.agents ≡ nssr_pairs (world_view d)
+pairs_are d = sym (pairs_from 0 d.agents)
+
+-- ---- the limits of a file
+
+pub limited : (w : World) → IsDescribed w
+    → (length w.agents ≤ 64) × ((length (mastered w) ≤ 4096) × (nssr_pairs w ≤ 4096))
+limited w d =
+    let a = both_true (nat_le (length w.agents) 64) _ d.limits in
+    let b = both_true (nat_le (length w.agreements) 64) _ a.1 in
+    let c = both_true (nat_le (length (mastered w)) 4096) _ b.1 in
+    let e = both_true (nat_le (length (nssr_agents w)) 4096) _ c.1 in (
+      leb-true (length w.agents) 64 a.0,
+      (leb-true (length (mastered w)) 4096 c.0, leb-true (length (nssr_agents w)) 4096 e.0),
+    )
+
+pub few_contexts : (d : Described) → IsDescribed (world_view d) → contexts_of d.agents ≤ 4096
+few_contexts d h = (let l = (limited (world_view d) h).1.0 in let e = contexts_are d in omega (arith, l, e))
+
+pub few_pairs : (d : Described) → IsDescribed (world_view d) → pairs_of_agents d.agents ≤ 4096
+few_pairs d h = (let l = (limited (world_view d) h).1.1 in let e = pairs_are d in omega (arith, l, e))
+
+few_losses : (w : World) → IsDescribed w → length w.network.lost_replies ≤ 16
+few_losses w d =
+    let net = w.network in
+    let a = both_true (are_agents w net.down && distinct ◌==◌ net.down) _ d.network in
+    let b = both_true (are_agents w net.refusing && distinct ◌==◌ net.refusing) _ a.1 in
+    let c = both_true (list_all (is_pair w) net.cut && (distinct same_pair net.cut && nat_le (length net.cut) most_cut)) _
+    b.1 in
+    let e = both_true (are_numbers most_lost_messages net.lost_messages) _ c.1 in
+    let f = both_true (list_all is_number net.lost_replies) _ e.1 in
+    let g = both_true (distinct ◌==◌ net.lost_replies) _ f.1 in
+    leb-true (length net.lost_replies) 16 g.1
+
+-- ---- the network of the first line
+
+pub record IsBegun (w : World) (n : Net) : Type 0 where
+  pub names : n.names ≡ names_in w
+  pub count : length n.agents ≡ length w.agents
+  pub each : (me : ℕ) → me < length w.agents → slice_get n.agents me ≡ Some (holdings_described w me)
+  pub network : n.network ≡ w.network
+  pub sent : n.sent ≡ 0
+  pub contexts : n.contexts ≡ length (mastered w)
+  pub pairs : n.pairs ≡ nssr_pairs w
+
+pub is_begun : (d : Described) (names : List (List ℕ)) (agents : List State) (links : Network)
+    (contexts pairs : ℕ)
+    → names ≡ names_in (world_view d) → length agents ≡ length d.agents
+    → ((me : ℕ) → me < length d.agents
+    → option_map holdings_view (slice_get agents me) ≡ Some (holdings_described (world_view d) me))
+    → links ≡ d.network → contexts ≡ contexts_of d.agents → pairs ≡ pairs_of_agents d.agents
+    → IsBegun (world_view d) (record {
+      names = names;
+      agents = map holdings_view agents;
+      network = links;
+      sent = 0;
+      contexts = contexts;
+      pairs = pairs;
+    })
+is_begun d names agents links contexts pairs called count each linked counted paired = record {
+  names = called;
+  count = length-map agents holdings_view ∙ count ∙ sym (length-map d.agents described_agent_view);
+  each = λ me there. slice_get-map holdings_view agents me
+      ∙ each me (let same = length-map d.agents described_agent_view in omega (arith, there, same));
+  network = linked;
+  sent = refl;
+  contexts = counted ∙ contexts_are d;
+  pairs = paired ∙ pairs_are d;
+}
+
+all_named : (w : World) (n : Net) → IsBegun w n → length n.names ≡ length w.agents
+all_named w n b = ap length b.names ∙ length-map w.agents (λ a. a.name)
+
+same_some : {A : Type 0} (o : Option A) (x y : A) → o ≡ Some x → o ≡ Some y → x ≡ y
+same_some o x y e f = cc
+
+holder_begun : (w : World) (n : Net) (a : ℕ) (h : Holdings) → IsDescribed w → IsBegun w n
+    → slice_get n.agents a ≡ Some h → IsHolder n.names a h
+holder_begun w n a h d b at =
+    let within : a < length w.agents =
+    (let x = slice_get_within n.agents a h at in let y = b.count in omega (arith, x, y)) in
+    let is : holdings_described w a ≡ h =
+    same_some (slice_get n.agents a) (holdings_described w a) h (b.each a within) at in
+    let first : IsHolder n.names a (holdings_described w a) =
+    record {
+      me = described_are_themselves w a;
+      known = ap (λ (k : ℕ). holdings_name k (holdings_described w a)) (all_named w n b)
+          ∙ described_name_agents w a d;
+      counted = described_counted w a d;
+    } in
+    subst (IsHolder n.names a) is first
+
+pub net_begun : (w : World) (n : Net) → IsDescribed w → IsBegun w n → IsNet n
+net_begun w n d b =
+    let l = limited w d in
+    record {
+      apart = ap (distinct same_octets) b.names ∙ described_names_apart w d;
+      few = (let e = all_named w n b in let f = l.0 in omega (arith, e, f));
+      count = b.count ∙ sym (all_named w n b);
+      each = λ a h at. holder_begun w n a h d b at;
+      contexts = (let e = b.contexts in let f = l.1.0 in omega (arith, e, f));
+      pairs = (let e = b.pairs in let f = l.1.1 in omega (arith, e, f));
+    }
+
+holds_begun : (w : World) (n : Net) (a : ℕ) → IsBegun w n → holdings_in n a ≡ holdings_described w a
+holds_begun w n a b = elim (leb_tells (length w.agents) a) [
+  | inl x ↦
+      (let behind : length n.agents ≤ a = (let y = x.1 in let z = b.count in omega (arith, y, z)) in
+      ap (in_option (no_holdings a) (λ h. h)) (slice_get_past n.agents a behind)
+      ∙ sym (ap (in_option (no_holdings a) (described_holdings w a)) (slice_get_past w.agents a x.1)))
+  | inr y ↦ ap (in_option (no_holdings a) (λ h. h)) (b.each a y.1)
+]
+
+pub stands_begun : (w : World) (n : Net) → IsDescribed w → IsBegun w n
+    → StandsAt n (record { described = w; past = [] })
+stands_begun w n d b = record {
+  described = d;
+  unmoved = tt;
+  names = b.names;
+  holds = λ a. holds_begun w n a b;
+  network = b.network;
+  sent = b.sent;
+  contexts = b.contexts;
+  pairs = b.pairs;
+}
+
+pub room_begun : (w : World) (n : Net) → IsDescribed w → IsBegun w n → HasRoom n 0
+room_begun w n d b =
+    let none : n.sent ≤ 0 = (let e = b.sent in omega (arith, e)) in
+    let few : length n.network.lost_replies ≤ 0 + 16 =
+    (let e = ap (λ (k : Network). length k.lost_replies) b.network in let f = few_losses w d in omega (arith, e, f)) in
+    record { sent = none; lost = few }

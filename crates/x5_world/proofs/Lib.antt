@@ -1,0 +1,11 @@
+pub mod Standing
+pub mod Journals
+pub mod Repeating
+pub mod Sending
+pub mod Holders
+pub mod Holding
+pub mod Users
+pub mod Adding
+pub mod Changing
+pub mod Worlds
+pub mod Beginning

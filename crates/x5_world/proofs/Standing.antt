@@ -1,0 +1,139 @@
+-- The network of a line, as the definitions judge it: each agent holds what it holds at that line, and each kind of line
+-- leads to the network of the next one.
+use Rattle.std.proofs.Common.{◌≡◌, ℕ, ◌+◌, ◌*◌, ◌==◌, Bool, false, List, ◌∷◌, length, map, refl, sym, ap, ◌∙◌, arith}
+use Rattle.std.specs.List.{filter}
+use Rattle.std.specs.Prelude.{nat_lt, if◌then◌else◌}
+use Rattle.std.proofs.lemmas.List.{length-map}
+use mathlib.Core.Path.{fun_ext}
+use Rattle.x5_model.specs.Words.{has}
+use Rattle.x5_model.specs.Requests.{Request}
+use Rattle.x5_model.specs.Answers.{Reply}
+use Rattle.x5_model_tree.specs.World.{Network, World}
+use Rattle.x5_model_tree.specs.Masters.{mastered}
+use Rattle.x5_model_run.specs.Network.{Outage, after_outage, after_loss}
+use Rattle.x5_model_run.specs.Holdings.{Holdings}
+use Rattle.x5_model_run.specs.Journal.{Journal}
+use Rattle.x5_model_run.specs.History.{Point, knowledge_at, network_at, sent_before}
+use Rattle.x5_model_run.specs.Stage.{budget, nssr_pairs, once_each}
+use Rattle.x5_model_run.specs.Chain.{opening}
+use Rattle.x5_model_run.specs.Run.{Asks, Command, Changes, Drops, Block, Blank, Silent, Set, Replies, did_by}
+use Rattle.x5_model_serve.specs.Committed.{committed}
+use Rattle.x5_model_settled.proofs.After.{network_stays, moved_none_after, knows_as_described}
+use Rattle.x5_model_settled.specs.Held.{held_after, held_at, scene_held}
+use Rattle.x5_model_settled.proofs.Steps.{held_after_request}
+use Rattle.x5_world.specs.State.{Net, StandsAt, after, holdings_in}
+use Rattle.x5_world.specs.Sent.{held_since, scene_of}
+
+-- ---- what a line is judged by
+
+pub scene_is : (n : Net) (p : Point) (first : ℕ) (r : Request) → StandsAt n p
+    → scene_of n first (opening r) ≡ scene_held p first r
+scene_is n p first r s =
+    let held : holdings_in n ≡ held_at p = fun_ext s.holds in
+    λ i. record {
+      holdings = held i;
+      network = s.network i;
+      sent = s.sent i;
+      first = first;
+      message = opening r;
+      follows = false;
+    }
+
+-- how many messages a request may take, of these counts
+abbrev pub most_of : Net → ℕ
+most_of n =
+    ((n.contexts + 34) * (length n.names + 9) + n.pairs)
+    * (1 + length (once_each (filter (λ number. nat_lt n.sent number) n.network.lost_replies)))
+
+abbrev most_by : ℕ → ℕ → ℕ → ℕ → Network → ℕ
+most_by contexts agents pairs sent net =
+    ((contexts + 34) * (agents + 9) + pairs)
+    * (1 + length (once_each (filter (λ number. nat_lt sent number) net.lost_replies)))
+
+agents_are : (w : World) → length (map (λ a. a.name) w.agents) ≡ length w.agents
+agents_are w = length-map w.agents (λ a. a.name)
+
+pub budget_is : (n : Net) (p : Point) → StandsAt n p → most_of n ≡ budget p
+budget_is n p s =
+    let known : knowledge_at p ≡ p.described = knows_as_described p.described p.past s.unmoved in
+    let agents : length n.names ≡ length p.described.agents = ap length s.names ∙ agents_are p.described in
+    (λ i. most_by (s.contexts i) (agents i) (s.pairs i) (s.sent i) (s.network i))
+    ∙ sym (λ i. most_by (length (mastered (known i))) (length (known i).agents) (nssr_pairs (known i))
+    (sent_before p.past) (network_at p))
+
+-- ---- the next line
+
+-- a network that is as it was, but for its links and its number of messages
+pub record IsAs (old new : Net) (links : Network) (count : ℕ) : Type 0 where
+  pub names : new.names ≡ old.names
+  pub agents : new.agents ≡ old.agents
+  pub network : new.network ≡ links
+  pub sent : new.sent ≡ count
+  pub contexts : new.contexts ≡ old.contexts
+  pub pairs : new.pairs ≡ old.pairs
+
+-- at a line that changes nothing that is held
+stands : (old new : Net) (p : Point) (command : Command) (block : Block) (network : Network) (sent : ℕ)
+    → ((a : ℕ) (h : Holdings) → held_after (did_by command block).deed a h ≡ h) → StandsAt old p
+    → IsAs old new network sent → network ≡ network_at (after (did_by command block) p)
+    → sent ≡ sent_before (did_by command block ∷ p.past) → StandsAt new (after (did_by command block) p)
+stands old new p command block network sent still s q e f = record {
+  described = s.described;
+  unmoved = moved_none_after p.past command block s.unmoved;
+  names = q.names ∙ s.names;
+  holds = λ a. ap (λ (hs : List Holdings). holdings_in (record old { agents = hs }) a) q.agents ∙ s.holds a
+      ∙ sym (still a (held_at p a));
+  network = q.network ∙ e;
+  sent = q.sent ∙ f;
+  contexts = q.contexts ∙ s.contexts;
+  pairs = q.pairs ∙ s.pairs;
+}
+
+pub after_comment : (n : Net) (p : Point) → StandsAt n p → StandsAt n (after (did_by Blank Silent) p)
+after_comment n p s =
+    stands n n p Blank Silent n.network n.sent (λ a h. refl) s
+    (record { names = refl; agents = refl; network = refl; sent = refl; contexts = refl; pairs = refl })
+    s.network (s.sent ∙ (let z : sent_before p.past ≡ 0 + sent_before p.past = omega arith in z))
+
+pub after_change : (old new : Net) (p : Point) (o : Outage) → StandsAt old p
+    → IsAs old new (after_outage o old.network) old.sent → StandsAt new (after (did_by (Changes o) Set) p)
+after_change old new p o s q =
+    stands old new p (Changes o) Set (after_outage o old.network) old.sent (λ a h. refl) s q
+    (ap (after_outage o) s.network)
+    (s.sent ∙ (let z : sent_before p.past ≡ 0 + sent_before p.past = omega arith in z))
+
+pub after_drop : (old new : Net) (p : Point) (reply : Bool) (number : ℕ) → StandsAt old p
+    → IsAs old new (after_loss reply (old.sent + number) old.network) old.sent
+    → StandsAt new (after (did_by (Drops reply number) Set) p)
+after_drop old new p reply number s q =
+    stands old new p (Drops reply number) Set (after_loss reply (old.sent + number) old.network) old.sent (λ a h. refl) s q
+    (λ i. after_loss reply (s.sent i + number) (s.network i))
+    (s.sent ∙ (let z : sent_before p.past ≡ 0 + sent_before p.past = omega arith in z))
+
+-- a network after a request: each agent holds what it held, changed where it accepted the update
+pub record IsAfter (old new : Net) (r : Request) (accepted : List ℕ) (count : ℕ) : Type 0 where
+  pub names : new.names ≡ old.names
+  pub holds : (a : ℕ) → holdings_in new a ≡ held_since accepted r a (holdings_in old a)
+  pub network : new.network ≡ old.network
+  pub sent : new.sent ≡ count
+  pub contexts : new.contexts ≡ old.contexts
+  pub pairs : new.pairs ≡ old.pairs
+
+pub after_request : (old new : Net) (p : Point) (first : ℕ) (r : Request) (j : Journal) (reply : Reply)
+    (accepted : List ℕ)
+    → StandsAt old p → ((a : ℕ) → has ◌==◌ j.accepted a ≡ has ◌==◌ accepted a)
+    → IsAfter old new r accepted (old.sent + length j.lines)
+    → StandsAt new (after (did_by (Asks first r) (Replies j reply)) p)
+after_request old new p first r j reply accepted s same q = record {
+  described = s.described;
+  unmoved = moved_none_after p.past (Asks first r) (Replies j reply) s.unmoved;
+  names = q.names ∙ s.names;
+  holds = λ a. q.holds a ∙ ap (held_since accepted r a) (s.holds a)
+      ∙ ap (λ (b : Bool). if b then committed r (held_at p a) else held_at p a) (sym (same a))
+      ∙ sym (held_after_request r j a (held_at p a));
+  network = q.network ∙ s.network ∙ sym (network_stays p.described p.past first r j reply);
+  sent = q.sent ∙ ap (λ (k : ℕ). k + length j.lines) s.sent
+      ∙ (let z : sent_before p.past + length j.lines ≡ length j.lines + sent_before p.past = omega arith in z);
+  contexts = q.contexts ∙ s.contexts;
+  pairs = q.pairs ∙ s.pairs;
+}

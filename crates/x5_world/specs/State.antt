@@ -1,0 +1,64 @@
+-- The network of all agents, as contracts see it; and when it is that of a line of a run (X.518, section 8: the
+-- Directory as a distributed system).
+use Rattle.std.specs.Prelude.{◌≡◌, ℕ, ◌+◌, ◌*◌, ◌≤◌, List, ◌∷◌, length, map, slice_get, Some}
+use Rattle.x5_model.specs.Words.{in_option}
+use Rattle.x5_model.specs.Values.{Name}
+use Rattle.x5_model.specs.Requests.{Body}
+use Rattle.x5_model_tree.specs.World.{Network, World}
+use Rattle.x5_model_tree.specs.Masters.{mastered}
+use Rattle.x5_model_tree.specs.Described.{IsDescribed}
+use Rattle.x5_model_run.specs.Holdings.{Holdings}
+use Rattle.x5_model_run.specs.History.{Did, Point, no_holdings, network_at, sent_before}
+use Rattle.x5_model_run.specs.Needs as needs
+use Rattle.x5_model_run.specs.Stage.{nssr_pairs}
+use Rattle.x5_model_updates.specs.Keeping.{NoneMoved}
+use Rattle.x5_model_settled.specs.Held.{held_at}
+
+-- The agents' names and what each holds, in their order; how the network stands; how many messages were sent; and what
+-- says how many messages a request may take: how many contexts are mastered, and the agents of all NSSRs.
+pub record Net : Type 0 where
+  pub names : List (List ℕ)
+  pub agents : List Holdings
+  pub network : Network
+  pub sent : ℕ
+  pub contexts : ℕ
+  pub pairs : ℕ
+
+-- what the agent of this place holds
+abbrev pub holdings_in : Net → ℕ → Holdings
+holdings_in n a = in_option (no_holdings a) (λ h. h) (slice_get n.agents a)
+
+-- the names of a world's agents
+abbrev pub names_in : World → List (List ℕ)
+names_in w = map (λ a. a.name) w.agents
+
+-- It is the network of this line, whether or not knowledge is consistent: each agent holds what is described of it,
+-- changed by each update that it accepted; no copy was refreshed, and no context was moved.
+pub record StandsAt (n : Net) (p : Point) : Type 0 where
+  pub described : IsDescribed p.described
+  pub unmoved : NoneMoved p.past
+  pub names : n.names ≡ names_in p.described
+  pub holds : (a : ℕ) → holdings_in n a ≡ held_at p a
+  pub network : n.network ≡ network_at p
+  pub sent : n.sent ≡ sent_before p.past
+  pub contexts : n.contexts ≡ length (mastered p.described)
+  pub pairs : n.pairs ≡ nssr_pairs p.described
+
+-- after one more line
+abbrev pub after : Did → Point → Point
+after d p = record { described = p.described; past = d ∷ p.past }
+
+-- A request whose names have 16 RDNs at most, as all names in a directory have.
+pub record HasShortNames (b : Body) : Type 0 where
+  pub target : length (needs.target_of b) ≤ 16
+  pub new_name : (name : Name) → needs.new_name b ≡ Some name → length name ≤ 16
+
+-- messages of one request at most
+abbrev pub most_messages : ℕ
+most_messages = 400000000000
+
+-- After so many lines not too many messages were sent, and not too many replies are to be lost, so that all messages
+-- can be counted.
+pub record HasRoom (n : Net) (lines : ℕ) : Type 0 where
+  pub sent : n.sent ≤ lines * most_messages
+  pub lost : length n.network.lost_replies ≤ lines + 16

@@ -1,0 +1,226 @@
+//! The network of a run.
+
+ghost use Rattle.std.specs.Prelude.{◌≡◌, ℕ, ◌<◌, ◌+◌, ◌≤◌, ◌*◌, [], true, nat_lt, length, List, IfOk, OnErr, slice_get, slice_set, Some};
+ghost use Rattle.std.specs.List.{filter};
+ghost use Rattle.std.specs.Option.{option_map};
+ghost use Rattle.x5_know.specs.WorldView.{world_view};
+ghost use Rattle.x5_model_run.specs.Network as network;
+ghost use Rattle.x5_model_run.specs.History.{Point};
+ghost use Rattle.x5_model_run.specs.Run.{Changes, Drops, Blank, Set, Silent, did_by};
+ghost use Rattle.x5_model_run.specs.Stage.{once_each};
+ghost use Rattle.x5_model_serve.specs.Committed.{committed};
+ghost use Rattle.x5_model_tree.specs.Described.{IsDescribed};
+ghost use Rattle.x5_holdings.specs.State.{holdings_view};
+ghost use Rattle.x5_ops.specs.JournalViews.{fate_view, outage_view};
+ghost use Rattle.x5_ops.specs.ReferenceViews.{chained_view};
+ghost use Rattle.x5_ops.specs.RequestViews.{body_view, request_view};
+ghost use Rattle.x5_update.specs.Judging.{IsReady};
+ghost use Rattle.x5_world.specs.Answered.{IsAnswered, NamesAgents};
+ghost use Rattle.x5_world.specs.Sent.{IsHolder, no_net};
+ghost use Rattle.x5_world.specs.State.{StandsAt, HasRoom, HasShortNames, after, holdings_in, names_in, most_messages};
+
+use crate::asking::asked;
+use crate::counts::{contexts, pairs};
+use crate::journal;
+use crate::links::Links;
+use crate::naming::copied;
+use std::alloc::Global;
+use std::marker::{Brand, Model};
+use std::mem::replace;
+use x5_agents::agents_of;
+use x5_holdings::Holdings;
+use x5_know::{AgentNames, Described};
+use x5_memory::NoMemory;
+use x5_ops::{AgentId, Chained, Fate, Journal, Outage, Reply, Request};
+
+/// The agents with what each holds, and the network between them.
+#[derive(Drop)]
+pub struct World {
+    names: AgentNames,
+    agents: Vec<Holdings>,
+    links: Links,
+    sent: u64,
+    contexts: usize,
+    pairs: usize,
+}
+
+impl Model for World {
+    ghost use Rattle.std.specs.Prelude.{map};
+    ghost use Rattle.x5_holdings.specs.State.{holdings_view};
+    ghost use Rattle.x5_world.specs.State.{Net};
+    ghost use Rattle.x5_world.specs.Sent.{IsNet};
+
+    ghost Value = { Net };
+
+    ghost view = { λ w. record { names = w.names; agents = map holdings_view w.agents.items; network = w.links; sent = w.sent; contexts = w.contexts; pairs = w.pairs } };
+
+    ghost invariant = { λ w. IsNet (record { names = w.names; agents = map holdings_view w.agents.items; network = w.links; sent = w.sent; contexts = w.contexts; pairs = w.pairs }) };
+}
+
+impl World {
+    /// The network before the first line of a script: each agent holds what the file describes of it, and nothing was sent.
+    pub fn new(alloc: Global, described: &Described) -> Result<World, NoMemory>
+        requires described { IsDescribed (world_view described.now) }
+        requires named { described.now.names ≡ names_in (world_view described.now) }
+        ensures names { IfOk result (λ w. w.names ≡ names_in (world_view described.now)) }
+        ensures stands { IfOk result (λ w. StandsAt w (record { described = world_view described.now; past = [] })) }
+        ensures room { IfOk result (λ w. HasRoom w 0) }
+    {
+        let names = copied(alloc, &described.names)?;
+        let agents = agents_of(alloc, described)?;
+        let links = Links::of(alloc, &described.network)?;
+        let contexts = contexts(described.agents.as_slice());
+        let pairs = pairs(described.agents.as_slice());
+        Ok(World {
+            names,
+            agents,
+            links,
+            sent: 0,
+            contexts,
+            pairs,
+        })
+    }
+
+    /// The network of nobody. No memory.
+    fn nobody(alloc: Global) -> World
+        ensures { result ≡ no_net }
+    {
+        World {
+            names: AgentNames::new(alloc),
+            agents: Vec::new(alloc),
+            links: Links::nobody(alloc),
+            sent: 0,
+            contexts: 0,
+            pairs: 0,
+        }
+    }
+
+    /// The agents' names. No memory.
+    pub fn names(&self) -> &AgentNames
+        ensures { result.now ≡ self.now.names }
+    {
+        &self.names
+    }
+
+    /// How many messages were sent so far. No memory.
+    pub(crate) fn sent(&self) -> u64
+        ensures { result ≡ self.now.sent }
+    {
+        self.sent
+    }
+
+    /// What becomes of the message of this number. No memory.
+    pub(crate) fn fate(&self, number: u64, from: Option<AgentId>, to: AgentId) -> Fate
+        ensures { fate_view result ≡ network.fate_of self.now.network number from to }
+    {
+        self.links.fate(number, from, to)
+    }
+
+    /// Whether the agent doesn't chain. No memory.
+    pub(crate) fn refuses(&self, agent: AgentId) -> bool
+        ensures { result ≡ network.refuses self.now.network agent }
+    {
+        self.links.refuses(agent)
+    }
+
+    /// What the agent holds. No memory.
+    pub(crate) fn held(&self, agent: AgentId) -> &Holdings
+        requires { agent < length self.now.names }
+        ensures held { slice_get self.now.agents agent ≡ Some (holdings_view result.now) }
+        ensures holder { IsHolder self.now.names agent (holdings_view result.now) }
+    {
+        &self.agents[agent.0 as usize]
+    }
+
+    /// Does an update that the agent passes, as the master of its target: it holds the change then. After want of memory all is as
+    /// it was.
+    pub(crate) fn commit(
+        &mut self,
+        alloc: Global,
+        agent: AgentId,
+        message: &Chained,
+    ) -> Result<(), NoMemory>
+        requires there { agent < length self.old.names }
+        requires ready { (names : List (List ℕ)) × IsReady (holdings_in self.old agent) (chained_view names message.now) }
+        ensures committed { IfOk result (λ _. self.new ≡ record self.old { agents = slice_set self.old.agents agent (committed (request_view message.now.request) (holdings_in self.old agent)) }) }
+        ensures err { OnErr result (self.new ≡ self.old) }
+    {
+        x5_update::commit(alloc, &mut self.agents[agent.0 as usize], message)
+    }
+
+    /// So many messages more were sent. No memory.
+    fn count(&mut self, messages: usize)
+        requires { self.old.sent + messages ≤ 18446744073709551615 }
+        ensures { self.new ≡ record self.old { sent = self.old.sent + messages } }
+    {
+        self.sent += messages as u64;
+    }
+
+    /// How many messages a request may take that is asked now.
+    fn budget(&self, alloc: Global) -> Result<usize, NoMemory>
+        requires { length self.now.network.lost_replies ≤ 100015 }
+        ensures is { IfOk result (λ most. most ≡ ((self.now.contexts + 34) * (length self.now.names + 9) + self.now.pairs) * (1 + length (once_each (filter (λ number. nat_lt self.now.sent number) self.now.network.lost_replies)))) }
+        ensures most { IfOk result (λ most. most ≤ most_messages) }
+    {
+        let losses = self.links.losses_behind(alloc, self.sent)?;
+        Ok(((self.contexts + 34) * (self.names.len() + 9) + self.pairs) * (1 + losses))
+    }
+
+    /// What a user's request is answered by this agent, the messages that it takes, in their order, and who accepts the update.
+    /// What an agent accepted it holds afterwards. After want of memory nobody is left in the network.
+    pub fn ask(
+        &mut self,
+        alloc: Global,
+        first: AgentId,
+        request: &Request,
+    ) -> Result<(Reply, Journal), NoMemory>
+        requires there { first < length self.old.names }
+        requires short { HasShortNames (body_view request.now.body) }
+        requires room { (lines : ℕ) × (HasRoom self.old lines × (lines < 100000)) }
+        ensures names { IfOk result (λ _. self.new.names ≡ self.old.names) }
+        ensures answered { IfOk result (λ out. (p : Point) → StandsAt self.old p → IsAnswered self.old self.new p first (request_view request.now) out.0 out.1) }
+        ensures named { IfOk result (λ out. NamesAgents self.old.names out.0 out.1) }
+        ensures room_after { IfOk result (λ _. (lines : ℕ) → HasRoom self.old lines → HasRoom self.new (lines + 1)) }
+    {
+        let most = self.budget(alloc)?;
+        let before = replace(self, World::nobody(alloc));
+        let told = asked::<Brand>(alloc, before, first, request, most)?;
+        let names = told.world.names();
+        let lines = journal::lines(alloc, names, &told.lines)?;
+        let journal = journal::journal(alloc, names, lines, &told.accepted)?;
+        let messages = told.lines.len();
+        *self = told.world;
+        self.count(messages);
+        Ok((told.reply, journal))
+    }
+
+    /// An agent is down or up again, a pair is cut or joined again, an agent refuses to chain or is willing again. After want of
+    /// memory all is as it was.
+    pub fn change(&mut self, outage: Outage) -> Result<(), NoMemory>
+        ensures names { self.new.names ≡ self.old.names }
+        ensures stands { IfOk result (λ _. (p : Point) → StandsAt self.old p → StandsAt self.new (after (did_by (Changes (outage_view outage)) Set) p)) }
+        ensures room { IfOk result (λ _. (lines : ℕ) → HasRoom self.old lines → HasRoom self.new (lines + 1)) }
+        ensures err { OnErr result (self.new ≡ self.old) }
+    {
+        self.links.change(outage)
+    }
+
+    /// Of the messages sent from now on the one of this number, from 1, is lost, or the reply to it. After want of memory all is
+    /// as it was.
+    pub fn lose(&mut self, reply: bool, number: u32) -> Result<(), NoMemory>
+        requires room { (lines : ℕ) × (HasRoom self.old lines × (lines < 100000)) }
+        ensures names { self.new.names ≡ self.old.names }
+        ensures stands { IfOk result (λ _. (p : Point) → StandsAt self.old p → StandsAt self.new (after (did_by (Drops reply number) Set) p)) }
+        ensures room_after { IfOk result (λ _. (lines : ℕ) → HasRoom self.old lines → HasRoom self.new (lines + 1)) }
+        ensures err { OnErr result (self.new ≡ self.old) }
+    {
+        let number = self.sent + u64::from(number);
+        self.links.lose(reply, number)
+    }
+
+    /// A comment: nothing happens, and the next line finds the network as it is. No memory.
+    pub fn pass(&self)
+        ensures stands { (p : Point) → StandsAt self.now p → StandsAt self.now (after (did_by Blank Silent) p) }
+        ensures room { (lines : ℕ) → HasRoom self.now lines → HasRoom self.now (lines + 1) }
+    {}
+}

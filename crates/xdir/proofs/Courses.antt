@@ -1,0 +1,206 @@
+-- What came of a command stands for its block of a run: whom messages and reply name are agents of the world, so what is
+-- printed of it is what the definitions print of that block.
+use Rattle.std.proofs.Common.{◌≡◌, ℕ, Bool, true, is_some, List, [], ◌∷◌, refl, sym, ap, subst, ◌∙◌, Some, None, Option, append-nil}
+use Rattle.std.specs.List.{list_all}
+use Rattle.x5_model.specs.Requests.{Request}
+use Rattle.x5_model.proofs.Lists.{both_true, and_true}
+use Rattle.x5_know.specs.Moments.{moment_text}
+use Rattle.x5_model_output.specs.Output as print
+use Rattle.x5_model_output.specs.Output.{names_of}
+use Rattle.x5_model_run.specs.History.{Did, Point}
+use Rattle.x5_model_run.specs.Refresh as refresh
+use Rattle.x5_model_run.specs.Run.{Command, Blank, Asks, Changes, Drops, Updates, Block, Silent, did_by}
+use Rattle.x5_model_run.specs.Network.{Outage}
+use Rattle.x5_model_run.specs.Run as model
+use Rattle.x5_model_tree.specs.Consistent.{first_breach, IsConsistent}
+use Rattle.x5_model_world.specs.WorldFile.{File}
+use Rattle.x5_ops.specs.AnswerViews.{reply_view}
+use Rattle.x5_ops.specs.declared.agents.AgentId.{AgentId}
+use Rattle.x5_ops.specs.declared.answers.Reply.{Reply}
+use Rattle.x5_ops.specs.declared.journal.Outage.{Outage as Change}
+use Rattle.x5_ops.specs.declared.requests.Request.{Request as Asking}
+use Rattle.x5_script.specs.declared.command.Command.{Command as Line}
+use Rattle.x5_script.specs.declared.command.Command.TheVariants as lines
+use Rattle.x5_ops.specs.declared.journal.Line.{Line as Message}
+use Rattle.x5_ops.specs.declared.journal.Line.TheVariants.{Msg, Dis, Raw}
+use Rattle.x5_ops.specs.declared.journal.Journal.{Journal}
+use Rattle.x5_port.specs.Outside.{with_octets}
+use Rattle.x5_report.specs.Views.{is_known, line_known, journal_known, reply_known, shadows_view}
+use Rattle.x5_report.specs.Blocks.{block_known, IsJournal}
+use Rattle.x5_report.specs.Blocks as report
+use Rattle.x5_report.specs.declared.report.LineOutcome.{LineOutcome}
+use Rattle.x5_report.specs.declared.report.LineOutcome.TheVariants.{Set, Answered, Plain, Refreshed, NotConsistent}
+use Rattle.x5_world.specs.Answered.{IsAnswered, NamesAgents, is_agent, line_names_agents}
+use Rattle.x5_world.specs.State.{Net, StandsAt, after, names_in}
+use Rattle.xdir.specs.Blocks.{Gives, IsTold, IsCourse, IsCarriedOut, IsTextOf, IsBlockText, WritesCourse, WritesBlock}
+use Rattle.xdir.specs.Taken.{IsTaken, point, run_view}
+use Rattle.xdir.specs.declared.lines.Course.{Course}
+use Rattle.xdir.specs.declared.top.Status.{Status}
+use Rattle.xdir.specs.declared.top.Status.TheVariants.{Done, Refused, Usage, ReadFault, WriteFault, NoMemory, Inconsistent, TooLong}
+use Rattle.xdir.proofs.Ends.{wrote_more, broke_more}
+use Rattle.xdir.proofs.Named.{named, reply_is_known}
+use Rattle.xdir.proofs.Sound.{other_is_broken}
+
+-- ---- whom messages name
+
+module _ (names : List (List ℕ)) where
+  line_is : (l : Message) → line_names_agents names l ≡ true → line_known names l ≡ true
+  line_is (Msg None to operation progress t target fate) e = named names to e
+  line_is (Msg (Some from) to operation progress t target fate) e =
+      let b = both_true (is_agent names from) (is_agent names to) e in
+      and_true (is_known names from) (is_known names to) (named names from b.0) (named names to b.1)
+  line_is (Dis from to operation agreement fate) e =
+      let b = both_true (is_agent names from) (is_agent names to) e in
+      and_true (is_known names from) (is_known names to) (named names from b.0) (named names to b.1)
+  line_is (Raw to dsp count fate) e = named names to e
+
+  lines_are : (ls : List Message) → list_all (line_names_agents names) ls ≡ true → list_all (line_known names) ls ≡ true
+  lines_are [] e = refl
+  lines_are (l ∷ more) e =
+      let b = both_true (line_names_agents names l) (list_all (line_names_agents names) more) e in
+      and_true (line_known names l) (list_all (line_known names) more) (line_is l b.0) (lines_are more b.1)
+
+  accepted_are : (agents : List (List ℕ)) → list_all (is_agent names) agents ≡ true → list_all (is_known names) agents ≡ true
+  accepted_are [] e = refl
+  accepted_are (a ∷ more) e =
+      let b = both_true (is_agent names a) (list_all (is_agent names) more) e in
+      and_true (is_known names a) (list_all (is_known names) more) (named names a b.0) (accepted_are more b.1)
+
+  pub answer_known : (reply : Reply) (journal : Journal) → NamesAgents names reply journal
+      → block_known names journal (Answered reply) ≡ true
+  answer_known reply journal n =
+      and_true (journal_known names journal) (reply_known names reply)
+      (and_true (list_all (line_known names) journal.lines) (list_all (is_known names) journal.accepted)
+      (lines_are journal.lines n.lines) (accepted_are journal.accepted n.accepted))
+      (reply_is_known names reply n.reply)
+
+-- ---- what came of a request
+
+abbrev answered : Journal → Reply → Course
+answered journal reply = record { journal = journal; outcome = Answered reply }
+
+pub course_of : (old new : Net) (p : Point) (to : ℕ) (r : Request) (reply : Reply) (journal : Journal) → StandsAt old p
+    → IsAnswered old new p to r reply journal → NamesAgents old.names reply journal
+    → IsCourse p (Asks to r) new (answered journal reply)
+course_of old new p to r reply journal stands a n =
+    let told : IsTold old.names journal (Answered reply) (model.Replies a.whole (reply_view old.names reply)) =
+    (a.whole, (a.lines, a.accepted), refl) in
+    record {
+      block = model.Replies a.whole (reply_view old.names reply);
+      gives = record { is = a.asked; stands = a.stands };
+      told = subst (λ (ns : List (List ℕ)). IsTold ns journal (Answered reply) (model.Replies a.whole (reply_view old.names reply))) stands.names told;
+      known = subst (λ (ns : List (List ℕ)). block_known ns journal (Answered reply) ≡ true) stands.names (answer_known old.names reply journal n);
+    }
+
+-- ---- what came of an outage or a loss
+
+pub changed_course : (p : Point) (outage : Outage) (net : Net) (c : Course) → c ≡ record { journal = record { lines = []; accepted = [] }; outcome = Set }
+    → StandsAt net (after (did_by (Changes outage) model.Set) p) → IsCourse p (Changes outage) net c
+changed_course p outage net c e stands =
+    subst (IsCourse p (Changes outage) net) (sym e)
+    (record { block = model.Set; gives = record { is = tt; stands = stands }; told = refl; known = refl })
+
+pub lost_course : (p : Point) (reply : Bool) (k : ℕ) (net : Net) (c : Course) → c ≡ record { journal = record { lines = []; accepted = [] }; outcome = Set }
+    → StandsAt net (after (did_by (Drops reply k) model.Set) p) → IsCourse p (Drops reply k) net c
+lost_course p reply k net c e stands =
+    subst (IsCourse p (Drops reply k) net) (sym e)
+    (record { block = model.Set; gives = record { is = tt; stands = stands }; told = refl; known = refl })
+
+-- ---- what came of a refresh where knowledge isn't consistent
+
+not_refreshed : (p : Point) (number : ℕ) (pushes total : Bool) → (IsConsistent p.described → ⊥)
+    → refresh.ended [] refresh.NotConsistent ≡ refresh.refresh_block p number pushes total
+not_refreshed p number pushes total other =
+    let e : is_some (first_breach p.described) ≡ true = other_is_broken p.described other in
+    rw e
+
+pub unrefreshed_course : (p : Point) (number : ℕ) (pushes total : Bool) (net : Net) (c : Course)
+    → c ≡ record { journal = record { lines = []; accepted = [] }; outcome = NotConsistent } → (IsConsistent p.described → ⊥)
+    → StandsAt net (after (did_by Blank Silent) p) → IsCourse p (Updates number pushes total) net c
+unrefreshed_course p number pushes total net c e other stands =
+    subst (IsCourse p (Updates number pushes total) net) (sym e) (record {
+      block = model.Refreshing (refresh.ended [] refresh.NotConsistent);
+      gives = record { is = not_refreshed p number pushes total other; stands = stands };
+      told = (refl, refl);
+      known = refl;
+    })
+
+-- ---- what was carried out
+
+pub carried : (p : Point) (command : Command) (net : Net) (o : Option Course) (c : Course) → o ≡ Some c → IsCarriedOut p command net o
+    → IsCourse p command net c
+carried p command net o c e h = subst (IsCarriedOut p command net) e h
+
+pub silent : (p : Point) (command : Command) (net : Net) (o : Option Course) → o ≡ None → IsCarriedOut p command net o
+    → Gives p command net Silent
+silent p command net o e h = subst (IsCarriedOut p command net) e h
+
+-- ---- a comment, where no other line that is taken is left
+
+pub passed : (p : Point) (agents : ℕ) (c : Line) (net : Net) → IsTaken agents c
+    → ((to : AgentId) (request : Asking) → c ≡ lines.Ask to request → ⊥) → ((change : Change) → c ≡ lines.Outage change → ⊥)
+    → ((id : ℕ) (push total : Bool) → c ≡ lines.Refresh id push total → ⊥) → ((reply : Bool) (k : ℕ) → c ≡ lines.Lose reply k → ⊥) → StandsAt net (after (did_by Blank Silent) p) → Gives p (run_view c) net Silent
+passed p agents lines.Nothing net taken no_ask no_outage no_refresh no_loss stands = record { is = tt; stands = stands }
+passed p agents (lines.Ask to request) net taken no_ask no_outage no_refresh no_loss stands = absurd (no_ask to request refl)
+passed p agents (lines.Outage change) net taken no_ask no_outage no_refresh no_loss stands = absurd (no_outage change refl)
+passed p agents (lines.Refresh id push total) net taken no_ask no_outage no_refresh no_loss stands = absurd (no_refresh id push total refl)
+passed p agents (lines.Deliver dsp to octets) net taken no_ask no_outage no_refresh no_loss stands = absurd taken
+passed p agents (lines.Lose reply k) net taken no_ask no_outage no_refresh no_loss stands = absurd (no_loss reply k refl)
+
+-- ---- what is printed of it
+
+pub is_text_of : (f : File) (line : ℕ) (c : Course) (text : List ℕ)
+    → (block_known (names_in f.world) c.journal c.outcome ≡ true
+    → report.IsBlock (names_of f.world (moment_text f.start)) (names_in f.world) line c.journal c.outcome text)
+    → IsTextOf f line c text
+is_text_of f line c text prints = record { prints = λ command b told known. by c.journal c.outcome command b told (prints known) }
+  where
+    by : (j : Journal) (o : LineOutcome) (command : Command) (b : Block) → IsTold (names_in f.world) j o b
+        → report.IsBlock (names_of f.world (moment_text f.start)) (names_in f.world) line j o text
+        → text ≡ print.block_text (names_of f.world (moment_text f.start)) line command b
+    by j Set command b told is =
+        is command ∙ ap (λ (x : Block). print.block_text (names_of f.world (moment_text f.start)) line command x) (sym told)
+    by j (Answered reply) command b told is =
+        is command told.0 told.1
+        ∙ ap (λ (x : Block). print.block_text (names_of f.world (moment_text f.start)) line command x) (sym told.2)
+    by j (Plain reply) command b told is = absurd told
+    by j (Refreshed number g heard) command b told is = absurd told
+    by j NotConsistent command b told is =
+        is command (refresh.ended [] refresh.NotConsistent) (sym (ap (λ (ls : List Message). shadows_view (names_in f.world) ls) told.0)) refl
+        ∙ ap (λ (x : Block). print.block_text (names_of f.world (moment_text f.start)) line command x) (sym told.1)
+
+pub is_text_at : (f : File) (line : ℕ) (c : Course) (text shown : List ℕ) → shown ≡ text
+    → (block_known (names_in f.world) c.journal c.outcome ≡ true
+    → report.IsBlock (names_of f.world (moment_text f.start)) (names_in f.world) line c.journal c.outcome text)
+    → IsTextOf f line c shown
+is_text_at f line c text shown e prints = subst (IsTextOf f line c) (sym e) (is_text_of f line c text prints)
+
+module _ (f : File) (past : List Did) (line : ℕ) (command : Command) (net : Net) where
+  block_text_of : (c : Course) → IsCourse (point f.world past) command net c → (text : List ℕ) → IsTextOf f line c text
+      → IsBlockText f past line command net text
+  block_text_of c course text is =
+      record { block = course.block; gives = course.gives; printed = is.prints command course.block course.told course.known }
+
+  pub writes_course : (c : Course) → IsCourse (point f.world past) command net c → (status : Status) (old new : Option (List ℕ)) (before after : ℕ)
+      → WritesCourse status f line c old new before after → WritesBlock status f past line command net old new before after
+  writes_course c course Done old new before after w = wrote_more (block_text_of c course) old new w
+  writes_course c course WriteFault old new before after w = (w.0, broke_more (block_text_of c course) old new w.1)
+  writes_course c course NoMemory old new before after w = w
+  writes_course c course Refused old new before after w = absurd w
+  writes_course c course Usage old new before after w = absurd w
+  writes_course c course ReadFault old new before after w = absurd w
+  writes_course c course Inconsistent old new before after w = absurd w
+  writes_course c course TooLong old new before after w = absurd w
+
+  -- a comment has no block
+  pub writes_nothing : (old : Option (List ℕ)) (before after : ℕ) → Gives (point f.world past) command net Silent
+      → WritesBlock Done f past line command net old old before after
+  writes_nothing old before after gives = record {
+    text = [];
+    is = record { block = Silent; gives = gives; printed = refl };
+    whole = none_more old;
+  }
+    where
+      none_more : (old : Option (List ℕ)) → old ≡ with_octets [] old
+      none_more None = refl
+      none_more (Some taken) = ap (λ (octets : List ℕ). Some octets) (sym (append-nil taken))

@@ -1,0 +1,64 @@
+-- Whether knowledge is consistent, and the line on it, in which no moment stands.
+use Rattle.std.proofs.Common.{◌≡◌, ◌↔◌, ℕ, Bool, true, false, List, [], ◌∷◌, codes, Option, Some, None, is_some, is_none, IsTrue, refl, sym, ap, ap₂, ◌∙◌}
+use Rattle.std.specs.Fmt.{decimal}
+use Rattle.std.specs.List.{concat, list_any, AllByRecursion}
+use Rattle.x5_know.specs.Moments.{moment_text}
+use Rattle.x5_model.specs.Values.{Text}
+use Rattle.x5_model_output.specs.Output.{knowledge_line, names_of, printed_text}
+use Rattle.x5_model_run.specs.Run.{Command, Blank, Asks, Changes, Drops, Updates}
+use Rattle.x5_model_settled.specs.Afterwards.{is_refresh}
+use Rattle.x5_model_tree.proofs.FirstBreach.{consistent_has_none, none_is_consistent}
+use Rattle.x5_model_tree.specs.Consistent.{Inconsistency, Printed, NamePrinted, AgentPrinted, AgreementPrinted, first_breach, IsConsistent}
+use Rattle.x5_model_tree.specs.World.{World}
+use Rattle.x5_model_world.specs.WorldFile.{File}
+use Rattle.xdir.specs.Checked.{knowledge_text}
+use Rattle.xdir.specs.Run.{is_sound}
+use Rattle.xdir.specs.Taken.{Suits}
+
+-- ---- whether it is
+
+pub consistent_is_sound : (w : World) → IsConsistent w → is_sound w ≡ true
+consistent_is_sound w consistent = ap (λ (o : Option Inconsistency). is_none o) (consistent_has_none w consistent)
+
+pub other_is_broken : (w : World) → (IsConsistent w → ⊥) → is_some (first_breach w) ≡ true
+other_is_broken w other = by (first_breach w) refl
+  where
+    by : (o : Option Inconsistency) → first_breach w ≡ o → is_some (first_breach w) ≡ true
+    by None e = absurd (other (none_is_consistent w e))
+    by (Some b) e = ap (λ (o : Option Inconsistency). is_some o) e
+
+-- what is exactly true of consistent knowledge
+pub told_sound : (w : World) (b : Bool) → (IsTrue b ↔ IsConsistent w) → b ≡ is_sound w
+told_sound w b told = by (first_breach w) b refl refl
+  where
+    by : (o : Option Inconsistency) (t : Bool) → first_breach w ≡ o → b ≡ t → b ≡ is_sound w
+    by None t e q = told.1 (none_is_consistent w e) ∙ sym (ap (λ (o : Option Inconsistency). is_none o) e)
+    by (Some breach) false e q = q ∙ sym (ap (λ (o : Option Inconsistency). is_none o) e)
+    by (Some breach) true e q = let none : first_breach w ≡ None = consistent_has_none w (told.0 q) in cc
+
+-- ---- its line
+
+printed_alike : (w : World) (m n : ℕ → Text) (x : Printed) → printed_text (names_of w m) x ≡ printed_text (names_of w n) x
+printed_alike w m n (AgentPrinted a) = refl
+printed_alike w m n (NamePrinted name) = refl
+printed_alike w m n (AgreementPrinted k) = refl
+
+line_alike : (w : World) (m n : ℕ → Text) (o : Option Inconsistency) → knowledge_line (names_of w m) o ≡ knowledge_line (names_of w n) o
+line_alike w m n None = refl
+line_alike w m n (Some b) =
+    ap₂ (λ (x y : Text). concat (codes "knowledge inconsistent C" ∷ decimal b.condition ∷ codes " " ∷ x ∷ codes " " ∷ y ∷ codes "\n" ∷ []))
+    (printed_alike w m n b.first) (printed_alike w m n b.second)
+
+pub knowledge_is : (f : File) → knowledge_text f.world ≡ knowledge_line (names_of f.world (moment_text f.start)) (first_breach f.world)
+knowledge_is f = line_alike f.world (λ moment. []) (moment_text f.start) (first_breach f.world)
+
+-- ---- over consistent knowledge nothing is refreshed
+
+pub none_refreshed : (w : World) → IsConsistent w → (commands : List Command) → AllByRecursion (Suits w) commands
+    → list_any is_refresh commands ≡ false
+none_refreshed w consistent [] suits = refl
+none_refreshed w consistent (Blank ∷ more) suits = none_refreshed w consistent more suits.1
+none_refreshed w consistent (Asks to r ∷ more) suits = none_refreshed w consistent more suits.1
+none_refreshed w consistent (Changes o ∷ more) suits = none_refreshed w consistent more suits.1
+none_refreshed w consistent (Drops reply k ∷ more) suits = none_refreshed w consistent more suits.1
+none_refreshed w consistent (Updates number pushes total ∷ more) suits = absurd (suits.0 consistent)

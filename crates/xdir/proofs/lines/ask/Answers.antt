@@ -1,0 +1,8 @@
+use Rattle.x5_ops.specs.RequestViews.{request_view}
+use Rattle.xdir.proofs.Courses.{course_of}
+use Rattle.xdir.proofs.lines.ask.Goals as goal
+
+pub returns-clause-course : goal.returns-clause-course
+returns-clause-course c = λ p stands.
+    course_of c.args.network.now c.ask.new.self p c.args.to (request_view c.args.request.now) c.in_ok-reply.reply c.in_ok-reply.journal stands
+    (c.in_ok-reply.ensures.answered p stands) c.in_ok-reply.ensures.named

@@ -1,0 +1,15 @@
+use Rattle.std.proofs.Common.{map, sym, subst}
+use Rattle.x5_load.specs.Views.{file_view}
+use Rattle.xdir.specs.Summed.{IsSummary}
+use Rattle.xdir.specs.Taken.{run_view}
+use Rattle.xdir.proofs.summed.print_summary.Goals as goal
+
+pub returns-in-Ok-put_all-clause-sums : goal.returns-in-Ok-put_all-clause-sums
+returns-in-Ok-put_all-clause-sums g c =
+    let f = file_view c.args.described.now in
+    record {
+      text = c.as_bytes.result.now;
+      is = subst (IsSummary f (map run_view c.args.commands.now)) (sym c.as_bytes.ensures.value)
+          (c.in-Ok.ensures f c.requires.begun.stands c.requires.knowledge c.requires.suits);
+      whole = c.in-Ok-put_all.ensures.all;
+    }

@@ -1,0 +1,106 @@
+//! What the lines of a script do to the network, and what comes of them.
+ghost use Rattle.std.specs.Prelude.{◌≡◌, ℕ, ◌<◌, ◌+◌, [], IfOk, length};
+ghost use Rattle.x5_model_run.specs.History.{Point};
+ghost use Rattle.x5_model_run.specs.Run.{Asks};
+ghost use Rattle.x5_ops.specs.RequestViews.{body_view, request_view};
+ghost use Rattle.x5_report.specs.declared.report.LineOutcome.TheVariants.{NotConsistent, Set};
+ghost use Rattle.x5_world.specs.State.{HasRoom, HasShortNames, StandsAt};
+ghost use Rattle.xdir.specs.Blocks.{IsCarriedOut, IsCourse};
+ghost use Rattle.xdir.specs.Taken.{IsTaken, Suits, run_view};
+
+use std::alloc::Global;
+use x5_memory::NoMemory;
+use x5_ops::{AgentId, Journal, Listed, Outage, Request};
+use x5_report::LineOutcome;
+use x5_script::Command;
+use x5_world::World;
+
+/// What came of a command, and the messages that it took.
+#[derive(Debug, Drop)]
+pub struct Course {
+    /// The messages, and who accepted an update.
+    pub journal: Journal,
+    /// The reply, that the network changed, or that no copy is refreshed.
+    pub outcome: LineOutcome,
+}
+
+/// That the network changed, which takes no message.
+fn changed(alloc: Global) -> Course
+    ensures { result ≡ record { journal = record { lines = []; accepted = [] }; outcome = Set } }
+{
+    Course {
+        journal: Journal {
+            lines: Listed::new(alloc),
+            accepted: Listed::new(alloc),
+        },
+        outcome: LineOutcome::Set,
+    }
+}
+
+/// That knowledge isn't consistent, so that no copy is refreshed, which takes no message.
+fn unrefreshed(alloc: Global) -> Course
+    ensures { result ≡ record { journal = record { lines = []; accepted = [] }; outcome = NotConsistent } }
+{
+    Course {
+        journal: Journal {
+            lines: Listed::new(alloc),
+            accepted: Listed::new(alloc),
+        },
+        outcome: LineOutcome::NotConsistent,
+    }
+}
+
+/// What an agent answers a request, and who accepted it where it's an update.
+fn ask(
+    alloc: Global,
+    network: &mut World,
+    to: AgentId,
+    request: &Request,
+) -> Result<Course, NoMemory>
+    requires there { to < length network.old.names }
+    requires short { HasShortNames (body_view request.now.body) }
+    requires room { (lines : ℕ) × (HasRoom network.old lines × (lines < 100000)) }
+    ensures course { IfOk result (λ course. (p : Point) → StandsAt network.old p → IsCourse p (Asks to (request_view request.now)) network.new course) }
+    ensures names { IfOk result (λ _. network.new.names ≡ network.old.names) }
+    ensures room_after { IfOk result (λ _. (lines : ℕ) → HasRoom network.old lines → HasRoom network.new (lines + 1)) }
+{
+    let (reply, journal) = network.ask(alloc, to, request)?;
+    Ok(Course {
+        journal,
+        outcome: LineOutcome::Answered(reply),
+    })
+}
+
+/// Does what a line asks for, and tells what came of it; of a comment there is nothing to tell. A refresh may stand only where
+/// knowledge isn't consistent. After want of memory the network isn't used again.
+pub fn carry_out(
+    alloc: Global,
+    network: &mut World,
+    command: &Command,
+) -> Result<Option<Course>, NoMemory>
+    requires taken { IsTaken (length network.old.names) command.now }
+    requires room { (lines : ℕ) × (HasRoom network.old lines × (lines < 100000)) }
+    ensures carried { IfOk result (λ course. (p : Point) → StandsAt network.old p → Suits p.described (run_view command.now) → IsCarriedOut p (run_view command.now) network.new course) }
+    ensures names { IfOk result (λ _. network.new.names ≡ network.old.names) }
+    ensures room_after { IfOk result (λ _. (lines : ℕ) → HasRoom network.old lines → HasRoom network.new (lines + 1)) }
+{
+    match command {
+        Command::Ask { to, request } => Ok(Some(ask(alloc, network, *to, request)?)),
+        Command::Outage(outage) => {
+            network.change(*outage)?;
+            Ok(Some(changed(alloc)))
+        }
+        Command::Lose { reply, k } => {
+            network.lose(*reply, *k)?;
+            Ok(Some(changed(alloc)))
+        }
+        Command::Refresh { .. } => {
+            network.pass();
+            Ok(Some(unrefreshed(alloc)))
+        }
+        _ => {
+            network.pass();
+            Ok(None)
+        }
+    }
+}
