@@ -6,7 +6,8 @@ use Rattle.x5_model_heard.specs.Kept.{looks_at_one}
 use Rattle.x5_dse.specs.declared.node.NodeId.{NodeId}
 use Rattle.x5_holdings.specs.State.{State}
 use Rattle.x5_find.specs.Finds.{IsHere}
-use Rattle.x5_eval.specs.Asked.{IsTarget, is_read}
+use Rattle.x5_eval.specs.Asked.{IsTarget}
+use Rattle.x5_model_tree.specs.Ask.{is_read}
 
 pub reads : (b : Body) → looks_at_one b ≡ true → is_read b ≡ true
 reads (Read name s) e = refl

@@ -76,15 +76,15 @@ pub data Takes (old piece : List ℕ) (new : State) (n : ℕ) : Type 0 where
 
 -- What a piece does to a feeder that wants more octets, and what is answered. The first fault is that of the octets as
 -- far as the longest value reaches; where they are all the beginning of a value, and there are more, it is too long.
-abbrev pub Reads : List ℕ → List ℕ → State → Result ℕ FeedFault → Type 0
-Reads old piece new (Ok n) = Takes old piece new n
-Reads old piece new (Err (Ber fault)) = (new ≡ failed (Ber fault)) × IsBreach (take longest (old ++ piece)) fault
-Reads old piece new (Err TooLong) =
+abbrev pub FeedsMore : List ℕ → List ℕ → State → Result ℕ FeedFault → Type 0
+FeedsMore old piece new (Ok n) = Takes old piece new n
+FeedsMore old piece new (Err (Ber fault)) = (new ≡ failed (Ber fault)) × IsBreach (take longest (old ++ piece)) fault
+FeedsMore old piece new (Err TooLong) =
     (new ≡ failed TooLong) × (longest < length (old ++ piece)) × IsBeginning (take longest (old ++ piece))
-Reads old piece new (Err NoMemory) = new ≡ reading old
+FeedsMore old piece new (Err NoMemory) = new ≡ reading old
 
 -- A whole value takes no more octets, and a fault stands until the feeder is cleared.
 abbrev pub Feeds : State → List ℕ → State → Result ℕ FeedFault → Type 0
-Feeds (reading old) piece new result = Reads old piece new result
+Feeds (reading old) piece new result = FeedsMore old piece new result
 Feeds (whole octets) piece new result = (result ≡ Ok 0) × (new ≡ whole octets)
 Feeds (failed fault) piece new result = (result ≡ Err fault) × (new ≡ failed fault)

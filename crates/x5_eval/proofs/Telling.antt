@@ -24,7 +24,8 @@ use Rattle.x5_dse.specs.Linked.{Node, IsLinked, AreNumbered, entries_of, id_of, 
 use Rattle.x5_dse.proofs.Callers.{found_live}
 use Rattle.x5_model_serve.specs.Answering.{reply_from, own_source, copy_source, reply_in_own, reply_in_copy}
 use Rattle.x5_holdings.specs.State.{Kept, CopyKept, State, held_view, copy_view, stamp_of, brought_entries}
-use Rattle.x5_eval.specs.Asked.{IsAsked, IsTarget, IsCopyTarget, is_read, read_told}
+use Rattle.x5_eval.specs.Asked.{IsAsked, IsTarget, IsCopyTarget, read_told}
+use Rattle.x5_model_tree.specs.Ask.{is_read}
 
 pub ok_by : {X E : Type 0} (P Q : X → Type 0) → ((x : X) → P x → Q x) → (r : Result X E) → IfOk r P → IfOk r Q
 ok_by P Q f (Ok x) p = f x p

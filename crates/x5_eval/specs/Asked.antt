@@ -32,12 +32,6 @@ pub record IsCopyTarget (s : State) (m : Chained) (copy : ℕ) (node : NodeId) :
   pub refreshed : kept.refreshed ≡ Some brought
   pub at : option_map id_of (node_at brought.0.nodes.nodes (key_of m.target)) ≡ Some node
 
--- reads and compares look at one entry
-abbrev pub is_read : Body → Bool
-is_read (Read name selection) = true
-is_read (Compare name assertion) = true
-is_read other = false
-
 -- what they tell there
 abbrev pub read_told : Bool → Body → Named → model.Told
 read_told copy (Read name selection) e = model.read (λ key. copy) selection e

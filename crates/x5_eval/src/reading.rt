@@ -14,7 +14,8 @@ ghost use Rattle.x5_ops.specs.ReferenceViews.{chained_view};
 ghost use Rattle.x5_ops.specs.RequestViews.{body_view, selection_view};
 ghost use Rattle.x5_dse.specs.Linked.{Node, node_with, is_live};
 ghost use Rattle.x5_holdings.specs.State.{Kept, CopyKept, held_view, copy_view};
-ghost use Rattle.x5_eval.specs.Asked.{IsAsked, IsTarget, IsCopyTarget, is_read, read_told};
+ghost use Rattle.x5_eval.specs.Asked.{IsAsked, IsTarget, IsCopyTarget, read_told};
+ghost use Rattle.x5_model_tree.specs.Ask.{is_read};
 ghost use Rattle.x5_eval.specs.Spots.{info_shown};
 
 use crate::naming::source;

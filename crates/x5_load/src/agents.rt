@@ -12,7 +12,7 @@ ghost use Rattle.x5_model_world.specs.Reading.{at};
 ghost use Rattle.x5_model_world.specs.WorldFile.{none_yet};
 ghost use Rattle.x5_ops.specs.KnowledgeViews.{context_view};
 ghost use Rattle.x5_world_members.specs.Paths.{path_of};
-ghost use Rattle.x5_world_members.specs.Views.{Reads};
+ghost use Rattle.x5_world_members.specs.Views.{ReadsPart};
 
 use crate::limits::few;
 use crate::refs::{References, references_behind};
@@ -69,7 +69,7 @@ fn new_name(
     before: &[DescribedAgent],
     text: &str,
 ) -> Result<AgentName, LoadFault>
-    ensures { Reads (λ n. n) result (model.new_name (path_of place.now) (map (λ a. a.name) (map described_agent_view before.now)) text.now) }
+    ensures { ReadsPart (λ n. n) result (model.new_name (path_of place.now) (map (λ a. a.name) (map described_agent_view before.now)) text.now) }
 {
     if !AgentName::is_name(text) {
         return Err(place.bad_name(alloc));
@@ -88,7 +88,7 @@ fn agent_if_any(
     place: &Place<'_>,
     value: &Value,
 ) -> Result<Option<AgentId>, LoadFault>
-    ensures { Reads (λ s. s) result (model.agent_if_any names.now (at (path_of place.now) (codes "superior")) (get (codes "superior") (view value.now))) }
+    ensures { ReadsPart (λ s. s) result (model.agent_if_any names.now (at (path_of place.now) (codes "superior")) (get (codes "superior") (view value.now))) }
 {
     match value.get("superior") {
         Some(found) => {
@@ -134,7 +134,7 @@ fn agent_behind(
     before: Agents,
     value: &Value,
 ) -> Result<Agents, LoadFault>
-    ensures { Reads (λ a. a) result (model.agent_behind names.now (path_of place.now) before (view value.now)) }
+    ensures { ReadsPart (λ a. a) result (model.agent_behind names.now (path_of place.now) before (view value.now)) }
 {
     let members = members_at(alloc, place, value)?;
     let text = text_at(alloc, place, "name", value)?;
@@ -171,7 +171,7 @@ pub(crate) fn all_behind(
     place: &Place<'_>,
     items: &[Value],
 ) -> Result<Agents, LoadFault>
-    ensures { Reads (λ a. a) result (model.all_behind names.now (path_of place.now) 0 (record { agents = []; counts = none_yet }) (items_view items.now)) }
+    ensures { ReadsPart (λ a. a) result (model.all_behind names.now (path_of place.now) 0 (record { agents = []; counts = none_yet }) (items_view items.now)) }
 {
     let mut agents = Agents {
         agents: Vec::new(alloc),

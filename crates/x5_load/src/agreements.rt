@@ -9,7 +9,7 @@ ghost use Rattle.x5_model.specs.Keys.{same_key};
 ghost use Rattle.x5_model.specs.Values.{key_of};
 ghost use Rattle.x5_model_world.specs.WorldFile as model;
 ghost use Rattle.x5_world_members.specs.Paths.{path_of};
-ghost use Rattle.x5_world_members.specs.Views.{Reads};
+ghost use Rattle.x5_world_members.specs.Views.{ReadsPart};
 
 use serde_json::Value;
 use std::alloc::Global;
@@ -38,7 +38,7 @@ fn agreement_in(
     before: &[Agreement],
     value: &Value,
 ) -> Result<Agreement, LoadFault>
-    ensures { Reads (λ g. g) result (model.agreement_in names.now (path_of place.now) before.now (view value.now)) }
+    ensures { ReadsPart (λ g. g) result (model.agreement_in names.now (path_of place.now) before.now (view value.now)) }
 {
     let members = members_at(alloc, place, value)?;
     let id = number_at(alloc, place, "id", value)?;
@@ -71,7 +71,7 @@ pub(crate) fn agreements_behind(
     place: &Place<'_>,
     items: &[Value],
 ) -> Result<Vec<Agreement>, LoadFault>
-    ensures { Reads (λ v. v.items) result (model.agreements_behind names.now (path_of place.now) 0 [] (items_view items.now)) }
+    ensures { ReadsPart (λ v. v.items) result (model.agreements_behind names.now (path_of place.now) 0 [] (items_view items.now)) }
 {
     let mut agreements = Vec::new(alloc);
     for (i, item) in items.iter().enumerate() {

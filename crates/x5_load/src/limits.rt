@@ -5,7 +5,7 @@ ghost use Rattle.serde_json.specs.Events.{items_len};
 ghost use Rattle.serde_json.specs.View.{items_view};
 ghost use Rattle.x5_model_world.specs.Reading.{if_few};
 ghost use Rattle.x5_world_members.specs.Paths.{path_of};
-ghost use Rattle.x5_world_members.specs.Views.{Reads};
+ghost use Rattle.x5_world_members.specs.Views.{ReadsPart};
 
 use serde_json::Value;
 use std::alloc::Global;
@@ -19,7 +19,7 @@ pub(crate) fn few(
     most: u32,
     items: &[Value],
 ) -> Result<(), LoadFault>
-    ensures read { Reads (λ u. u) result (if_few (path_of place.now) most (items_len (items_view items.now)) tt) }
+    ensures read { ReadsPart (λ u. u) result (if_few (path_of place.now) most (items_len (items_view items.now)) tt) }
     ensures count { OnOk result (length items.now ≤ most) }
 {
     if items.len() > most as usize {

@@ -9,7 +9,7 @@ ghost use Rattle.x5_load.specs.TextPairs.{texts_of};
 ghost use Rattle.x5_model_world.specs.ContextText.{agent_of as place_of};
 ghost use Rattle.x5_model_world.specs.NetworkText as model;
 ghost use Rattle.x5_world_members.specs.Paths.{path_of};
-ghost use Rattle.x5_world_members.specs.Views.{Reads};
+ghost use Rattle.x5_world_members.specs.Views.{ReadsPart};
 
 use crate::distinct::{Numbers, Pairs, Texts};
 use crate::limits::few;
@@ -36,7 +36,7 @@ fn text_behind<'a>(
     before: &Texts<'a>,
     value: &'a Value,
 ) -> Result<&'a str, LoadFault>
-    ensures read { Reads (λ t. t.now) result (model.text_behind (path_of place.now) before.now (view value.now)) }
+    ensures read { ReadsPart (λ t. t.now) result (model.text_behind (path_of place.now) before.now (view value.now)) }
     ensures new { IfOk result (λ t. model.has_text before.now t.now ≡ false) }
 {
     let Some(text) = value.as_str() else {
@@ -54,7 +54,7 @@ fn texts_behind<'a>(
     place: &Place<'_>,
     items: &'a [Value],
 ) -> Result<Texts<'a>, LoadFault>
-    ensures { Reads (λ t. t) result (model.texts_behind (path_of place.now) 0 [] (items_view items.now)) }
+    ensures { ReadsPart (λ t. t) result (model.texts_behind (path_of place.now) 0 [] (items_view items.now)) }
 {
     let mut texts = Texts::new(alloc);
     for (i, item) in items.iter().enumerate() {
@@ -82,7 +82,7 @@ fn agents_at(
     name: &'static str,
     value: &Value,
 ) -> Result<AgentList, LoadFault>
-    ensures { Reads (λ l. l) result (model.agents_at names.now name.now (view value.now)) }
+    ensures { ReadsPart (λ l. l) result (model.agents_at names.now name.now (view value.now)) }
 {
     let whole = Place::Whole;
     let here = Place::Member(&whole, "network");
@@ -134,7 +134,7 @@ fn pair_behind<'a>(
     before: &Pairs<'a>,
     value: &'a Value,
 ) -> Result<(&'a str, &'a str), LoadFault>
-    ensures read { Reads texts_of result (model.pair_behind (path_of place.now) before.now (view value.now)) }
+    ensures read { ReadsPart texts_of result (model.pair_behind (path_of place.now) before.now (view value.now)) }
     ensures new { IfOk result (λ p. list_any (model.same_texts (texts_of p)) before.now ≡ false) }
 {
     let Some((a, b)) = pair_in(value) else {
@@ -152,7 +152,7 @@ fn pairs_behind<'a>(
     place: &Place<'_>,
     items: &'a [Value],
 ) -> Result<Pairs<'a>, LoadFault>
-    ensures { Reads (λ p. p) result (model.pairs_behind (path_of place.now) 0 [] (items_view items.now)) }
+    ensures { ReadsPart (λ p. p) result (model.pairs_behind (path_of place.now) 0 [] (items_view items.now)) }
 {
     let mut pairs = Pairs::new(alloc);
     for (i, item) in items.iter().enumerate() {
@@ -183,7 +183,7 @@ fn cut_behind(
     place: &Place<'_>,
     items: &[Value],
 ) -> Result<PairList, LoadFault>
-    ensures { Reads (λ l. l) result (parts.cut_in names.now (path_of place.now) (items_view items.now)) }
+    ensures { ReadsPart (λ l. l) result (parts.cut_in names.now (path_of place.now) (items_view items.now)) }
 {
     few(alloc, place, MOST_CUT, items)?;
     let texts = pairs_behind(alloc, place, items)?;
@@ -193,7 +193,7 @@ fn cut_behind(
 
 /// The pairs that are cut.
 fn cut_at(alloc: Global, names: &AgentNames, value: &Value) -> Result<PairList, LoadFault>
-    ensures { Reads (λ l. l) result (model.cut_at names.now (view value.now)) }
+    ensures { ReadsPart (λ l. l) result (model.cut_at names.now (view value.now)) }
 {
     let whole = Place::Whole;
     let here = Place::Member(&whole, "network");
@@ -208,7 +208,7 @@ fn number_behind(
     before: &Numbers,
     value: &Value,
 ) -> Result<u32, LoadFault>
-    ensures read { Reads (λ n. n) result (model.number_behind (path_of place.now) before.now (view value.now)) }
+    ensures read { ReadsPart (λ n. n) result (model.number_behind (path_of place.now) before.now (view value.now)) }
     ensures new { IfOk result (λ n. list_any (λ k. n == k) before.now ≡ false) }
 {
     let Some(number) = number_of(value) else {
@@ -222,7 +222,7 @@ fn number_behind(
 
 /// The numbers of a list, each of which stands there once.
 fn numbers_behind(alloc: Global, place: &Place<'_>, items: &[Value]) -> Result<Numbers, LoadFault>
-    ensures { Reads (λ n. n) result (model.numbers_behind (path_of place.now) 0 [] (items_view items.now)) }
+    ensures { ReadsPart (λ n. n) result (model.numbers_behind (path_of place.now) 0 [] (items_view items.now)) }
 {
     let mut numbers = Numbers::new(alloc);
     for (i, item) in items.iter().enumerate() {
@@ -239,7 +239,7 @@ fn numbers_in(
     place: &Place<'_>,
     items: &[Value],
 ) -> Result<NumberList, LoadFault>
-    ensures { Reads (λ l. l) result (parts.numbers_in most (path_of place.now) (items_view items.now)) }
+    ensures { ReadsPart (λ l. l) result (parts.numbers_in most (path_of place.now) (items_view items.now)) }
 {
     few(alloc, place, most, items)?;
     let numbers = numbers_behind(alloc, place, items)?;
@@ -254,7 +254,7 @@ fn numbers_at(
     name: &'static str,
     value: &Value,
 ) -> Result<NumberList, LoadFault>
-    ensures { Reads (λ l. l) result (model.numbers_at most name.now (view value.now)) }
+    ensures { ReadsPart (λ l. l) result (model.numbers_at most name.now (view value.now)) }
 {
     let whole = Place::Whole;
     let here = Place::Member(&whole, "network");
@@ -264,7 +264,7 @@ fn numbers_at(
 
 /// The network that an object describes.
 fn network_in(alloc: Global, names: &AgentNames, value: &Value) -> Result<NetworkState, LoadFault>
-    ensures { Reads (λ n. n) result (model.network_in names.now (view value.now)) }
+    ensures { ReadsPart (λ n. n) result (model.network_in names.now (view value.now)) }
 {
     let whole = Place::Whole;
     let here = Place::Member(&whole, "network");
@@ -291,7 +291,7 @@ pub(crate) fn network_if_any(
     names: &AgentNames,
     value: &Value,
 ) -> Result<NetworkState, LoadFault>
-    ensures { Reads (λ n. n) result (model.network_if_any names.now (get (codes "network") (view value.now))) }
+    ensures { ReadsPart (λ n. n) result (model.network_if_any names.now (get (codes "network") (view value.now))) }
 {
     match value.get("network") {
         Some(found) => network_in(alloc, names, found),

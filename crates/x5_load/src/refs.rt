@@ -6,7 +6,7 @@ ghost use Rattle.x5_model.specs.Values.{key_of};
 ghost use Rattle.x5_model_world.specs.AgentText as model;
 ghost use Rattle.x5_model_world.specs.ContextText.{has_key};
 ghost use Rattle.x5_world_members.specs.Paths.{path_of};
-ghost use Rattle.x5_world_members.specs.Views.{Reads};
+ghost use Rattle.x5_world_members.specs.Views.{ReadsPart};
 
 use crate::limits::few;
 use serde_json::Value;
@@ -206,7 +206,7 @@ fn reference_in(
     before: &KeyedReferences,
     value: &Value,
 ) -> Result<(bool, Name, Access), LoadFault>
-    ensures read { Reads (λ r. model.with_reference before.now r.0 (record { pin = r.1; access = r.2 })) result (model.reference_behind names.now (path_of place.now) before.now (view value.now)) }
+    ensures read { ReadsPart (λ r. model.with_reference before.now r.0 (record { pin = r.1; access = r.2 })) result (model.reference_behind names.now (path_of place.now) before.now (view value.now)) }
     ensures new { IfOk result (λ r. has_key (model.pin_keys (model.of_kind before.now r.0)) (key_of r.1) ≡ false) }
 {
     let members = members_at(alloc, place, value)?;
@@ -240,7 +240,7 @@ fn reference_behind(
     before: KeyedReferences,
     value: &Value,
 ) -> Result<KeyedReferences, LoadFault>
-    ensures { Reads (λ r. r) result (model.reference_behind names.now (path_of place.now) before (view value.now)) }
+    ensures { ReadsPart (λ r. r) result (model.reference_behind names.now (path_of place.now) before (view value.now)) }
 {
     let (cross, pin, access) = reference_in(alloc, names, place, &before, value)?;
     let references = before.with(alloc, cross, pin, access)?;
@@ -254,7 +254,7 @@ fn keyed_behind(
     place: &Place<'_>,
     items: &[Value],
 ) -> Result<KeyedReferences, LoadFault>
-    ensures { Reads (λ r. r) result (model.references_behind names.now (path_of place.now) 0 model.no_references (items_view items.now)) }
+    ensures { ReadsPart (λ r. r) result (model.references_behind names.now (path_of place.now) 0 model.no_references (items_view items.now)) }
 {
     let mut references = KeyedReferences::new(alloc);
     for (i, item) in items.iter().enumerate() {
@@ -270,7 +270,7 @@ pub(crate) fn references_behind(
     place: &Place<'_>,
     items: &[Value],
 ) -> Result<References, LoadFault>
-    ensures { Reads (λ r. r) result (model.references_behind names.now (path_of place.now) 0 model.no_references (items_view items.now)) }
+    ensures { ReadsPart (λ r. r) result (model.references_behind names.now (path_of place.now) 0 model.no_references (items_view items.now)) }
 {
     let keyed = keyed_behind(alloc, names, place, items)?;
     Ok(keyed.into_references())

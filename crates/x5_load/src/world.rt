@@ -8,7 +8,7 @@ ghost use Rattle.x5_load.specs.Views.{file_view, IsNamed};
 ghost use Rattle.x5_model_world.specs.AgentText.{names_behind as names_behind_of};
 ghost use Rattle.x5_model_world.specs.Reading.{only as only_of};
 ghost use Rattle.x5_model_world.specs.WorldFile as model;
-ghost use Rattle.x5_world_members.specs.Views.{Reads};
+ghost use Rattle.x5_world_members.specs.Views.{ReadsPart};
 
 use crate::agents::{Agents, all_behind, names_behind};
 use crate::agreements::{agreements_behind, copies_fit};
@@ -50,7 +50,7 @@ fn network_of(
     has_network: bool,
     value: &Value,
 ) -> Result<NetworkState, LoadFault>
-    ensures { Reads (λ n. n) result (model.network_of names.now has_network (view value.now)) }
+    ensures { ReadsPart (λ n. n) result (model.network_of names.now has_network (view value.now)) }
 {
     if has_network {
         network_if_any(alloc, names, value)
@@ -65,7 +65,7 @@ fn only_listed(
     has_network: bool,
     members: &Map<String, Value>,
 ) -> Result<(), LoadFault>
-    ensures { Reads (λ u. u) result (only_of (codes "") (model.world_members has_network) (members_view members.now.entries) tt) }
+    ensures { ReadsPart (λ u. u) result (only_of (codes "") (model.world_members has_network) (members_view members.now.entries) tt) }
 {
     let whole = Place::Whole;
     if has_network {
@@ -92,7 +92,7 @@ fn connected(
     found: Agents,
     agreements: Vec<Agreement>,
 ) -> Result<Described, LoadFault>
-    ensures read { Reads file_view result (parts.connected names has_network start (view value.now) (members_view members.now.entries) found agreements.items) }
+    ensures read { ReadsPart file_view result (parts.connected names has_network start (view value.now) (members_view members.now.entries) found agreements.items) }
     ensures names { IfOk result (λ d. d.names ≡ names) }
     ensures agents { IfOk result (λ d. map described_agent_view d.agents ≡ found.agents) }
 {
@@ -118,7 +118,7 @@ fn agreed(
     members: &Map<String, Value>,
     found: Agents,
 ) -> Result<Described, LoadFault>
-    ensures read { Reads file_view result (parts.agreed names has_network start (view value.now) (members_view members.now.entries) found) }
+    ensures read { ReadsPart file_view result (parts.agreed names has_network start (view value.now) (members_view members.now.entries) found) }
     ensures names { IfOk result (λ d. d.names ≡ names) }
     ensures agents { IfOk result (λ d. map described_agent_view d.agents ≡ found.agents) }
 {
@@ -152,7 +152,7 @@ fn world_in(
     items: &[Value],
     value: &Value,
 ) -> Result<Described, LoadFault>
-    ensures read { Reads file_view result (model.world_in names has_network start (items_view items.now) (view value.now)) }
+    ensures read { ReadsPart file_view result (model.world_in names has_network start (items_view items.now) (view value.now)) }
     ensures names { IfOk result (λ d. d.names ≡ names) }
     ensures agents { IfOk result (λ d. names_behind_of [] (items_view items.now) ≡ map (λ a. a.name) (map described_agent_view d.agents)) }
 {
@@ -171,7 +171,7 @@ fn inhabited(
     value: &Value,
 ) -> Result<Described, LoadFault>
     requires { length items.now ≤ 64 }
-    ensures read { Reads file_view result (parts.inhabited has_network start (view value.now) (items_view items.now)) }
+    ensures read { ReadsPart file_view result (parts.inhabited has_network start (view value.now) (items_view items.now)) }
     ensures named { IfOk result IsNamed }
     ensures most { IfOk result (λ d. length d.agents ≤ 64) }
 {
@@ -188,7 +188,7 @@ fn begun(
     value: &Value,
     start: Start,
 ) -> Result<Described, LoadFault>
-    ensures read { Reads file_view result (parts.begun has_network (view value.now) start) }
+    ensures read { ReadsPart file_view result (parts.begun has_network (view value.now) start) }
     ensures named { IfOk result IsNamed }
     ensures most { IfOk result (λ d. length d.agents ≤ 64) }
 {
@@ -200,7 +200,7 @@ fn begun(
 
 /// The world of a file of this format.
 fn formed(alloc: Global, value: &Value, has_network: bool) -> Result<Described, LoadFault>
-    ensures read { Reads file_view result (parts.formed (view value.now) has_network) }
+    ensures read { ReadsPart file_view result (parts.formed (view value.now) has_network) }
     ensures named { IfOk result IsNamed }
     ensures most { IfOk result (λ d. length d.agents ≤ 64) }
 {
@@ -214,7 +214,7 @@ fn formed(alloc: Global, value: &Value, has_network: bool) -> Result<Described, 
 
 /// The world that a value of JSON describes.
 pub(crate) fn file_of(alloc: Global, value: &Value) -> Result<Described, LoadFault>
-    ensures read { Reads file_view result (model.file_of (view value.now)) }
+    ensures read { ReadsPart file_view result (model.file_of (view value.now)) }
     ensures named { IfOk result IsNamed }
     ensures most { IfOk result (λ d. length d.agents ≤ 64) }
 {

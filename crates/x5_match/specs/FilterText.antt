@@ -15,6 +15,6 @@ IsFilterFault (Bad place) read = read ≡ Err place
 IsFilterFault NoMemory read = Unit {0}
 
 -- what a function returned, seen by `view`, is what the reading gives, unless memory ran out
-abbrev pub Reads : {X Y : Type 0} → (X → Y) → Result X FilterFault → Result Y ℕ → Type 0
-Reads view (Ok x) read = read ≡ Ok (view x)
-Reads view (Err fault) read = IsFilterFault fault read
+abbrev pub ReadsFilter : {X Y : Type 0} → (X → Y) → Result X FilterFault → Result Y ℕ → Type 0
+ReadsFilter view (Ok x) read = read ≡ Ok (view x)
+ReadsFilter view (Err fault) read = IsFilterFault fault read

@@ -12,7 +12,7 @@ ghost use Rattle.x5_syntax.specs.ValueView.{value_view};
 ghost use Rattle.x5_syntax.specs.Escapes.{span};
 ghost use Rattle.x5_match.specs.PlaceView.{place_view};
 ghost use Rattle.x5_match.specs.FilterView.{item_view, filter_view, filters_of};
-ghost use Rattle.x5_match.specs.FilterText.{Reads, escape_fault};
+ghost use Rattle.x5_match.specs.FilterText.{ReadsFilter, escape_fault};
 ghost use Rattle.x5_match.specs.declared.parse.FilterFault.TheVariants.{NoMemory as NoMemoryFault};
 
 use crate::filter::{
@@ -89,7 +89,7 @@ fn reserved_place(octets: &[u8]) -> Option<usize>
 /// Resolves the text of a value, which stands at the place.
 fn spelled_at(alloc: Global, at: usize, text: &str) -> Result<Octets, FilterFault>
     requires { at + length text.now + 1 < 2 ^ 64 }
-    ensures { Reads (λ octets. octets) result (text_of.spelled_at at text.now) }
+    ensures { ReadsFilter (λ octets. octets) result (text_of.spelled_at at text.now) }
 {
     let read = resolve(alloc, at, text);
     match reserved_place(text.as_bytes()) {
@@ -105,7 +105,7 @@ fn spelled_at(alloc: Global, at: usize, text: &str) -> Result<Octets, FilterFaul
 /// The value of the type that a text spells, which stands at the place.
 fn value_at(alloc: Global, kind: &TypeRef, at: usize, text: &str) -> Result<Value, FilterFault>
     requires { at + length text.now + 1 < 2 ^ 64 }
-    ensures { Reads value_view result (text_of.value_at (kind_of_type (type_view kind.now)) at text.now) }
+    ensures { ReadsFilter value_view result (text_of.value_at (kind_of_type (type_view kind.now)) at text.now) }
 {
     spelled_at(alloc, at, text)?;
     match Value::from_text(alloc, kind, text) {
@@ -123,7 +123,7 @@ fn assertion_at(
     text: &str,
 ) -> Result<Assertion, FilterFault>
     requires { at + length text.now + 1 < 2 ^ 64 }
-    ensures { Reads (λ a. a) result (text_of.assertion_at (type_view kind) at text.now) }
+    ensures { ReadsFilter (λ a. a) result (text_of.assertion_at (type_view kind) at text.now) }
 {
     let value = value_at(alloc, &kind, at, text)?;
     Ok(Assertion::new(alloc, kind, value)?)
@@ -137,7 +137,7 @@ fn piece_at(
     text: &str,
 ) -> Result<Option<Piece>, FilterFault>
     requires { at + length text.now + 1 < 2 ^ 64 }
-    ensures { Reads (λ piece. piece) result (text_of.piece_at (place_view place) at text.now) }
+    ensures { ReadsFilter (λ piece. piece) result (text_of.piece_at (place_view place) at text.now) }
 {
     if text.is_empty() {
         return Ok(None);
@@ -177,7 +177,7 @@ fn pieces_at(
     parts: &[&str],
 ) -> Result<PieceList, FilterFault>
     requires { at + span (map (λ x. x.now) parts.now) < 2 ^ 64 }
-    ensures { Reads (λ pieces. pieces) result (text_of.pieces_at before at (map (λ x. x.now) parts.now)) }
+    ensures { ReadsFilter (λ pieces. pieces) result (text_of.pieces_at before at (map (λ x. x.now) parts.now)) }
 {
     let mut pieces = before;
     let mut place = at;
@@ -192,7 +192,7 @@ fn pieces_at(
 /// The parts of a value; the first stands at the place.
 fn all_pieces(alloc: Global, at: usize, parts: &[&str]) -> Result<PieceList, FilterFault>
     requires { at + span (map (λ x. x.now) parts.now) < 2 ^ 64 }
-    ensures { Reads (λ pieces. pieces) result (text_of.all_pieces at (map (λ x. x.now) parts.now)) }
+    ensures { ReadsFilter (λ pieces. pieces) result (text_of.all_pieces at (map (λ x. x.now) parts.now)) }
 {
     let none = PieceList::new(alloc);
     let Some((first, others)) = parts.split_first() else {
@@ -218,7 +218,7 @@ fn parts_between<'a>(
 /// The item of the parts of a value, whose text stands at the place.
 fn substrings_at(alloc: Global, kind: TypeRef, at: usize, text: &str) -> Result<Item, FilterFault>
     requires { at + length text.now + 1 < 2 ^ 64 }
-    ensures { Reads item_view result (text_of.substrings_at (type_view kind) at text.now) }
+    ensures { ReadsFilter item_view result (text_of.substrings_at (type_view kind) at text.now) }
 {
     let parts = parts_between(alloc, text, '*')?;
     let pieces = all_pieces(alloc, at, &parts)?;
@@ -231,7 +231,7 @@ fn substrings_at(alloc: Global, kind: TypeRef, at: usize, text: &str) -> Result<
 /// The item of a value that an `=` asserts.
 fn equality_at(alloc: Global, kind: TypeRef, at: usize, text: &str) -> Result<Item, FilterFault>
     requires { at + length text.now + 1 < 2 ^ 64 }
-    ensures { Reads item_view result (text_of.asserted Equality (text_of.assertion_at (type_view kind) at text.now)) }
+    ensures { ReadsFilter item_view result (text_of.asserted Equality (text_of.assertion_at (type_view kind) at text.now)) }
 {
     Ok(Item::Equality(assertion_at(alloc, kind, at, text)?))
 }
@@ -239,7 +239,7 @@ fn equality_at(alloc: Global, kind: TypeRef, at: usize, text: &str) -> Result<It
 /// The item of what an `=` asserts: a value, a `*` alone, or parts between stars.
 fn equal_at(alloc: Global, kind: TypeRef, at: usize, text: &str) -> Result<Item, FilterFault>
     requires { at + length text.now + 1 < 2 ^ 64 }
-    ensures { Reads item_view result (text_of.equal_at (type_view kind) at text.now) }
+    ensures { ReadsFilter item_view result (text_of.equal_at (type_view kind) at text.now) }
 {
     let octets = text.as_bytes();
     if !octets.contains(&b'*') {
@@ -253,7 +253,7 @@ fn equal_at(alloc: Global, kind: TypeRef, at: usize, text: &str) -> Result<Item,
 
 /// The type that a word spells, which stands at the place.
 fn type_at(alloc: Global, at: usize, word: &str) -> Result<TypeRef, FilterFault>
-    ensures { Reads type_view result (text_of.type_at at word.now) }
+    ensures { ReadsFilter type_view result (text_of.type_at at word.now) }
 {
     match TypeRef::parse(alloc, word)? {
         Some(kind) => Ok(kind),
@@ -270,7 +270,7 @@ fn compared_at(
     text: &str,
 ) -> Result<Assertion, FilterFault>
     requires { place + length text.now + 1 < 2 ^ 64 }
-    ensures { Reads (λ a. a) result (text_of.compared_at at word.now place text.now) }
+    ensures { ReadsFilter (λ a. a) result (text_of.compared_at at word.now place text.now) }
 {
     let kind = type_at(alloc, at, word)?;
     assertion_at(alloc, kind, place, text)
@@ -293,7 +293,7 @@ fn item_by_sides(
     right: &str,
 ) -> Result<Item, FilterFault>
     requires { place + length right.now + 1 < 2 ^ 64 }
-    ensures { Reads item_view result (text_of.item_by_sides at left.now place right.now) }
+    ensures { ReadsFilter item_view result (text_of.item_by_sides at left.now place right.now) }
 {
     if let Some(word) = before_last(left, '>') {
         let assertion = compared_at(alloc, at, word, place, right)?;
@@ -314,7 +314,7 @@ fn item_by_sides(
 /// An item without its brackets, which stands at the place.
 fn item_at(alloc: Global, at: usize, text: &str) -> Result<Item, FilterFault>
     requires { at + length text.now + 1 < 2 ^ 64 }
-    ensures { Reads item_view result (text_of.item_at at text.now) }
+    ensures { ReadsFilter item_view result (text_of.item_at at text.now) }
 {
     let Some((left, right)) = text.split_once('=') else {
         return Err(FilterFault::Bad(at + text.len()));
@@ -326,7 +326,7 @@ fn item_at(alloc: Global, at: usize, text: &str) -> Result<Item, FilterFault>
 /// whole text, of which the text is the end.
 fn closed<'a>(all: usize, filter: Filter, text: &'a str) -> Result<(Filter, &'a str), FilterFault>
     requires { length text.now ≤ all }
-    ensures read { Reads (λ p. (filter_view p.0, p.1.now)) result (text_of.closed all (filter_view filter) text.entry.now) }
+    ensures read { ReadsFilter (λ p. (filter_view p.0, p.1.now)) result (text_of.closed all (filter_view filter) text.entry.now) }
     ensures behind { IfOk result (λ p. length p.1.now < length text.entry.now) }
 {
     match text.strip_prefix(')') {
@@ -339,7 +339,7 @@ fn closed<'a>(all: usize, filter: Filter, text: &'a str) -> Result<(Filter, &'a 
 fn item_from<'a>(alloc: Global, all: usize, text: &'a str) -> Result<(Filter, &'a str), FilterFault>
     requires within { length text.now ≤ all }
     requires small { all + 1 < 2 ^ 64 }
-    ensures read { Reads (λ p. (filter_view p.0, p.1.now)) result (text_of.item_read all text.entry.now) }
+    ensures read { ReadsFilter (λ p. (filter_view p.0, p.1.now)) result (text_of.item_read all text.entry.now) }
     ensures behind { IfOk result (λ p. length p.1.now < length text.entry.now) }
 {
     let at = all - text.len();
@@ -362,7 +362,7 @@ fn members_from<'a>(
     requires within { length text.now ≤ all }
     requires small { all + 1 < 2 ^ 64 }
     requires deep { nesting < 2 ^ 32 }
-    ensures read { Reads (λ p. (filters_of p.0.items, p.1.now)) result (text_of.members_read (text_of.filter_read nesting all) (length text.entry.now) text.entry.now) }
+    ensures read { ReadsFilter (λ p. (filters_of p.0.items, p.1.now)) result (text_of.members_read (text_of.filter_read nesting all) (length text.entry.now) text.entry.now) }
     ensures behind { IfOk result (λ p. length p.1.now ≤ length text.entry.now) }
 {
     let mut members = Vec::new(alloc);
@@ -390,7 +390,7 @@ fn inside_from<'a>(
     requires within { length text.now ≤ all }
     requires small { all + 1 < 2 ^ 64 }
     requires deep { nesting < 2 ^ 32 }
-    ensures read { Reads (λ p. (filter_view p.0, p.1.now)) result (text_of.inside_read (text_of.filter_read nesting all) all text.entry.now) }
+    ensures read { ReadsFilter (λ p. (filter_view p.0, p.1.now)) result (text_of.inside_read (text_of.filter_read nesting all) all text.entry.now) }
     ensures behind { IfOk result (λ p. length p.1.now < length text.entry.now) }
 {
     if let Some(inside) = text.strip_prefix('&') {
@@ -424,7 +424,7 @@ fn filter_from<'a>(
     requires within { length text.now ≤ all }
     requires small { all + 1 < 2 ^ 64 }
     requires deep { nesting < 2 ^ 32 }
-    ensures read { Reads (λ p. (filter_view p.0, p.1.now)) result (text_of.filter_read nesting all text.entry.now) }
+    ensures read { ReadsFilter (λ p. (filter_view p.0, p.1.now)) result (text_of.filter_read nesting all text.entry.now) }
     ensures behind { IfOk result (λ p. length p.1.now < length text.entry.now) }
 {
     match text.strip_prefix('(') {
@@ -436,7 +436,7 @@ fn filter_from<'a>(
 impl Filter {
     /// The filter that a text spells, nested 16 deep at most; `Bad` tells the first octet outside the grammar.
     pub fn parse(alloc: Global, text: &str) -> Result<Filter, FilterFault>
-        ensures read { Reads filter_view result (text_of.filter_of_text text.now) }
+        ensures read { ReadsFilter filter_view result (text_of.filter_of_text text.now) }
         ensures spelled { IfOk result (λ filter. Spells text_of.deepest (filter_view filter) text.now) }
     {
         let all = text.len();

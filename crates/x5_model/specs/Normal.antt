@@ -153,9 +153,9 @@ is_rdn r = nat_lt 0 (length r) && list_all is_pair r && ascends r
 abbrev pub is_name : NameValue → Bool
 is_name n = list_all is_rdn n
 
-abbrev pub first_of : Option ℕ → Option ℕ → Option ℕ
-first_of None o = o
-first_of (Some n) o = Some n
+abbrev pub first_found : Option ℕ → Option ℕ → Option ℕ
+first_found None o = o
+first_found (Some n) o = Some n
 
 abbrev pub over : ℕ → ℕ → Option ℕ
 over most n = if nat_lt most n then Some most else None
@@ -164,11 +164,11 @@ over most n = if nat_lt most n then Some most else None
 abbrev pub rdn_over : ℕ → List (ℕ × Text) → Option ℕ
 rdn_over before [] = None
 rdn_over before (p ∷ r) =
-    first_of (over most_pairs (before + 1)) (first_of (over most_octets (length p.1)) (rdn_over (before + 1) r))
+    first_found (over most_pairs (before + 1)) (first_found (over most_octets (length p.1)) (rdn_over (before + 1) r))
 
 abbrev pub name_over : ℕ → NameValue → Option ℕ
 name_over before [] = None
-name_over before (r ∷ n) = first_of (over most_rdns (before + 1)) (first_of (rdn_over 0 r) (name_over (before + 1) n))
+name_over before (r ∷ n) = first_found (over most_rdns (before + 1)) (first_found (rdn_over 0 r) (name_over (before + 1) n))
 
 abbrev pub normal_pair : ℕ × Text → KeyPair
 normal_pair p = (p.0, text_normal (kind_of p.0) p.1)

@@ -10,7 +10,7 @@ use Rattle.x5_model.specs.Members.{In, here}
 use Rattle.x5_model.specs.Keys.{Key, same_key, is_prefix, parent}
 use Rattle.x5_model.specs.Values.{TypeRef, Known, Unknown, Name, Offered, StoredValue, Rdn, key_of, last_rdn, name_above}
 use Rattle.x5_model.specs.Attributes.{is_present, has_value, doubled, added_entry, stored_value, has_rdn, entry_with}
-use Rattle.x5_model.specs.Changes.{Changed, and_then, each_value, put_new, drop_old, on_known, changed, changed_by, single_valued, keeps_rdn, modified, renamed}
+use Rattle.x5_model.specs.Changes.{ChangedEntry, and_then, each_value, put_new, drop_old, on_known, changed, changed_by, single_valued, keeps_rdn, modified, renamed}
 use Rattle.x5_model.specs.Entries.{Entry, Named}
 use Rattle.x5_model.specs.Selections.{selection_fault}
 use Rattle.x5_model.specs.Requests.{Selection, Attribute, Change, AddAttribute, RemoveAttribute, AddValues, RemoveValues, Body, Read, Compare, ListBelow, Search, AddEntry, RemoveEntry, ModifyEntry, ModifyDn, Request}
@@ -19,7 +19,7 @@ use Rattle.x5_model.specs.Problems.{invalid_attribute_syntax, undefined_attribut
 use Rattle.x5_model.specs.Statics.{root_refusals, name_refusals, given, is_defined, value_refusals, has_equal_values, same_type, repeated, attribute_repeats, change_repeats, names_class, repeat_refusals, entry_refusals, added_refusals, static_refusals, fault_of}
 use Rattle.x5_model.proofs.Lists.{in_first, in_either, of_flat}
 use Rattle.x5_model_tree.specs.Tree.{Tree, tree_of, entry_at, is_there_or_root, has_below, matched, key_at, sorted_entries}
-use Rattle.x5_model_tree.specs.Apply.{Ground, Outcome, Applied, absent, above_pin, is_taken, at_entry, replace_at, respelled, update, apply_over, apply, ground_of}
+use Rattle.x5_model_tree.specs.Apply.{Ground, UpdatedEntries, Applied, absent, above_pin, is_taken, at_entry, replace_at, respelled, update, apply_over, apply, ground_of}
 use Rattle.x5_model_tree.specs.Ask.{Told, Shows, Compares, Lists, Finds, Changes, Refuses, read, compare, info_of, has_type, updated, at_object, ask_body, ask_marked}
 use Rattle.x5_model_serve.specs.Answering.{reply_from, own_source, copy_source}
 use Rattle.x5_model_bounds.specs.Unable.{IsUnable, RepliesAble}
@@ -129,15 +129,15 @@ fine_if : {A : Type 0} (b : Bool) (x y : Result A DirError) → IsFine x → IsF
 fine_if true x y f g = f
 fine_if false x y f g = g
 
-fine_then : (c : Changed) (f : Entry → Changed) → IsFine c → ((e : Entry) → IsFine (f e)) → IsFine (and_then c f)
+fine_then : (c : ChangedEntry) (f : Entry → ChangedEntry) → IsFine c → ((e : Entry) → IsFine (f e)) → IsFine (and_then c f)
 fine_then (Ok e) f g h = h e
 fine_then (Err x) f g h = g
 
-values_fine : (change : StoredValue → Entry → Changed) → ((v : StoredValue) (e : Entry) → IsFine (change v e)) → (os : List Offered) (e : Entry) → IsFine (each_value change os e)
+values_fine : (change : StoredValue → Entry → ChangedEntry) → ((v : StoredValue) (e : Entry) → IsFine (change v e)) → (os : List Offered) (e : Entry) → IsFine (each_value change os e)
 values_fine change f [] e = tt
 values_fine change f (o ∷ more) e = fine_then _ (each_value change more) (stored (stored_value o)) (values_fine change f more)
   where
-    with_stored : Option StoredValue → Changed
+    with_stored : Option StoredValue → ChangedEntry
     with_stored None = Ok e
     with_stored (Some v) = change v e
 
@@ -145,7 +145,7 @@ values_fine change f (o ∷ more) e = fine_then _ (each_value change more) (stor
     stored None = tt
     stored (Some v) = f v e
 
-known_fine : (change : ℕ → Entry → Changed) → ((k : ℕ) (e : Entry) → IsFine (change k e)) → (t : TypeRef) (e : Entry) → IsFine (on_known change t e)
+known_fine : (change : ℕ → Entry → ChangedEntry) → ((k : ℕ) (e : Entry) → IsFine (change k e)) → (t : TypeRef) (e : Entry) → IsFine (on_known change t e)
 known_fine change f (Known kind) e = f kind e
 known_fine change f (Unknown arcs) e = tt
 
@@ -166,7 +166,7 @@ changes_fine (c ∷ more) e = fine_then (changed c e) (changed_by more) (changed
 single_fine : (e : Entry) → IsFine (single_valued e)
 single_fine e = go (doubled e)
   where
-    by : Option ℕ → Changed
+    by : Option ℕ → ChangedEntry
     by None = Ok e
     by (Some kind) = Err (AttributeProblem constraint_violation (Known kind))
 
@@ -179,10 +179,10 @@ modified_fine rdn cs e =
     fine_then (and_then (changed_by cs e) (keeps_rdn rdn)) single_valued
     (fine_then (changed_by cs e) (keeps_rdn rdn) (changes_fine cs e) (λ f. fine_if (has_rdn f rdn) _ _ tt false_true)) single_fine
 
-entry_fine : (g : Ground) (key : Key) (f : Named → Outcome) → ((e : Named) → IsFine (f e)) → IsFine (at_entry g key f)
+entry_fine : (g : Ground) (key : Key) (f : Named → UpdatedEntries) → ((e : Named) → IsFine (f e)) → IsFine (at_entry g key f)
 entry_fine g key f h = go (entry_at g.entries key)
   where
-    by : Option Named → Outcome
+    by : Option Named → UpdatedEntries
     by None = Err (absent g key)
     by (Some e) = f e
 
@@ -199,11 +199,11 @@ update_fine g (AddEntry name attributes) = entry_fine g (parent (key_of name)) _
 update_fine g (RemoveEntry name) = entry_fine g (key_of name) _ (λ e. fine_if (above_pin g (key_of name)) _ _ false_true (fine_if (has_below g.entries (key_of name)) _ _ false_true tt))
 update_fine g (ModifyEntry name changes) = entry_fine g (key_of name) _ (λ e. put e (modified (last_rdn name) changes e.entry) (modified_fine (last_rdn name) changes e.entry))
   where
-    made : Named → Changed → Outcome
+    made : Named → ChangedEntry → UpdatedEntries
     made e (Ok new) = Ok (replace_at (key_of name) (record e { entry = new }) g.entries)
     made e (Err x) = Err x
 
-    put : (e : Named) (c : Changed) → IsFine c → IsFine (made e c)
+    put : (e : Named) (c : ChangedEntry) → IsFine c → IsFine (made e c)
     put e (Ok new) f = tt
     put e (Err x) f = f
 update_fine g (ModifyDn name rdn drops) =
@@ -217,13 +217,13 @@ update_fine g (ModifyDn name rdn drops) =
         if same_key (key_at e) (key_of name) then record { name = respelled (length (name_above name)) rdn e.name; entry = new }
         else (if is_prefix (key_of name) (key_at e) then record e { name = respelled (length (name_above name)) rdn e.name } else e)
 
-    made : Changed → Outcome
+    made : ChangedEntry → UpdatedEntries
     made (Err x) = Err x
     made (Ok new) =
         if not (same_key new_key (key_of name)) && is_taken g new_key then Err (UpdateProblem entry_already_exists)
         else Ok (sorted_entries (map (moved new) g.entries))
 
-    put : (c : Changed) → IsFine c → IsFine (made c)
+    put : (c : ChangedEntry) → IsFine c → IsFine (made c)
     put (Err x) f = f
     put (Ok new) f = fine_if (not (same_key new_key (key_of name)) && is_taken g new_key) (Err (UpdateProblem entry_already_exists)) (Ok (sorted_entries (map (moved new) g.entries))) false_true tt
 
@@ -234,7 +234,7 @@ of_fine (Err y) x f e = (let same : y ≡ x = cc in subst IsAble same f)
 apply_fine : (g : Ground) (b : Body) → IsFine (apply_over g b)
 apply_fine g b = go (fault_of b) refl
   where
-    by : Option DirError → Outcome
+    by : Option DirError → UpdatedEntries
     by (Some x) = Err x
     by None = update g b
 
@@ -284,11 +284,11 @@ read_told copies selection e = go (selection_fault selection e.entry)
 applied_told : (t : Tree) (r : Request) → IsTold (updated (apply t r))
 applied_told t r = go (apply_over (ground_of t) r.body) (apply_fine (ground_of t) r.body)
   where
-    by : Outcome → Applied
+    by : UpdatedEntries → Applied
     by (Ok entries) = Ok (record t { entries = entries })
     by (Err x) = Err x
 
-    go : (x : Outcome) → IsFine x → IsTold (updated (by x))
+    go : (x : UpdatedEntries) → IsFine x → IsTold (updated (by x))
     go (Ok es) f = tt
     go (Err x) f = f
 

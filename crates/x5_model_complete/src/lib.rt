@@ -3,7 +3,7 @@
 #![tactic(auto)]
 
 ghost use Rattle.x5_model_run.specs.Right.{AnswersRight};
-ghost use Rattle.x5_model_star.specs.Runs.{RightAndWhole};
+ghost use Rattle.x5_model_settled.specs.Judges.{RightAndWhole};
 ghost use Rattle.x5_model_complete.specs.Complete.{LinesAreComplete, RunsAreComplete, LinesAreSpared, RunsAreSpared};
 
 /// With every agent up and willing, no pair cut, nothing to be lost and chaining allowed, a request's answer is a result that

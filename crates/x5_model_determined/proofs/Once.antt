@@ -5,7 +5,7 @@ use Rattle.x5_model.specs.Entries.{Named}
 use Rattle.x5_model.specs.References.{Reference}
 use Rattle.x5_model.specs.Answers.{Answer, Changed, DirError, NoSuchObject, Reply, Answered, Failed, Referred}
 use Rattle.x5_model.specs.Problems.{unavailable}
-use Rattle.x5_model_tree.specs.Apply.{Outcome}
+use Rattle.x5_model_tree.specs.Apply.{UpdatedEntries}
 use Rattle.x5_model_run.specs.Network.{Fate, Lost, NoReply, Sent}
 use Rattle.x5_model_run.specs.Journal.{Journal, is_wide}
 use Rattle.x5_model_run.specs.Needs.{due_probes}
@@ -200,18 +200,18 @@ module _ (s : Scene) (most : ℕ) where
       → Does s most (Updates k other) i l → Probed s most k r other i l
   probed_at k other i l mine r e f d =
       subst (λ (z : List Reference). UpdatesAs s most k other i l (Ok mine) z) f
-      (subst (λ (z : Outcome). UpdatesAs s most k other i l z (due_probes (holds_now s i k) k.message)) e
+      (subst (λ (z : UpdatedEntries). UpdatesAs s most k other i l z (due_probes (holds_now s i k) k.message)) e
       (updates_at s most k other i l d))
 
   on_refusal : (k : Hand) (i : Journal) (x : DirError) → judged s i k ≡ Err x → Claim (Updates k (Failed x)) i i
   on_refusal k i x e other l d =
-      subst (λ (z : Outcome). UpdatesAs s most k other i l z (due_probes (holds_now s i k) k.message)) e (updates_at s most k other i l d)
+      subst (λ (z : UpdatedEntries). UpdatesAs s most k other i l z (due_probes (holds_now s i k) k.message)) e (updates_at s most k other i l d)
 
   on_alone : (k : Hand) (i : Journal) (mine : List Named) → judged s i k ≡ Ok mine → due_probes (holds_now s i k) k.message ≡ []
       → Claim (Updates k (Answered Changed)) i (with_accepted k.receiver i)
   on_alone k i mine e f other l d =
       subst (λ (z : List Reference). UpdatesAs s most k other i l (Ok mine) z) f
-      (subst (λ (z : Outcome). UpdatesAs s most k other i l z (due_probes (holds_now s i k) k.message)) e
+      (subst (λ (z : UpdatedEntries). UpdatesAs s most k other i l z (due_probes (holds_now s i k) k.message)) e
       (updates_at s most k other i l d))
 
   on_probed : (k : Hand) (i j : Journal) (mine : List Named) (r : Reference) (noted : List ℕ) → judged s i k ≡ Ok mine

@@ -7,7 +7,7 @@ use Rattle.x5_model.specs.Entries.{Named}
 use Rattle.x5_model.specs.References.{Reference}
 use Rattle.x5_model.specs.Answers.{Answer, Changed, DirError, NoSuchObject, AttributeProblem, UpdateProblem, ServiceProblem, Reply, Answered, Failed, Referred}
 use Rattle.x5_model.specs.Problems.{entry_already_exists, unavailable, unable_to_proceed}
-use Rattle.x5_model_tree.specs.Apply.{Outcome}
+use Rattle.x5_model_tree.specs.Apply.{UpdatedEntries}
 use Rattle.x5_model_run.specs.Network.{Fate, Lost, NoReply, Sent}
 use Rattle.x5_model_run.specs.Journal.{Journal, is_wide}
 use Rattle.x5_model_run.specs.Needs.{due_probes}
@@ -324,7 +324,7 @@ module _ (s : Scene) (most : ℕ) where
       ((noted : List ℕ) × (m : Journal) × ProbesLoop k r i r.agents noted m × (y ≡ probed_reply r noted) × (l ≡ probed_journal k noted m))
       ⊎ ((st : StopsProbing k r i l) × (y ≡ stopped_reply st.what))
 
-  abbrev pub UpdatesAs : Hand → Reply → Journal → Journal → Outcome → List Reference → Type 0
+  abbrev pub UpdatesAs : Hand → Reply → Journal → Journal → UpdatedEntries → List Reference → Type 0
   UpdatesAs k y i l (Err x) due = (y ≡ Failed x) × (l ≡ i)
   UpdatesAs k y i l (Ok mine) [] = (y ≡ Answered Changed) × (l ≡ with_accepted k.receiver i)
   UpdatesAs k y i l (Ok mine) (r ∷ []) = Probed k r y i l
@@ -334,16 +334,16 @@ module _ (s : Scene) (most : ℕ) where
   abbrev pub UpdatesAt : Hand → Reply → Journal → Journal → Type 0
   UpdatesAt k y i l = UpdatesAs k y i l (judged s i k) (due_probes (holds_now s i k) k.message)
 
-  probing : (k : Hand) (y : Reply) (i l : Journal) (made : Outcome) (due : List Reference) (mine : List Named) (r : Reference)
+  probing : (k : Hand) (y : Reply) (i l : Journal) (made : UpdatedEntries) (due : List Reference) (mine : List Named) (r : Reference)
       → made ≡ Ok mine → due ≡ r ∷ [] → Probed k r y i l → UpdatesAs k y i l made due
   probing k y i l made due mine r e f p =
-      subst (λ (z : Outcome). UpdatesAs k y i l z due) (sym e) (subst (λ (z : List Reference). UpdatesAs k y i l (Ok mine) z) (sym f) p)
+      subst (λ (z : UpdatedEntries). UpdatesAs k y i l z due) (sym e) (subst (λ (z : List Reference). UpdatesAs k y i l (Ok mine) z) (sym f) p)
 
   pub updates_at : (k : Hand) (y : Reply) (i l : Journal) → Does s most (Updates k y) i l → UpdatesAt k y i l
   updates_at _ _ _ _ (not_done {k} {j} x e) =
-      subst (λ (z : Outcome). UpdatesAs k (Failed x) j j z (due_probes (holds_now s j k) k.message)) (sym e) (refl, refl)
+      subst (λ (z : UpdatedEntries). UpdatesAs k (Failed x) j j z (due_probes (holds_now s j k) k.message)) (sym e) (refl, refl)
   updates_at _ _ _ _ (does {k} {j} mine e f) =
-      subst (λ (z : Outcome). UpdatesAs k (Answered Changed) j (with_accepted k.receiver j) z (due_probes (holds_now s j k) k.message))
+      subst (λ (z : UpdatedEntries). UpdatesAs k (Answered Changed) j (with_accepted k.receiver j) z (due_probes (holds_now s j k) k.message))
       (sym e)
       (subst (λ (z : List Reference). UpdatesAs k (Answered Changed) j (with_accepted k.receiver j) (Ok mine) z) (sym f) (refl, refl))
   updates_at _ _ _ _ (probes_all {k} {i} {j} mine r e f d) =

@@ -18,7 +18,7 @@ use Rattle.x5_model.specs.Problems.{entry_already_exists, unavailable, unable_to
 use Rattle.x5_model.specs.Statics.{fault_of}
 use Rattle.x5_model_tree.specs.Tree.{tree_of, is_there, entry_at}
 use Rattle.x5_model_tree.specs.Ask.{Told, Shows, Compares, Lists, Finds, Changes, Refuses, is_update, ask_marked}
-use Rattle.x5_model_tree.specs.Apply.{Outcome}
+use Rattle.x5_model_tree.specs.Apply.{UpdatedEntries}
 use Rattle.x5_model_run.specs.Network.{Fate, Lost, NoReply, Sent}
 use Rattle.x5_model_run.specs.Journal.{Line, Journal, item_of, is_wide}
 use Rattle.x5_model_run.specs.Holdings.{Held, Copy, Holdings, held_at, known_pin, ground_at}
@@ -328,7 +328,7 @@ module _ (s : Scene) (most : ℕ) where
         with_probes mine ok (r ∷ []) one due = probes k i mine r ok due [] r.agents [] i refl no_probe room
         with_probes mine ok (r ∷ q ∷ more) one due = absurd one
 
-        by : (o : Outcome) → judged s i k ≡ o → UpdatesSome k i
+        by : (o : UpdatedEntries) → judged s i k ≡ o → UpdatesSome k i
         by (Err x) e = (
           Failed x,
           i,

@@ -35,7 +35,7 @@ abbrev pub RequestsAreDone : Type 0
 RequestsAreDone = (s : Scene) (most : ℕ) → (j : Journal) × (reply : Reply) × IsRequest s most j reply
 
 -- the journal and the reply of a request, of which there are no others
-pub record Outcome (s : Scene) (most : ℕ) : Type 0 where
+pub record UniqueResult (s : Scene) (most : ℕ) : Type 0 where
   pub journal : Journal
   pub reply : Reply
   pub done : IsRequest s most journal reply
@@ -43,10 +43,10 @@ pub record Outcome (s : Scene) (most : ℕ) : Type 0 where
 
 -- 4. So a request has one outcome,
 abbrev pub RequestsHaveOutcomes : Type 0
-RequestsHaveOutcomes = (s : Scene) (most : ℕ) → Outcome s most
+RequestsHaveOutcomes = (s : Scene) (most : ℕ) → UniqueResult s most
 
 -- 5. at every line, whatever the world and whatever was done before, so over knowledge that isn't consistent too.
 abbrev pub LinesHaveOutcomes : Type 0
 LinesHaveOutcomes =
     (w : World) (past : List Did) (first most : ℕ) (r : Request)
-    → Outcome (scene_at (record { described = w; past = past }) first r) most
+    → UniqueResult (scene_at (record { described = w; past = past }) first r) most

@@ -184,7 +184,7 @@ object_alone m (ModifyDn name rdn drops) none = refl
 abbrev from_copy : List Source → Key → Bool
 from_copy sources pin = list_any (λ s. same_key (key_of s.context) pin && is_some s.moment) sources
 
-module _ (p : Point) (o : ℕ) (m : Chained) (c : Copy) (s : updates.Stands p) (stood : CopiesStand p) (looked : IsLooked m) (e : find (holdings_at p o) m ≡ CopyHere c) (none : subset_of m ≡ None) where
+module _ (p : Point) (o : ℕ) (m : Chained) (c : Copy) (s : updates.StandsWhole p) (stood : CopiesStand p) (looked : IsLooked m) (e : find (holdings_at p o) m ≡ CopyHere c) (none : subset_of m ≡ None) where
   fits_both : (same_name (target_of m.request.body) m.target ≡ true) × ((not (is_done m.progress) || is_query_below m.request.body) ≡ true)
   fits_both = both_true (same_name (target_of m.request.body) m.target) (not (is_done m.progress) || is_query_below m.request.body) looked.1
 

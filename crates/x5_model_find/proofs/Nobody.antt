@@ -179,7 +179,7 @@ above_is xs ys =
     ∙ ap (λ (x : Name). take (length xs) (x ++ drop (length xs) ys)) (take-length xs)
     ∙ take-append_seam xs (drop (length xs) ys)
 
-module _ (p : Point) (s : updates.Stands p) (o : ℕ) (m : Chained) (looked : IsLooked m) (going : is_done m.progress ≡ false) (a : Agent) (ia : In (o, a) (numbered (knowledge_at p)))
+module _ (p : Point) (s : updates.StandsWhole p) (o : ℕ) (m : Chained) (looked : IsLooked m) (going : is_done m.progress ≡ false) (a : Agent) (ia : In (o, a) (numbered (knowledge_at p)))
     (q : Key) (c : Held) (best : IsLongest (map key_of (known_pins m.request (holdings_at p o))) (key_of m.target) (Some q)) (found : held_at (holdings_at p o).own q ≡ Some c)
     (e : Named) (low : lowest c.entries (key_of m.target) ≡ Some e) (other : same_name e.name m.target ≡ false) (n : Nssr) (at : nssr_at c.nssrs (key_of e.name) ≡ Some n) where
   abbrev asked : Reference

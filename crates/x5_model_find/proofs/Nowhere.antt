@@ -78,7 +78,7 @@ at_master p hs e o = in_option [] (in_context e o) (in_option None (held_at (hs 
 pub me_is : (p : Point) (o : ℕ) → (holdings_at p o).me ≡ o
 me_is p o = by_agent p o (λ h. h.me ≡ o) refl (λ a i. refl)
 
-module _ (p : Point) (s : updates.Stands p) (o : ℕ) where
+module _ (p : Point) (s : updates.StandsWhole p) (o : ℕ) where
   abbrev W : World
   W = world_at p
 

@@ -18,7 +18,7 @@ use Rattle.x5_model_updates.proofs.Moments.{knowledge_now}
 use Rattle.x5_model_updates.proofs.Stood.{lines_stand}
 use Rattle.x5_model_find.specs.Finds.{StandAlike, CopiesAlways}
 
-module _ (p : Point) (s : updates.Stands p) where
+module _ (p : Point) (s : updates.StandsWhole p) where
   now : knowledge_of (world_at p) ≡ with_entries (keys_in (tree_at p)) (knowledge_of (knowledge_at p))
   now = knowledge_now (tree_at p) (knowledge_at p)
 

@@ -35,7 +35,7 @@ use Rattle.x5_model_serve.specs.Claims.{IsAgent}
 -- ---- what a line finds
 -- Where updates find a line standing, so do the parts of a query;
 abbrev pub StandAlike : Type 0
-StandAlike = (p : Point) → updates.Stands p → parts.Stands p
+StandAlike = (p : Point) → updates.StandsWhole p → parts.Stands p
 
 -- and copies stand as of their moments, as long as no context is moved.
 abbrev pub CopiesAlways : Type 0
@@ -105,14 +105,14 @@ pub data Ends (p : Point) (o : ℕ) (m : Chained) (others : List ℕ) : Name →
 abbrev pub NowhereIsTold : Type 0
 NowhereIsTold =
     (p : Point) (o : ℕ) (m : Chained) (n : Name)
-    → updates.Stands p → IsAgent p o → IsLooked m → find (holdings_at p o) m ≡ Nowhere n
+    → updates.StandsWhole p → IsAgent p o → IsLooked m → find (holdings_at p o) m ≡ Nowhere n
     → (told (λ key. false) (tree_at p) m ≡ Refuses (NoSuchObject n)) × Ends p o m [] n
 
 -- So it is where no agent of the NSSR holds a context that goes as far.
 abbrev pub NobodyIsTold : Type 0
 NobodyIsTold =
     (p : Point) (o : ℕ) (m : Chained) (r : Reference) (k : ℕ)
-    → updates.Stands p → IsAgent p o → IsLooked m
+    → updates.StandsWhole p → IsAgent p o → IsLooked m
     → find (holdings_at p o) m ≡ Onward r → is_wide r.kind ≡ true → r.progress ≡ Next k
     → ((a : ℕ) → In a r.agents → holds_within (holdings_at p a) (key_of r.target) k ≡ false)
     → (told (λ key. false) (tree_at p) m ≡ Refuses (NoSuchObject (above_next r))) × Ends p o m r.agents (above_next r)
@@ -121,7 +121,7 @@ NobodyIsTold =
 abbrev pub OwnIsTold : Type 0
 OwnIsTold =
     (p : Point) (o : ℕ) (m : Chained) (c : Held)
-    → updates.Stands p → IsLooked m → find (holdings_at p o) m ≡ Here c
+    → updates.StandsWhole p → IsLooked m → find (holdings_at p o) m ≡ Here c
     → subset_of m ≡ None → is_update m.request.body ≡ false
     → (told (λ key. false) (tree_at p) m ≡ ask_marked (λ key. false) (tree_of c.entries []) m.request)
     × (touched (knowledge_at p) (tree_at p) o m ≡ key_of c.prefix ∷ [])
@@ -130,7 +130,7 @@ OwnIsTold =
 abbrev pub CopyIsTold : Type 0
 CopyIsTold =
     (p : Point) (o : ℕ) (m : Chained) (c : Copy)
-    → updates.Stands p → parts.CopiesStand p → IsLooked m → find (holdings_at p o) m ≡ CopyHere c → subset_of m ≡ None
+    → updates.StandsWhole p → parts.CopiesStand p → IsLooked m → find (holdings_at p o) m ≡ CopyHere c → subset_of m ≡ None
     → (t : ℕ) × (c.stamp ≡ Some t) × (may_copy m.request ≡ true) × (is_copy_source p (copy_source o c) t ≡ true)
     × (touched (knowledge_at p) (tree_at p) o m ≡ key_of c.held.prefix ∷ [])
     × (ask_marked (λ key. true) (tree_of c.held.entries []) m.request
@@ -140,14 +140,14 @@ CopyIsTold =
 abbrev pub HereIsJudge : Type 0
 HereIsJudge =
     (p : Point) (o : ℕ) (m : Chained) (c : Held)
-    → updates.Stands p → IsLooked m → is_update m.request.body ≡ true → find (holdings_at p o) m ≡ Here c
+    → updates.StandsWhole p → IsLooked m → is_update m.request.body ≡ true → find (holdings_at p o) m ≡ Here c
     → IsJudge p o m
 
 -- And an update that still resolves its name at the master of a present target is found there.
 abbrev pub JudgeIsHere : Type 0
 JudgeIsHere =
     (p : Point) (o : ℕ) (m : Chained)
-    → updates.Stands p → IsLooked m → is_update m.request.body ≡ true
+    → updates.StandsWhole p → IsLooked m → is_update m.request.body ≡ true
     → resolves (holdings_at p o) m ≡ true → master_at p (key_of m.target) ≡ Some o
     → is_there (tree_at p).entries (key_of m.target) ≡ true
     → (c : Held) × (find (holdings_at p o) m ≡ Here c)

@@ -13,10 +13,10 @@ use Rattle.x5_model.specs.Requests.{Selection, Attribute, Change, AddAttribute, 
 use Rattle.x5_model.specs.Answers.{DirError, NoSuchObject, AttributeProblem, UpdateProblem, ServiceProblem, Failed}
 use Rattle.x5_model.specs.Statics.{name_refusals, given, value_refusals, attribute_repeats, change_repeats, repeat_refusals, entry_refusals, added_refusals, static_refusals, fault_of, names_class, is_defined, has_equal_values, same_type, repeated}
 use Rattle.x5_model.specs.Selections.{selection_fault}
-use Rattle.x5_model.specs.Changes.{Changed, and_then, each_value, put_new, drop_old, on_known, changed, changed_by, single_valued, keeps_rdn, modified, renamed}
+use Rattle.x5_model.specs.Changes.{ChangedEntry, and_then, each_value, put_new, drop_old, on_known, changed, changed_by, single_valued, keeps_rdn, modified, renamed}
 use Rattle.x5_model.proofs.Lists.{in_either, in_first, of_flat}
 use Rattle.x5_model_tree.specs.Tree.{Tree, entry_at, has_below, is_there_or_root}
-use Rattle.x5_model_tree.specs.Apply.{Ground, Outcome, Applied, apply, is_taken, above_pin, at_entry, modify, rename, update, apply_over, ground_of}
+use Rattle.x5_model_tree.specs.Apply.{Ground, UpdatedEntries, Applied, apply, is_taken, above_pin, at_entry, modify, rename, update, apply_over, ground_of}
 use Rattle.x5_model_tree.specs.Ask as ask
 use Rattle.x5_model_tree.specs.Ask.{Told, Shows, Compares, Lists, Finds, Changes, Refuses, at_object, has_type, updated, ask_body, ask_marked}
 use Rattle.x5_model_updates.proofs.Outcomes.{none_or_some, ok_or_err, modify_none, modify_some, clashes, rename_none, rename_some, over_fault, over_update, tree_refuses, tree_accepts}
@@ -49,7 +49,7 @@ flat_plain : {A : Type 0} (f : A → List DirError) (xs : List A) → ((a : A) �
 flat_plain f xs g x i = let w = of_flat f x xs i in g w.0 x w.2
 
 -- ---- by the request alone
-abbrev err : DirError → Outcome
+abbrev err : DirError → UpdatedEntries
 err x = Err x
 
 names_plain : (body : Body) → AllPlain (name_refusals body)
@@ -130,20 +130,20 @@ pub fault_plain : (body : Body) (x : DirError) → fault_of body ≡ Some x → 
 fault_plain body x e = first_plain (static_refusals body) x e (all_plain body)
 
 -- ---- by what an entry is
-abbrev PlainChanged : Changed → Type 0
+abbrev PlainChanged : ChangedEntry → Type 0
 PlainChanged (Ok e) = Unit {0}
 PlainChanged (Err x) = is_tree_error x ≡ true
 
-then_plain : (c : Changed) (f : Entry → Changed) → PlainChanged c → ((e : Entry) → PlainChanged (f e))
+then_plain : (c : ChangedEntry) (f : Entry → ChangedEntry) → PlainChanged c → ((e : Entry) → PlainChanged (f e))
     → PlainChanged (and_then c f)
 then_plain (Ok e) f p g = g e
 then_plain (Err x) f p g = p
 
-if_plain : (b : Bool) (c d : Changed) → PlainChanged c → PlainChanged d → PlainChanged (cond b c d)
+if_plain : (b : Bool) (c d : ChangedEntry) → PlainChanged c → PlainChanged d → PlainChanged (cond b c d)
 if_plain true c d p q = p
 if_plain false c d p q = q
 
-step_plain : (change : StoredValue → Entry → Changed) → ((v : StoredValue) (e : Entry) → PlainChanged (change v e))
+step_plain : (change : StoredValue → Entry → ChangedEntry) → ((v : StoredValue) (e : Entry) → PlainChanged (change v e))
     → (o : Offered) (more : List Offered) (e : Entry) → ((f : Entry) → PlainChanged (each_value change more f))
     → PlainChanged (each_value change (o ∷ more) e)
 step_plain change f o more e g = by (stored_value o) refl
@@ -152,7 +152,7 @@ step_plain change f o more e g = by (stored_value o) refl
     by None q = rw q (g e)
     by (Some v) q = rw q (then_plain (change v e) (each_value change more) (f v e) g)
 
-each_plain : (change : StoredValue → Entry → Changed) → ((v : StoredValue) (e : Entry) → PlainChanged (change v e))
+each_plain : (change : StoredValue → Entry → ChangedEntry) → ((v : StoredValue) (e : Entry) → PlainChanged (change v e))
     → (os : List Offered) (e : Entry) → PlainChanged (each_value change os e)
 each_plain change f [] e = tt
 each_plain change f (o ∷ more) e = step_plain change f o more e (each_plain change f more)
@@ -163,7 +163,7 @@ put_plain kind v e = if_plain (has_value e kind v.normal) _ (Ok (put_value kind 
 drop_plain : (kind : ℕ) (v : StoredValue) (e : Entry) → PlainChanged (drop_old kind v e)
 drop_plain kind v e = if_plain (has_value e kind v.normal) (Ok (drop_value kind v.normal e)) _ tt refl
 
-known_plain : (f : ℕ → Entry → Changed) (t : TypeRef) (e : Entry) → ((n : ℕ) → PlainChanged (f n e))
+known_plain : (f : ℕ → Entry → ChangedEntry) (t : TypeRef) (e : Entry) → ((n : ℕ) → PlainChanged (f n e))
     → PlainChanged (on_known f t e)
 known_plain f (Known kind) e g = g kind
 known_plain f (Unknown arcs) e g = tt
@@ -196,15 +196,15 @@ modified_plain rdn cs e =
     (Ok f) _ tt refl)) single_plain
 
 -- ---- by the ground
-abbrev PlainOutcome : Outcome → Type 0
+abbrev PlainOutcome : UpdatedEntries → Type 0
 PlainOutcome (Ok es) = Unit {0}
 PlainOutcome (Err x) = is_tree_error x ≡ true
 
-if_out : (b : Bool) (c d : Outcome) → PlainOutcome c → PlainOutcome d → PlainOutcome (cond b c d)
+if_out : (b : Bool) (c d : UpdatedEntries) → PlainOutcome c → PlainOutcome d → PlainOutcome (cond b c d)
 if_out true c d p q = p
 if_out false c d p q = q
 
-at_plain : (g : Ground) (key : Key) (f : Named → Outcome) → ((e : Named) → PlainOutcome (f e))
+at_plain : (g : Ground) (key : Key) (f : Named → UpdatedEntries) → ((e : Named) → PlainOutcome (f e))
     → PlainOutcome (at_entry g key f)
 at_plain g key f h = by (entry_at g.entries key) refl
   where
@@ -222,38 +222,38 @@ update_plain g (AddEntry name attributes) = at_plain g (parent (key_of name)) _ 
 update_plain g (RemoveEntry name) = at_plain g (key_of name) _ (λ e. if_out (above_pin g (key_of name)) _ _ refl
     (if_out (has_below g.entries (key_of name)) _ _ refl tt))
 update_plain g (ModifyEntry name changes) = elim (none_or_some (entry_at g.entries (key_of name))) [
-  | inl q ↦ subst (λ (o : Outcome). PlainOutcome o) (sym (modify_none g name changes q)) refl
+  | inl q ↦ subst (λ (o : UpdatedEntries). PlainOutcome o) (sym (modify_none g name changes q)) refl
   | inr w ↦ by w.0 w.1 (modified (last_rdn name) changes w.0.entry) refl (modified_plain
       (last_rdn name) changes w.0.entry)
 ]
   where
-    by : (e : Named) → entry_at g.entries (key_of name) ≡ Some e → (c : Changed)
+    by : (e : Named) → entry_at g.entries (key_of name) ≡ Some e → (c : ChangedEntry)
         → modified (last_rdn name) changes e.entry ≡ c
         → PlainChanged c → PlainOutcome (modify g name changes)
-    by e q (Ok new) h p = subst (λ (o : Outcome). PlainOutcome o) (sym (modify_some g name changes e (Ok new) q h)) tt
-    by e q (Err x) h p = subst (λ (o : Outcome). PlainOutcome o) (sym (modify_some g name changes e (Err x) q h)) p
+    by e q (Ok new) h p = subst (λ (o : UpdatedEntries). PlainOutcome o) (sym (modify_some g name changes e (Ok new) q h)) tt
+    by e q (Err x) h p = subst (λ (o : UpdatedEntries). PlainOutcome o) (sym (modify_some g name changes e (Err x) q h)) p
 update_plain g (ModifyDn name rdn drops) = elim (none_or_some (entry_at g.entries (key_of name))) [
-  | inl q ↦ subst (λ (o : Outcome). PlainOutcome o) (sym (rename_none g name rdn drops q)) refl
+  | inl q ↦ subst (λ (o : UpdatedEntries). PlainOutcome o) (sym (rename_none g name rdn drops q)) refl
   | inr w ↦ by w.0 w.1 (above_pin g (key_of name)) refl (single_valued (renamed
       (last_rdn name) rdn drops w.0.entry)) refl
       (clashes g name rdn) refl (single_plain (renamed (last_rdn name) rdn drops w.0.entry))
 ]
   where
     by : (e : Named) → entry_at g.entries (key_of name) ≡ Some e → (a : Bool) → above_pin g (key_of name) ≡ a
-        → (c : Changed) → single_valued (renamed (last_rdn name) rdn drops e.entry) ≡ c → (b : Bool)
+        → (c : ChangedEntry) → single_valued (renamed (last_rdn name) rdn drops e.entry) ≡ c → (b : Bool)
         → clashes g name rdn ≡ b
         → PlainChanged c → PlainOutcome (rename g name rdn drops)
-    by e q true h c i b t p = subst (λ (o : Outcome). PlainOutcome o) (sym
+    by e q true h c i b t p = subst (λ (o : UpdatedEntries). PlainOutcome o) (sym
         (rename_some g name rdn drops e true c b q h i t)) refl
     by e q false h (Err x) i b t p =
-        subst (λ (o : Outcome). PlainOutcome o) (sym (rename_some g name rdn drops e false (Err x) b q h i t)) p
+        subst (λ (o : UpdatedEntries). PlainOutcome o) (sym (rename_some g name rdn drops e false (Err x) b q h i t)) p
     by e q false h (Ok new) i true t p =
-        subst (λ (o : Outcome). PlainOutcome o) (sym (rename_some g name rdn drops e false (Ok new) true q h i t)) refl
+        subst (λ (o : UpdatedEntries). PlainOutcome o) (sym (rename_some g name rdn drops e false (Ok new) true q h i t)) refl
     by e q false h (Ok new) i false t p =
-        subst (λ (o : Outcome). PlainOutcome o) (sym (rename_some g name rdn drops e false (Ok new) false q h i t)) tt
+        subst (λ (o : UpdatedEntries). PlainOutcome o) (sym (rename_some g name rdn drops e false (Ok new) false q h i t)) tt
 
-out_plain : (o : Outcome) (x : DirError) → o ≡ Err x → PlainOutcome o → is_tree_error x ≡ true
-out_plain o x e p = subst (λ (y : Outcome). PlainOutcome y) e p
+out_plain : (o : UpdatedEntries) (x : DirError) → o ≡ Err x → PlainOutcome o → is_tree_error x ≡ true
+out_plain o x e p = subst (λ (y : UpdatedEntries). PlainOutcome y) e p
 
 pub over_plain : (g : Ground) (body : Body) (x : DirError) → apply_over g body ≡ Err x → is_tree_error x ≡ true
 over_plain g body x e = by (fault_of body) refl

@@ -13,7 +13,7 @@ use Rattle.x5_model.specs.Requests.{Request}
 use Rattle.x5_model.proofs.Lists.{both_true, and_true, of_all, all_in, of_map, of_filter}
 use Rattle.x5_model_tree.specs.World.{Specific, Nssr, Context, Agent, Agreement, World}
 use Rattle.x5_model_tree.specs.Tree.{is_there, sorted_entries}
-use Rattle.x5_model_tree.specs.Apply.{Outcome, apply_over}
+use Rattle.x5_model_tree.specs.Apply.{UpdatedEntries, apply_over}
 use Rattle.x5_model_tree.specs.Masters.{agent_at, held_contexts}
 use Rattle.x5_model_tree.specs.Described.{is_stored, is_stored_entry, is_stored_context, is_stored_agent, IsDescribed}
 use Rattle.x5_model_tree.proofs.Stored.{stored_is, stored_short}
@@ -117,7 +117,7 @@ described_counted w me d = holdings_of w d me
 
 -- ---- an update
 
-outcome_same : (r : Request) (h : Holdings) (c : Held) (o : Outcome)
+outcome_same : (r : Request) (h : Holdings) (c : Held) (o : UpdatedEntries)
     → context_counted (with_outcome r h c o) ≡ context_counted c
 outcome_same r h c (Ok es) = refl
 outcome_same r h c (Err x) = refl
@@ -138,7 +138,7 @@ own_same r h (c ∷ cs) = ap₂ (λ (a b : Bool). a && b) (changed_same r h c) (
 pub counted_stays : CountedStays
 counted_stays r h = by (apply_over (ground_at r h) r.body)
   where
-    by : (o : Outcome) → holdings_counted (committed_if r h o) ≡ holdings_counted h
+    by : (o : UpdatedEntries) → holdings_counted (committed_if r h o) ≡ holdings_counted h
     by (Err x) = refl
     by (Ok es) =
         ap (λ (b : Bool). b && (list_all copy_counted h.copies && (references_counted h.root

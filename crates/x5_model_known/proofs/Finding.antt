@@ -15,7 +15,7 @@ use Rattle.x5_model.proofs.Lists.{both_true, and_true, in_first, in_either, in_l
 use Rattle.x5_model_tree.specs.World.{Access, Specific, Nssr}
 use Rattle.x5_model_tree.specs.Tree.{is_there, entry_at, lowest}
 use Rattle.x5_model_tree.specs.Ask.{in_subset}
-use Rattle.x5_model_tree.specs.Apply.{Outcome, apply_over}
+use Rattle.x5_model_tree.specs.Apply.{UpdatedEntries, apply_over}
 use Rattle.x5_model_run.specs.Journal.{Journal, same_name, is_wide}
 use Rattle.x5_model_run.specs.Holdings.{Held, Copy, Holdings, ground_at, may_copy, usable_agents, held_at, copy_at, masters_pin, usable_copies, served, subordinates, known_pin, holds_within, is_first_level}
 use Rattle.x5_model_run.specs.Needs.{others, reference, resolves, subset_of, by_pin, is_excluded, begins_at, and_below, evaluated, answers_root, below_needs, in_scope, treated_below, to_each, wide_needs, subset_needs, part_needs, to_supplier, copied_needs, to_superior, superior_needs, nssr_at, to_nssr, from_lowest, multicast_needs, copy_answers, specific_at, to_specific, specific_needs, new_name, is_refused_here, probe_by, probe_from, probe_of, probe_at_master, probe_due, probe_needs, due_probes}
@@ -456,7 +456,7 @@ module _ (n : ℕ) where
 
   -- ---- whatever was accepted
 
-  outcome_same : (r : Request) (h : Holdings) (c : Held) (o : Outcome)
+  outcome_same : (r : Request) (h : Holdings) (c : Held) (o : UpdatedEntries)
       → context_names n (with_outcome r h c o) ≡ context_names n c
   outcome_same r h c (Ok es) = refl
   outcome_same r h c (Err x) = refl
@@ -482,7 +482,7 @@ module _ (n : ℕ) where
       → ((committed r h).me ≡ h.me) × (holdings_name n (committed r h) ≡ holdings_name n h)
   stays r h = by (apply_over (ground_at r h) r.body)
     where
-      by : (o : Outcome) → ((committed_if r h o).me ≡ h.me) × (holdings_name n (committed_if r h o) ≡ holdings_name n h)
+      by : (o : UpdatedEntries) → ((committed_if r h o).me ≡ h.me) × (holdings_name n (committed_if r h o) ≡ holdings_name n h)
       by (Err x) = (refl, refl)
       by (Ok es) = (
         refl,

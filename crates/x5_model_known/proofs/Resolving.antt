@@ -9,7 +9,7 @@ use Rattle.x5_model.specs.Requests.{Body, Read, Compare, ListBelow, Search, AddE
 use Rattle.x5_model.specs.References.{Progress, Start, Next, Done}
 use Rattle.x5_model.proofs.Lists.{both_true, either_true}
 use Rattle.x5_model_tree.specs.Ask.{is_update}
-use Rattle.x5_model_tree.specs.Apply.{Outcome, apply_over}
+use Rattle.x5_model_tree.specs.Apply.{UpdatedEntries, apply_over}
 use Rattle.x5_model_run.specs.Journal.{same_name, is_done}
 use Rattle.x5_model_run.specs.Holdings.{Held, Copy, Holdings, ground_at, prefixes}
 use Rattle.x5_model_run.specs.Needs.{target_of, resolves_by}
@@ -23,7 +23,7 @@ use Rattle.x5_model_known.specs.Resolving.{ResolvesAlike, UnresolvedIsStuck}
 kept_prefix : (r : Request) (h : Holdings) (c : Held) → (changed_at r h c).prefix ≡ c.prefix
 kept_prefix r h c = by (holds_target r h c) (apply_over (alone_at r h c) r.body)
   where
-    by : (b : Bool) (o : Outcome) → (if b then with_outcome r h c o else c).prefix ≡ c.prefix
+    by : (b : Bool) (o : UpdatedEntries) → (if b then with_outcome r h c o else c).prefix ≡ c.prefix
     by true (Ok es) = refl
     by true (Err x) = refl
     by false o = refl
@@ -36,7 +36,7 @@ kept_prefixes r h (c ∷ cs) = λ i. kept_prefix r h c i ∷ kept_prefixes r h c
 same_prefixes : (r : Request) (h : Holdings) → prefixes (committed r h) ≡ prefixes h
 same_prefixes r h = by (apply_over (ground_at r h) r.body)
   where
-    by : (o : Outcome) → prefixes (committed_if r h o) ≡ prefixes h
+    by : (o : UpdatedEntries) → prefixes (committed_if r h o) ≡ prefixes h
     by (Ok es) = ap (λ (xs : List Name). xs ++ map (λ (c : Copy). c.held.prefix) h.copies) (kept_prefixes r h h.own)
     by (Err x) = refl
 

@@ -30,7 +30,7 @@ use Rattle.x5_model_serve.specs.Serving.{is_final, is_spent}
 use Rattle.x5_model_serve.specs.Claims.{Setting, LiesWithin, asked_line}
 use Rattle.x5_model_find.proofs.Needing.{false_true}
 use Rattle.x5_model_joins.proofs.Backs.{own_answered}
-use Rattle.x5_model_verdicts.proofs.At.{is_read, fit_key, each_of_update, each_off}
+use Rattle.x5_model_verdicts.proofs.At.{is_entry_read, fit_key, each_of_update, each_off}
 use Rattle.x5_model_verdicts.proofs.Lines.{no_error_after}
 use Rattle.x5_model_passing.specs.Passing.{PassedOn, IsSame, IsBack, Meanwhile, WithinPassesBack, PassesBack}
 use Rattle.x5_model_passing.proofs.Same.{asked_same}
@@ -52,7 +52,7 @@ within_passes_back p s l k from r lines stood at reply x = by reply
 
 -- ---- the update that l carries is the scene's
 
-pub update_no_read : (body : Body) → is_update body ≡ true → is_read body ≡ true → ⊥
+pub update_no_read : (body : Body) → is_update body ≡ true → is_entry_read body ≡ true → ⊥
 update_no_read (Read name selection) u r = cc
 update_no_read (Compare name assertion) u r = cc
 update_no_read (ListBelow name) u r = cc

@@ -11,7 +11,7 @@ use Rattle.x5_model.specs.Answers.{DirError, NoSuchObject, AttributeProblem, Rep
 use Rattle.x5_model.specs.Statics.{fault_of}
 use Rattle.x5_model_tree.specs.Tree.{Tree, entry_at, is_there_or_root, matched}
 use Rattle.x5_model_tree.specs.Ask.{Told, Shows, Compares, Lists, Finds, Changes, Refuses, has_type, at_object, read, compare, info_of, updated, ask_body, ask_marked}
-use Rattle.x5_model_tree.specs.Apply.{Outcome, Applied, ground_of, apply_over, apply}
+use Rattle.x5_model_tree.specs.Apply.{UpdatedEntries, Applied, ground_of, apply_over, apply}
 use Rattle.x5_model_run.specs.Journal.{Journal, is_done, is_wide}
 use Rattle.x5_model_run.specs.Needs.{is_unable}
 use Rattle.x5_model_run.specs.History.{Point, tree_at}
@@ -64,11 +64,11 @@ read_able copies selection e = go (selection_fault selection e.entry)
 applied_able : (t : Tree) (r : Request) → IsAble (updated (apply t r))
 applied_able t r = go (apply_over (ground_of t) r.body) refl
   where
-    by : Outcome → Applied
+    by : UpdatedEntries → Applied
     by (Ok entries) = Ok (record t { entries = entries })
     by (Err x) = Err x
 
-    go : (x : Outcome) → apply_over (ground_of t) r.body ≡ x → IsAble (updated (by x))
+    go : (x : UpdatedEntries) → apply_over (ground_of t) r.body ≡ x → IsAble (updated (by x))
     go (Ok es) e = tt
     go (Err x) e = replies_able.judged (ground_of t) r.body x e
 

@@ -33,7 +33,7 @@ use Rattle.x5_model_theory.proofs.Holding.{good_at, by_agent, own_mastered}
 use Rattle.x5_model_theory.proofs.Longest.{respelled_key}
 use Rattle.x5_model_theory.proofs.Stages.{key_length}
 use Rattle.x5_model_theory.proofs.Rows.{within_is, copy_of}
-use Rattle.x5_model_updates.specs.Standing.{Stands}
+use Rattle.x5_model_updates.specs.Standing.{StandsWhole}
 use Rattle.x5_model_updates.proofs.Held.{of_held, mastered_still}
 use Rattle.x5_model_updates.proofs.Trees.{entry_in_area}
 use Rattle.x5_model_joins.proofs.Untried.{of_contains}
@@ -76,7 +76,7 @@ record Supplied (h : Holdings) (m : Chained) (r : Reference) : Type 0 where
   free : held_at h.own (key_of m.target) ≡ None
   is : r ≡ proceeding (length copy.held.prefix) copy.held.prefix m.target Supplier (copy.supplier ∷ [])
 
-module _ (p : Point) (st : Stands p) (o : ℕ) (m : Chained) where
+module _ (p : Point) (st : StandsWhole p) (o : ℕ) (m : Chained) where
   here_known : (x : Name) → In x (prefixes (holdings_at p o)) → key_of x ≡ key_of m.target
       → In (key_of m.target) (map key_of (known_pins m.request (holdings_at p o)))
   here_known x i same =

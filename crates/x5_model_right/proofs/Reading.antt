@@ -47,7 +47,7 @@ use Rattle.x5_model_find.proofs.Owns.{IsHere, pin_here, own_is_told, some_subset
 use Rattle.x5_model_bounds.proofs.Parting.{told_final}
 use Rattle.x5_model_joins.proofs.Backs.{own_back, own_answered}
 use Rattle.x5_model_right.specs.Kept.{Ground}
-use Rattle.x5_model_right.specs.Served.{Reads}
+use Rattle.x5_model_right.specs.Served.{ReadsOwn}
 use Rattle.x5_model_right.proofs.Kept.{line_there}
 use Rattle.x5_model_right.proofs.Adding.{no_carrier}
 use Rattle.x5_model_right.proofs.Finding.{looked, found_same, found_is, able}
@@ -343,7 +343,7 @@ no_needs h m e = by (is_some (fault_of m.request.body))
     by true = refl
     by false = ap (in_option [] (probe_due h m)) e
 
-pub reads_right : Reads
+pub reads_right : ReadsOwn
 reads_right p s most k j c g a e query none at comes =
     let free : Here c ≡ Stuck → ⊥ = λ z. cc in
     let look = looked p s g k j at comes.none a (Here c) e free in

@@ -17,7 +17,7 @@ use Rattle.x5_model.specs.Statics.{fault_of}
 use Rattle.x5_model.proofs.Decide.{nat_same_decides, less_decides}
 use Rattle.x5_model.proofs.Lists.{both_true, and_true, either_true, or_left, or_right, true_or_false, in_left, in_right, in_either, any_in, of_has}
 use Rattle.x5_model_tree.specs.Ask.{is_update}
-use Rattle.x5_model_tree.specs.Apply.{Outcome, apply_over}
+use Rattle.x5_model_tree.specs.Apply.{UpdatedEntries, apply_over}
 use Rattle.x5_model_run.specs.Network.{arrives}
 use Rattle.x5_model_run.specs.Journal.{Journal, operation_of, same_name, is_done, is_wide}
 use Rattle.x5_model_run.specs.Holdings.{Held, Copy, Holdings, prefixes, holds_within, ground_at}
@@ -68,7 +68,7 @@ final_right p s most from k j reply g last stood at m rests = record {
 kept_prefix : (r : Request) (h : Holdings) (c : Held) → (changed_at r h c).prefix ≡ c.prefix
 kept_prefix r h c = by (holds_target r h c) (apply_over (alone_at r h c) r.body)
   where
-    by : (b : Bool) (o : Outcome) → (if b then with_outcome r h c o else c).prefix ≡ c.prefix
+    by : (b : Bool) (o : UpdatedEntries) → (if b then with_outcome r h c o else c).prefix ≡ c.prefix
     by true (Ok es) = refl
     by true (Err x) = refl
     by false o = refl
@@ -80,7 +80,7 @@ map_kept f e (c ∷ cs) = λ i. e c i ∷ map_kept f e cs i
 committed_prefixes : (r : Request) (h : Holdings) → prefixes (committed r h) ≡ prefixes h
 committed_prefixes r h = by (apply_over (ground_at r h) r.body)
   where
-    by : (o : Outcome) → prefixes (committed_if r h o) ≡ prefixes h
+    by : (o : UpdatedEntries) → prefixes (committed_if r h o) ≡ prefixes h
     by (Ok es) = ap (λ (xs : List Name). xs ++ map (λ (c : Copy). c.held.prefix) h.copies) (map_kept (changed_at r h) (kept_prefix r h) h.own)
     by (Err x) = refl
 

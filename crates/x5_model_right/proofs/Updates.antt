@@ -15,7 +15,7 @@ use Rattle.x5_model.specs.Answers.{DirError}
 use Rattle.x5_model.proofs.Decide.{nat_same_decides, less_decides}
 use Rattle.x5_model.proofs.Lists.{both_true, and_true, or_left, or_right, true_or_false, in_first, of_any, of_all, of_find}
 use Rattle.x5_model_tree.specs.Ask.{Refuses, is_update, updated}
-use Rattle.x5_model_tree.specs.Apply.{Outcome, Applied, apply, apply_over}
+use Rattle.x5_model_tree.specs.Apply.{UpdatedEntries, Applied, apply, apply_over}
 use Rattle.x5_model_run.specs.Network.{arrives}
 use Rattle.x5_model_run.specs.Journal.{Line, Journal, depth, operation_of, is_done, settled, some_line}
 use Rattle.x5_model_run.specs.Holdings.{Holdings, ground_at}
@@ -129,7 +129,7 @@ module _ (p : Point) (s : Scene) (g : Ground p s) (k : Hand) (i : Journal) (at :
   pub refused_needs_none : (x : DirError) → judged s i k ≡ Err x → due_probes (holds_now s i k) k.message ≡ []
   refused_needs_none x h = none_due (due_probes (holds_now s i k) k.message) (λ r m.
       let passed = (probe_is (holds_now s i k) k.message r m).passed in
-      let refused : is_refused_here (holds_now s i k) k.message.request ≡ true = ap (λ (y : Outcome). is_err y) h in
+      let refused : is_refused_here (holds_now s i k) k.message.request ≡ true = ap (λ (y : UpdatedEntries). is_err y) h in
       let z : true ≡ false = sym refused ∙ passed in cc)
 
   -- nothing is needed, and nothing is left

@@ -101,8 +101,8 @@ GoesWide =
     → ServesRight p s most k reply i j
 
 -- a read or compare in a context of its own
-abbrev pub Reads : Type 0
-Reads =
+abbrev pub ReadsOwn : Type 0
+ReadsOwn =
     (p : Point) (s : Scene) (most : ℕ) (k : Hand) (j : Journal) (c : Held)
     → Ground p s → Arrives s k j → found_at s j k ≡ Here c
     → is_update k.message.request.body ≡ false → subset_of k.message ≡ None
@@ -152,7 +152,7 @@ pub record ServingCases : Type 0 where
   pub refers : Refers
   pub goes : Goes
   pub goes_wide : GoesWide
-  pub reads : Reads
+  pub reads : ReadsOwn
   pub reads_copy : ReadsCopy
   pub gives_parts : GivesParts
   pub asks_parts : AsksParts

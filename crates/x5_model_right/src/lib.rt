@@ -3,7 +3,7 @@
 #![tactic(auto)]
 
 ghost use Rattle.x5_model_right.specs.Journeys.{NeededAgents};
-ghost use Rattle.x5_model_right.specs.Served.{Loops, IsLong, Unfit, Refused, IsNowhere, DoneBefore, IsStuck, Refers, CarriesOut, Goes, GoesWide, Reads, ReadsCopy, GivesParts, AsksParts};
+ghost use Rattle.x5_model_right.specs.Served.{Loops, IsLong, Unfit, Refused, IsNowhere, DoneBefore, IsStuck, Refers, CarriesOut, Goes, GoesWide, ReadsOwn, ReadsCopy, GivesParts, AsksParts};
 ghost use Rattle.x5_model_right.specs.Sent.{Spent, IsLost, Dropped, IsHeard, IsFinal, Referral, WideReferral, Unexplored};
 ghost use Rattle.x5_model_right.specs.Taken.{NoneYet, InVainToo, NextIsHeard, NoneIsHeard};
 ghost use Rattle.x5_model_right.specs.Cast.{NoneAsked, UnableToo, SilentToo, IsAnswered, NobodyHas, SomeSilent};
@@ -40,7 +40,7 @@ pub fn going()
 
 /// A read or compare is answered from a context of the agent's own, or from a copy (X.518, section 19.2).
 pub fn answering()
-    ensures own { Reads }
+    ensures own { ReadsOwn }
     ensures copied { ReadsCopy }
 {}
 

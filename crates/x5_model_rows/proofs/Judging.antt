@@ -13,7 +13,7 @@ use Rattle.x5_model_tree.specs.Consistent.{IsConsistent}
 use Rattle.x5_model_run.specs.History.{Point, tree_at, world_at}
 use Rattle.x5_model_run.specs.Needs.{reference}
 use Rattle.x5_model_run.specs.Chain.{opening}
-use Rattle.x5_model_updates.specs.Standing.{Stands}
+use Rattle.x5_model_updates.specs.Standing.{StandsWhole}
 use Rattle.x5_model_updates.specs.Judging.{IsJudge, probes}
 use Rattle.x5_model_updates.proofs.Stood.{lines_stand}
 use Rattle.x5_model_updates.proofs.Goods.{tree_is_union}
@@ -28,7 +28,7 @@ use Rattle.x5_model_rows.proofs.Probing.{new_lab, add_lab, remove_acme, add_pen,
 abbrev pub first_line : Point
 first_line = point base_world []
 
-pub first_stands : Stands first_line
+pub first_stands : StandsWhole first_line
 first_stands = lines_stand base_world first_line.past described consistent tt
 
 -- Beta masters the context of Acme
@@ -49,7 +49,7 @@ acme_refused =
     refuses_alike first_line 1 (opening remove_acme) (UpdateProblem affects_multiple_dsas) (record { stands = first_stands; update = refl; target = refl; resolving = refl; master = refl }) refl
 
 -- a new entry below Desk, where no NSSR is, is accepted by the whole tree, since Beta accepts it
-pub second_stands : Stands second_line
+pub second_stands : StandsWhole second_line
 second_stands = lines_stand base_world second_line.past described consistent (tt, tt)
 
 pub pen_accepted : (t : Tree) × (apply (tree_at second_line) add_pen ≡ Ok t)
@@ -57,7 +57,7 @@ pen_accepted =
     accepts_alone second_line 1 (opening add_pen) _ (record { stands = second_stands; update = refl; target = refl; resolving = refl; master = refl }) refl refl
 
 -- after it knowledge is consistent still, and the tree is what the masters have
-pub third_stands : Stands third_line
+pub third_stands : StandsWhole third_line
 third_stands = lines_stand base_world third_line.past described consistent (tt, (tt, tt))
 
 pub third_consistent : IsConsistent (world_at third_line)

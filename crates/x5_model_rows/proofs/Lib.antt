@@ -18,7 +18,6 @@ pub mod Placing
 pub mod Running
 pub mod Further
 pub mod Moving
-pub mod Starred
 pub mod Outputs
 pub mod Descriptions
 pub mod Serving

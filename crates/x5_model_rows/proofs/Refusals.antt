@@ -11,7 +11,7 @@ use Rattle.x5_model.specs.Requests.{Attribute, Change, AddAttribute, RemoveAttri
 use Rattle.x5_model.specs.Answers.{DirError, NoSuchObject, AttributeProblem, UpdateProblem}
 use Rattle.x5_model.specs.Problems.{no_such_attribute_or_value, invalid_attribute_syntax, undefined_attribute_type, constraint_violation, attribute_or_value_already_exists, object_class_violation, not_allowed_on_rdn}
 use Rattle.x5_model.specs.Statics.{fault_of}
-use Rattle.x5_model.specs.Changes.{Changed, modified}
+use Rattle.x5_model.specs.Changes.{ChangedEntry, modified}
 use Rattle.x5_model_rows.proofs.Literals.{rdn, under, text, oid, one, give}
 use Rattle.x5_model_rows.proofs.BaseWorld.{nl}
 
@@ -79,7 +79,7 @@ modify_root = refl
 abbrev entry : Entry
 entry = record { attributes = (record { kind = 3; values = text (codes "a") (codes "a") ∷ text (codes "b") (codes "b") ∷ [] }) ∷ one 6 (text (codes "NL") (codes "nl")) ∷ [] }
 
-abbrev changing : Change → Changed
+abbrev changing : Change → ChangedEntry
 changing c = modified (rdn 3 (codes "a") (codes "a")) (c ∷ []) entry
 
 pub present_again : changing (AddAttribute (give 3 (text (codes "c") (codes "c") ∷ []))) ≡ Err (AttributeProblem attribute_or_value_already_exists (Known 3))

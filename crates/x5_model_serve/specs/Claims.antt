@@ -46,7 +46,7 @@ IsAgent p o = (a : Agent) × (agent_at (knowledge_at p) o ≡ Some a)
 -- A line of a run over consistent knowledge, and a message that is placed at an agent and that nobody passed on.
 pub record Setting (p : Point) (s : Scene) : Type 0 where
   pub holdings : s.holdings ≡ holdings_at p
-  pub whole : updates.Stands p
+  pub whole : updates.StandsWhole p
   pub by_keys : parts.Stands p
   pub copies : parts.CopiesStand p
   pub first : Placed p s.message s.first

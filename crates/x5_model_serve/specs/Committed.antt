@@ -8,7 +8,7 @@ use Rattle.x5_model.specs.Values.{key_of}
 use Rattle.x5_model.specs.Entries.{Named}
 use Rattle.x5_model.specs.Requests.{Request}
 use Rattle.x5_model_tree.specs.Tree.{key_at, belongs, sorted_entries}
-use Rattle.x5_model_tree.specs.Apply.{Ground, Outcome, apply_over}
+use Rattle.x5_model_tree.specs.Apply.{Ground, UpdatedEntries, apply_over}
 use Rattle.x5_model_run.specs.Holdings.{Held, Holdings, known_pins, ground_at}
 use Rattle.x5_model_run.specs.Needs.{target_of}
 
@@ -25,7 +25,7 @@ abbrev pub alone_at : Request → Holdings → Held → Ground
 alone_at r h c = record (ground_at r h) { entries = filter (is_counted r h c) c.entries }
 
 -- the context with the change; entries that don't count in it stay as they are
-abbrev pub with_outcome : Request → Holdings → Held → Outcome → Held
+abbrev pub with_outcome : Request → Holdings → Held → UpdatedEntries → Held
 with_outcome r h c (Ok es) =
     record c { entries = sorted_entries (es ++ filter (λ e. not (is_counted r h c e)) c.entries) }
 with_outcome r h c (Err x) = c
@@ -34,7 +34,7 @@ abbrev pub changed_at : Request → Holdings → Held → Held
 changed_at r h c = if holds_target r h c then with_outcome r h c (apply_over (alone_at r h c) r.body) else c
 
 -- what is refused changes nothing
-abbrev pub committed_if : Request → Holdings → Outcome → Holdings
+abbrev pub committed_if : Request → Holdings → UpdatedEntries → Holdings
 committed_if r h (Ok es) = record h { own = map (changed_at r h) h.own }
 committed_if r h (Err x) = h
 

@@ -19,7 +19,7 @@ use Rattle.x5_model.specs.Problems.{entry_already_exists, unavailable, unable_to
 use Rattle.x5_model.specs.Problems.{administrative_limit_exceeded, loop_detected}
 use Rattle.x5_model.specs.Statics.{fault_of}
 use Rattle.x5_model_tree.specs.Ask.{is_update}
-use Rattle.x5_model_tree.specs.Apply.{Outcome, apply_over}
+use Rattle.x5_model_tree.specs.Apply.{UpdatedEntries, apply_over}
 use Rattle.x5_model_run.specs.Network.{Lost, NoReply, Sent, refuses, fate_of}
 use Rattle.x5_model_run.specs.Journal.{Line, Journal, same_item, item_of, is_wide}
 use Rattle.x5_model_run.specs.Holdings.{Held, Copy, Holdings, ground_at}
@@ -188,7 +188,7 @@ heard_or other Unheard = other
 heard_or other (Hears reply) = reply
 
 -- what the agent makes of the update by its own ground
-abbrev pub judged : Scene → Journal → Hand → Outcome
+abbrev pub judged : Scene → Journal → Hand → UpdatedEntries
 judged s j k = apply_over (ground_at k.message.request (holds_now s j k)) k.message.request.body
 
 -- there is nothing in the reply that its receiver follows

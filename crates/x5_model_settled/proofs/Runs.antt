@@ -10,7 +10,7 @@ use Rattle.x5_model_tree.specs.Described.{IsDescribed}
 use Rattle.x5_model_run.specs.Journal.{Journal}
 use Rattle.x5_model_run.specs.History.{Did, Point}
 use Rattle.x5_model_run.specs.Run.{Command, Blank, Asks, Changes, Drops, Updates, Block, Silent, Set, Replies, Refreshing, Judge, IsBlock, IsRun, begin, next}
-use Rattle.x5_model_star.specs.Runs.{RightAndWhole}
+use Rattle.x5_model_settled.specs.Judges.{RightAndWhole}
 use Rattle.x5_model_settled.specs.Runs.{ByAgents, IsAskable, AgentsRunIsRun, AgentsPrintRun}
 use Rattle.x5_model_settled.proofs.Settled.{runs_are_right}
 

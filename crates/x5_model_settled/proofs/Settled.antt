@@ -31,7 +31,7 @@ knowledge_stays w (d ∷ before) n = by d.deed n.0 (knowledge_stays w before n.1
 
 pub lines_are_settled : LinesAreSettled
 lines_are_settled w past first r described consistent none agent =
-    let whole : updates.Stands (record { described = w; past = past }) = lines_stand w past described consistent none in
+    let whole : updates.StandsWhole (record { described = w; past = past }) = lines_stand w past described consistent none in
     record {
       holdings = refl;
       whole = whole;

@@ -21,7 +21,7 @@ use Rattle.x5_model_verdicts.proofs.Stamped.{runs_are_stamped}
 use Rattle.x5_model_held.proofs.Begun.{held_as_described}
 use Rattle.x5_model_serve.specs.Committed.{committed}
 use Rattle.x5_model_serve.specs.Serving.{IsRequest}
-use Rattle.x5_model_star.specs.Runs.{RightAndWhole}
+use Rattle.x5_model_settled.specs.Judges.{RightAndWhole}
 use Rattle.x5_model_settled.specs.Runs.{ByAgents, IsAskable}
 use Rattle.x5_model_settled.specs.Afterwards.{line_after, is_refresh}
 use Rattle.x5_model_settled.specs.Held.{held_accepting, held_after, held_by, scene_held, BySteps, HeldAfterRequest, HeldIsHoldings, StepsAreAgents, StepsAreRight, StepsPrintRun, Performed, StepsArePerformed, StepsPrintPerformed, PerformedIsRight}

@@ -20,7 +20,7 @@ use Rattle.x5_model_output.specs.Output.{PrintsRun}
 use Rattle.x5_model_held.specs.Beginning.{holdings_described}
 use Rattle.x5_model_serve.specs.Committed.{committed}
 use Rattle.x5_model_serve.specs.Serving.{IsRequest}
-use Rattle.x5_model_star.specs.Runs.{RightAndWhole}
+use Rattle.x5_model_settled.specs.Judges.{RightAndWhole}
 use Rattle.x5_model_settled.specs.Runs.{ByAgents, IsAskable}
 use Rattle.x5_model_settled.specs.Afterwards.{line_after, is_refresh}
 

@@ -1,3 +1,4 @@
+pub mod Judges
 pub mod Settled
 pub mod Runs
 pub mod Afterwards

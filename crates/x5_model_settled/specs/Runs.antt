@@ -14,7 +14,7 @@ use Rattle.x5_model_run.specs.Chain.{scene_at}
 use Rattle.x5_model_run.specs.Run.{Command, Asks, Block, Judge, IsRun}
 use Rattle.x5_model_output.specs.Output.{PrintsRun}
 use Rattle.x5_model_serve.specs.Serving.{IsRequest}
-use Rattle.x5_model_star.specs.Runs.{RightAndWhole}
+use Rattle.x5_model_settled.specs.Judges.{RightAndWhole}
 use Rattle.x5_model_settled.specs.Settled.{HasAgent}
 
 -- a request's block is what agents do with it

@@ -3,7 +3,7 @@
 #![tactic(auto)]
 
 ghost use Rattle.x5_model_run.specs.Right.{AnswersRight};
-ghost use Rattle.x5_model_star.specs.Runs.{RightAndWhole};
+ghost use Rattle.x5_model_settled.specs.Judges.{RightAndWhole};
 ghost use Rattle.x5_model_settled.specs.Settled.{LinesAreSettled, RunsAreSettled, LinesAreRight, RunsAreRight};
 ghost use Rattle.x5_model_settled.specs.Runs.{AgentsRunIsRun, AgentsPrintRun};
 ghost use Rattle.x5_model_settled.specs.Afterwards.{HoldsAfter, HoldsOn, NetworkStays, MovedNoneAfter, KnowsAsDescribed, StampedAtFirst, StampedOn, StampedAfter};

@@ -3,7 +3,7 @@ use Rattle.std.proofs.Common.{◌≡◌, ℕ, ◌+◌, ◌≤◌, Bool, true, fa
 use Rattle.std.proofs.lemmas.Bool.{and_parts, le-ltb, ltb-false, le-leb, leb-true}
 use Rattle.std.specs.List.{list_all}
 use Rattle.x5_model.specs.Values.{Text, NameValue}
-use Rattle.x5_model.specs.Normal.{first_of, over, rdn_over, name_over}
+use Rattle.x5_model.specs.Normal.{first_found, over, rdn_over, name_over}
 use Rattle.x5_model_text_laws.proofs.Sorting.{Pairs}
 
 abbrev pub is_short : ℕ × Text → Bool
@@ -13,12 +13,12 @@ is_short p = nat_le (length p.1) 1024
 abbrev pub is_small : Pairs → Bool
 is_small r = nat_le (length r) 4 && list_all is_short r
 
-first_none : (a b : Option ℕ) → first_of a b ≡ None → (a ≡ None) × (b ≡ None)
+first_none : (a b : Option ℕ) → first_found a b ≡ None → (a ≡ None) × (b ≡ None)
 first_none None b h = (refl, h)
 first_none (Some n) b h = cc
 
-both_none : (a b : Option ℕ) → a ≡ None → b ≡ None → first_of a b ≡ None
-both_none a b h k = ap₂ first_of h k
+both_none : (a b : Option ℕ) → a ≡ None → b ≡ None → first_found a b ≡ None
+both_none a b h k = ap₂ first_found h k
 
 over_by : (most n : ℕ) (t : Bool) → nat_lt most n ≡ t → (if t then Some most else None) ≡ None → n ≤ most
 over_by most n true e h = cc

@@ -18,7 +18,7 @@ use Rattle.x5_model.proofs.Lists.{both_true, and_true, not_true, or_left, in_fir
 use Rattle.x5_model.proofs.Prefixes.{prefix_itself, prefix_decides, prefix_length, parent_is_prefix, parent_length, same_by_length}
 use Rattle.x5_model_tree.specs.World.{World, Nssr}
 use Rattle.x5_model_tree.specs.Tree.{key_at, keys_of, entry_at, is_there}
-use Rattle.x5_model_tree.specs.Apply.{Ground, Outcome, absent, above_nssr, above_pin, at_entry, rename, apply_over}
+use Rattle.x5_model_tree.specs.Apply.{Ground, UpdatedEntries, absent, above_nssr, above_pin, at_entry, rename, apply_over}
 use Rattle.x5_model_tree.proofs.Grown.{above_key}
 use Rattle.x5_model_run.specs.Holdings.{Held, Holdings, held_at, known_pins, known_pin, holds_within, ground_at}
 use Rattle.x5_model_run.specs.History.{Point, knowledge_at, tree_at, holdings_at}
@@ -36,14 +36,14 @@ use Rattle.x5_model_theory.proofs.Longest.{longest_some, respelled_key}
 use Rattle.x5_model_theory.proofs.Rows.{within_is, next_lower, next_further, own_part, held_is, beyond}
 
 -- a test that refuses, refuses
-refused_by : (b : Bool) (x : DirError) (y : Outcome) → b ≡ true → is_err (if b then Err x else y) ≡ true
+refused_by : (b : Bool) (x : DirError) (y : UpdatedEntries) → b ≡ true → is_err (if b then Err x else y) ≡ true
 refused_by true x y e = refl
 refused_by false x y e = absurd (false_true e)
 
-refused_at : (g : Ground) (key : Key) (f : Named → Outcome) → ((e : Named) → is_err (f e) ≡ true) → is_err (at_entry g key f) ≡ true
+refused_at : (g : Ground) (key : Key) (f : Named → UpdatedEntries) → ((e : Named) → is_err (f e) ≡ true) → is_err (at_entry g key f) ≡ true
 refused_at g key f h = go (entry_at g.entries key)
   where
-    by : Option Named → Outcome
+    by : Option Named → UpdatedEntries
     by None = Err (absent g key)
     by (Some e) = f e
 
@@ -55,7 +55,7 @@ refused_at g key f h = go (entry_at g.entries key)
 pin_refused : (g : Ground) (n : Name) (rdn : Rdn) (drops : Bool) → In (key_of n) g.pins → is_err (apply_over g (ModifyDn n rdn drops)) ≡ true
 pin_refused g n rdn drops i = go (fault_of (ModifyDn n rdn drops))
   where
-    by : Option DirError → Outcome
+    by : Option DirError → UpdatedEntries
     by (Some x) = Err x
     by None = rename g n rdn drops
 

@@ -7,7 +7,7 @@ use Rattle.x5_model.specs.Words.{same_octets}
 use Rattle.x5_model.specs.Members.{In}
 use Rattle.x5_model.specs.Keys.{Key}
 use Rattle.x5_model.specs.Values.{Text, Pair, Rdn, Name, key_of, key_of_rdn, written}
-use Rattle.x5_model.specs.Normal.{most_rdns, first_of, over, is_name, rdn_over, name_over, stored, IsStored}
+use Rattle.x5_model.specs.Normal.{most_rdns, first_found, over, is_name, rdn_over, name_over, stored, IsStored}
 use Rattle.x5_model.specs.Entries.{Named}
 use Rattle.x5_model.proofs.Lists.{both_true, of_all, of_map}
 use Rattle.x5_model.proofs.Decide.{nat_same_decides}
@@ -53,7 +53,7 @@ stored_is n e =
 
 -- ---- 16 RDNs at most
 
-none_first : (o p : Option ℕ) → first_of o p ≡ None → (o ≡ None) × (p ≡ None)
+none_first : (o p : Option ℕ) → first_found o p ≡ None → (o ≡ None) × (p ≡ None)
 none_first None p e = (refl, e)
 none_first (Some n) p e = cc
 
@@ -67,7 +67,7 @@ not_over most n e = by (nat_lt most n) refl
 within : (before : ℕ) (n : List (List (ℕ × Text))) → before ≤ most_rdns → name_over before n ≡ None → before + length n ≤ most_rdns
 within before [] l e = omega arith
 within before (r ∷ n) l e =
-    let w = none_first (over most_rdns (before + 1)) (first_of (rdn_over 0 r) (name_over (before + 1) n)) e in
+    let w = none_first (over most_rdns (before + 1)) (first_found (rdn_over 0 r) (name_over (before + 1) n)) e in
     let v = none_first (rdn_over 0 r) (name_over (before + 1) n) w.1 in
     let k : before + 1 + length n ≤ most_rdns = within (before + 1) n (not_over most_rdns (before + 1) w.0) v.1 in omega arith
 

@@ -12,7 +12,7 @@ use Rattle.x5_model.specs.Keys.{Key, same_key, is_prefix, parent}
 use Rattle.x5_model.specs.Values.{Rdn, Name, key_of, last_rdn, name_above}
 use Rattle.x5_model.specs.Entries.{Entry, Named}
 use Rattle.x5_model.specs.Attributes.{added_entry}
-use Rattle.x5_model.specs.Changes.{Changed, modified, renamed, single_valued}
+use Rattle.x5_model.specs.Changes.{ChangedEntry, modified, renamed, single_valued}
 use Rattle.x5_model.specs.Requests.{Attribute, Change, Body, Read, Compare, ListBelow, Search, AddEntry, RemoveEntry}
 use Rattle.x5_model.specs.Requests.{ModifyEntry, ModifyDn, Request}
 use Rattle.x5_model.specs.Answers.{DirError, NoSuchObject, UpdateProblem}
@@ -37,8 +37,8 @@ pub record Ground : Type 0 where
   pub taken : List Key
 
 -- the entries afterwards, or the first refusal
-abbrev pub Outcome : Type 0
-Outcome = Result (List Named) DirError
+abbrev pub UpdatedEntries : Type 0
+UpdatedEntries = Result (List Named) DirError
 
 abbrev pub absent : Ground → Key → DirError
 absent g key = NoSuchObject (matched g.entries key)
@@ -55,10 +55,10 @@ abbrev pub is_taken : Ground → Key → Bool
 is_taken g key = is_there g.entries key || (has same_key g.pins key || has same_key g.taken key)
 
 -- at the entry of the key, which must be there
-abbrev pub at_entry : Ground → Key → (Named → Outcome) → Outcome
+abbrev pub at_entry : Ground → Key → (Named → UpdatedEntries) → UpdatedEntries
 at_entry g key f = by (entry_at g.entries key)
   where
-    by : Option Named → Outcome
+    by : Option Named → UpdatedEntries
     by None = Err (absent g key)
     by (Some e) = f e
 
@@ -66,37 +66,37 @@ abbrev pub replace_at : Key → Named → List Named → List Named
 replace_at key new entries = map (λ e. if same_key (key_at e) key then new else e) entries
 
 -- addEntry (X.511, section 11.1): the parent is there, and the name isn't; the name above is spelled as the parent's
-abbrev pub add : Ground → Name → List Attribute → Outcome
+abbrev pub add : Ground → Name → List Attribute → UpdatedEntries
 add g name attributes = at_entry g (parent (key_of name)) put
   where
     new : Named → Named
     new above =
         record { name = above.name ++ last_rdn name ∷ []; entry = added_entry (last_rdn name) attributes }
 
-    put : Named → Outcome
+    put : Named → UpdatedEntries
     put above =
         if is_taken g (key_of name) then Err (UpdateProblem entry_already_exists)
         else Ok (sorted_entries (g.entries ++ new above ∷ []))
 
 -- removeEntry (X.511, section 11.2): a leaf that is no pin goes
-abbrev pub remove : Ground → Name → Outcome
+abbrev pub remove : Ground → Name → UpdatedEntries
 remove g name = at_entry g (key_of name) drop_it
   where
-    drop_it : Named → Outcome
+    drop_it : Named → UpdatedEntries
     drop_it e =
         if above_pin g (key_of name) then Err (UpdateProblem affects_multiple_dsas)
         else (if has_below g.entries (key_of name) then Err (UpdateProblem not_allowed_on_non_leaf)
         else Ok (filter (λ e. not (same_key (key_at e) (key_of name))) g.entries))
 
 -- modifyEntry (X.511, section 11.3)
-abbrev pub modify : Ground → Name → List Change → Outcome
+abbrev pub modify : Ground → Name → List Change → UpdatedEntries
 modify g name changes = at_entry g (key_of name) change
   where
-    put : Named → Changed → Outcome
+    put : Named → ChangedEntry → UpdatedEntries
     put e (Ok new) = Ok (replace_at (key_of name) (record e { entry = new }) g.entries)
     put e (Err x) = Err x
 
-    change : Named → Outcome
+    change : Named → UpdatedEntries
     change e = put e (modified (last_rdn name) changes e.entry)
 
 -- the name with its k-th RDN replaced
@@ -104,7 +104,7 @@ abbrev pub respelled : ℕ → Rdn → Name → Name
 respelled above rdn name = take above name ++ rdn ∷ drop (above + 1) name
 
 -- modifyDN (X.511, section 11.4): the last RDN of the entry's name changes, and so do the names below it
-abbrev pub rename : Ground → Name → Rdn → Bool → Outcome
+abbrev pub rename : Ground → Name → Rdn → Bool → UpdatedEntries
 rename g name rdn drops = at_entry g (key_of name) move
   where
     new_key : Key
@@ -119,19 +119,19 @@ rename g name rdn drops = at_entry g (key_of name) move
         else (if is_prefix (key_of name) (key_at e)
         then record e { name = respelled (length (name_above name)) rdn e.name } else e)
 
-    put : Changed → Outcome
+    put : ChangedEntry → UpdatedEntries
     put (Err x) = Err x
     put (Ok new) =
         if not (same_key new_key (key_of name)) && is_taken g new_key then Err (UpdateProblem entry_already_exists)
         else Ok (sorted_entries (map (moved new) g.entries))
 
-    move : Named → Outcome
+    move : Named → UpdatedEntries
     move e =
         if above_pin g (key_of name) then Err (UpdateProblem affects_multiple_dsas)
         else put (single_valued (renamed (last_rdn name) rdn drops e.entry))
 
 -- a query changes nothing
-abbrev pub update : Ground → Body → Outcome
+abbrev pub update : Ground → Body → UpdatedEntries
 update g (Read name selection) = Ok g.entries
 update g (Compare name assertion) = Ok g.entries
 update g (ListBelow name) = Ok g.entries
@@ -142,10 +142,10 @@ update g (ModifyEntry name changes) = modify g name changes
 update g (ModifyDn name rdn drops) = rename g name rdn drops
 
 -- static refusals come first
-abbrev pub apply_over : Ground → Body → Outcome
+abbrev pub apply_over : Ground → Body → UpdatedEntries
 apply_over g body = by (fault_of body)
   where
-    by : Option DirError → Outcome
+    by : Option DirError → UpdatedEntries
     by (Some x) = Err x
     by None = update g body
 
@@ -172,6 +172,6 @@ Applied = Result Tree DirError
 abbrev pub apply : Tree → Request → Applied
 apply t request = by (apply_over (ground_of t) request.body)
   where
-    by : Outcome → Applied
+    by : UpdatedEntries → Applied
     by (Ok entries) = Ok (record t { entries = entries })
     by (Err x) = Err x

@@ -55,6 +55,17 @@ unexplored_of (Listed subs sources outcome) = outcome.unexplored
 unexplored_of (Found infos sources outcome) = outcome.unexplored
 unexplored_of Changed = []
 
+-- reads and compares look at one entry
+abbrev pub is_read : Body → Bool
+is_read (Read name selection) = true
+is_read (Compare name assertion) = true
+is_read (ListBelow name) = false
+is_read (Search base subset filter selection) = false
+is_read (AddEntry name attributes) = false
+is_read (RemoveEntry name) = false
+is_read (ModifyEntry name changes) = false
+is_read (ModifyDn name rdn drops) = false
+
 abbrev pub is_update : Body → Bool
 is_update (Read name selection) = false
 is_update (Compare name assertion) = false

@@ -2,7 +2,7 @@
 -- shadowing agreements (X.501: knowledge; X.525: shadowing agreements). An agent is its place in the list.
 -- Names of entries are whole: the context prefix as it is spelled for the context, then the RDNs of the entries on the
 -- way.
-use Rattle.std.specs.Prelude.{ℕ, Bool, List}
+use Rattle.std.specs.Prelude.{ℕ, Bool, List, map}
 use Rattle.std.specs.declared.option.Option.{Option}
 use Rattle.x5_model.specs.Values.{Text, Name}
 use Rattle.x5_model.specs.Entries.{Named}
@@ -57,3 +57,7 @@ pub record World : Type 0 where
   pub agents : List Agent
   pub agreements : List Agreement
   pub network : Network
+
+-- the names of its agents, by their places
+abbrev pub names_of_agents : World → List Text
+names_of_agents w = map (λ a. a.name) w.agents

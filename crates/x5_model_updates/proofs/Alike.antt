@@ -13,7 +13,7 @@ use Rattle.x5_model.specs.Problems.{entry_already_exists}
 use Rattle.x5_model.proofs.Lists.{true_or_false, both_true, and_true, not_true}
 use Rattle.x5_model_tree.specs.Tree.{sorted_entries, Tree, entry_at, has_below}
 use Rattle.x5_model_tree.specs.Ask.{is_update}
-use Rattle.x5_model_tree.specs.Apply.{Ground, Outcome, ground_of, absent, above_pin, is_taken, add, remove, modify, rename, update}
+use Rattle.x5_model_tree.specs.Apply.{Ground, UpdatedEntries, ground_of, absent, above_pin, is_taken, add, remove, modify, rename, update}
 use Rattle.x5_model_tree.proofs.Longest.{IsLongest}
 use Rattle.x5_model_tree.proofs.Grown.{above_key}
 use Rattle.x5_model_run.specs.Needs.{target_of, new_name}
@@ -59,7 +59,7 @@ anew_is name rdn m h = by (same_key (new_key name rdn) (key_of name)) h
     by true e = cc
     by false e = (refl, some_same (name_above name ++ rdn ∷ []) m e)
 
-abbrev bad : DirError → Outcome
+abbrev bad : DirError → UpdatedEntries
 bad x = Err x
 
 module _ (k : Knowledge) (t : Tree) (o : ℕ) (g : Ground) (good : Coherent k) (is : IsTreeOf k t) (knows : Knows k t o g) (c : Area) (i : In c k.areas) (mine : c.master ≡ o) where

@@ -18,7 +18,7 @@ use Rattle.x5_model_theory.specs.Coherent.{Coherent}
 use Rattle.x5_model_theory.specs.Described.{spot_of, area_of, pointer_of, supply_of, knowledge_of}
 use Rattle.x5_model_theory.proofs.Places.{at_agent, pointer_in}
 use Rattle.x5_model_theory.proofs.Views.{one_at_place, superior_at}
-use Rattle.x5_model_updates.specs.Standing.{Stands, StandsConsistent}
+use Rattle.x5_model_updates.specs.Standing.{StandsWhole, StandsConsistent}
 use Rattle.x5_model_updates.proofs.Moments.{now_agent, now_mastered, mastered_now, knowledge_now}
 use Rattle.x5_model_updates.proofs.Mastering.{found_among}
 use Rattle.x5_model_updates.proofs.Goods.{area_there, has_of, in_of, masters_of, refers_of, pins_once, was_mastered}
@@ -32,7 +32,7 @@ was_numbered t n (x ∷ agents) a i =
       | inr j ↦ (let w = was_numbered t (n + 1) agents a j in (w.0, there w.1, w.2))
     ]
 
-module _ (p : Point) (s : Stands p) where
+module _ (p : Point) (s : StandsWhole p) where
   k : Coherent (knowledge_of (world_at p))
   k = s.coherent
 

@@ -21,7 +21,7 @@ use Rattle.x5_model_theory.specs.Described.{spot_of, area_of, pointer_of, knowle
 use Rattle.x5_model_theory.proofs.Places.{pointer_in}
 use Rattle.x5_model_theory.proofs.Views.{one_at_place, superior_at}
 use Rattle.x5_model_theory.proofs.Cohering.{map_map}
-use Rattle.x5_model_updates.specs.Standing.{Stands, TreeIsUnion, StandsAsTree, StandsGood}
+use Rattle.x5_model_updates.specs.Standing.{StandsWhole, TreeIsUnion, StandsAsTree, StandsGood}
 use Rattle.x5_model_updates.proofs.Trees.{entry_filled, area_of_entry, of_part}
 use Rattle.x5_model_updates.proofs.Moments.{now_mastered, mastered_now}
 
@@ -55,7 +55,7 @@ module _ (w : World) where
   pub same_pin : Coherent (knowledge_of w) → (m n : Mastered) → In m (mastered w) → In n (mastered w) → pin_of m ≡ pin_of n → m ≡ n
   same_pin good m n i j e = once_map pin_of (mastered w) m n (pins_once good) i j e
 
-module _ (p : Point) (s : Stands p) where
+module _ (p : Point) (s : StandsWhole p) where
   abbrev W : World
   W = world_at p
 
@@ -130,7 +130,7 @@ stands_good p s = good_now p s
 
 -- ---- the tree is what its masters have together
 
-module _ (p : Point) (s : Stands p) where
+module _ (p : Point) (s : StandsWhole p) where
   once_now : Once (pins (world_at p))
   once_now = pins_once (world_at p) s.coherent
 

@@ -22,7 +22,7 @@ use Rattle.x5_model_theory.specs.Leading.{IsSound}
 use Rattle.x5_model_theory.proofs.Places.{at_agent}
 use Rattle.x5_model_theory.proofs.Views.{at_place}
 use Rattle.x5_model_theory.proofs.Holding.{good_at, by_agent, own_is, own_mastered, copy_consumed, subordinates_right, crosses_right}
-use Rattle.x5_model_updates.specs.Standing.{Stands}
+use Rattle.x5_model_updates.specs.Standing.{StandsWhole}
 use Rattle.x5_model_updates.specs.Keeping.{keys_in}
 use Rattle.x5_model_updates.proofs.Moments.{knowledge_now}
 
@@ -47,7 +47,7 @@ pub fed_mastered : (k : Knowledge) (q : Key) (n a : ℕ) → IsFed k q n a → (
 fed_mastered k q n a (IsFed.ends m) = (a, m)
 fed_mastered k q n a (fed {hops = h} s i c e f) = fed_mastered k q h s.supplier f
 
-module _ (p : Point) (s : Stands p) where
+module _ (p : Point) (s : StandsWhole p) where
   abbrev pub K : Knowledge
   K = knowledge_of (world_at p)
 

@@ -18,7 +18,7 @@ use Rattle.x5_model_tree.specs.World.{Nssr, Agent}
 use Rattle.x5_model_tree.specs.Tree.{Tree, key_at, keys_of, is_there, entry_at, longest, part}
 use Rattle.x5_model_tree.specs.Masters.{Mastered, pin_of, numbered, mastered, master_of, masters, holds}
 use Rattle.x5_model_tree.specs.Good.{Good}
-use Rattle.x5_model_tree.specs.Apply.{Outcome, ground_of, apply, is_taken}
+use Rattle.x5_model_tree.specs.Apply.{UpdatedEntries, ground_of, apply, is_taken}
 use Rattle.x5_model_tree.proofs.Longest.{IsLongest, longest_right, longest_is}
 use Rattle.x5_model_tree.proofs.Gives.{consistent_is_good}
 use Rattle.x5_model_run.specs.Holdings.{Held, Copy, Holdings, known_pins, known_pin, held_at, ground_at, holds_within, prefixes}
@@ -30,7 +30,7 @@ use Rattle.x5_model_theory.specs.Changing.{holding}
 use Rattle.x5_model_theory.proofs.Views.{there_decides, masters_decides}
 use Rattle.x5_model_theory.proofs.Stages.{key_length}
 use Rattle.x5_model_theory.proofs.Holding.{good_at, by_agent, IsHeld, holds_decides}
-use Rattle.x5_model_updates.specs.Standing.{Stands}
+use Rattle.x5_model_updates.specs.Standing.{StandsWhole}
 use Rattle.x5_model_updates.specs.Judging.{IsJudge, judged, probes, RefusesAlike, AcceptsAlone, ProbesNewName, AcceptsProbed, UnableMastersNone, RefusesProbed, AcceptsAbsent, RefusesPresent}
 use Rattle.x5_model_updates.specs.Keeping.{keys_in}
 use Rattle.x5_model_updates.proofs.Lookups.{entry_found, none_found}
@@ -57,7 +57,7 @@ some_held x = Some x
 abbrev some_nssr : Nssr → Option Nssr
 some_nssr x = Some x
 
-abbrev err_of : Outcome → Bool
+abbrev err_of : UpdatedEntries → Bool
 err_of x = is_err x
 
 -- a context of the line's tree, with its pin the longest of the target
@@ -76,7 +76,7 @@ seat_of p o m j = by (longest (tree_at p).pins (key_of m.target)) (longest_right
         record { seat = q.0; there = q.1; mine = q.2; long = subst (λ (x : Key). IsLongest (tree_at p).pins (key_of m.target) (Some x)) (sym q.3) l })
 
 module _ (p : Point) (o : ℕ) (m : Chained) (j : IsJudge p o m) (seat : Seat p o (key_of m.target)) where
-  abbrev s : Stands p
+  abbrev s : StandsWhole p
   s = j.stands
 
   abbrev c : Area

@@ -7,7 +7,7 @@ use Rattle.x5_model.specs.Members.{In, Once, here, there}
 use Rattle.x5_model.specs.Keys.{Key, IsPrefix, parent, same_key, is_prefix, key_below}
 use Rattle.x5_model.specs.Values.{Rdn, Name, key_of, last_rdn}
 use Rattle.x5_model.specs.Entries.{Entry, Named}
-use Rattle.x5_model.specs.Changes.{Changed, modified, renamed}
+use Rattle.x5_model.specs.Changes.{ChangedEntry, modified, renamed}
 use Rattle.x5_model.specs.Requests.{Attribute, Change, Body, Read, Compare, ListBelow, Search, AddEntry, RemoveEntry, ModifyEntry, ModifyDn}
 use Rattle.x5_model.proofs.KeyLaws.{key_decides}
 use Rattle.x5_model.proofs.Lists.{true_or_false, in_first, in_left, in_right, in_either, in_map, of_map, in_filter, of_filter}
@@ -104,7 +104,7 @@ remove_listed es name order = (filter_ascending named_below named_chain (λ (e :
 
 -- ---- modifyEntry
 
-abbrev ok_entry : Entry → Changed
+abbrev ok_entry : Entry → ChangedEntry
 ok_entry e = Ok e
 
 abbrev replaced : Key → Named → Named → Named

@@ -7,7 +7,7 @@ use Rattle.x5_model.specs.Members.{In, here, there}
 use Rattle.x5_model.specs.Values.{TypeRef, Known, Unknown, StoredValue, Offered, Pair, Rdn, Name, last_rdn}
 use Rattle.x5_model.specs.Entries.{Entry, Named}
 use Rattle.x5_model.specs.Attributes.{value_below, is_ordered, is_present, values_at, has_value, has_pair, has_rdn, entry_with, put_value, drop_value, value_of_pair, with_rdn, without_rdn, stored_value, stored_values, with_offered, entry_of, added_entry}
-use Rattle.x5_model.specs.Changes.{Changed, and_then, each_value, put_new, drop_old, on_known, changed, changed_by, single_valued, keeps_rdn, modified, renamed}
+use Rattle.x5_model.specs.Changes.{ChangedEntry, and_then, each_value, put_new, drop_old, on_known, changed, changed_by, single_valued, keeps_rdn, modified, renamed}
 use Rattle.x5_model.specs.Requests.{Attribute, Change, AddAttribute, RemoveAttribute, AddValues, RemoveValues, Body, Read, Compare, ListBelow, Search, AddEntry, RemoveEntry, ModifyEntry, ModifyDn}
 use Rattle.x5_model.specs.Answers.{DirError, AttributeProblem, UpdateProblem}
 use Rattle.x5_model.specs.Problems.{no_such_attribute_or_value, attribute_or_value_already_exists, not_allowed_on_rdn}
@@ -95,20 +95,20 @@ added_ordered name attributes e =
 -- ---- changes
 
 -- where it accepts, order stays
-abbrev Keeps : (Entry → Changed) → Type 0
+abbrev Keeps : (Entry → ChangedEntry) → Type 0
 Keeps change = (e f : Entry) → is_ordered e ≡ true → change e ≡ Ok f → is_ordered f ≡ true
 
-abbrev pub ok_change : Entry → Changed
+abbrev pub ok_change : Entry → ChangedEntry
 ok_change e = Ok e
 
 same_entry : (a b : Entry) → ok_change a ≡ ok_change b → a ≡ b
 same_entry a b e = cc
 
-then_keeps : (c : Changed) (f : Entry → Changed) (g : Entry) → and_then c f ≡ Ok g → (e : Entry) × (c ≡ Ok e) × (f e ≡ Ok g)
+then_keeps : (c : ChangedEntry) (f : Entry → ChangedEntry) (g : Entry) → and_then c f ≡ Ok g → (e : Entry) × (c ≡ Ok e) × (f e ≡ Ok g)
 then_keeps (Ok e) f g h = (e, refl, h)
 then_keeps (Err x) f g h = cc
 
-abbrev unless_bad : Bool → DirError → Entry → Changed
+abbrev unless_bad : Bool → DirError → Entry → ChangedEntry
 unless_bad b x e = if b then Err x else Ok e
 
 unless_ok : (b : Bool) (x : DirError) (e f : Entry) → unless_bad b x e ≡ Ok f → (b ≡ false) × (e ≡ f)
@@ -120,7 +120,7 @@ put_keeps kind v e f h q =
     let w = unless_ok (has_value e kind v.normal) (AttributeProblem attribute_or_value_already_exists (Known kind)) (put_value kind v e) f q in
     subst (λ (x : Entry). is_ordered x ≡ true) w.1 (ordered_with kind (insert_sorted value_below v (values_at e kind)) e h (put_ordered kind v e h w.0))
 
-abbrev if_there : Bool → DirError → Entry → Changed
+abbrev if_there : Bool → DirError → Entry → ChangedEntry
 if_there b x e = if b then Ok e else Err x
 
 if_there_ok : (b : Bool) (x : DirError) (e f : Entry) → if_there b x e ≡ Ok f → e ≡ f
@@ -132,32 +132,32 @@ drop_keeps kind v e f h q =
     subst (λ (x : Entry). is_ordered x ≡ true)
     (if_there_ok (has_value e kind v.normal) (AttributeProblem no_such_attribute_or_value (Known kind)) (drop_value kind v.normal e) f q) (dropped kind v.normal e h)
 
-abbrev on_value : (StoredValue → Entry → Changed) → Entry → Option StoredValue → Changed
+abbrev on_value : (StoredValue → Entry → ChangedEntry) → Entry → Option StoredValue → ChangedEntry
 on_value change e None = Ok e
 on_value change e (Some v) = change v e
 
-value_keeps : (change : StoredValue → Entry → Changed) → ((v : StoredValue) → Keeps (change v)) → (o : Option StoredValue) (e f : Entry) → is_ordered e ≡ true → on_value change e o ≡ Ok f → is_ordered f ≡ true
+value_keeps : (change : StoredValue → Entry → ChangedEntry) → ((v : StoredValue) → Keeps (change v)) → (o : Option StoredValue) (e f : Entry) → is_ordered e ≡ true → on_value change e o ≡ Ok f → is_ordered f ≡ true
 value_keeps change each None e f h q = subst (λ (x : Entry). is_ordered x ≡ true) (same_entry e f q) h
 value_keeps change each (Some v) e f h q = each v e f h q
 
-values_keep : (change : StoredValue → Entry → Changed) → ((v : StoredValue) → Keeps (change v)) → (os : List Offered) → Keeps (each_value change os)
+values_keep : (change : StoredValue → Entry → ChangedEntry) → ((v : StoredValue) → Keeps (change v)) → (os : List Offered) → Keeps (each_value change os)
 values_keep change each [] e f h q = subst (λ (x : Entry). is_ordered x ≡ true) (same_entry e f q) h
 values_keep change each (o ∷ more) e f h q =
     let w = then_keeps (on_value change e (stored_value o)) (each_value change more) f q in
     values_keep change each more w.0 f (value_keeps change each (stored_value o) e w.0 h w.1) w.2
 
-known_keeps : (change : ℕ → Entry → Changed) → ((kind : ℕ) → Keeps (change kind)) → (kind : TypeRef) → Keeps (on_known change kind)
+known_keeps : (change : ℕ → Entry → ChangedEntry) → ((kind : ℕ) → Keeps (change kind)) → (kind : TypeRef) → Keeps (on_known change kind)
 known_keeps change each (Known kind) e f h q = each kind e f h q
 known_keeps change each (Unknown arcs) e f h q = subst (λ (x : Entry). is_ordered x ≡ true) (same_entry e f q) h
 
-abbrev add_kind : List Offered → ℕ → Entry → Changed
+abbrev add_kind : List Offered → ℕ → Entry → ChangedEntry
 add_kind values kind e = if is_present e kind then Err (AttributeProblem attribute_or_value_already_exists (Known kind)) else each_value (put_new kind) values e
 
-unless_bad_then : (b : Bool) (x : DirError) (c : Changed) (f : Entry) → (if b then Err x else c) ≡ Ok f → c ≡ Ok f
+unless_bad_then : (b : Bool) (x : DirError) (c : ChangedEntry) (f : Entry) → (if b then Err x else c) ≡ Ok f → c ≡ Ok f
 unless_bad_then true x c f h = cc
 unless_bad_then false x c f h = h
 
-abbrev remove_kind : ℕ → Entry → Changed
+abbrev remove_kind : ℕ → Entry → ChangedEntry
 remove_kind kind e = if_there (is_present e kind) (AttributeProblem no_such_attribute_or_value (Known kind)) (entry_with kind [] e)
 
 change_keeps : (c : Change) → Keeps (changed c)

@@ -5,31 +5,31 @@ use Rattle.x5_model.specs.Keys.{Key, same_key, is_prefix, parent}
 use Rattle.x5_model.specs.Values.{Known, Rdn, Name, key_of, last_rdn}
 use Rattle.x5_model.specs.Entries.{Entry, Named}
 use Rattle.x5_model.specs.Attributes.{doubled}
-use Rattle.x5_model.specs.Changes.{Changed, modified, renamed, single_valued}
+use Rattle.x5_model.specs.Changes.{ChangedEntry, modified, renamed, single_valued}
 use Rattle.x5_model.specs.Requests.{Attribute, Change, Body, Request}
 use Rattle.x5_model.specs.Answers.{DirError, AttributeProblem, UpdateProblem}
 use Rattle.x5_model.specs.Problems.{constraint_violation, entry_already_exists, affects_multiple_dsas, not_allowed_on_non_leaf}
 use Rattle.x5_model.specs.Statics.{fault_of}
 use Rattle.x5_model.proofs.Lists.{true_or_false}
 use Rattle.x5_model_tree.specs.Tree.{Tree, key_at, entry_at, has_below, sorted_entries}
-use Rattle.x5_model_tree.specs.Apply.{Ground, Outcome, Applied, absent, above_pin, is_taken, at_entry, replace_at, add, remove, modify, rename, update, apply_over, apply, ground_of}
+use Rattle.x5_model_tree.specs.Apply.{Ground, UpdatedEntries, Applied, absent, above_pin, is_taken, at_entry, replace_at, add, remove, modify, rename, update, apply_over, apply, ground_of}
 use Rattle.x5_model_updates.specs.Afterwards.{new_entry, new_key, name_after}
 
 -- ---- at the entry of a key
 
-abbrev picked : DirError → (Named → Outcome) → Option Named → Outcome
+abbrev picked : DirError → (Named → UpdatedEntries) → Option Named → UpdatedEntries
 picked x f None = Err x
 picked x f (Some e) = f e
 
-pub at_none : (g : Ground) (key : Key) (f : Named → Outcome) → entry_at g.entries key ≡ None → at_entry g key f ≡ Err (absent g key)
+pub at_none : (g : Ground) (key : Key) (f : Named → UpdatedEntries) → entry_at g.entries key ≡ None → at_entry g key f ≡ Err (absent g key)
 at_none g key f q = ap (λ (o : Option Named). picked (absent g key) f o) q
 
-pub at_some : (g : Ground) (key : Key) (f : Named → Outcome) (e : Named) → entry_at g.entries key ≡ Some e → at_entry g key f ≡ f e
+pub at_some : (g : Ground) (key : Key) (f : Named → UpdatedEntries) (e : Named) → entry_at g.entries key ≡ Some e → at_entry g key f ≡ f e
 at_some g key f e q = ap (λ (o : Option Named). picked (absent g key) f o) q
 
 -- ---- addEntry
 
-abbrev put_below : Ground → Name → List Attribute → Named → Outcome
+abbrev put_below : Ground → Name → List Attribute → Named → UpdatedEntries
 put_below g name attributes above =
     if is_taken g (key_of name) then Err (UpdateProblem entry_already_exists) else Ok (sorted_entries (g.entries ++ new_entry above name attributes ∷ []))
 
@@ -53,10 +53,10 @@ add_free g name attributes above q t =
 abbrev left_out : Ground → Name → List Named
 left_out g name = filter (λ e. not (same_key (key_at e) (key_of name))) g.entries
 
-abbrev off_leaf : Ground → Name → Bool → Outcome
+abbrev off_leaf : Ground → Name → Bool → UpdatedEntries
 off_leaf g name below = if below then Err (UpdateProblem not_allowed_on_non_leaf) else Ok (left_out g name)
 
-abbrev off : Ground → Name → Bool → Bool → Outcome
+abbrev off : Ground → Name → Bool → Bool → UpdatedEntries
 off g name above below = if above then Err (UpdateProblem affects_multiple_dsas) else off_leaf g name below
 
 pub remove_none : (g : Ground) (name : Name) → entry_at g.entries (key_of name) ≡ None → remove g name ≡ Err (absent g (key_of name))
@@ -70,18 +70,18 @@ remove_some g name e a b q h l =
 
 -- ---- modifyEntry
 
-abbrev put_changed : Ground → Name → Named → Changed → Outcome
+abbrev put_changed : Ground → Name → Named → ChangedEntry → UpdatedEntries
 put_changed g name e (Ok new) = Ok (replace_at (key_of name) (record e { entry = new }) g.entries)
 put_changed g name e (Err x) = Err x
 
 pub modify_none : (g : Ground) (name : Name) (changes : List Change) → entry_at g.entries (key_of name) ≡ None → modify g name changes ≡ Err (absent g (key_of name))
 modify_none g name changes q = at_none g (key_of name) (λ e. put_changed g name e (modified (last_rdn name) changes e.entry)) q
 
-pub modify_some : (g : Ground) (name : Name) (changes : List Change) (e : Named) (c : Changed) → entry_at g.entries (key_of name) ≡ Some e → modified (last_rdn name) changes e.entry ≡ c
+pub modify_some : (g : Ground) (name : Name) (changes : List Change) (e : Named) (c : ChangedEntry) → entry_at g.entries (key_of name) ≡ Some e → modified (last_rdn name) changes e.entry ≡ c
     → modify g name changes ≡ put_changed g name e c
 modify_some g name changes e c q h =
     at_some g (key_of name) (λ e. put_changed g name e (modified (last_rdn name) changes e.entry)) e q
-    ∙ ap (λ (x : Changed). put_changed g name e x) h
+    ∙ ap (λ (x : ChangedEntry). put_changed g name e x) h
 
 -- ---- modifyDN
 
@@ -90,33 +90,33 @@ moved_entry name rdn new e =
     if same_key (key_at e) (key_of name) then record { name = name_after name rdn e; entry = new }
     else (if is_prefix (key_of name) (key_at e) then record e { name = name_after name rdn e } else e)
 
-abbrev go_free : Ground → Name → Rdn → Entry → Bool → Outcome
+abbrev go_free : Ground → Name → Rdn → Entry → Bool → UpdatedEntries
 go_free g name rdn new taken =
     if taken then Err (UpdateProblem entry_already_exists) else Ok (sorted_entries (map (moved_entry name rdn new) g.entries))
 
 abbrev pub clashes : Ground → Name → Rdn → Bool
 clashes g name rdn = not (same_key (new_key name rdn) (key_of name)) && is_taken g (new_key name rdn)
 
-abbrev go_changed : Ground → Name → Rdn → Bool → Changed → Outcome
+abbrev go_changed : Ground → Name → Rdn → Bool → ChangedEntry → UpdatedEntries
 go_changed g name rdn taken (Err x) = Err x
 go_changed g name rdn taken (Ok new) = go_free g name rdn new taken
 
-abbrev go_below : Ground → Name → Rdn → Bool → Changed → Bool → Outcome
+abbrev go_below : Ground → Name → Rdn → Bool → ChangedEntry → Bool → UpdatedEntries
 go_below g name rdn above c taken = if above then Err (UpdateProblem affects_multiple_dsas) else go_changed g name rdn taken c
 
 pub rename_none : (g : Ground) (name : Name) (rdn : Rdn) (drops : Bool) → entry_at g.entries (key_of name) ≡ None → rename g name rdn drops ≡ Err (absent g (key_of name))
 rename_none g name rdn drops q =
     at_none g (key_of name) (λ e. go_below g name rdn (above_pin g (key_of name)) (single_valued (renamed (last_rdn name) rdn drops e.entry)) (clashes g name rdn)) q
 
-pub rename_some : (g : Ground) (name : Name) (rdn : Rdn) (drops : Bool) (e : Named) (a : Bool) (c : Changed) (b : Bool) → entry_at g.entries (key_of name) ≡ Some e → above_pin g (key_of name) ≡ a
+pub rename_some : (g : Ground) (name : Name) (rdn : Rdn) (drops : Bool) (e : Named) (a : Bool) (c : ChangedEntry) (b : Bool) → entry_at g.entries (key_of name) ≡ Some e → above_pin g (key_of name) ≡ a
     → single_valued (renamed (last_rdn name) rdn drops e.entry) ≡ c → clashes g name rdn ≡ b → rename g name rdn drops ≡ go_below g name rdn a c b
 rename_some g name rdn drops e a c b q h i t =
     at_some g (key_of name) (λ e. go_below g name rdn (above_pin g (key_of name)) (single_valued (renamed (last_rdn name) rdn drops e.entry)) (clashes g name rdn)) e q
     ∙ ap (λ (x : Bool). go_below g name rdn x (single_valued (renamed (last_rdn name) rdn drops e.entry)) (clashes g name rdn)) h
-    ∙ ap (λ (x : Changed). go_below g name rdn a x (clashes g name rdn)) i
+    ∙ ap (λ (x : ChangedEntry). go_below g name rdn a x (clashes g name rdn)) i
     ∙ ap (λ (x : Bool). go_below g name rdn a c x) t
 
-abbrev one_of : Entry → Option ℕ → Changed
+abbrev one_of : Entry → Option ℕ → ChangedEntry
 one_of e None = Ok e
 one_of e (Some kind) = Err (AttributeProblem constraint_violation (Known kind))
 
@@ -138,7 +138,7 @@ pub ok_or_err : {A B : Type 0} (r : Result A B) → ((x : A) × (r ≡ Ok x)) �
 ok_or_err (Ok x) = inl (x, refl)
 ok_or_err (Err y) = inr (y, refl)
 
-abbrev refused_first : Ground → Body → Option DirError → Outcome
+abbrev refused_first : Ground → Body → Option DirError → UpdatedEntries
 refused_first g body (Some x) = Err x
 refused_first g body None = update g body
 
@@ -166,14 +166,14 @@ accepted_over g body es q =
 
 -- ---- the tree
 
-abbrev as_tree : Tree → Outcome → Applied
+abbrev as_tree : Tree → UpdatedEntries → Applied
 as_tree t (Ok entries) = Ok (record t { entries = entries })
 as_tree t (Err x) = Err x
 
 abbrev ok_tree : Tree → Applied
 ok_tree t = Ok t
 
-abbrev ok_entries : List Named → Outcome
+abbrev ok_entries : List Named → UpdatedEntries
 ok_entries es = Ok es
 
 pub tree_refuses : (t : Tree) (r : Request) (x : DirError) → apply_over (ground_of t) r.body ≡ Err x → apply t r ≡ Err x
@@ -197,10 +197,10 @@ tree_made t u r q =
 
 -- ---- what was accepted passed each test
 
-abbrev ok_changed : Entry → Changed
+abbrev ok_changed : Entry → ChangedEntry
 ok_changed e = Ok e
 
-abbrev pub ok_list : List Named → Outcome
+abbrev pub ok_list : List Named → UpdatedEntries
 ok_list es = Ok es
 
 pub same_list : (a b : List Named) → ok_list a ≡ ok_list b → a ≡ b

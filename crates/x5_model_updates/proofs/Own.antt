@@ -19,7 +19,7 @@ use Rattle.x5_model_theory.specs.Knowledge.{Area, Spot, Pointer}
 use Rattle.x5_model_theory.specs.Described.{spot_of, area_of, pointer_of, pointers_of, knowledge_of}
 use Rattle.x5_model_theory.specs.Changing.{holding}
 use Rattle.x5_model_theory.proofs.Views.{there_decides, one_at_place}
-use Rattle.x5_model_updates.specs.Standing.{Stands}
+use Rattle.x5_model_updates.specs.Standing.{StandsWhole}
 use Rattle.x5_model_updates.specs.Keeping.{keys_in}
 use Rattle.x5_model_updates.proofs.Trees.{pin_there, of_part}
 use Rattle.x5_model_updates.proofs.Grounds.{Knows}
@@ -46,7 +46,7 @@ ground_is r h =
     known : List Key
     known = map key_of (known_pins r h)
 
-module _ (p : Point) (s : Stands p) (r : Request) (o : ℕ) where
+module _ (p : Point) (s : StandsWhole p) (r : Request) (o : ℕ) where
   abbrev known : List Key
   known = map key_of (known_pins r (holdings_at p o))
 

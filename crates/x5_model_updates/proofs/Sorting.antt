@@ -18,7 +18,7 @@ use Rattle.x5_model_tree.specs.World.{Nssr, Context, Agent}
 use Rattle.x5_model_tree.specs.Tree.{Tree, key_at, keys_of, named_below, sorted_entries, entry_at, has_below}
 use Rattle.x5_model_tree.specs.Masters.{pin_of, held_contexts}
 use Rattle.x5_model_tree.specs.Ask.{is_update}
-use Rattle.x5_model_tree.specs.Apply.{Ground, counts_in, own_ground, Outcome, absent, above_pin, is_taken, update, apply_over}
+use Rattle.x5_model_tree.specs.Apply.{Ground, counts_in, own_ground, UpdatedEntries, absent, above_pin, is_taken, update, apply_over}
 use Rattle.x5_model_tree.proofs.Exact.{conditions_hold}
 use Rattle.x5_model_run.specs.Holdings.{known_pins}
 use Rattle.x5_model_run.specs.History.{knowledge_at, tree_at, own_context, agent_holdings, no_holdings, holdings_at}
@@ -71,7 +71,7 @@ module _ (g h : Ground) (a : Alike g h) where
   same_clash : (name : Name) (rdn : Rdn) → clashes h name rdn ≡ clashes g name rdn
   same_clash name rdn = ap (λ (b : Bool). not (same_key (new_key name rdn) (key_of name)) && b) (sym (taken (new_key name rdn)))
 
-  abbrev bad : DirError → Outcome
+  abbrev bad : DirError → UpdatedEntries
   bad x = Err x
 
   refuses : (body : Body) (x : DirError) → is_update body ≡ true → update g body ≡ Err x → update h body ≡ Err x

@@ -15,16 +15,16 @@ use Rattle.x5_model_tree.specs.World.{Agent}
 use Rattle.x5_model_tree.specs.Tree.{Tree, key_at, keys_of, sorted_entries, is_there, part}
 use Rattle.x5_model_tree.specs.Masters.{Mastered, pin_of, numbered, mastered, masters, holds, held_contexts}
 use Rattle.x5_model_tree.specs.Ask.{is_update}
-use Rattle.x5_model_tree.specs.Apply.{Ground, Outcome, own_ground, apply_over, apply}
+use Rattle.x5_model_tree.specs.Apply.{Ground, UpdatedEntries, own_ground, apply_over, apply}
 use Rattle.x5_model_run.specs.Holdings.{Held, known_pins, ground_at, holds_within}
 use Rattle.x5_model_run.specs.Needs.{target_of, resolves, new_name, due_probes}
 use Rattle.x5_model_run.specs.History.{Point, knowledge_at, tree_at, world_at, own_context, holdings_at}
 use Rattle.x5_model_run.specs.Right.{master_at}
-use Rattle.x5_model_updates.specs.Standing.{Stands}
+use Rattle.x5_model_updates.specs.Standing.{StandsWhole}
 
 -- an update's message reached the master of its target's context, which resolves the name
 pub record IsJudge (p : Point) (o : ℕ) (m : Chained) : Type 0 where
-  pub stands : Stands p
+  pub stands : StandsWhole p
   pub update : is_update m.request.body ≡ true
   pub target : key_of m.target ≡ key_of (target_of m.request.body)
   pub resolving : resolves (holdings_at p o) m ≡ true
@@ -32,11 +32,11 @@ pub record IsJudge (p : Point) (o : ℕ) (m : Chained) : Type 0 where
 
 -- An agent that has the entry of a key in a context of its own is the master of the key's context.
 abbrev pub HolderIsMaster : Type 0
-HolderIsMaster = (p : Point) (o : ℕ) (c : Held) (key : Key) → Stands p → In c (holdings_at p o).own →
+HolderIsMaster = (p : Point) (o : ℕ) (c : Held) (key : Key) → StandsWhole p → In c (holdings_at p o).own →
     is_there c.entries key ≡ true → master_at p key ≡ Some o
 
 -- what it makes of the update by its own entries, the pins that it knows and its NSSRs
-abbrev pub judged : Point → ℕ → Chained → Outcome
+abbrev pub judged : Point → ℕ → Chained → UpdatedEntries
 judged p o m = apply_over (ground_at m.request (holdings_at p o)) m.request.body
 
 abbrev pub probes : Point → ℕ → Chained → List Reference
@@ -70,7 +70,7 @@ AcceptsProbed = (p : Point) (o : ℕ) (m : Chained) (mine : List Named) → IsJu
 -- An agent that is unable to proceed with the probe holds nothing that goes as far, and so masters no such context.
 abbrev pub UnableMastersNone : Type 0
 UnableMastersNone =
-    (p : Point) (a : ℕ) (name : Name) → Stands p → holds_within (holdings_at p a) (key_of name) (length name) ≡ false
+    (p : Point) (a : ℕ) (name : Name) → StandsWhole p → holds_within (holdings_at p a) (key_of name) (length name) ≡ false
     → masters (knowledge_at p) a (key_of name) ≡ false
 
 -- 4. Where an agent that a probe is due at masters such a context or has a copy of it, the whole tree refuses.
@@ -100,13 +100,13 @@ JudgedAfter = (p : Point) (o : ℕ) (m : Chained) (mine : List Named) (u : Tree)
 
 -- An agent holds each context that it masters, with its part of the tree.
 abbrev pub HoldsItsContexts : Type 0
-HoldsItsContexts = (p : Point) (o : ℕ) (a : Agent) → Stands p → In (o, a) (numbered (knowledge_at p)) →
+HoldsItsContexts = (p : Point) (o : ℕ) (a : Agent) → StandsWhole p → In (o, a) (numbered (knowledge_at p)) →
     (holdings_at p o).own ≡ map (own_context (tree_at p) a) a.contexts
 
 -- The ground that is made of the contexts that the agent holds in the world of the moment, and of the pins that it
 -- knows, is the same.
 abbrev pub OwnGroundHeld : Type 0
-OwnGroundHeld = (p : Point) (o : ℕ) (a : Agent) (r : Request) → Stands p → In (o, a) (numbered (world_at p))
+OwnGroundHeld = (p : Point) (o : ℕ) (a : Agent) (r : Request) → StandsWhole p → In (o, a) (numbered (world_at p))
     → own_ground (map key_of (known_pins r (holdings_at p o))) (held_contexts [] a.contexts)
     ≡ ground_at r (holdings_at p o)
 

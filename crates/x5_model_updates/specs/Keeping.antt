@@ -15,7 +15,7 @@ use Rattle.x5_model_run.specs.Run.{Command, Block, Judge, IsRun}
 use Rattle.x5_model_theory.specs.Knowledge.{Knowledge, Area}
 use Rattle.x5_model_theory.specs.Coherent.{Coherent}
 use Rattle.x5_model_theory.specs.Changing.{with_entries}
-use Rattle.x5_model_updates.specs.Standing.{IsTreeOf, Stands}
+use Rattle.x5_model_updates.specs.Standing.{IsTreeOf, StandsWhole}
 
 -- the keys that a context has of a tree
 abbrev pub keys_in : Tree → Area → List Key
@@ -50,9 +50,9 @@ NoneMoved (d ∷ before) = MovesNone d.deed × NoneMoved before
 -- run.
 abbrev pub LinesStand : Type 0
 LinesStand = (w : World) (past : List Did) → IsDescribed w → IsConsistent w → NoneMoved past →
-    Stands (record { described = w; past = past })
+    StandsWhole (record { described = w; past = past })
 
 abbrev pub RunsStand : Judge → Type 0
 RunsStand judge =
     (w : World) (commands : List Command) (blocks : List Block) (past : List Did) → IsDescribed w → IsConsistent w
-    → IsRun judge w commands blocks past → Stands (record { described = w; past = past })
+    → IsRun judge w commands blocks past → StandsWhole (record { described = w; past = past })

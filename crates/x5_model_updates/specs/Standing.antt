@@ -26,7 +26,7 @@ pub record IsTreeOf (k : Knowledge) (t : Tree) : Type 0 where
 
 -- `knowledge_at` has the contexts and references of the line with the entries of the world file, `world_at` has them
 -- with the entries of the moment
-pub record Stands (p : Point) : Type 0 where
+pub record StandsWhole (p : Point) : Type 0 where
   pub described : IsDescribed (knowledge_at p)
   pub consistent : IsConsistent (knowledge_at p)
   pub coherent : Coherent (knowledge_of (world_at p))
@@ -35,15 +35,15 @@ pub record Stands (p : Point) : Type 0 where
 
 -- So the tree is what its masters have together, and it is a tree.
 abbrev pub TreeIsUnion : Type 0
-TreeIsUnion = (p : Point) → Stands p → whole (world_at p) ≡ tree_at p
+TreeIsUnion = (p : Point) → StandsWhole p → whole (world_at p) ≡ tree_at p
 
 abbrev pub StandsAsTree : Type 0
-StandsAsTree = (p : Point) → Stands p → IsTree (tree_at p)
+StandsAsTree = (p : Point) → StandsWhole p → IsTree (tree_at p)
 
 -- The world with the entries of the moment meets the ten conditions themselves, and what follows from them of contexts
 -- and keys.
 abbrev pub StandsConsistent : Type 0
-StandsConsistent = (p : Point) → Stands p → IsConsistent (world_at p)
+StandsConsistent = (p : Point) → StandsWhole p → IsConsistent (world_at p)
 
 abbrev pub StandsGood : Type 0
-StandsGood = (p : Point) → Stands p → Good (world_at p)
+StandsGood = (p : Point) → StandsWhole p → Good (world_at p)

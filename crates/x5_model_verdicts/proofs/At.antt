@@ -32,11 +32,11 @@ use Rattle.x5_model_find.proofs.Owns.{here_is_judge}
 
 -- ---- the lines of an update: they carry it, or are probes
 
-abbrev pub is_read : Body → Bool
-is_read body = operation_of body == 1
+abbrev pub is_entry_read : Body → Bool
+is_entry_read body = operation_of body == 1
 
 abbrev pub IsOfUpdate : Scene → Line → Type 0
-IsOfUpdate s l = (is_read l.message.request.body ≡ true) ⊎ ((l.message.request.body ≡ s.message.request.body) × (key_of l.message.target ≡ key_of (target_of s.message.request.body)))
+IsOfUpdate s l = (is_entry_read l.message.request.body ≡ true) ⊎ ((l.message.request.body ≡ s.message.request.body) × (key_of l.message.target ≡ key_of (target_of s.message.request.body)))
 
 abbrev pub form : Request → Bool → Name → Reference → Bool → Bool → Request
 form asked user t r probe part = if probe then probe_request t else (if part then part_request user (is_wide r.kind) t asked else asked)
@@ -51,7 +51,7 @@ same_part wide t (RemoveEntry name) u = refl
 same_part wide t (ModifyEntry name changes) u = refl
 same_part wide t (ModifyDn name rdn drops) u = refl
 
-read_part : (wide : Bool) (t : Name) (body : Body) → is_read body ≡ true → is_read (part_body wide t body) ≡ true
+read_part : (wide : Bool) (t : Name) (body : Body) → is_entry_read body ≡ true → is_entry_read (part_body wide t body) ≡ true
 read_part wide t (Read name selection) u = refl
 read_part wide t (Compare name assertion) u = cc
 read_part wide t (ListBelow name) u = cc
@@ -62,7 +62,7 @@ read_part wide t (ModifyEntry name changes) u = cc
 read_part wide t (ModifyDn name rdn drops) u = cc
 
 carried_update : (user : Bool) (asked : Request) (t : Name) (r : Reference) → is_update asked.body ≡ true
-    → (is_read (request_for user asked t r).body ≡ true) ⊎ (((request_for user asked t r).body ≡ asked.body) × (same_name (target_of asked.body) t ≡ true))
+    → (is_entry_read (request_for user asked t r).body ≡ true) ⊎ (((request_for user asked t r).body ≡ asked.body) × (same_name (target_of asked.body) t ≡ true))
 carried_update user asked t r up = by (same_name (target_of asked.body) t) refl
   where
     abbrev_form : (b : Bool) → is_probe asked.body t ≡ b → request_for user asked t r ≡ form asked user t r b (asks_part r)
@@ -72,16 +72,16 @@ carried_update user asked t r up = by (same_name (target_of asked.body) t) refl
     stays true = same_part (is_wide r.kind) t asked.body up
     stays false = refl
 
-    by : (b : Bool) → same_name (target_of asked.body) t ≡ b → (is_read (request_for user asked t r).body ≡ true) ⊎ (((request_for user asked t r).body ≡ asked.body) × (same_name (target_of asked.body) t ≡ true))
-    by false e = inl (subst (λ (x : Request). is_read x.body ≡ true) (sym (abbrev_form true (and_true (is_update asked.body) (not (same_name (target_of asked.body) t)) up (ap not e)))) refl)
+    by : (b : Bool) → same_name (target_of asked.body) t ≡ b → (is_entry_read (request_for user asked t r).body ≡ true) ⊎ (((request_for user asked t r).body ≡ asked.body) × (same_name (target_of asked.body) t ≡ true))
+    by false e = inl (subst (λ (x : Request). is_entry_read x.body ≡ true) (sym (abbrev_form true (and_true (is_update asked.body) (not (same_name (target_of asked.body) t)) up (ap not e)))) refl)
     by true e =
         let no : is_probe asked.body t ≡ false = ap (λ (b : Bool). b && not (same_name (target_of asked.body) t)) up ∙ ap not e in
         inr (ap (λ (x : Request). x.body) (abbrev_form false no) ∙ stays (asks_part r), e)
 
-carried_read : (user : Bool) (asked : Request) (t : Name) (r : Reference) → is_read asked.body ≡ true → is_read (request_for user asked t r).body ≡ true
+carried_read : (user : Bool) (asked : Request) (t : Name) (r : Reference) → is_entry_read asked.body ≡ true → is_entry_read (request_for user asked t r).body ≡ true
 carried_read user asked t r read = by (is_probe asked.body t) (asks_part r)
   where
-    by : (b c : Bool) → is_read (form asked user t r b c).body ≡ true
+    by : (b c : Bool) → is_entry_read (form asked user t r b c).body ≡ true
     by true c = refl
     by false true = read_part (is_wide r.kind) t asked.body read
     by false false = read
@@ -100,11 +100,11 @@ module _ (s : Scene) (up : is_update s.message.request.body ≡ true) (fit : key
   of_cause before l ih (begins f) = inr (ap (λ (m : Chained). m.request.body) f.message_is, ap (λ (m : Chained). key_of m.target) f.message_is ∙ fit)
   of_cause before l ih (later f fresh) =
       elim (ih f.opener (of_settled f.above before f.opener f.opens)) [
-        | inl read ↦ inl (subst (λ (x : Request). is_read x.body ≡ true) (sym (as_carried l.sender f.opener f.reference l.message f.carries).request_is) (carried_read (is_user l.sender) f.opener.message.request l.message.target f.reference read))
+        | inl read ↦ inl (subst (λ (x : Request). is_entry_read x.body ≡ true) (sym (as_carried l.sender f.opener f.reference l.message f.carries).request_is) (carried_read (is_user l.sender) f.opener.message.request l.message.target f.reference read))
         | inr w ↦
             let u : is_update f.opener.message.request.body ≡ true = ap (λ (b : Body). is_update b) w.0 ∙ up in
             elim (carried_update (is_user l.sender) f.opener.message.request l.message.target f.reference u) [
-              | inl read ↦ inl (subst (λ (x : Request). is_read x.body ≡ true) (sym (as_carried l.sender f.opener f.reference l.message f.carries).request_is) read)
+              | inl read ↦ inl (subst (λ (x : Request). is_entry_read x.body ≡ true) (sym (as_carried l.sender f.opener f.reference l.message f.carries).request_is) read)
               | inr v ↦ inr (
                 ap (λ (x : Request). x.body) (as_carried l.sender f.opener f.reference l.message f.carries).request_is ∙ v.0 ∙ w.0,
                 sym ((key_decides (key_of (target_of f.opener.message.request.body)) (key_of l.message.target)).0 v.1) ∙ ap (λ (b : Body). key_of (target_of b)) w.0,
@@ -153,7 +153,7 @@ module _ (s : Scene) (off : is_update s.message.request.body ≡ false) where
         | inr j ↦ each_off before all.1 l j
       ]
 
-update_no_read : (body : Body) → is_update body ≡ true → is_read body ≡ true → ⊥
+update_no_read : (body : Body) → is_update body ≡ true → is_entry_read body ≡ true → ⊥
 update_no_read (Read name selection) u r = cc
 update_no_read (Compare name assertion) u r = cc
 update_no_read (ListBelow name) u r = cc

@@ -18,7 +18,7 @@ use Rattle.x5_model_tree.specs.World.{Specific, Context, Agent, Agreement, World
 use Rattle.x5_model_tree.specs.Tree.{Tree, key_at, keys_of, named_below, sorted_entries, is_there, belongs, part}
 use Rattle.x5_model_tree.specs.Masters.{Mastered, pin_of, numbered, mastered, agent_at, held_contexts}
 use Rattle.x5_model_tree.specs.Good.{Good}
-use Rattle.x5_model_tree.specs.Apply.{Outcome, Applied, ground_of, apply_over, apply, is_taken}
+use Rattle.x5_model_tree.specs.Apply.{UpdatedEntries, Applied, ground_of, apply_over, apply, is_taken}
 use Rattle.x5_model_tree.proofs.Gives.{consistent_is_good}
 use Rattle.x5_model_tree.proofs.Order.{named_chain, named_never}
 use Rattle.x5_model_tree.proofs.Longest.{IsLongest, longest_is, belongs_decides}
@@ -33,7 +33,7 @@ use Rattle.x5_model_theory.proofs.Places.{at_agent, pointer_in}
 use Rattle.x5_model_theory.proofs.Views.{at_place}
 use Rattle.x5_model_theory.proofs.Cohering.{map_map}
 use Rattle.x5_model_theory.proofs.Holding.{of_place}
-use Rattle.x5_model_updates.specs.Standing.{IsTreeOf, Stands}
+use Rattle.x5_model_updates.specs.Standing.{IsTreeOf, StandsWhole}
 use Rattle.x5_model_updates.specs.Keeping.{keys_in}
 use Rattle.x5_model_updates.specs.Afterwards.{only_part}
 use Rattle.x5_model_updates.specs.Judging.{IsJudge}
@@ -54,7 +54,7 @@ abbrev or_left : Tree → Applied → Tree
 or_left t (Ok u) = u
 or_left t (Err x) = t
 
-abbrev ok_entries : List Named → Outcome
+abbrev ok_entries : List Named → UpdatedEntries
 ok_entries es = Ok es
 
 -- ---- copies are as they were
@@ -105,7 +105,7 @@ module _ (p : Point) (o : ℕ) (r : Request) (sent : ℕ) (stamped : IsStamped p
       (λ g i. copy_stays g (of_filter (λ (x : Agreement). x.consumer == a) g (knowledge_at p).agreements (of_agreements [] (filter (λ (x : Agreement). x.consumer == a) (knowledge_at p).agreements) g i)).0)
 
 module _ (p : Point) (o : ℕ) (m : Chained) (j : IsJudge p o m) (u : Tree) (h : apply (tree_at p) m.request ≡ Ok u) where
-  abbrev s : Stands p
+  abbrev s : StandsWhole p
   s = j.stands
 
   abbrev K : Knowledge

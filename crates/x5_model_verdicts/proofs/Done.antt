@@ -16,7 +16,7 @@ use Rattle.x5_model.proofs.Decide.{nat_same_decides}
 use Rattle.x5_model_tree.specs.Tree.{Tree}
 use Rattle.x5_model_tree.specs.Masters.{masters}
 use Rattle.x5_model_tree.specs.Ask.{is_update}
-use Rattle.x5_model_tree.specs.Apply.{Outcome, Applied, ground_of, apply, apply_over}
+use Rattle.x5_model_tree.specs.Apply.{UpdatedEntries, Applied, ground_of, apply, apply_over}
 use Rattle.x5_model_run.specs.Network.{arrives, is_sent}
 use Rattle.x5_model_run.specs.Journal.{Line, Journal, operation_of, settled, is_reached, some_line}
 use Rattle.x5_model_run.specs.Holdings.{Holdings, ground_at, holds_within}
@@ -80,7 +80,7 @@ newest_whole s l before all = elim (true_or_false (some_line (lacks_probe s l.nu
 
 -- ---- what was accepted
 
-abbrev pub as_applied : Tree → Outcome → Applied
+abbrev pub as_applied : Tree → UpdatedEntries → Applied
 as_applied t (Ok entries) = Ok (record t { entries = entries })
 as_applied t (Err x) = Err x
 

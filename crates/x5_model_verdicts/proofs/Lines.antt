@@ -14,7 +14,7 @@ use Rattle.x5_model.specs.Statics.{fault_of}
 use Rattle.x5_model.proofs.Lists.{both_true, either_true, not_true, not_false, in_right, any_in, of_any, of_all}
 use Rattle.x5_model_tree.specs.Tree.{Tree}
 use Rattle.x5_model_tree.specs.Ask.{Refuses, is_update, updated}
-use Rattle.x5_model_tree.specs.Apply.{Outcome, Applied, ground_of, apply_over, apply}
+use Rattle.x5_model_tree.specs.Apply.{UpdatedEntries, Applied, ground_of, apply_over, apply}
 use Rattle.x5_model_run.specs.Journal.{Line, Journal, is_reached}
 use Rattle.x5_model_run.specs.History.{tree_at}
 use Rattle.x5_model_run.specs.Chain.{Scene}
@@ -127,7 +127,7 @@ some_member (x ∷ xs) e = (x, here)
 no_refusal : (t : Tree) (r : Request) (u : Tree) (x : DirError) → apply t r ≡ Ok u → updated (apply t r) ≡ Refuses x → ⊥
 no_refusal t r u x e f = (let g = sym (ap updated e) ∙ f in cc)
 
-abbrev as_applied : Tree → Outcome → Applied
+abbrev as_applied : Tree → UpdatedEntries → Applied
 as_applied t (Ok entries) = Ok (record t { entries = entries })
 as_applied t (Err x) = Err x
 

@@ -7,7 +7,7 @@ use Rattle.x5_model.specs.Members.{In}
 use Rattle.x5_model.specs.Keys.{Key, IsPrefix, parent, same_key}
 use Rattle.x5_model.specs.Values.{Name, key_of, last_rdn, name_above}
 use Rattle.x5_model.specs.Entries.{Entry, Named}
-use Rattle.x5_model.specs.Changes.{Changed, renamed, single_valued}
+use Rattle.x5_model.specs.Changes.{ChangedEntry, renamed, single_valued}
 use Rattle.x5_model.specs.Attributes.{doubled}
 use Rattle.x5_model.specs.Values.{Known}
 use Rattle.x5_model.specs.Problems.{entry_already_exists, affects_multiple_dsas, constraint_violation}
@@ -22,7 +22,7 @@ use Rattle.x5_model.proofs.Decide.{nat_same_decides}
 use Rattle.x5_model_tree.specs.Tree.{Tree, key_at, lowest, entry_at}
 use Rattle.x5_model_tree.specs.Masters.{pin_of}
 use Rattle.x5_model_tree.specs.Ask.{Told, Refuses, is_update, updated, ask_body, ask_marked}
-use Rattle.x5_model_tree.specs.Apply.{Ground, Outcome, apply, apply_over, update, is_taken, above_pin}
+use Rattle.x5_model_tree.specs.Apply.{Ground, UpdatedEntries, apply, apply_over, update, is_taken, above_pin}
 use Rattle.x5_model_tree.proofs.Longest.{IsLongest, IsLowest, lowest_is, lowest_right}
 use Rattle.x5_model_run.specs.Journal.{Line, Journal, same_name, is_done, is_wide}
 use Rattle.x5_model_run.specs.Holdings.{Held, Holdings, known_pins, ground_at, holds_within}
@@ -83,13 +83,13 @@ told_update t m e none up =
 
 -- ---- a name that is taken
 
-abbrev bad_changed : DirError → Changed
+abbrev bad_changed : DirError → ChangedEntry
 bad_changed x = Err x
 
-abbrev bad : DirError → Outcome
+abbrev bad : DirError → UpdatedEntries
 bad x = Err x
 
-abbrev one_of : Entry → Option ℕ → Changed
+abbrev one_of : Entry → Option ℕ → ChangedEntry
 one_of e None = Ok e
 one_of e (Some kind) = Err (AttributeProblem constraint_violation (Known kind))
 

@@ -6,7 +6,7 @@ ghost use Rattle.x5_model.specs.Normal.{stored_pair, stored_rdn, stored};
 ghost use Rattle.x5_model.specs.Values.{key_of_pair, key_of_rdn, key_of, name_above, written, written_pair};
 ghost use Rattle.x5_model_text.specs.NameText.{text_of_name, text_of_rdn};
 ghost use Rattle.x5_names.specs.Reading.{stored_name_of_text, stored_rdn_of_text};
-ghost use Rattle.x5_syntax.specs.Reading.{Reads};
+ghost use Rattle.x5_syntax.specs.Reading.{ReadsName};
 
 use crate::keys::{Key, KeyPair, KeyRdn};
 use std::alloc::{AllocError, Global};
@@ -134,7 +134,7 @@ impl Rdn {
 
     /// The RDN that a text spells, within the limits.
     pub fn parse(alloc: Global, text: &str) -> Result<Rdn, NameFault>
-        ensures { Reads (λ rdn. rdn) result (stored_rdn_of_text text.now) }
+        ensures { ReadsName (λ rdn. rdn) result (stored_rdn_of_text text.now) }
     {
         let value = RdnValue::parse(alloc, text)?;
         Ok(Rdn::from_value(alloc, &value)?)
@@ -250,7 +250,7 @@ impl Name {
 
     /// The name that a text spells, within the limits; else the first fault in reading order.
     pub fn parse(alloc: Global, text: &str) -> Result<Name, NameFault>
-        ensures { Reads (λ name. name) result (stored_name_of_text text.now) }
+        ensures { ReadsName (λ name. name) result (stored_name_of_text text.now) }
     {
         let value = NameValue::parse(alloc, text)?;
         Ok(Name::from_value(alloc, &value)?)

@@ -8,14 +8,14 @@ use Rattle.x5_model.specs.Values.{Rdn, Name, key_of, last_rdn}
 use Rattle.x5_model.specs.Entries.{Entry, Named}
 use Rattle.x5_model.specs.Requests.{Attribute, Change}
 use Rattle.x5_model.specs.Attributes.{added_entry}
-use Rattle.x5_model.specs.Changes.{Changed, modified}
+use Rattle.x5_model.specs.Changes.{ChangedEntry, modified}
 use Rattle.x5_model.specs.Answers.{DirError, NoSuchObject, UpdateProblem}
 use Rattle.x5_model.specs.Problems.{entry_already_exists, affects_multiple_dsas, not_allowed_on_non_leaf}
 use Rattle.x5_model.specs.Statics.{attribute_repeats}
 use Rattle.x5_model.proofs.KeyLaws.{key_decides}
 use Rattle.x5_model.proofs.Lists.{true_or_false, of_has}
 use Rattle.x5_model_tree.specs.Tree.{key_at, keys_of, named_below, entry_at, has_below, matched, sorted_entries}
-use Rattle.x5_model_tree.specs.Apply.{Outcome, above_pin, is_taken, replace_at, add, remove, modify}
+use Rattle.x5_model_tree.specs.Apply.{UpdatedEntries, above_pin, is_taken, replace_at, add, remove, modify}
 use Rattle.x5_model_updates.specs.Afterwards.{new_entry}
 use Rattle.x5_model_updates.proofs.Outcomes.{add_none, add_taken, add_free, remove_none, remove_some, modify_none, modify_some}
 use Rattle.x5_model_updates.proofs.Renaming.{new_entry_key}
@@ -30,16 +30,16 @@ use Rattle.x5_one.proofs.Changing.{put_in, take_out, put_over, next_is}
 
 -- ---- stopped
 
-pub stopped_as : (f : ChangeFault) (o p : Outcome) → p ≡ o → IsStopped f o → IsStopped f p
+pub stopped_as : (f : ChangeFault) (o p : UpdatedEntries) → p ≡ o → IsStopped f o → IsStopped f p
 stopped_as (faults.Refused r) o p e s = λ names. e ∙ s names
 stopped_as faults.NoMemory o p e s = s
 
 -- a refusal of the entry's change is one of the update
-pub refused_as : (f : ChangeFault) (m : Changed) (o : Outcome) → ((x : DirError) → m ≡ Err x → o ≡ Err x) → IsRefused f m → IsStopped f o
+pub refused_as : (f : ChangeFault) (m : ChangedEntry) (o : UpdatedEntries) → ((x : DirError) → m ≡ Err x → o ≡ Err x) → IsRefused f m → IsStopped f o
 refused_as (faults.Refused r) m o g s = λ names. g (error_view names r) (s names)
 refused_as faults.NoMemory m o g s = s
 
-pub absent_as : (f : ChangeFault) (xs entries : List Named) (k key : Key) (o : Outcome) → xs ≡ entries → k ≡ key → o ≡ Err (NoSuchObject (matched entries key)) → IsStopped f (Err (NoSuchObject (matched xs k))) → IsStopped f o
+pub absent_as : (f : ChangeFault) (xs entries : List Named) (k key : Key) (o : UpdatedEntries) → xs ≡ entries → k ≡ key → o ≡ Err (NoSuchObject (matched entries key)) → IsStopped f (Err (NoSuchObject (matched xs k))) → IsStopped f o
 absent_as f xs entries k key o e l is s =
     stopped_as f (Err (NoSuchObject (matched xs k))) o (is ∙ (λ i. Err (NoSuchObject (matched (sym e i) (sym l i))))) s
 
@@ -133,11 +133,11 @@ module _ (entries : List Named) (pins : List Key) (h : ascending named_below ent
         ∙ ap (λ (es : List Named). Ok es) (sym (put_over entries (key_of name) i e new h at.0 at.1))
 
 -- what is added, where nothing repeats
-abbrev by_repeats : Rdn → List Attribute → Option DirError → Changed
+abbrev by_repeats : Rdn → List Attribute → Option DirError → ChangedEntry
 by_repeats rdn attributes None = Ok (added_entry rdn attributes)
 by_repeats rdn attributes (Some x) = Err x
 
-same_ok : (a b : Entry) → ◌≡◌ {A = Changed} (Ok a) (Ok b) → a ≡ b
+same_ok : (a b : Entry) → ◌≡◌ {A = ChangedEntry} (Ok a) (Ok b) → a ≡ b
 same_ok a b e = cc
 
 pub added_is : (rdn : Rdn) (attributes : List Attribute) (e : Entry) → first_of (attribute_repeats [] attributes) ≡ None → added rdn attributes ≡ Ok e → e ≡ added_entry rdn attributes

@@ -7,7 +7,7 @@ use Rattle.x5_model.specs.Members.{In}
 use Rattle.x5_model.specs.Keys.{Key, is_prefix}
 use Rattle.x5_model.specs.Entries.{Named}
 use Rattle.x5_model_tree.specs.Tree.{Tree}
-use Rattle.x5_model_tree.specs.Apply.{Ground, Outcome}
+use Rattle.x5_model_tree.specs.Apply.{Ground, UpdatedEntries}
 use Rattle.x5_model_tree.specs.Conditions.{Has}
 use Rattle.x5_model.specs.Answers.{Answered, Changed, Failed}
 use Rattle.x5_memory.specs.declared.NoMemory.{NoMemory}
@@ -28,11 +28,11 @@ abbrev pub PinsThere : List Named → List Key → Type 0
 PinsThere entries pins = (p : Key) → In p pins → Has entries p
 
 -- accepted, refused, or neither because memory ran out; in the last two cases nothing has changed
-abbrev pub IsStopped : ChangeFault → Outcome → Type 0
+abbrev pub IsStopped : ChangeFault → UpdatedEntries → Type 0
 IsStopped (faults.Refused r) outcome = (names : List (List ℕ)) → outcome ≡ Err (error_view names r)
 IsStopped faults.NoMemory outcome = Unit {0}
 
-abbrev pub IsMade : Result (Unit {0}) ChangeFault → Outcome → List Named → List Named → Type 0
+abbrev pub IsMade : Result (Unit {0}) ChangeFault → UpdatedEntries → List Named → List Named → Type 0
 IsMade (Ok u) outcome before after = outcome ≡ Ok after
 IsMade (Err f) outcome before after = IsStopped f outcome × (after ≡ before)
 

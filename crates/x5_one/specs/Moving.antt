@@ -9,7 +9,7 @@ use Rattle.x5_model.specs.Keys.{Key}
 use Rattle.x5_model.specs.Values.{Rdn}
 use Rattle.x5_model.specs.Entries.{Entry, Named}
 use Rattle.x5_model_tree.specs.Tree.{keys_of}
-use Rattle.x5_model_tree.specs.Apply.{Outcome, respelled}
+use Rattle.x5_model_tree.specs.Apply.{UpdatedEntries, respelled}
 use Rattle.x5_ops.specs.declared.changes.ChangeFault.{ChangeFault}
 use Rattle.x5_one.specs.declared.renaming.Move.{Move}
 use Rattle.x5_one.specs.Making.{IsStopped}
@@ -51,6 +51,6 @@ IsSettled m before after = (m.place ≤ m.at → IsTurned m.place m.at m.end (pu
     × (m.at < m.place → IsTurned m.at m.end m.place (put_back m before) after)
 
 -- what is made once the run is where it goes, or the refusal
-abbrev pub IsPlanned : Result Move ChangeFault → Outcome → List Named → Type 0
+abbrev pub IsPlanned : Result Move ChangeFault → UpdatedEntries → List Named → Type 0
 IsPlanned (Ok m) outcome before = (after : List Named) → IsSettled m before after → outcome ≡ Ok after
 IsPlanned (Err f) outcome before = IsStopped f outcome

@@ -19,16 +19,6 @@ pub record IsSound (t : Tree) : Type 0 where
   pub coherent : Coherent knowledge
   pub tree : IsTreeOf knowledge t
 
-abbrev pub is_read : Body → Bool
-is_read (Read name selection) = true
-is_read (Compare name assertion) = true
-is_read (ListBelow name) = false
-is_read (Search base subset filter selection) = false
-is_read (AddEntry name attributes) = false
-is_read (RemoveEntry name) = false
-is_read (ModifyEntry name changes) = false
-is_read (ModifyDn name rdn drops) = false
-
 abbrev pub read_told : Body → Named → model.Told
 read_told (Read name selection) e = model.read (λ key. false) selection e
 read_told (Compare name assertion) e = model.compare (λ key. false) assertion e

@@ -6,7 +6,8 @@ ghost use Rattle.x5_model.specs.Words.{sorted};
 ghost use Rattle.x5_model_tree.specs.Ask as model;
 ghost use Rattle.x5_ops.specs.AnswerViews.{reply_view, source_view};
 ghost use Rattle.x5_ops.specs.RequestViews.{body_view, request_view, name_of};
-ghost use Rattle.x5_one.specs.Parts.{IsSound, tree_of, is_read, read_told};
+ghost use Rattle.x5_one.specs.Parts.{IsSound, tree_of, read_told};
+ghost use Rattle.x5_model_tree.specs.Ask.{is_read};
 ghost use Rattle.x5_one.specs.Replies.{reply_of, source_at};
 ghost use Rattle.x5_one.specs.Rows.{row_below, rows_of};
 

@@ -8,7 +8,7 @@ use Rattle.x5_model.specs.Entries.{Entry}
 use Rattle.x5_model.specs.Answers.{DirError}
 use Rattle.x5_model.specs.Attributes.{value_below, stored_value, stored_values, entry_with, entry_of, with_offered}
 use Rattle.x5_model.specs.Statics.{has_equal_values}
-use Rattle.x5_model.specs.Changes.{Changed, each_value}
+use Rattle.x5_model.specs.Changes.{ChangedEntry, each_value}
 use Rattle.x5_syntax.specs.TypeView.{type_view}
 use Rattle.x5_syntax.specs.ValueView.{value_view}
 use Rattle.x5_syntax.specs.declared.kinds.TypeRef.{TypeRef}
@@ -55,16 +55,16 @@ entry_one given n a k vs e some le is p q r =
     ∙ ap (λ (t : TypeRef). with_offered (type_view t) (given_values (type_view t) a.values) (entry_of (map attribute_view (drop n given)))) (sym p)
     ∙ ap (λ (l : List Attribute). entry_of (map attribute_view l)) (sym (drop_from given n a some le is))
 
-module _ (f : values.StoredValue → Entry → Changed) (type : values.TypeRef) where
+module _ (f : values.StoredValue → Entry → ChangedEntry) (type : values.TypeRef) where
   -- one value was changed
-  pub each_step : (vs : List Value) (i : ℕ) (v : Value) (e g : Entry) (whole : Changed) → i < length vs → v ≡ get_or vs i v → each_value f (given_values type (v ∷ [])) e ≡ Ok g → each_value f (given_values type (drop i vs)) e ≡ whole → each_value f (given_values type (drop (i + 1) vs)) g ≡ whole
+  pub each_step : (vs : List Value) (i : ℕ) (v : Value) (e g : Entry) (whole : ChangedEntry) → i < length vs → v ≡ get_or vs i v → each_value f (given_values type (v ∷ [])) e ≡ Ok g → each_value f (given_values type (drop i vs)) e ≡ whole → each_value f (given_values type (drop (i + 1) vs)) g ≡ whole
   each_step vs i v e g whole lt is p h =
       sym (then_ok (each_value f (given_values type (v ∷ [])) e) (each_value f (given_values type (drop (i + 1) vs))) g p)
       ∙ sym (each_first f (offered type (value_view v)) (given_values type (drop (i + 1) vs)) e)
       ∙ ap (λ (l : List Value). each_value f (given_values type l) e) (sym (drop_at vs i v lt is))
       ∙ h
 
-  refused_here : (vs : List Value) (i : ℕ) (v : Value) (e : Entry) (x : DirError) (whole : Changed) → i < length vs → v ≡ get_or vs i v → each_value f (given_values type (v ∷ [])) e ≡ Err x → each_value f (given_values type (drop i vs)) e ≡ whole → whole ≡ Err x
+  refused_here : (vs : List Value) (i : ℕ) (v : Value) (e : Entry) (x : DirError) (whole : ChangedEntry) → i < length vs → v ≡ get_or vs i v → each_value f (given_values type (v ∷ [])) e ≡ Err x → each_value f (given_values type (drop i vs)) e ≡ whole → whole ≡ Err x
   refused_here vs i v e x whole lt is p h =
       sym h
       ∙ ap (λ (l : List Value). each_value f (given_values type l) e) (drop_at vs i v lt is)
@@ -72,6 +72,6 @@ module _ (f : values.StoredValue → Entry → Changed) (type : values.TypeRef) 
       ∙ then_err (each_value f (given_values type (v ∷ [])) e) (each_value f (given_values type (drop (i + 1) vs))) x p
 
   -- one value was refused
-  pub each_stop : (s : Stop) (vs : List Value) (i : ℕ) (v : Value) (e : Entry) (whole : Changed) → i < length vs → v ≡ get_or vs i v → IsStopped s (each_value f (given_values type (v ∷ [])) e) → each_value f (given_values type (drop i vs)) e ≡ whole → IsStopped s whole
+  pub each_stop : (s : Stop) (vs : List Value) (i : ℕ) (v : Value) (e : Entry) (whole : ChangedEntry) → i < length vs → v ≡ get_or vs i v → IsStopped s (each_value f (given_values type (v ∷ [])) e) → each_value f (given_values type (drop i vs)) e ≡ whole → IsStopped s whole
   each_stop (stops.Refused r) vs i v e whole lt is p h = refused_here vs i v e (refusal_view r) whole lt is p h
   each_stop stops.NoMemory vs i v e whole lt is p h = tt

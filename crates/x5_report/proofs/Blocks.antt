@@ -15,7 +15,8 @@ use Rattle.x5_ops.specs.declared.journal.Refreshed.{Refreshed}
 use Rattle.x5_ops.specs.declared.journal.Refreshed.TheVariants as refreshes
 use Rattle.x5_know.specs.Moments.{Start, moment_text}
 use Rattle.x5_report.specs.Spelled as spelled
-use Rattle.x5_report.specs.Blocks.{block_text, block_known, outcome_known, names_in, IsBlock}
+use Rattle.x5_report.specs.Blocks.{block_text, block_known, outcome_known, IsBlockText}
+use Rattle.x5_model_tree.specs.World.{names_of_agents}
 use Rattle.x5_report.specs.Views.{names_with, journal_known, problem_view, refreshed_view}
 use Rattle.x5_report.specs.declared.report.LineOutcome.{LineOutcome}
 use Rattle.x5_report.specs.declared.report.LineOutcome.TheVariants.{Set, Answered, Plain, Refreshed as Became, NotConsistent}
@@ -40,7 +41,7 @@ module _ (names : List (List ℕ)) (start : Start) where
   refreshed_is heard number refreshes.Lost = refl
   refreshed_is heard number (refreshes.Failed problem held given) = problem_is number problem held given
 
-  pub block_is : (line : ℕ) (j : Journal) (o : LineOutcome) (text : Text) → text ≡ block_text start line j o → block_known names j o ≡ true → IsBlock (names_with names start) names line j o text
+  pub block_is : (line : ℕ) (j : Journal) (o : LineOutcome) (text : Text) → text ≡ block_text start line j o → block_known names j o ≡ true → IsBlockText (names_with names start) names line j o text
   block_is line j Set text e h = λ command. e
   block_is line j (Answered reply) text e h =
       let w = both_true (journal_known names j) (outcome_known names (Answered reply)) h in
@@ -65,12 +66,12 @@ name_if f None = refl
 name_if f (Some x) = refl
 
 -- the names of its agents are those that the definitions print with
-names_are : (w : World) (start : Start) → names_with (names_in w) start ≡ print.names_of w (moment_text start)
+names_are : (w : World) (start : Start) → names_with (names_of_agents w) start ≡ print.names_of w (moment_text start)
 names_are w start =
     λ i. record {
       agent = λ a. (ap (in_option [] (λ n. n)) (slice_get-map (λ (x : Agent). x.name) w.agents a) ∙ name_if (λ (x : Agent). x.name) (agent_at w a)) i;
       moment = moment_text start;
     }
 
-pub in_world : (w : World) (start : Start) (line : ℕ) (j : Journal) (o : LineOutcome) (text : Text) → IsBlock (names_with (names_in w) start) (names_in w) line j o text → IsBlock (print.names_of w (moment_text start)) (names_in w) line j o text
-in_world w start line j o text h = subst (λ (n : print.Names). IsBlock n (names_in w) line j o text) (names_are w start) h
+pub in_world : (w : World) (start : Start) (line : ℕ) (j : Journal) (o : LineOutcome) (text : Text) → IsBlockText (names_with (names_of_agents w) start) (names_of_agents w) line j o text → IsBlockText (print.names_of w (moment_text start)) (names_of_agents w) line j o text
+in_world w start line j o text h = subst (λ (n : print.Names). IsBlockText n (names_of_agents w) line j o text) (names_are w start) h

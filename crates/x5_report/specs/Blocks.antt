@@ -44,24 +44,20 @@ abbrev pub IsJournal : List (List ℕ) → Journal → model.Journal → Type 0
 IsJournal names j m = (map model.printed_line (reverse m.lines) ≡ messages_view names j.lines)
     × (reverse m.accepted ≡ map (agent_of names) j.accepted)
 
--- the names of a world's agents
-abbrev pub names_in : World → List (List ℕ)
-names_in w = map (λ a. a.name) w.agents
-
 -- The text is that of the block, with these names and moments. Of a request it is so for every journal that the code's
 -- stands for, and of a refresh for every block of these messages and this outcome. A plain reply's is that of the one
 -- tree.
-abbrev pub IsBlock : print.Names → List (List ℕ) → ℕ → Journal → LineOutcome → Text → Type 0
-IsBlock printing names line j Set text = (command : run.Command) → text ≡ print.block_text printing line command run.Set
-IsBlock printing names line j (Answered reply) text =
+abbrev pub IsBlockText : print.Names → List (List ℕ) → ℕ → Journal → LineOutcome → Text → Type 0
+IsBlockText printing names line j Set text = (command : run.Command) → text ≡ print.block_text printing line command run.Set
+IsBlockText printing names line j (Answered reply) text =
     (command : run.Command) (m : model.Journal) → IsJournal names j m → text
     ≡ print.block_text printing line command (run.Replies m (reply_view names reply))
-IsBlock printing names line j (Plain reply) text = text ≡ plain_block_text printing line (reply_view names reply)
-IsBlock printing names line j (Refreshed number f heard) text =
+IsBlockText printing names line j (Plain reply) text = text ≡ plain_block_text printing line (reply_view names reply)
+IsBlockText printing names line j (Refreshed number f heard) text =
     (command : run.Command) (b : refresh.RefreshBlock) → print.number_of command ≡ number → b.lines
     ≡ shadows_view names j.lines → b.outcome ≡ refreshed_view heard number f →
     text ≡ print.block_text printing line command (run.Refreshing b)
-IsBlock printing names line j NotConsistent text =
+IsBlockText printing names line j NotConsistent text =
     (command : run.Command) (b : refresh.RefreshBlock) → b.lines ≡ shadows_view names j.lines → b.outcome
     ≡ refresh.NotConsistent →
     text ≡ print.block_text printing line command (run.Refreshing b)

@@ -7,7 +7,7 @@ ghost use Rattle.x5_report.specs.Blocks as blocks;
 ghost use Rattle.x5_report.specs.Spelled as spelled;
 ghost use Rattle.x5_report.specs.Views.{names_with};
 ghost use Rattle.x5_know.specs.Moments.{moment_text};
-ghost use Rattle.x5_model_tree.specs.World.{World};
+ghost use Rattle.x5_model_tree.specs.World.{World, names_of_agents};
 
 use crate::lines::{accepted, messages, shadows};
 use crate::plain::plain_reply;
@@ -111,9 +111,9 @@ pub fn block(
     outcome: &LineOutcome,
 ) -> Result<Text, NoMemory>
     ensures named { IfOk result (λ text. (names : List (List ℕ)) → blocks.block_known names journal.now outcome.now ≡ true
-        → blocks.IsBlock (names_with names start.now) names line journal.now outcome.now text) }
-    ensures in_world { IfOk result (λ text. (w : World) → blocks.block_known (blocks.names_in w) journal.now outcome.now ≡ true
-        → blocks.IsBlock (print.names_of w (moment_text start.now)) (blocks.names_in w) line journal.now outcome.now text) }
+        → blocks.IsBlockText (names_with names start.now) names line journal.now outcome.now text) }
+    ensures in_world { IfOk result (λ text. (w : World) → blocks.block_known (names_of_agents w) journal.now outcome.now ≡ true
+        → blocks.IsBlockText (print.names_of w (moment_text start.now)) (names_of_agents w) line journal.now outcome.now text) }
 {
     let text = block_string(alloc, start, line, journal, outcome)?;
     Ok(Text::from_string(text))

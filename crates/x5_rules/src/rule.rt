@@ -27,7 +27,7 @@ pub fn settle<'a>(alloc: Global, rule: Rule, node: Node<'a>) -> Result<Option<No
 {
     match rule {
         Rule::Any => Ok(Some(node)),
-        Rule::Name => Ok(kept(is_name(&node), node)),
+        Rule::Name => Ok(kept(has_few_rdns(&node), node)),
         Rule::Rdn => rdn(alloc, node),
         Rule::Pair => Ok(kept(is_pair(&node), node)),
         Rule::Some => Ok(kept(has_parts(&node), node)),
@@ -40,7 +40,7 @@ pub fn settle<'a>(alloc: Global, rule: Rule, node: Node<'a>) -> Result<Option<No
 }
 
 /// Not too many RDNs.
-fn is_name(node: &Node<'_>) -> bool
+fn has_few_rdns(node: &Node<'_>) -> bool
     ensures { where_so result (node_view node.now) ≡ rules.name_rule (node_view node.now) }
 {
     node.parts().len() <= MOST_RDNS

@@ -19,7 +19,7 @@ use x5_ops::{AgentId, Controls, Outage, Request};
 use x5_syntax::Octets;
 
 /// Octets of a line at most.
-const MOST_OCTETS: usize = 4096;
+const MOST_LINE_OCTETS: usize = 4096;
 
 /// The next word as an agent.
 fn next_agent(words: &mut Words<'_>, agents: &AgentNames) -> Result<AgentId, ScriptFault>
@@ -279,7 +279,7 @@ fn read_words(alloc: Global, line: &[u8], agents: &AgentNames) -> Result<Command
 pub fn parse_line(alloc: Global, line: &[u8], agents: &AgentNames) -> Result<Command, ScriptFault>
     ensures { ReadsLine result agents.now line.now }
 {
-    if line.len() > MOST_OCTETS {
+    if line.len() > MOST_LINE_OCTETS {
         return Err(ScriptFault::LineTooLong);
     }
     if line.is_empty() || line.starts_with(b"#") {

@@ -21,6 +21,6 @@ IsNameFault RepeatedType read = read ≡ Err model.RepeatedType
 IsNameFault NoMemory read = Unit {0}
 
 -- what a function returned, seen by `view`, is what the reading gives, unless memory ran out
-abbrev pub Reads : {X Y : Type 0} → (X → Y) → Result X NameFault → Result Y model.NameFault → Type 0
-Reads view (Ok x) read = read ≡ Ok (view x)
-Reads view (Err fault) read = IsNameFault fault read
+abbrev pub ReadsName : {X Y : Type 0} → (X → Y) → Result X NameFault → Result Y model.NameFault → Type 0
+ReadsName view (Ok x) read = read ≡ Ok (view x)
+ReadsName view (Err fault) read = IsNameFault fault read

@@ -14,7 +14,7 @@ mod values;
 pub use containers::{Normal, Octets, Text};
 pub use escapes::{EscapeFault, escape, resolve};
 pub use kinds::{Kind, TypeId, TypeRef};
-pub use names::{MOST_OCTETS, MOST_PAIRS, MOST_RDNS, NameFault, NameValue, RdnValue};
+pub use names::{MOST_PAIRS, MOST_RDNS, MOST_VALUE_OCTETS, NameFault, NameValue, RdnValue};
 pub use normalise::{normal, normal_part, text_normal};
 pub use oid::Oid;
 pub use values::{SyntaxFault, Value};

@@ -10,7 +10,7 @@ ghost use Rattle.x5_model_text.specs.TypeText.{type_of_text};
 ghost use Rattle.x5_syntax.specs.Escapes.{span};
 ghost use Rattle.x5_syntax.specs.Dotted.{plus_and_pair};
 ghost use Rattle.x5_syntax.specs.TypeView.{type_view};
-ghost use Rattle.x5_syntax.specs.Reading.{Reads, name_fault};
+ghost use Rattle.x5_syntax.specs.Reading.{ReadsName, name_fault};
 ghost use Rattle.x5_syntax.specs.declared.names.NameFault.TheVariants.{NoMemory as NoMemoryFault};
 
 use crate::containers::{Octets, Text};
@@ -24,7 +24,7 @@ use thiserror::Error;
 use x5_memory::NoMemory;
 
 /// Octets of a value at most.
-pub const MOST_OCTETS: usize = 1024;
+pub const MOST_VALUE_OCTETS: usize = 1024;
 
 /// RDNs of a name at most.
 pub const MOST_RDNS: usize = 16;
@@ -98,7 +98,7 @@ pub(crate) fn utf8(octets: Octets) -> Option<Text>
 
 /// The type, if it may stand in an RDN.
 fn naming(found: &TypeRef) -> Result<TypeId, NameFault>
-    ensures { Reads (λ number. number) result (text_of.naming (Some (type_view found.now))) }
+    ensures { ReadsName (λ number. number) result (text_of.naming (Some (type_view found.now))) }
 {
     match found.known() {
         Some(kind) => {
@@ -114,7 +114,7 @@ fn naming(found: &TypeRef) -> Result<TypeId, NameFault>
 
 /// The type that a word spells, if it may stand in an RDN.
 fn naming_type(alloc: Global, word: &str) -> Result<TypeId, NameFault>
-    ensures { Reads (λ number. number) result (text_of.naming (type_of_text word.now)) }
+    ensures { ReadsName (λ number. number) result (text_of.naming (type_of_text word.now)) }
 {
     match TypeRef::parse(alloc, word)? {
         Some(found) => naming(&found),
@@ -132,7 +132,7 @@ fn has_type(pairs: &[(TypeId, Text)], kind: TypeId) -> bool
 
 /// The type that a word spells, if it may stand in an RDN behind the pairs.
 fn new_type(alloc: Global, before: &[(TypeId, Text)], word: &str) -> Result<TypeId, NameFault>
-    ensures { Reads (λ number. number) result (text_of.new_type before.now word.now) }
+    ensures { ReadsName (λ number. number) result (text_of.new_type before.now word.now) }
 {
     let kind = naming_type(alloc, word)?;
     if has_type(before, kind) {
@@ -146,7 +146,7 @@ fn fits_type(limited: bool, kind: TypeId, text: &Text) -> bool
     ensures { result ≡ text_of.fits_text limited kind text.now }
 {
     is_text_of_kind(kind.kind(), text.as_str().as_bytes())
-        && (!limited || text.len() <= MOST_OCTETS)
+        && (!limited || text.len() <= MOST_VALUE_OCTETS)
 }
 
 /// The value of a pair, whose text stands at the place.
@@ -158,7 +158,7 @@ fn text_at(
     text: &str,
 ) -> Result<Text, NameFault>
     requires { at + length text.now + 1 < 2 ^ 64 }
-    ensures { Reads (λ value. value) result (text_of.text_at limited kind at text.now) }
+    ensures { ReadsName (λ value. value) result (text_of.text_at limited kind at text.now) }
 {
     let octets = resolve(alloc, at, text)?;
     match utf8(octets) {
@@ -182,7 +182,7 @@ fn pair_at(
     text: &str,
 ) -> Result<(TypeId, Text), NameFault>
     requires { at + length text.now + 1 < 2 ^ 64 }
-    ensures { Reads (λ pair. pair) result (text_of.pair_at limited at before.now text.now) }
+    ensures { ReadsName (λ pair. pair) result (text_of.pair_at limited at before.now text.now) }
 {
     let Some((word, value)) = text.split_once('=') else {
         return Err(NameFault::BadSpelling(at + text.len()));
@@ -200,7 +200,7 @@ fn pairs_at(
     parts: &[&str],
 ) -> Result<Vec<(TypeId, Text)>, NameFault>
     requires { at + span (map (λ x. x.now) parts.now) < 2 ^ 64 }
-    ensures { Reads (λ pairs. pairs.items) result (text_of.pairs_at limited at [] (map (λ x. x.now) parts.now)) }
+    ensures { ReadsName (λ pairs. pairs.items) result (text_of.pairs_at limited at [] (map (λ x. x.now) parts.now)) }
 {
     let mut pairs = Vec::new(alloc);
     let mut place = at;
@@ -223,7 +223,7 @@ fn rdn_at(
     text: &str,
 ) -> Result<Vec<(TypeId, Text)>, NameFault>
     requires { at + length text.now + 1 < 2 ^ 64 }
-    ensures { Reads (λ pairs. pairs.items) result (text_of.rdn_at limited at text.now) }
+    ensures { ReadsName (λ pairs. pairs.items) result (text_of.rdn_at limited at text.now) }
 {
     let parts = pieces(alloc, text, '+')?;
     pairs_at(alloc, limited, at, &parts)
@@ -265,7 +265,7 @@ fn rdns_at(
     parts: &[&str],
 ) -> Result<Vec<RdnValue>, NameFault>
     requires { at + span (map (λ x. x.now) parts.now) < 2 ^ 64 }
-    ensures { Reads (λ rdns. rdns.items) result (text_of.rdns_at limited at [] (map (λ x. x.now) parts.now)) }
+    ensures { ReadsName (λ rdns. rdns.items) result (text_of.rdns_at limited at [] (map (λ x. x.now) parts.now)) }
 {
     let mut rdns = Vec::new(alloc);
     let mut place = at;
@@ -282,7 +282,7 @@ fn rdns_at(
 
 /// The RDNs of a name's text behind its first `/`.
 fn behind_slash(alloc: Global, limited: bool, text: &str) -> Result<Vec<RdnValue>, NameFault>
-    ensures { Reads (λ rdns. rdns.items) result (text_of.behind_slash limited text.now) }
+    ensures { ReadsName (λ rdns. rdns.items) result (text_of.behind_slash limited text.now) }
 {
     if text.is_empty() {
         return Ok(Vec::new(alloc));
@@ -297,7 +297,7 @@ pub(crate) fn written_name(
     limited: bool,
     text: &str,
 ) -> Result<Vec<RdnValue>, NameFault>
-    ensures { Reads (λ rdns. rdns.items) result (text_of.written_name limited text.now) }
+    ensures { ReadsName (λ rdns. rdns.items) result (text_of.written_name limited text.now) }
 {
     match text.strip_prefix('/') {
         Some(behind) => behind_slash(alloc, limited, behind),
@@ -359,8 +359,8 @@ fn rdn_over(pairs: &[(TypeId, Text)]) -> Option<u32>
         if i >= MOST_PAIRS {
             return Some(MOST_PAIRS as u32);
         }
-        if pair.1.len() > MOST_OCTETS {
-            return Some(MOST_OCTETS as u32);
+        if pair.1.len() > MOST_VALUE_OCTETS {
+            return Some(MOST_VALUE_OCTETS as u32);
         }
     }
     None
@@ -488,7 +488,7 @@ impl RdnValue {
 impl RdnValue {
     /// The RDN that a text spells, within the limits.
     pub fn parse(alloc: Global, text: &str) -> Result<RdnValue, NameFault>
-        ensures { Reads (λ rdn. rdn) result (text_of.rdn_of_text text.now) }
+        ensures { ReadsName (λ rdn. rdn) result (text_of.rdn_of_text text.now) }
     {
         let parts = pieces(alloc, text, '/')?;
         let Some((first, others)) = parts.split_first() else {
@@ -542,7 +542,7 @@ impl NameValue {
 
     /// The name that a text spells, within the limits.
     pub fn parse(alloc: Global, text: &str) -> Result<NameValue, NameFault>
-        ensures { Reads (λ name. name) result (text_of.name_of_text text.now) }
+        ensures { ReadsName (λ name. name) result (text_of.name_of_text text.now) }
     {
         let rdns = written_name(alloc, true, text)?;
         Ok(sorted_rdns(alloc, &rdns)?)

@@ -8,7 +8,7 @@ ghost use Rattle.x5_syntax.specs.ValueView.{value_view, Gives};
 
 use crate::containers::{Normal, Text};
 use crate::kinds::{Kind, TypeId};
-use crate::names::{MOST_OCTETS, RdnValue};
+use crate::names::{MOST_VALUE_OCTETS, RdnValue};
 use crate::texts::{is_part_of_kind, is_text_of_kind, part_normal};
 use crate::values::{SyntaxFault, Value};
 use std::alloc::Global;
@@ -125,8 +125,8 @@ pub fn normal_part(
     if !is_part_of_kind(kind, text.as_str().as_bytes()) {
         return Err(SyntaxFault::WrongSyntax);
     }
-    if text.len() > MOST_OCTETS {
-        return Err(SyntaxFault::TooLong(MOST_OCTETS as u32));
+    if text.len() > MOST_VALUE_OCTETS {
+        return Err(SyntaxFault::TooLong(MOST_VALUE_OCTETS as u32));
     }
     Ok(Normal::new(part_normal(alloc, kind, first, last, text.as_str())?))
 }

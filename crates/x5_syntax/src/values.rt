@@ -13,7 +13,9 @@ ghost use Rattle.x5_syntax.specs.declared.values.SyntaxFault.TheVariants.{NoMemo
 use crate::containers::{Octets, Text};
 use crate::escapes::{EscapeFault, escape, resolve};
 use crate::kinds::{Kind, TypeRef};
-use crate::names::{MOST_OCTETS, NameFault, NameValue, name_over, sorted_rdns, utf8, written_name};
+use crate::names::{
+    MOST_VALUE_OCTETS, NameFault, NameValue, name_over, sorted_rdns, utf8, written_name,
+};
 use crate::oid::Oid;
 use hex::FromHexError;
 use std::alloc::{AllocError, AllocFailed, Global};
@@ -101,7 +103,7 @@ fn are_long(taken: usize, arcs: &[u32]) -> bool
     let mut total = taken;
     for arc in arcs {
         total += subidentifier_len(u64::from(*arc));
-        if total > MOST_OCTETS {
+        if total > MOST_VALUE_OCTETS {
             return true;
         }
     }
@@ -192,8 +194,8 @@ impl Value {
         ensures { result ≡ model.value_over (value_view self.now) }
     {
         match self {
-            Value::Text(text) => passed(text.len() > MOST_OCTETS),
-            Value::Octets(octets) => passed(octets.as_slice().len() > MOST_OCTETS),
+            Value::Text(text) => passed(text.len() > MOST_VALUE_OCTETS),
+            Value::Octets(octets) => passed(octets.as_slice().len() > MOST_VALUE_OCTETS),
             Value::Oid(oid) => passed(is_long(oid.arcs())),
             Value::Name(name) => name.limit_passed(),
         }
@@ -237,7 +239,11 @@ impl Value {
 fn passed(over: bool) -> Option<u32>
     ensures { result ≡ (if over then Some 1024 else None) }
 {
-    if over { Some(MOST_OCTETS as u32) } else { None }
+    if over {
+        Some(MOST_VALUE_OCTETS as u32)
+    } else {
+        None
+    }
 }
 
 impl Clone for Value {

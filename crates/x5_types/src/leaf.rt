@@ -14,7 +14,7 @@ use crate::oid::{oid, short_oid};
 use crate::text::{text, universal};
 use std::alloc::Global;
 use x5_memory::NoMemory;
-use x5_syntax::MOST_OCTETS;
+use x5_syntax::MOST_VALUE_OCTETS;
 
 fn boolean<'a>(octets: &[u8]) -> Option<Node<'a>>
     ensures { option_view result ≡ leaves.boolean.reads octets.now }
@@ -37,7 +37,7 @@ fn null<'a>(octets: &[u8]) -> Option<Node<'a>>
 fn octet_string<'a>(octets: Bytes<'a>) -> Option<Node<'a>>
     ensures { option_view result ≡ leaves.octet_string.reads (bytes_view octets.entry) }
 {
-    if octets.as_slice().len() <= MOST_OCTETS {
+    if octets.as_slice().len() <= MOST_VALUE_OCTETS {
         Some(Node::Octets(octets))
     } else {
         None

@@ -9,7 +9,7 @@ ghost use Rattle.x5_types.specs.NodeView.{option_view};
 use crate::node::Node;
 use std::alloc::Global;
 use x5_memory::NoMemory;
-use x5_syntax::MOST_OCTETS;
+use x5_syntax::MOST_VALUE_OCTETS;
 
 /// Numbers from here on are no arc's, also where two arcs are in one.
 const LARGE: u64 = 0x2_0000_0000;
@@ -135,7 +135,7 @@ pub fn is_short(arcs: &[u32]) -> bool
     match arcs {
         [first, second, others @ ..] => {
             let front = subidentifier_len(40 * u64::from(*first) + u64::from(*second));
-            has_room(others, MOST_OCTETS - front)
+            has_room(others, MOST_VALUE_OCTETS - front)
         }
         _ => true,
     }

@@ -15,13 +15,13 @@ use crate::form::Letters;
 use crate::node::{Bytes, Characters, Node};
 use std::alloc::Global;
 use x5_memory::NoMemory;
-use x5_syntax::MOST_OCTETS;
+use x5_syntax::MOST_VALUE_OCTETS;
 
 /// Whether there are characters, and not too many.
 pub fn is_length(text: &[u8]) -> bool
     ensures { result ≡ leaves.is_length text.now }
 {
-    !text.is_empty() && text.len() <= MOST_OCTETS
+    !text.is_empty() && text.len() <= MOST_VALUE_OCTETS
 }
 
 /// Whether the octet is a character of PrintableString (X.680, section 41).

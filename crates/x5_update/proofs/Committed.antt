@@ -9,7 +9,7 @@ use Rattle.x5_model.specs.Entries.{Named}
 use Rattle.x5_model.specs.Requests.{Request}
 use Rattle.x5_model.specs.Statics.{fault_of}
 use Rattle.x5_model.proofs.Lists.{true_or_false, in_map}
-use Rattle.x5_model_tree.specs.Apply.{Ground, Outcome, apply_over}
+use Rattle.x5_model_tree.specs.Apply.{Ground, UpdatedEntries, apply_over}
 use Rattle.x5_model_tree.proofs.Longest.{IsLongest, belongs_decides}
 use Rattle.x5_model_run.specs.Holdings.{Held, Holdings, known_pins, ground_at}
 use Rattle.x5_model_run.specs.Needs.{target_of}
@@ -78,4 +78,4 @@ module _ (r : Request) (h : Holdings) (c : Held) (long : IsLongest (pins_at r h)
 -- what is committed, where the agent's ground accepts the update
 pub committed_is : (r : Request) (h : Holdings) (us : List Named) → apply_over (ground_at r h) r.body ≡ Ok us
     → committed r h ≡ record h { own = map (changed_at r h) h.own }
-committed_is r h us q = ap (λ (o : Outcome). committed_if r h o) q
+committed_is r h us q = ap (λ (o : UpdatedEntries). committed_if r h o) q

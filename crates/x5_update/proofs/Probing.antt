@@ -14,7 +14,7 @@ use Rattle.x5_model.proofs.KeyLaws.{key_decides}
 use Rattle.x5_model.proofs.Lists.{and_true, both_true}
 use Rattle.x5_model_tree.specs.Ask.{is_update}
 use Rattle.x5_model_tree.specs.Tree.{is_there, lowest}
-use Rattle.x5_model_tree.specs.Apply.{Outcome}
+use Rattle.x5_model_tree.specs.Apply.{UpdatedEntries}
 use Rattle.x5_model_run.specs.Journal.{is_done, same_name}
 use Rattle.x5_model_run.specs.Holdings.{Held, Copy, Holdings, held_at, copy_at, holds_within, known_pin}
 use Rattle.x5_model_run.specs.Needs.{resolves, target_of, new_name, is_refused_here, probe_of, probe_at_master, probe_due, probe_needs, due_probes, multicast_needs, superior_needs, specific_needs, supplier_needs, copy_answers}
@@ -52,8 +52,8 @@ module _ (h : Holdings) (m : Chained) (c : Held) (p : Key) where
           (and_true (is_there c.entries (key_of m.target)) (not (is_refused_here h m.request)) there (ap not passed))
 
 -- what is passed isn't refused
-pub not_refused : (o : Outcome) (made : List Named) → o ≡ Ok made → is_err o ≡ false
-not_refused o made q = ap (λ (x : Outcome). is_err x) q
+pub not_refused : (o : UpdatedEntries) (made : List Named) → o ≡ Ok made → is_err o ≡ false
+not_refused o made q = ap (λ (x : UpdatedEntries). is_err x) q
 
 -- ---- where the target is found, its name is resolved, in the context of the longest known pin
 

@@ -6,12 +6,12 @@ use Rattle.x5_model.specs.Values.{Name, Rdn, key_of, last_rdn}
 use Rattle.x5_model.specs.Entries.{Entry, Named}
 use Rattle.x5_model.specs.Requests.{Attribute, Change}
 use Rattle.x5_model.specs.Attributes.{added_entry}
-use Rattle.x5_model.specs.Changes.{Changed, modified, renamed, single_valued}
+use Rattle.x5_model.specs.Changes.{ChangedEntry, modified, renamed, single_valued}
 use Rattle.x5_model.specs.Answers.{DirError, UpdateProblem}
 use Rattle.x5_model.specs.Problems.{entry_already_exists, affects_multiple_dsas, not_allowed_on_non_leaf}
 use Rattle.x5_model.specs.Statics.{attribute_repeats}
 use Rattle.x5_model_tree.specs.Tree.{entry_at, has_below, sorted_entries}
-use Rattle.x5_model_tree.specs.Apply.{Ground, Outcome, above_pin, is_taken, add, remove, modify, rename}
+use Rattle.x5_model_tree.specs.Apply.{Ground, UpdatedEntries, above_pin, is_taken, add, remove, modify, rename}
 use Rattle.x5_model_updates.specs.Afterwards.{new_entry}
 use Rattle.x5_model_updates.proofs.Outcomes.{add_taken, add_free, remove_some, modify_some, rename_some, clashes}
 use Rattle.x5_ops.specs.AnswerViews.{error_view}
@@ -20,20 +20,20 @@ use Rattle.x5_ops.specs.declared.changes.ChangeFault.{ChangeFault}
 use Rattle.x5_ops.specs.declared.changes.ChangeFault.TheVariants as faults
 use Rattle.x5_update.specs.Judging.{IsStopped}
 
-pub stopped_as : (f : ChangeFault) (o p : Outcome) → p ≡ o → IsStopped f o → IsStopped f p
+pub stopped_as : (f : ChangeFault) (o p : UpdatedEntries) → p ≡ o → IsStopped f o → IsStopped f p
 stopped_as (faults.Refused r) o p e s = λ names. e ∙ s names
 stopped_as faults.NoMemory o p e s = s
 
 -- a refusal of the entry's change is one of the update
-pub refused_as : (f : ChangeFault) (m : Changed) (o : Outcome) → ((x : DirError) → m ≡ Err x → o ≡ Err x) → IsRefused f m → IsStopped f o
+pub refused_as : (f : ChangeFault) (m : ChangedEntry) (o : UpdatedEntries) → ((x : DirError) → m ≡ Err x → o ≡ Err x) → IsRefused f m → IsStopped f o
 refused_as (faults.Refused r) m o g s = λ names. g (error_view names r) (s names)
 refused_as faults.NoMemory m o g s = s
 
 -- where no attribute repeats, that's what is stored
-abbrev ok_entry : Entry → Changed
+abbrev ok_entry : Entry → ChangedEntry
 ok_entry e = Ok e
 
-abbrev added_by : Rdn → List Attribute → Option DirError → Changed
+abbrev added_by : Rdn → List Attribute → Option DirError → ChangedEntry
 added_by rdn attributes None = Ok (added_entry rdn attributes)
 added_by rdn attributes (Some x) = Err x
 
@@ -48,7 +48,7 @@ pub never_repeats : (rdn : Rdn) (attributes : List Attribute) (x : DirError) →
     → added rdn attributes ≡ Err x → ⊥
 never_repeats rdn attributes x none q = (let e : ok_entry (added_entry rdn attributes) ≡ Err x = sym (ap (added_by rdn attributes) none) ∙ q in cc)
 
-pub added_as : (f : ChangeFault) (rdn : Rdn) (attributes : List Attribute) (o : Outcome) → first_of (attribute_repeats [] attributes) ≡ None
+pub added_as : (f : ChangeFault) (rdn : Rdn) (attributes : List Attribute) (o : UpdatedEntries) → first_of (attribute_repeats [] attributes) ≡ None
     → IsRefused f (added rdn attributes) → IsStopped f o
 added_as (faults.Refused r) rdn attributes o none s = λ names. absurd (never_repeats rdn attributes (error_view names r) none (s names))
 added_as faults.NoMemory rdn attributes o none s = s

@@ -12,7 +12,7 @@ use Rattle.x5_model.specs.Requests.{Request}
 use Rattle.x5_model.specs.References as model
 use Rattle.x5_model.specs.Statics.{fault_of}
 use Rattle.x5_model_tree.specs.Ask.{is_update}
-use Rattle.x5_model_tree.specs.Apply.{Ground, Outcome, apply_over}
+use Rattle.x5_model_tree.specs.Apply.{Ground, UpdatedEntries, apply_over}
 use Rattle.x5_model_run.specs.Holdings.{Held, Holdings, ground_at}
 use Rattle.x5_model_run.specs.Needs.{due_probes, probe_of}
 use Rattle.x5_model_run.specs.Placed.{fits}
@@ -37,7 +37,7 @@ abbrev pub ground_in : State → Request → Ground
 ground_in s r = ground_at r (holdings_view s)
 
 -- what it makes of the update
-abbrev pub judged : Holdings → Request → Outcome
+abbrev pub judged : Holdings → Request → UpdatedEntries
 judged h r = apply_over (ground_at r h) r.body
 
 -- an update that it passes
@@ -61,7 +61,7 @@ pub record IsPassed (names : List (List ℕ)) (h : Holdings) (m : model.Chained)
   pub due : due_probes h m ≡ probes_of names probe
 
 -- refused with this error; or memory ran out
-abbrev pub IsStopped : ChangeFault → Outcome → Type 0
+abbrev pub IsStopped : ChangeFault → UpdatedEntries → Type 0
 IsStopped (faults.Refused x) outcome = (names : List (List ℕ)) → outcome ≡ Err (error_view names x)
 IsStopped faults.NoMemory outcome = Unit {0}
 

@@ -11,7 +11,7 @@ use Rattle.x5_model.specs.Attributes.{added_entry, is_ordered}
 use Rattle.x5_model.specs.Changes.{modified, renamed}
 use Rattle.x5_model.specs.Requests.{Body, AddEntry, RemoveEntry, ModifyEntry, ModifyDn}
 use Rattle.x5_model_tree.specs.Tree.{entry_at}
-use Rattle.x5_model_tree.specs.Apply.{Ground, Outcome, is_taken}
+use Rattle.x5_model_tree.specs.Apply.{Ground, UpdatedEntries, is_taken}
 use Rattle.x5_model_updates.specs.Afterwards.{new_entry, new_key, name_after}
 use Rattle.x5_dse.specs.declared.node.NodeId.{NodeId}
 use Rattle.x5_dse.specs.Linked.{Node, entries_of, node_at, node_with}
@@ -80,7 +80,7 @@ pub record IsMove (id : NodeId) (before : Name) (rdn : Rdn) (entry : Entry) (pla
 abbrev pub is_clash : Ground → Name → Rdn → Bool
 is_clash g name rdn = not (same_key (new_key name rdn) (key_of name)) && is_taken g (new_key name rdn)
 
-pub record IsPlanOf (s : State) (own : ℕ) (body : Body) (plan : Plan) (outcome : Outcome) : Type 0 where
+pub record IsPlanOf (s : State) (own : ℕ) (body : Body) (plan : Plan) (outcome : UpdatedEntries) : Type 0 where
   pub kept : Kept
   pub held : slice_get s.own own ≡ Some kept
   pub change : IsChangeOf kept body plan.change
@@ -89,7 +89,7 @@ pub record IsPlanOf (s : State) (own : ℕ) (body : Body) (plan : Plan) (outcome
   pub passed : outcome ≡ Ok made
 
 -- passed, and made ready; or refused
-abbrev pub IsPlanned : Result Plan ChangeFault → State → ℕ → Body → Outcome → Type 0
+abbrev pub IsPlanned : Result Plan ChangeFault → State → ℕ → Body → UpdatedEntries → Type 0
 IsPlanned (Ok plan) s own body outcome = IsPlanOf s own body plan outcome
 IsPlanned (Err fault) s own body outcome = IsStopped fault outcome
 

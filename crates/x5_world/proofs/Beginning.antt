@@ -29,7 +29,8 @@ use Rattle.x5_ops.specs.KnowledgeViews.{context_view, nssr_view}
 use Rattle.x5_ops.specs.declared.knowledge.ContextSpec.{ContextSpec}
 use Rattle.x5_ops.specs.declared.knowledge.Nssr as code
 use Rattle.x5_world.specs.Counts.{contexts_of, pairs_of_nssrs, pairs_of_contexts, pairs_of_agents}
-use Rattle.x5_world.specs.State.{Net, StandsAt, HasRoom, holdings_in, names_in}
+use Rattle.x5_world.specs.State.{Net, StandsAt, HasRoom, holdings_in}
+use Rattle.x5_model_tree.specs.World.{names_of_agents}
 use Rattle.x5_world.specs.Sent.{IsHolder, IsNet}
 
 abbrev at : ℕ → Context → Mastered
@@ -120,7 +121,7 @@ few_losses w d =
 -- ---- the network of the first line
 
 pub record IsBegun (w : World) (n : Net) : Type 0 where
-  pub names : n.names ≡ names_in w
+  pub names : n.names ≡ names_of_agents w
   pub count : length n.agents ≡ length w.agents
   pub each : (me : ℕ) → me < length w.agents → slice_get n.agents me ≡ Some (holdings_described w me)
   pub network : n.network ≡ w.network
@@ -130,7 +131,7 @@ pub record IsBegun (w : World) (n : Net) : Type 0 where
 
 pub is_begun : (d : Described) (names : List (List ℕ)) (agents : List State) (links : Network)
     (contexts pairs : ℕ)
-    → names ≡ names_in (world_view d) → length agents ≡ length d.agents
+    → names ≡ names_of_agents (world_view d) → length agents ≡ length d.agents
     → ((me : ℕ) → me < length d.agents
     → option_map holdings_view (slice_get agents me) ≡ Some (holdings_described (world_view d) me))
     → links ≡ d.network → contexts ≡ contexts_of d.agents → pairs ≡ pairs_of_agents d.agents

@@ -1,7 +1,7 @@
 -- A request on its way through the network: the messages that were sent for it, who accepted its update, and what
 -- agents hold since, as the definitions' journal has them (X.518, sections 17 to 21).
-use Rattle.std.specs.Prelude.{◌≡◌, ℕ, ◌<◌, ◌+◌, ◌≤◌, ◌&&◌, ◌==◌, nat_lt, nat_le, Bool, true, false, if◌then◌else◌, List, []}
-use Rattle.std.specs.Prelude.{length, map, reverse, slice_get, Some}
+use Rattle.std.specs.Prelude.{◌≡◌, ℕ, ◌<◌, ◌+◌, ◌≤◌, ◌&&◌, ◌==◌, nat_lt, nat_le, Bool, true, false}
+use Rattle.std.specs.Prelude.{if◌then◌else◌, List, [], length, map, reverse, slice_get, Some}
 use Rattle.std.specs.List.{list_all}
 use Rattle.x5_model.specs.Words.{distinct, has, in_option, same_octets}
 use Rattle.x5_model.specs.References.{Chained}

@@ -4,7 +4,7 @@ use Rattle.std.specs.Prelude.{◌≡◌, ℕ, ◌+◌, ◌*◌, ◌≤◌, List,
 use Rattle.x5_model.specs.Words.{in_option}
 use Rattle.x5_model.specs.Values.{Name}
 use Rattle.x5_model.specs.Requests.{Body}
-use Rattle.x5_model_tree.specs.World.{Network, World}
+use Rattle.x5_model_tree.specs.World.{Network, World, names_of_agents}
 use Rattle.x5_model_tree.specs.Masters.{mastered}
 use Rattle.x5_model_tree.specs.Described.{IsDescribed}
 use Rattle.x5_model_run.specs.Holdings.{Holdings}
@@ -28,16 +28,12 @@ pub record Net : Type 0 where
 abbrev pub holdings_in : Net → ℕ → Holdings
 holdings_in n a = in_option (no_holdings a) (λ h. h) (slice_get n.agents a)
 
--- the names of a world's agents
-abbrev pub names_in : World → List (List ℕ)
-names_in w = map (λ a. a.name) w.agents
-
 -- It is the network of this line, whether or not knowledge is consistent: each agent holds what is described of it,
 -- changed by each update that it accepted; no copy was refreshed, and no context was moved.
 pub record StandsAt (n : Net) (p : Point) : Type 0 where
   pub described : IsDescribed p.described
   pub unmoved : NoneMoved p.past
-  pub names : n.names ≡ names_in p.described
+  pub names : n.names ≡ names_of_agents p.described
   pub holds : (a : ℕ) → holdings_in n a ≡ held_at p a
   pub network : n.network ≡ network_at p
   pub sent : n.sent ≡ sent_before p.past

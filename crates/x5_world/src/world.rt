@@ -17,7 +17,8 @@ ghost use Rattle.x5_ops.specs.RequestViews.{body_view, request_view};
 ghost use Rattle.x5_update.specs.Judging.{IsReady};
 ghost use Rattle.x5_world.specs.Answered.{IsAnswered, NamesAgents};
 ghost use Rattle.x5_world.specs.Sent.{IsHolder, no_net};
-ghost use Rattle.x5_world.specs.State.{StandsAt, HasRoom, HasShortNames, after, holdings_in, names_in, most_messages};
+ghost use Rattle.x5_world.specs.State.{StandsAt, HasRoom, HasShortNames, after, holdings_in, most_messages};
+ghost use Rattle.x5_model_tree.specs.World.{names_of_agents};
 
 use crate::asking::asked;
 use crate::counts::{contexts, pairs};
@@ -61,8 +62,8 @@ impl World {
     /// The network before the first line of a script: each agent holds what the file describes of it, and nothing was sent.
     pub fn new(alloc: Global, described: &Described) -> Result<World, NoMemory>
         requires described { IsDescribed (world_view described.now) }
-        requires named { described.now.names ≡ names_in (world_view described.now) }
-        ensures names { IfOk result (λ w. w.names ≡ names_in (world_view described.now)) }
+        requires named { described.now.names ≡ names_of_agents (world_view described.now) }
+        ensures names { IfOk result (λ w. w.names ≡ names_of_agents (world_view described.now)) }
         ensures stands { IfOk result (λ w. StandsAt w (record { described = world_view described.now; past = [] })) }
         ensures room { IfOk result (λ w. HasRoom w 0) }
     {

@@ -17,6 +17,6 @@ Fails (UnknownAgent path) found = found ≡ Err (model.UnknownAgent path)
 Fails NoMemory found = Unit {0}
 
 -- what a function returned, seen by `view`, is what is read of the part
-abbrev pub Reads : {X Y : Type 0} → (X → Y) → Result X LoadFault → Read Y → Type 0
-Reads view (Ok x) found = found ≡ Ok (view x)
-Reads view (Err fault) found = Fails fault found
+abbrev pub ReadsPart : {X Y : Type 0} → (X → Y) → Result X LoadFault → Read Y → Type 0
+ReadsPart view (Ok x) found = found ≡ Ok (view x)
+ReadsPart view (Err fault) found = Fails fault found

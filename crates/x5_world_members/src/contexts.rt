@@ -6,7 +6,7 @@ ghost use Rattle.x5_model_world.specs.ContextText as model;
 ghost use Rattle.x5_ops.specs.KnowledgeViews.{context_view};
 ghost use Rattle.x5_world_members.specs.Parts as parts;
 ghost use Rattle.x5_world_members.specs.Paths.{path_of};
-ghost use Rattle.x5_world_members.specs.Views.{Reads};
+ghost use Rattle.x5_world_members.specs.Views.{ReadsPart};
 
 use crate::counts::{Counts, with_entries};
 use crate::entries::{Entries, entries_behind};
@@ -108,7 +108,7 @@ fn with_entries_read(
     value: &Value,
 ) -> Result<Contexts, LoadFault>
     requires { used ≤ 100_000 }
-    ensures { Reads (λ c. c) result (parts.with_entries_read names.now (path_of place.now) before prefix entries used (members_view members.now.entries) (view value.now)) }
+    ensures { ReadsPart (λ c. c) result (parts.with_entries_read names.now (path_of place.now) before prefix entries used (members_view members.now.entries) (view value.now)) }
 {
     let list = list_if_any(alloc, place, "nssr", value)?;
     let none = Nssrs::new(alloc, before.counts().nssr_agents());
@@ -133,7 +133,7 @@ fn context_behind(
     before: Contexts,
     value: &Value,
 ) -> Result<Contexts, LoadFault>
-    ensures { Reads (λ c. c) result (model.context_behind names.now (path_of place.now) before (view value.now)) }
+    ensures { ReadsPart (λ c. c) result (model.context_behind names.now (path_of place.now) before (view value.now)) }
 {
     let members = members_at(alloc, place, value)?;
     let prefix = entry_name_at(alloc, place, "prefix", value)?;
@@ -153,7 +153,7 @@ pub fn contexts_behind(
     before: Contexts,
     items: &[Value],
 ) -> Result<Contexts, LoadFault>
-    ensures { Reads (λ c. c) result (model.contexts_behind names.now (path_of place.now) 0 before (items_view items.now)) }
+    ensures { ReadsPart (λ c. c) result (model.contexts_behind names.now (path_of place.now) 0 before (items_view items.now)) }
 {
     let mut contexts = before;
     for (i, item) in items.iter().enumerate() {

@@ -6,7 +6,7 @@ ghost use Rattle.x5_model_world.specs.AgentText as agents;
 ghost use Rattle.x5_model_world.specs.ContextText as contexts;
 ghost use Rattle.x5_model_world.specs.WorldFile.{none_yet};
 ghost use Rattle.x5_world_members.specs.Paths.{path_of};
-ghost use Rattle.x5_world_members.specs.Views.{Reads};
+ghost use Rattle.x5_world_members.specs.Views.{ReadsPart};
 
 use crate::fault::LoadFault;
 use crate::place::Place;
@@ -102,7 +102,7 @@ pub fn with_these(
     items: &[Value],
 ) -> Result<usize, LoadFault>
     requires { used ≤ 4096 }
-    ensures read { Reads (λ n. n) result (agents.with_these (path_of place.now) used (items_view items.now)) }
+    ensures read { ReadsPart (λ n. n) result (agents.with_these (path_of place.now) used (items_view items.now)) }
     ensures most { IfOk result (λ n. n ≤ 4096) }
 {
     let used = used + items.len();
@@ -121,7 +121,7 @@ pub(crate) fn with_entries(
     items: &[Value],
 ) -> Result<usize, LoadFault>
     requires { used ≤ 100_000 }
-    ensures read { Reads (λ n. n) result (contexts.with_entries (path_of place.now) used (items_view items.now)) }
+    ensures read { ReadsPart (λ n. n) result (contexts.with_entries (path_of place.now) used (items_view items.now)) }
     ensures most { IfOk result (λ n. n ≤ 100_000) }
 {
     let used = used + items.len();
@@ -140,7 +140,7 @@ pub(crate) fn counted(
     texts: &[Value],
 ) -> Result<usize, LoadFault>
     requires { listed ≤ 4096 }
-    ensures read { Reads (λ n. n) result (contexts.counted (path_of place.now) listed (items_view texts.now)) }
+    ensures read { ReadsPart (λ n. n) result (contexts.counted (path_of place.now) listed (items_view texts.now)) }
     ensures most { IfOk result (λ n. n ≤ 4096) }
 {
     let listed = listed + texts.len();

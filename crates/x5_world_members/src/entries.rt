@@ -10,7 +10,7 @@ ghost use Rattle.x5_model.specs.Words.{is_empty as is_empty_list};
 ghost use Rattle.x5_model_tree.specs.Tree.{key_at};
 ghost use Rattle.x5_model_world.specs.ContextText as model;
 ghost use Rattle.x5_world_members.specs.Paths.{path_of};
-ghost use Rattle.x5_world_members.specs.Views.{Reads};
+ghost use Rattle.x5_world_members.specs.Views.{ReadsPart};
 
 use crate::entry::entry_given;
 use crate::fault::LoadFault;
@@ -148,7 +148,7 @@ fn entry_behind(
     before: Entries,
     value: &Value,
 ) -> Result<Entries, LoadFault>
-    ensures { Reads (λ e. e) result (model.entry_behind (path_of place.now) prefix.now before (view value.now)) }
+    ensures { ReadsPart (λ e. e) result (model.entry_behind (path_of place.now) prefix.now before (view value.now)) }
 {
     let members = members_at(alloc, place, value)?;
     let own = entry_name_at(alloc, place, "name", value)?;
@@ -176,7 +176,7 @@ pub(crate) fn entries_behind(
     prefix: &Name,
     items: &[Value],
 ) -> Result<Entries, LoadFault>
-    ensures { Reads (λ e. e) result (model.entries_behind (path_of place.now) 0 prefix.now [] (items_view items.now)) }
+    ensures { ReadsPart (λ e. e) result (model.entries_behind (path_of place.now) 0 prefix.now [] (items_view items.now)) }
 {
     let mut entries = Entries::new(alloc);
     for (i, item) in items.iter().enumerate() {

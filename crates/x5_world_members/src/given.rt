@@ -6,7 +6,7 @@ ghost use Rattle.x5_model_text.specs.NameText.{value_of_text};
 ghost use Rattle.x5_model_world.specs.EntryTexts as model;
 ghost use Rattle.x5_syntax.specs.TypeView.{type_view};
 ghost use Rattle.x5_world_members.specs.Paths.{path_of};
-ghost use Rattle.x5_world_members.specs.Views.{Reads};
+ghost use Rattle.x5_world_members.specs.Views.{ReadsPart};
 
 use crate::fault::LoadFault;
 use crate::place::Place;
@@ -34,7 +34,7 @@ impl Model for Given {
 
 /// The value of the type that the text spells.
 fn value_in(alloc: Global, place: &Place<'_>, kind: TypeRef, text: &str) -> Result<Given, LoadFault>
-    ensures { Reads (λ g. g) result (model.if_value (path_of place.now) (type_view kind) (value_of_text (type_view kind) text.now)) }
+    ensures { ReadsPart (λ g. g) result (model.if_value (path_of place.now) (type_view kind) (value_of_text (type_view kind) text.now)) }
 {
     match Value::from_text(alloc, &kind, text) {
         Ok(value) => Ok(Given { kind, value }),
@@ -46,7 +46,7 @@ fn value_in(alloc: Global, place: &Place<'_>, kind: TypeRef, text: &str) -> Resu
 
 /// The type before the first `=` of the text, with the value that stands behind it.
 fn given_by(alloc: Global, place: &Place<'_>, text: &str) -> Result<Given, LoadFault>
-    ensures { Reads (λ g. g) result (model.given_by (path_of place.now) text.now) }
+    ensures { ReadsPart (λ g. g) result (model.given_by (path_of place.now) text.now) }
 {
     let Some((kind, value)) = text.split_once('=') else {
         return Err(place.bad_shape(alloc));
@@ -59,7 +59,7 @@ fn given_by(alloc: Global, place: &Place<'_>, text: &str) -> Result<Given, LoadF
 
 /// The type with a value that a member of the list gives.
 fn given_in(alloc: Global, place: &Place<'_>, value: &Json) -> Result<Given, LoadFault>
-    ensures { Reads (λ g. g) result (model.given_in (path_of place.now) (view value.now)) }
+    ensures { ReadsPart (λ g. g) result (model.given_in (path_of place.now) (view value.now)) }
 {
     match value.as_str() {
         Some(text) => given_by(alloc, place, text),
@@ -73,7 +73,7 @@ pub(crate) fn given_behind(
     place: &Place<'_>,
     items: &[Json],
 ) -> Result<Vec<Given>, LoadFault>
-    ensures { Reads (λ v. v.items) result (model.given_behind (path_of place.now) 0 [] (items_view items.now)) }
+    ensures { ReadsPart (λ v. v.items) result (model.given_behind (path_of place.now) 0 [] (items_view items.now)) }
 {
     let mut given = Vec::new(alloc);
     for (i, item) in items.iter().enumerate() {

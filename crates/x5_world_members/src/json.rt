@@ -7,7 +7,7 @@ ghost use Rattle.serde_json.specs.View.{view, items_view, members_view};
 ghost use Rattle.x5_model.specs.Words.{same_octets};
 ghost use Rattle.x5_world_members.specs.Paths.{path_of};
 ghost use Rattle.x5_model_world.specs.Reading as model;
-ghost use Rattle.x5_world_members.specs.Views.{Reads};
+ghost use Rattle.x5_world_members.specs.Views.{ReadsPart};
 
 use crate::fault::LoadFault;
 use crate::place::Place;
@@ -23,7 +23,7 @@ pub fn members_at<'a>(
     place: &Place<'_>,
     value: &'a Value,
 ) -> Result<&'a Map<String, Value>, LoadFault>
-    ensures { Reads (λ m. members_view m.now.entries) result (model.members_at (path_of place.now) (view value.now)) }
+    ensures { ReadsPart (λ m. members_view m.now.entries) result (model.members_at (path_of place.now) (view value.now)) }
 {
     match value.as_object() {
         Some(members) => Ok(members),
@@ -38,7 +38,7 @@ pub fn text_at<'a>(
     name: &'static str,
     value: &'a Value,
 ) -> Result<&'a str, LoadFault>
-    ensures { Reads (λ t. t.now) result (model.text_at (path_of place.now) name.now (view value.now)) }
+    ensures { ReadsPart (λ t. t.now) result (model.text_at (path_of place.now) name.now (view value.now)) }
 {
     match value.get(name).and_then(Value::as_str) {
         Some(text) => Ok(text),
@@ -48,7 +48,7 @@ pub fn text_at<'a>(
 
 /// The members of a list.
 fn list_in<'a>(alloc: Global, place: &Place<'_>, value: &'a Value) -> Result<&'a [Value], LoadFault>
-    ensures { Reads (λ l. items_view l.now) result (model.or_left_out (path_of place.now) (Some (view value.now))) }
+    ensures { ReadsPart (λ l. items_view l.now) result (model.or_left_out (path_of place.now) (Some (view value.now))) }
 {
     match value.as_array() {
         Some(list) => Ok(list.as_slice()),
@@ -63,7 +63,7 @@ pub(crate) fn list_at<'a>(
     name: &'static str,
     value: &'a Value,
 ) -> Result<&'a [Value], LoadFault>
-    ensures { Reads (λ l. items_view l.now) result (model.list_at (path_of place.now) name.now (view value.now)) }
+    ensures { ReadsPart (λ l. items_view l.now) result (model.list_at (path_of place.now) name.now (view value.now)) }
 {
     match value.get(name) {
         Some(found) => list_in(alloc, &Place::Member(place, name), found),
@@ -78,7 +78,7 @@ pub fn list_if_any<'a>(
     name: &'static str,
     value: &'a Value,
 ) -> Result<&'a [Value], LoadFault>
-    ensures { Reads (λ l. items_view l.now) result (model.list_if_any (path_of place.now) name.now (view value.now)) }
+    ensures { ReadsPart (λ l. items_view l.now) result (model.list_if_any (path_of place.now) name.now (view value.now)) }
 {
     match value.get(name) {
         Some(found) => list_in(alloc, &Place::Member(place, name), found),
@@ -94,7 +94,7 @@ pub fn some_at<'a>(
     name: &'static str,
     value: &'a Value,
 ) -> Result<&'a [Value], LoadFault>
-    ensures { Reads (λ l. items_view l.now) result (model.some_at (path_of place.now) name.now (view value.now)) }
+    ensures { ReadsPart (λ l. items_view l.now) result (model.some_at (path_of place.now) name.now (view value.now)) }
 {
     let list = list_at(alloc, place, name, value)?;
     if list.is_empty() {
@@ -120,7 +120,7 @@ pub fn number_at(
     name: &'static str,
     value: &Value,
 ) -> Result<u32, LoadFault>
-    ensures { Reads (λ n. n) result (model.number_at (path_of place.now) name.now (view value.now)) }
+    ensures { ReadsPart (λ n. n) result (model.number_at (path_of place.now) name.now (view value.now)) }
 {
     match value.get(name).and_then(number_of) {
         Some(number) => Ok(number),
@@ -159,7 +159,7 @@ pub fn only(
     names: &[&str],
     members: &Map<String, Value>,
 ) -> Result<(), LoadFault>
-    ensures { Reads (λ u. u) result (model.only (path_of place.now) (map (λ n. n.now) names.now) (members_view members.now.entries) tt) }
+    ensures { ReadsPart (λ u. u) result (model.only (path_of place.now) (map (λ n. n.now) names.now) (members_view members.now.entries) tt) }
 {
     match first_other(names, members) {
         Some(name) => Err(place.unlisted(alloc, name)),

@@ -4,7 +4,7 @@ ghost use Rattle.std.specs.Prelude.{◌≡◌, [], Ok};
 ghost use Rattle.serde_json.specs.View.{view, items_view};
 ghost use Rattle.x5_model_world.specs.ContextText as model;
 ghost use Rattle.x5_world_members.specs.Paths.{path_of};
-ghost use Rattle.x5_world_members.specs.Views.{Reads};
+ghost use Rattle.x5_world_members.specs.Views.{ReadsPart};
 
 use crate::fault::LoadFault;
 use crate::place::Place;
@@ -30,7 +30,7 @@ pub fn agent_in(
     place: &Place<'_>,
     value: &Value,
 ) -> Result<AgentId, LoadFault>
-    ensures { Reads (λ a. a) result (model.agent_in names.now (path_of place.now) (view value.now)) }
+    ensures { ReadsPart (λ a. a) result (model.agent_in names.now (path_of place.now) (view value.now)) }
 {
     match value.as_str() {
         Some(text) => Ok(agent_of(names, text)),
@@ -45,7 +45,7 @@ pub fn agents_behind(
     place: &Place<'_>,
     items: &[Value],
 ) -> Result<AgentList, LoadFault>
-    ensures { Reads (λ l. l) result (model.agents_behind names.now (path_of place.now) 0 [] (items_view items.now)) }
+    ensures { ReadsPart (λ l. l) result (model.agents_behind names.now (path_of place.now) 0 [] (items_view items.now)) }
 {
     let mut agents = AgentList::new(alloc);
     for (i, item) in items.iter().enumerate() {

@@ -6,7 +6,7 @@ ghost use Rattle.x5_model.specs.Values.{last_rdn as last_rdn_of};
 ghost use Rattle.x5_model.specs.Words.{is_empty as is_empty_list};
 ghost use Rattle.x5_model_world.specs.Reading as model;
 ghost use Rattle.x5_world_members.specs.Paths.{path_of};
-ghost use Rattle.x5_world_members.specs.Views.{Reads};
+ghost use Rattle.x5_world_members.specs.Views.{ReadsPart};
 
 use crate::fault::LoadFault;
 use crate::json::text_at;
@@ -19,7 +19,7 @@ use x5_syntax::NameValue;
 
 /// The name that a text spells.
 fn name_in(alloc: Global, place: &Place<'_>, text: &str) -> Result<Name, LoadFault>
-    ensures { Reads (λ n. n) result (model.name_in (path_of place.now) text.now) }
+    ensures { ReadsPart (λ n. n) result (model.name_in (path_of place.now) text.now) }
 {
     match NameValue::parse(alloc, text) {
         Ok(value) => Ok(Name::from_value(alloc, &value)?),
@@ -35,7 +35,7 @@ pub(crate) fn name_at(
     name: &'static str,
     value: &Value,
 ) -> Result<Name, LoadFault>
-    ensures { Reads (λ n. n) result (model.name_at (path_of place.now) name.now (view value.now)) }
+    ensures { ReadsPart (λ n. n) result (model.name_at (path_of place.now) name.now (view value.now)) }
 {
     let text = text_at(alloc, place, name, value)?;
     name_in(alloc, &Place::Member(place, name), text)
@@ -48,7 +48,7 @@ pub fn entry_name_at(
     name: &'static str,
     value: &Value,
 ) -> Result<Name, LoadFault>
-    ensures read { Reads (λ n. n) result (model.entry_name_at (path_of place.now) name.now (view value.now)) }
+    ensures read { ReadsPart (λ n. n) result (model.entry_name_at (path_of place.now) name.now (view value.now)) }
     ensures some { IfOk result (λ n. is_empty_list n ≡ false) }
 {
     let found = name_at(alloc, place, name, value)?;

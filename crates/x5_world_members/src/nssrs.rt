@@ -6,7 +6,7 @@ ghost use Rattle.x5_model.specs.Values.{key_of};
 ghost use Rattle.x5_model_world.specs.ContextText as model;
 ghost use Rattle.x5_ops.specs.KnowledgeViews.{nssr_view};
 ghost use Rattle.x5_world_members.specs.Paths.{path_of};
-ghost use Rattle.x5_world_members.specs.Views.{Reads};
+ghost use Rattle.x5_world_members.specs.Views.{ReadsPart};
 
 use crate::counts::counted;
 use crate::entries::Entries;
@@ -123,7 +123,7 @@ fn nssr_behind(
     before: Nssrs,
     value: &Value,
 ) -> Result<Nssrs, LoadFault>
-    ensures { Reads (λ n. n) result (model.nssr_behind names.now (path_of place.now) entries.now before (view value.now)) }
+    ensures { ReadsPart (λ n. n) result (model.nssr_behind names.now (path_of place.now) entries.now before (view value.now)) }
 {
     let members = members_at(alloc, place, value)?;
     let at = name_at(alloc, place, "at", value)?;
@@ -155,7 +155,7 @@ pub(crate) fn nssrs_behind(
     before: Nssrs,
     items: &[Value],
 ) -> Result<Nssrs, LoadFault>
-    ensures { Reads (λ n. n) result (model.nssrs_behind names.now (path_of place.now) 0 entries.now before (items_view items.now)) }
+    ensures { ReadsPart (λ n. n) result (model.nssrs_behind names.now (path_of place.now) 0 entries.now before (items_view items.now)) }
 {
     let mut nssrs = before;
     for (i, item) in items.iter().enumerate() {

@@ -12,7 +12,7 @@ use crate::number::{is_oid, put_number, put_oid};
 use crate::string::{put_characters, put_options};
 use std::alloc::Global;
 use x5_memory::NoMemory;
-use x5_syntax::MOST_OCTETS;
+use x5_syntax::MOST_VALUE_OCTETS;
 use x5_types::{BitLeaf, Content, Leaf, Node, is_among, is_length, is_short, is_text};
 
 /// Whether octets of the content say the value.
@@ -38,7 +38,7 @@ fn leaf_holds(leaf: Leaf, node: &Node<'_>) -> bool
         (Leaf::Number(numbers), Node::Number(number)) => is_among(numbers, *number),
         (Leaf::Oid, Node::Oid(arcs)) => is_oid(arcs),
         (Leaf::ShortOid, Node::Oid(arcs)) => is_oid(arcs) && is_short(arcs),
-        (Leaf::Octets, Node::Octets(octets)) => octets.as_slice().len() <= MOST_OCTETS,
+        (Leaf::Octets, Node::Octets(octets)) => octets.as_slice().len() <= MOST_VALUE_OCTETS,
         (Leaf::Text(letters), Node::Text(text)) => is_text(letters, text.as_str().as_bytes()),
         (Leaf::Universal, Node::Text(text)) => is_length(text.as_str().as_bytes()),
         _ => false,

@@ -14,7 +14,8 @@ use Rattle.x5_ops.specs.declared.journal.Journal.{Journal}
 use Rattle.x5_report.specs.Counted.{IsOf}
 use Rattle.x5_report.specs.declared.report.LineOutcome.{LineOutcome}
 use Rattle.x5_report.specs.declared.report.LineOutcome.TheVariants.{Set, Answered, Plain, Refreshed, NotConsistent}
-use Rattle.x5_world.specs.State.{Net, StandsAt, names_in}
+use Rattle.x5_world.specs.State.{Net, StandsAt}
+use Rattle.x5_model_tree.specs.World.{names_of_agents}
 use Rattle.xdir.specs.declared.lines.Course.{Course}
 use Rattle.xdir.specs.Blocks.{Gives, IsTold, IsCourse}
 use Rattle.xdir.specs.Checked.{knowledge_text}
@@ -46,13 +47,13 @@ told_of names j (Refreshed number f heard) b t = absurd t
 told_of names j NotConsistent b t = (refresh.ended [] refresh.NotConsistent, refl, t.1)
 
 pub course_adds : (p : Point) (command : Command) (net : Net) (c : Course) (old new : Counts) → IsCourse p command net c
-    → ((b : Block) (blocks : List Block) → IsOf (names_in p.described) c.journal c.outcome b → old ≡ capped_counts (counts_of blocks)
+    → ((b : Block) (blocks : List Block) → IsOf (names_of_agents p.described) c.journal c.outcome b → old ≡ capped_counts (counts_of blocks)
     → new ≡ capped_counts (counts_of (blocks ++ b ∷ [])))
     → AddsBlock p command net old new
 course_adds p command net c old new course counts blocks before = record {
   block = course.block;
   gives = course.gives;
-  counted = counts course.block blocks (told_of (names_in p.described) c.journal c.outcome course.block course.told) before;
+  counted = counts course.block blocks (told_of (names_of_agents p.described) c.journal c.outcome course.block course.told) before;
 }
 
 pub counted_more : (f : File) (commands : List Command) (net later : Net) (old new : Counts) → IsCounted f commands net old → (c : Command)

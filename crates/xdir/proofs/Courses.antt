@@ -31,7 +31,8 @@ use Rattle.x5_report.specs.Blocks as report
 use Rattle.x5_report.specs.declared.report.LineOutcome.{LineOutcome}
 use Rattle.x5_report.specs.declared.report.LineOutcome.TheVariants.{Set, Answered, Plain, Refreshed, NotConsistent}
 use Rattle.x5_world.specs.Answered.{IsAnswered, NamesAgents, is_agent, line_names_agents}
-use Rattle.x5_world.specs.State.{Net, StandsAt, after, names_in}
+use Rattle.x5_world.specs.State.{Net, StandsAt, after}
+use Rattle.x5_model_tree.specs.World.{names_of_agents}
 use Rattle.xdir.specs.Blocks.{Gives, IsTold, IsCourse, IsCarriedOut, IsTextOf, IsBlockText, WritesCourse, WritesBlock}
 use Rattle.xdir.specs.Taken.{IsTaken, point, run_view}
 use Rattle.xdir.specs.declared.lines.Course.{Course}
@@ -150,13 +151,13 @@ passed p agents (lines.Lose reply k) net taken no_ask no_outage no_refresh no_lo
 -- ---- what is printed of it
 
 pub is_text_of : (f : File) (line : ℕ) (c : Course) (text : List ℕ)
-    → (block_known (names_in f.world) c.journal c.outcome ≡ true
-    → report.IsBlock (names_of f.world (moment_text f.start)) (names_in f.world) line c.journal c.outcome text)
+    → (block_known (names_of_agents f.world) c.journal c.outcome ≡ true
+    → report.IsBlockText (names_of f.world (moment_text f.start)) (names_of_agents f.world) line c.journal c.outcome text)
     → IsTextOf f line c text
 is_text_of f line c text prints = record { prints = λ command b told known. by c.journal c.outcome command b told (prints known) }
   where
-    by : (j : Journal) (o : LineOutcome) (command : Command) (b : Block) → IsTold (names_in f.world) j o b
-        → report.IsBlock (names_of f.world (moment_text f.start)) (names_in f.world) line j o text
+    by : (j : Journal) (o : LineOutcome) (command : Command) (b : Block) → IsTold (names_of_agents f.world) j o b
+        → report.IsBlockText (names_of f.world (moment_text f.start)) (names_of_agents f.world) line j o text
         → text ≡ print.block_text (names_of f.world (moment_text f.start)) line command b
     by j Set command b told is =
         is command ∙ ap (λ (x : Block). print.block_text (names_of f.world (moment_text f.start)) line command x) (sym told)
@@ -166,12 +167,12 @@ is_text_of f line c text prints = record { prints = λ command b told known. by 
     by j (Plain reply) command b told is = absurd told
     by j (Refreshed number g heard) command b told is = absurd told
     by j NotConsistent command b told is =
-        is command (refresh.ended [] refresh.NotConsistent) (sym (ap (λ (ls : List Message). shadows_view (names_in f.world) ls) told.0)) refl
+        is command (refresh.ended [] refresh.NotConsistent) (sym (ap (λ (ls : List Message). shadows_view (names_of_agents f.world) ls) told.0)) refl
         ∙ ap (λ (x : Block). print.block_text (names_of f.world (moment_text f.start)) line command x) (sym told.1)
 
 pub is_text_at : (f : File) (line : ℕ) (c : Course) (text shown : List ℕ) → shown ≡ text
-    → (block_known (names_in f.world) c.journal c.outcome ≡ true
-    → report.IsBlock (names_of f.world (moment_text f.start)) (names_in f.world) line c.journal c.outcome text)
+    → (block_known (names_of_agents f.world) c.journal c.outcome ≡ true
+    → report.IsBlockText (names_of f.world (moment_text f.start)) (names_of_agents f.world) line c.journal c.outcome text)
     → IsTextOf f line c shown
 is_text_at f line c text shown e prints = subst (IsTextOf f line c) (sym e) (is_text_of f line c text prints)
 

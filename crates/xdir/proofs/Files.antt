@@ -23,7 +23,8 @@ use Rattle.xdir.specs.declared.top.Status.{Status}
 use Rattle.xdir.specs.declared.top.Status.TheVariants.{Done, Refused, Usage, ReadFault, WriteFault, NoMemory, Inconsistent, TooLong}
 use Rattle.xdir.specs.Faults.{IsWorldLine, IsScriptLine, IsRefusalLine}
 use Rattle.xdir.specs.Outcomes.{IsReadable, most_octets}
-use Rattle.xdir.specs.Run.{names_in, lost_in, AsksFor, IsOutput, Runs, RunsSoFar, RefusesFile, no_json, faulty, RefusesWorld, RefusesScript, faulty_line, not_yet, Refuses, Writes, TakesWorld, Reads}
+use Rattle.xdir.specs.Run.{lost_in, AsksFor, IsOutput, Runs, RunsSoFar, RefusesFile, no_json, faulty, RefusesWorld, RefusesScript, faulty_line, not_yet, Refuses, Writes, TakesWorld, FilesRead}
+use Rattle.x5_model_tree.specs.World.{names_of_agents}
 use Rattle.xdir.specs.Steps.{IsFirstOutput, WritesSuchLine, WritesRun, IsAskedOutput, IsFirstAskedOutput, IsNotYet, WritesAsked, IsScriptOutput, IsFirstScriptOutput, WritesScript, OfScript, WritesScriptFile, ReadsFile}
 use Rattle.xdir.proofs.Ends.{ends_more, rose_later, wrote_more, broke_more, such_ends}
 
@@ -63,21 +64,21 @@ module _ (f : File) (octets : List ℕ) (asked : List Asked) (asks : AsksFor f.w
   runs_script status old new before after w = ends_more script_output first_script other_line status old new before after w
 
 -- as it was read, given the names of the agents and how many replies are lost
-pub asked_for : (f : File) (names : List (List ℕ)) (lost : ℕ) (octets : List ℕ) (cs items : List Line) → names ≡ names_in f.world → lost ≡ lost_in f.world
+pub asked_for : (f : File) (names : List (List ℕ)) (lost : ℕ) (octets : List ℕ) (cs items : List Line) → names ≡ names_of_agents f.world → lost ≡ lost_in f.world
     → cs ≡ items → script_of names lost octets ≡ Ok (map command_view items) → AsksFor f.world octets (map command_view cs)
 asked_for f names lost octets cs items same_names same_lost same e =
     subst (λ (ns : List (List ℕ)). script_of ns (lost_in f.world) octets ≡ Ok (map command_view cs)) same_names
     (subst (λ (n : ℕ). script_of names n octets ≡ Ok (map command_view cs)) same_lost
     (subst (λ (xs : List Line). script_of names lost octets ≡ Ok (map command_view xs)) (sym same) e))
 
-pub refused_for : (f : File) (names : List (List ℕ)) (lost : ℕ) (octets : List ℕ) (refusal : ScriptRefusal) → names ≡ names_in f.world → lost ≡ lost_in f.world
-    → ReadsScript (Err refusal) names lost octets → ReadsScript (Err refusal) (names_in f.world) (lost_in f.world) octets
+pub refused_for : (f : File) (names : List (List ℕ)) (lost : ℕ) (octets : List ℕ) (refusal : ScriptRefusal) → names ≡ names_of_agents f.world → lost ≡ lost_in f.world
+    → ReadsScript (Err refusal) names lost octets → ReadsScript (Err refusal) (names_of_agents f.world) (lost_in f.world) octets
 refused_for f names lost octets refusal same_names same_lost h =
     subst (λ (ns : List (List ℕ)). ReadsScript (Err refusal) ns (lost_in f.world) octets) same_names
     (subst (λ (n : ℕ). ReadsScript (Err refusal) names n octets) same_lost h)
 
 -- the line of a script's first line that is refused
-refuses_as : (f : File) (octets : List ℕ) (number : ℕ) (fault : ScriptFault) → IsLineFault number fault (script_of (names_in f.world) (lost_in f.world) octets)
+refuses_as : (f : File) (octets : List ℕ) (number : ℕ) (fault : ScriptFault) → IsLineFault number fault (script_of (names_of_agents f.world) (lost_in f.world) octets)
     → (text : List ℕ) → IsScriptLine number fault text → RefusesScript f.world octets text
 refuses_as f octets number (script.BadWord column) h text is = faulty_line number (words.BadWord column) h is
 refuses_as f octets number (script.BadName column) h text is = faulty_line number (words.BadName column) h is
@@ -87,12 +88,12 @@ refuses_as f octets number script.LineTooLong h text is = faulty_line number wor
 refuses_as f octets number script.NoMemory h text is = absurd is
 
 -- and of a script that is refused, by how it is
-pub refused_as : (f : File) (octets : List ℕ) (refusal : ScriptRefusal) → ReadsScript (Err refusal) (names_in f.world) (lost_in f.world) octets
+pub refused_as : (f : File) (octets : List ℕ) (refusal : ScriptRefusal) → ReadsScript (Err refusal) (names_of_agents f.world) (lost_in f.world) octets
     → (text : List ℕ) → IsRefusalLine refusal text → RefusesScript f.world octets text
 refused_as f octets (refusals.Line number fault) h text is = refuses_as f octets number fault h text is
 refused_as f octets refusals.NoMemory h text is = absurd is
 
-pub refuses_script : (f : File) (octets : List ℕ) (refusal : ScriptRefusal) → ReadsScript (Err refusal) (names_in f.world) (lost_in f.world) octets
+pub refuses_script : (f : File) (octets : List ℕ) (refusal : ScriptRefusal) → ReadsScript (Err refusal) (names_of_agents f.world) (lost_in f.world) octets
     → (status : Status) (old new : Option (List ℕ)) (before after : ℕ) → WritesSuchLine status (IsRefusalLine refusal) old new before after
     → WritesScript status f octets old new before after
 refuses_script f octets refusal h status old new before after w =
@@ -172,7 +173,7 @@ module _ (told : Option (List outside.File)) (names : FileNames) (octets : List 
     takes r = record { readable = r; world = octets; world_is = octets_is; file = f; described = described }
 
     pub reads_both : (status : Status) (first before after : ℕ) (failed old new : Option (List ℕ)) → IsReadable told names.world → first ≤ before
-        → ReadsFile status names.script told before after failed → Reads status names told first after failed old new
+        → ReadsFile status names.script told before after failed → FilesRead status names told first after failed old new
     reads_both Done first before after failed old new r le o = (r, o)
     reads_both Refused first before after failed old new r le o = (r, inr o)
     reads_both WriteFault first before after failed old new r le o = (r, inr o)
@@ -193,7 +194,7 @@ module _ (told : Option (List outside.File)) (names : FileNames) (octets : List 
         such_ends (λ text p. inl (wrong_as text p)) (Runs told names []) (RunsSoFar told names) status old new before after w
 
     pub reads_first : (status : Status) (first after rising risen : ℕ) (failed old new : Option (List ℕ)) → IsReadable told names.world
-        → WritesSuchLine status (IsWorldLine fault) old new rising risen → Reads status names told first after failed old new
+        → WritesSuchLine status (IsWorldLine fault) old new rising risen → FilesRead status names told first after failed old new
     reads_first Refused first after rising risen failed old new r w = (r, inl (wrote_more wrong_as old new w))
     reads_first WriteFault first after rising risen failed old new r w = (r, inl (broke_more wrong_as old new w.1))
     reads_first NoMemory first after rising risen failed old new r w = tt

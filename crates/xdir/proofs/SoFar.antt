@@ -16,7 +16,8 @@ use Rattle.x5_know.specs.Moments.{moment_text}
 use Rattle.x5_model_world.specs.WorldFile.{File}
 use Rattle.x5_script.specs.declared.command.Command.{Command as Asked}
 use Rattle.x5_script.specs.declared.command.Command.TheVariants.{Nothing, Ask, Outage, Refresh, Deliver, Lose}
-use Rattle.x5_world.specs.State.{Net, StandsAt, names_in}
+use Rattle.x5_world.specs.State.{Net, StandsAt}
+use Rattle.x5_model_tree.specs.World.{names_of_agents}
 use Rattle.xdir.specs.declared.top.Status.{Status}
 use Rattle.xdir.specs.declared.top.Status.TheVariants.{Done, Refused, Usage, ReadFault, WriteFault, NoMemory, Inconsistent, TooLong}
 use Rattle.xdir.specs.Blocks.{IsBlockText, WritesBlock}
@@ -107,7 +108,7 @@ agent_there [] a l = absurd (omega (arith, l))
 agent_there (x ∷ more) zero l = (x, refl)
 agent_there (x ∷ more) (suc a) l = agent_there more a (omega (arith, l))
 
-askable : (w : World) (c : Asked) → IsTaken (length (names_in w)) c → IsAskable w (run_view c)
+askable : (w : World) (c : Asked) → IsTaken (length (names_of_agents w)) c → IsAskable w (run_view c)
 askable w Nothing t = tt
 askable w (Ask to request) t = (agent_there w.agents to t.0, t.1.target, t.1.new_name)
 askable w (Outage change) t = tt
@@ -126,7 +127,7 @@ suits_at w commands i c within is all =
     subst (λ (x : Asked). Suits w (run_view x)) (sym is) (All-get_or (λ (x : Asked). Suits w (run_view x)) commands i c within all)
 
 -- so many agents has the world of the network
-pub as_many_agents : (net : Net) (w : World) (past : List Did) → StandsAt net (point w past) → length net.names ≡ length (names_in w)
+pub as_many_agents : (net : Net) (w : World) (past : List Did) → StandsAt net (point w past) → length net.names ≡ length (names_of_agents w)
 as_many_agents net w past stands = ap (λ (names : List (List ℕ)). length names) stands.names
 
 pub askable_at : (net : Net) (w : World) (past : List Did) → StandsAt net (point w past) → (c : Asked) → IsTaken (length net.names) c

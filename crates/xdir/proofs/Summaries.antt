@@ -14,7 +14,8 @@ use Rattle.x5_world_members.specs.declared.fault.LoadFault.{LoadFault}
 use Rattle.xdir.specs.declared.top.Status.{Status}
 use Rattle.xdir.specs.declared.top.Status.TheVariants.{Done, Refused, Usage, ReadFault, WriteFault, NoMemory, Inconsistent, TooLong}
 use Rattle.xdir.specs.Faults.{IsWorldLine, IsRefusalLine}
-use Rattle.xdir.specs.Run.{names_in, lost_in, AsksFor}
+use Rattle.xdir.specs.Run.{lost_in, AsksFor}
+use Rattle.x5_model_tree.specs.World.{names_of_agents}
 use Rattle.xdir.specs.Steps.{WritesSuchLine, OfScript}
 use Rattle.xdir.specs.Summed.{IsSummary, Sums, EndsAtOnce, WritesSummed, SumsRun, IsAskedSummary, SumsAsked, IsScriptSummary, SumsScript, SumsScriptFile}
 use Rattle.xdir.proofs.Ends.{wrote_more, broke_more}
@@ -71,7 +72,7 @@ module _ (f : File) (octets : List ℕ) (asked : List Asked) (asks : AsksFor f.w
   sums_script status old new before after w =
       at_once_more script_summary (other_line f octets asked asks) status old new before after w
 
-pub sums_refused : (f : File) (octets : List ℕ) (refusal : ScriptRefusal) → ReadsScript (Err refusal) (names_in f.world) (lost_in f.world) octets
+pub sums_refused : (f : File) (octets : List ℕ) (refusal : ScriptRefusal) → ReadsScript (Err refusal) (names_of_agents f.world) (lost_in f.world) octets
     → (status : Status) (old new : Option (List ℕ)) (before after : ℕ) → WritesSuchLine status (IsRefusalLine refusal) old new before after
     → SumsScript status f octets old new before after
 sums_refused f octets refusal h status old new before after w =

@@ -30,7 +30,7 @@ use Rattle.x5_ops.specs.declared.answers.Reply.TheVariants as replies
 use Rattle.x5_ops.specs.declared.answers.Source.{Source as From}
 use Rattle.x5_ops.specs.declared.journal.Journal.{Journal}
 use Rattle.x5_ops.specs.declared.references.Reference.{Reference}
-use Rattle.x5_report.specs.Blocks.{block_known, IsBlock}
+use Rattle.x5_report.specs.Blocks.{block_known, IsBlockText}
 use Rattle.x5_report.specs.Views.{names_with, is_known, line_known, source_known, reference_known, journal_known, reply_known}
 use Rattle.x5_report.specs.declared.report.LineOutcome.TheVariants.{Plain, Set}
 use Rattle.xdir.specs.Tree.{IsReplied}
@@ -149,7 +149,7 @@ no_journal names j lines accepted =
 
 pub reply_block : (t : Tree) (r : Request) (reply : Reply) (start : Start) (line : ℕ) (j : Journal) (text : List ℕ)
     → IsReplied t r reply → j.lines ≡ [] → j.accepted ≡ []
-    → ((names : List (List ℕ)) → block_known names j (Plain reply) ≡ true → IsBlock (names_with names start) names line j (Plain reply) text)
+    → ((names : List (List ℕ)) → block_known names j (Plain reply) ≡ true → IsBlockText (names_with names start) names line j (Plain reply) text)
     → (n : Names) → text ≡ number_line line ++ told_lines n (ask t r)
 reply_block t r reply start line j text replied lines accepted prints n =
     let own : List (List ℕ) = own_names reply in
@@ -162,7 +162,7 @@ reply_block t r reply start line j text replied lines accepted prints n =
     ∙ same_lines (names_with own start) n (ask t r) (is_plain t r))
 
 pub set_block : (start : Start) (line : ℕ) (j : Journal) (text : List ℕ) → j.lines ≡ [] → j.accepted ≡ []
-    → ((names : List (List ℕ)) → block_known names j Set ≡ true → IsBlock (names_with names start) names line j Set text)
+    → ((names : List (List ℕ)) → block_known names j Set ≡ true → IsBlockText (names_with names start) names line j Set text)
     → text ≡ number_line line ++ codes "set\n"
 set_block start line j text lines accepted prints =
     prints [] (both (journal_known [] j) true (no_journal [] j lines accepted) refl) Blank

@@ -19,7 +19,8 @@ use Rattle.xdir.specs.declared.top.Status.TheVariants.{Done, Refused, Usage, Rea
 use Rattle.xdir.specs.Checked.{knowledge_text, IsInconsistent, ReadsChecked}
 use Rattle.xdir.specs.Faults.{IsWorldLine, IsScriptLine, IsRefusalLine}
 use Rattle.xdir.specs.Outcomes.{IsReadable}
-use Rattle.xdir.specs.Run.{names_in, lost_in, AsksFor}
+use Rattle.xdir.specs.Run.{lost_in, AsksFor}
+use Rattle.x5_model_tree.specs.World.{names_of_agents}
 use Rattle.xdir.specs.Steps.{WritesSuchLine, OfScript}
 use Rattle.xdir.specs.Text.{refused_line_text}
 use Rattle.xdir.specs.Tree.{TakesBoth, Tells, TellsSoFar, TellsNone, RefusesFirst, RefusesALine, RefusesEither, EndsTree, WritesTree, TakesFirst, ReadsTree, IsTold, IsToldSoFar, IsNoTree, TellsLines, OfLines, TellsScript, TellsFile}
@@ -88,12 +89,12 @@ tells_script f octets asked asks status old new before after w =
     before after w
 
 a_line : (f : File) (octets : List ℕ) (number : ℕ) (fault : words.Fault)
-    → script_of (names_in f.world) (lost_in f.world) octets ≡ Err (number, fault) → (text : List ℕ)
+    → script_of (names_of_agents f.world) (lost_in f.world) octets ≡ Err (number, fault) → (text : List ℕ)
     → text ≡ refused_line_text number fault → RefusesALine f.world octets text
 a_line f octets number fault h text is = record { number = number; fault = fault; refused = h; is_line = is }
 
 line_as : (f : File) (octets : List ℕ) (number : ℕ) (fault : ScriptFault)
-    → IsLineFault number fault (script_of (names_in f.world) (lost_in f.world) octets) → (text : List ℕ) → IsScriptLine number fault text
+    → IsLineFault number fault (script_of (names_of_agents f.world) (lost_in f.world) octets) → (text : List ℕ) → IsScriptLine number fault text
     → RefusesALine f.world octets text
 line_as f octets number (script.BadWord column) h text is = a_line f octets number (words.BadWord column) h text is
 line_as f octets number (script.BadName column) h text is = a_line f octets number (words.BadName column) h text is
@@ -102,12 +103,12 @@ line_as f octets number (script.BadHex column) h text is = a_line f octets numbe
 line_as f octets number script.LineTooLong h text is = a_line f octets number words.Long h text is
 line_as f octets number script.NoMemory h text is = absurd is
 
-refusal_as : (f : File) (octets : List ℕ) (refusal : ScriptRefusal) → ReadsScript (Err refusal) (names_in f.world) (lost_in f.world) octets
+refusal_as : (f : File) (octets : List ℕ) (refusal : ScriptRefusal) → ReadsScript (Err refusal) (names_of_agents f.world) (lost_in f.world) octets
     → (text : List ℕ) → IsRefusalLine refusal text → RefusesALine f.world octets text
 refusal_as f octets (refusals.Line number fault) h text is = line_as f octets number fault h text is
 refusal_as f octets refusals.NoMemory h text is = absurd is
 
-pub refuses_line : (f : File) (octets : List ℕ) (refusal : ScriptRefusal) → ReadsScript (Err refusal) (names_in f.world) (lost_in f.world) octets
+pub refuses_line : (f : File) (octets : List ℕ) (refusal : ScriptRefusal) → ReadsScript (Err refusal) (names_of_agents f.world) (lost_in f.world) octets
     → (status : Status) (old new : Option (List ℕ)) (before after : ℕ) → WritesSuchLine status (IsRefusalLine refusal) old new before after
     → TellsScript status f octets old new before after
 refuses_line f octets refusal h status old new before after w =

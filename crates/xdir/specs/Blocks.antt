@@ -16,7 +16,8 @@ use Rattle.x5_port.specs.Outside.{Rose}
 use Rattle.x5_report.specs.Blocks.{block_known, IsJournal}
 use Rattle.x5_report.specs.declared.report.LineOutcome.{LineOutcome}
 use Rattle.x5_report.specs.declared.report.LineOutcome.TheVariants.{Set, Answered, Plain, Refreshed, NotConsistent}
-use Rattle.x5_world.specs.State.{Net, StandsAt, after, names_in}
+use Rattle.x5_world.specs.State.{Net, StandsAt, after}
+use Rattle.x5_model_tree.specs.World.{names_of_agents}
 use Rattle.xdir.specs.Outcomes.{Wrote, Broke}
 use Rattle.xdir.specs.Taken.{point}
 use Rattle.xdir.specs.declared.lines.Course.{Course}
@@ -42,8 +43,8 @@ IsTold names j NotConsistent b = (j.lines ≡ []) × (b ≡ model.Refreshing (re
 pub record IsCourse (p : Point) (command : Command) (net : Net) (c : Course) : Type 0 where
   pub block : Block
   pub gives : Gives p command net block
-  pub told : IsTold (names_in p.described) c.journal c.outcome block
-  pub known : block_known (names_in p.described) c.journal c.outcome ≡ true
+  pub told : IsTold (names_of_agents p.described) c.journal c.outcome block
+  pub known : block_known (names_of_agents p.described) c.journal c.outcome ≡ true
 
 abbrev pub IsCarriedOut : Point → Command → Net → Option Course → Type 0
 IsCarriedOut p command net None = Gives p command net Silent
@@ -51,8 +52,8 @@ IsCarriedOut p command net (Some c) = IsCourse p command net c
 
 -- The text is what is printed of what came of a command in this line: the block of it in a run.
 pub record IsTextOf (f : File) (line : ℕ) (c : Course) (text : List ℕ) : Type 0 where
-  pub prints : (command : Command) (block : Block) → IsTold (names_in f.world) c.journal c.outcome block
-      → block_known (names_in f.world) c.journal c.outcome ≡ true
+  pub prints : (command : Command) (block : Block) → IsTold (names_of_agents f.world) c.journal c.outcome block
+      → block_known (names_of_agents f.world) c.journal c.outcome ≡ true
       → text ≡ block_text (names_of f.world (moment_text f.start)) line command block
 
 -- what is written of it

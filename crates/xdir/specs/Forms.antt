@@ -4,7 +4,7 @@ use Rattle.x5_port.specs.Outside.{File}
 use Rattle.xdir.specs.Checked.{WritesChecked, ReadsChecked}
 use Rattle.xdir.specs.Generated.{WritesGenerated}
 use Rattle.xdir.specs.Made.{WritesText}
-use Rattle.xdir.specs.Run.{Writes, Reads}
+use Rattle.xdir.specs.Run.{Writes, FilesRead}
 use Rattle.xdir.specs.Shown.{WritesShown}
 use Rattle.xdir.specs.Steps.{ReadsFile}
 use Rattle.xdir.specs.Summed.{WritesSummed}
@@ -18,7 +18,7 @@ use Rattle.x5_gen.specs.Script as drawn
 abbrev pub ReadsForm : Form → Status → Option (List File) → ℕ → ℕ → Option (List ℕ) → Option (List ℕ) →
     Option (List ℕ) → Type 0
 ReadsForm (Run names summary) status told before after failed old new =
-    Reads status names told before after failed old new
+    FilesRead status names told before after failed old new
 ReadsForm (Check name) status told before after failed old new = ReadsChecked status name told before after failed
 ReadsForm (Tree names) status told before after failed old new = ReadsTree status names told before after failed old new
 ReadsForm (GenRun number) status told before after failed old new = after ≡ before

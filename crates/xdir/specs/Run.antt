@@ -12,7 +12,7 @@ use Rattle.x5_model_script.specs.Script.{script_of}
 use Rattle.x5_model_script.specs.Words.{Fault}
 use Rattle.x5_model_settled.specs.Held.{Performed}
 use Rattle.x5_model_tree.specs.Consistent.{first_breach}
-use Rattle.x5_model_tree.specs.World.{World}
+use Rattle.x5_model_tree.specs.World.{World, names_of_agents}
 use Rattle.x5_model_world.specs.Reading.{Breach}
 use Rattle.x5_model_world.specs.WorldFile.{File, Describes, IsNoJson}
 use Rattle.x5_port.specs.Outside as outside
@@ -24,16 +24,13 @@ use Rattle.xdir.specs.declared.top.Status.{Status}
 use Rattle.xdir.specs.declared.top.Status.TheVariants.{Done, Refused, Usage, ReadFault, WriteFault, NoMemory}
 use Rattle.xdir.specs.declared.top.Status.TheVariants.{Inconsistent, TooLong}
 
--- the names of a world's agents, and how many replies it loses by itself
-abbrev pub names_in : World → List (List ℕ)
-names_in w = map (λ a. a.name) w.agents
-
+-- how many replies a world loses by itself
 abbrev pub lost_in : World → ℕ
 lost_in w = length w.network.lost_replies
 
 -- what the lines of a script ask for, or the first that is refused, over this world
 abbrev pub AsksFor : World → List ℕ → List Asked → Type 0
-AsksFor w script asked = script_of (names_in w) (lost_in w) script ≡ Ok asked
+AsksFor w script asked = script_of (names_of_agents w) (lost_in w) script ≡ Ok asked
 
 -- whether knowledge is consistent: no condition fails
 abbrev pub is_sound : World → Bool
@@ -88,7 +85,7 @@ pub record RefusesWorld (told : Option (List outside.File)) (name text : List �
 -- the script has a line that is refused, or, where it has none, one that asks for what no run does so far; the first is
 -- told
 pub data RefusesScript (w : World) (script text : List ℕ) : Type 0 where
-  faulty_line : (number : ℕ) (fault : Fault) → script_of (names_in w) (lost_in w) script ≡ Err (number, fault)
+  faulty_line : (number : ℕ) (fault : Fault) → script_of (names_of_agents w) (lost_in w) script ≡ Err (number, fault)
       → text ≡ refused_line_text number fault → RefusesScript w script text
   not_yet : (asked : List Asked) (before : ℕ) → AsksFor w script asked
       → position (is_other (is_sound w)) asked ≡ Some before
@@ -127,17 +124,17 @@ pub record TakesWorld (told : Option (List outside.File)) (name : List ℕ) : Ty
 
 -- What is known of the two files, by how a run ends. The script is read unless the world is refused, whose line is then
 -- what was written; so a fault of the script is told only where the world is taken.
-abbrev pub Reads : Status → FileNames → Option (List outside.File) → ℕ → ℕ → Option (List ℕ) → Option (List ℕ) →
+abbrev pub FilesRead : Status → FileNames → Option (List outside.File) → ℕ → ℕ → Option (List ℕ) → Option (List ℕ) →
     Option (List ℕ) → Type 0
-Reads Done names told before after failed old new = IsReadable told names.world × IsReadable told names.script
-Reads Refused names told before after failed old new =
+FilesRead Done names told before after failed old new = IsReadable told names.world × IsReadable told names.script
+FilesRead Refused names told before after failed old new =
     IsReadable told names.world × (StopsAtWorld Refused told names.world old new ⊎ IsReadable told names.script)
-Reads WriteFault names told before after failed old new =
+FilesRead WriteFault names told before after failed old new =
     IsReadable told names.world × (StopsAtWorld WriteFault told names.world old new ⊎ IsReadable told names.script)
-Reads NoMemory names told before after failed old new = ⊤
-Reads ReadFault names told before after failed old new =
+FilesRead NoMemory names told before after failed old new = ⊤
+FilesRead ReadFault names told before after failed old new =
     Rose before after × ((failed ≡ Some names.world) ⊎ (failed ≡ Some names.script) × TakesWorld told names.world)
-Reads TooLong names told before after failed old new =
+FilesRead TooLong names told before after failed old new =
     IsLonger told names.world most_octets ⊎ IsLonger told names.script most_octets × TakesWorld told names.world
-Reads Usage names told before after failed old new = ⊥
-Reads Inconsistent names told before after failed old new = ⊥
+FilesRead Usage names told before after failed old new = ⊥
+FilesRead Inconsistent names told before after failed old new = ⊥

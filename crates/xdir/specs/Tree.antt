@@ -26,7 +26,8 @@ use Rattle.x5_script.specs.declared.command.Command.{Command as Line}
 use Rattle.x5_words.specs.Forms.{FileNames}
 use Rattle.xdir.specs.Checked.{knowledge_text, IsInconsistent}
 use Rattle.xdir.specs.Outcomes.{most_octets, Wrote, Broke, IsReadable}
-use Rattle.xdir.specs.Run.{names_in, lost_in, AsksFor, RefusesFile}
+use Rattle.xdir.specs.Run.{lost_in, AsksFor, RefusesFile}
+use Rattle.x5_model_tree.specs.World.{names_of_agents}
 use Rattle.xdir.specs.Steps.{OfScript}
 use Rattle.xdir.specs.Text.{refused_line_text}
 use Rattle.xdir.specs.declared.top.Status.{Status}
@@ -90,7 +91,7 @@ pub record RefusesFirst (told : Option (List outside.File)) (name text : List �
 pub record RefusesALine (w : World) (script text : List ℕ) : Type 0 where
   pub number : ℕ
   pub fault : Fault
-  pub refused : script_of (names_in w) (lost_in w) script ≡ Err (number, fault)
+  pub refused : script_of (names_of_agents w) (lost_in w) script ≡ Err (number, fault)
   pub is_line : text ≡ refused_line_text number fault
 
 -- over the world that the file describes

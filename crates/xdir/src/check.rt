@@ -6,7 +6,7 @@ ghost use Rattle.xdir.specs.Checked.{ChecksOctets, EndsCheck, ReadsChecked, Writ
 
 use crate::knowledge::knowledge_line;
 use crate::refusals::refuse_world;
-use crate::top::{MOST_OCTETS, Status};
+use crate::top::{MOST_FILE_OCTETS, Status};
 use std::alloc::Global;
 use x5_check::check;
 use x5_know::Described;
@@ -23,7 +23,7 @@ pub fn check_file<F: Files, K: Sink>(
     ensures reads { ReadsChecked result name.now (F.contents files.old) (F.fault_count files.old) (F.fault_count files.new) (F.last_failed files.new) }
     ensures writes { WritesChecked result (F.contents files.old) name.now (K.octets out.old) (K.octets out.new) (K.fault_count out.old) (K.fault_count out.new) }
 {
-    match files.read_whole(alloc, name, MOST_OCTETS) {
+    match files.read_whole(alloc, name, MOST_FILE_OCTETS) {
         Ok(octets) => check_octets(alloc, &octets, out),
         Err(FileFault::Failed) => Status::ReadFault,
         Err(FileFault::TooLong) => Status::TooLong,

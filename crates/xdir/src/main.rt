@@ -22,7 +22,7 @@ use std::io::{self, ErrorKind};
 use std::process::ExitCode;
 use std::{env, rt};
 use told::ToldSink;
-use top::{MOST_OCTETS, Status, xdir};
+use top::{MOST_FILE_OCTETS, Status, xdir};
 use x5_port::{RealFiles, RealSink};
 
 // The forms, one a line.
@@ -95,7 +95,7 @@ fn ended<R: Eprint>(rt: &R, status: Status, name: &str, line: &str) -> ExitCode 
         Status::Usage => eprintln!(rt; "{USAGE}"),
         Status::ReadFault => eprintln!(rt; "xdir: can't read the file {name}"),
         Status::TooLong => eprintln!(rt;
-            "xdir: the file {name} has more than {MOST_OCTETS} octets"
+            "xdir: the file {name} has more than {MOST_FILE_OCTETS} octets"
         ),
         Status::WriteFault => eprintln!(rt; "xdir: can't write to standard output"),
         Status::NoMemory => eprintln!(rt; "xdir: out of memory"),

@@ -3,7 +3,7 @@ ghost use Rattle.std.specs.Prelude.{string_bytes};
 ghost use Rattle.xdir.specs.Shown.{ShowsOctets, WritesShown};
 ghost use Rattle.xdir.specs.Steps.{Prints, ReadsFile};
 
-use crate::top::{MOST_OCTETS, Status};
+use crate::top::{MOST_FILE_OCTETS, Status};
 use std::alloc::Global;
 use x5_port::{Failed, FileFault, Files, NoMemory, Sink, put_all};
 use x5_show::{Shown, show};
@@ -13,7 +13,7 @@ pub fn show_file<F: Files, K: Sink>(alloc: Global, name: &str, files: &mut F, ou
     ensures reads { ReadsFile result name.now (F.contents files.old) (F.fault_count files.old) (F.fault_count files.new) (F.last_failed files.new) }
     ensures writes { WritesShown result (F.contents files.old) name.now (K.octets out.old) (K.octets out.new) (K.fault_count out.old) (K.fault_count out.new) }
 {
-    match files.read_whole(alloc, name, MOST_OCTETS) {
+    match files.read_whole(alloc, name, MOST_FILE_OCTETS) {
         Ok(octets) => show_octets(alloc, &octets, out),
         Err(FileFault::Failed) => Status::ReadFault,
         Err(FileFault::TooLong) => Status::TooLong,

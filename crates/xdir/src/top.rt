@@ -5,7 +5,7 @@ ghost use Rattle.x5_load.specs.Views.{IsNamed, file_view};
 ghost use Rattle.x5_model_tree.specs.Described.{IsDescribed};
 ghost use Rattle.x5_words.specs.Forms.{form_in};
 ghost use Rattle.xdir.specs.Forms.{ReadsForm, WritesForm};
-ghost use Rattle.xdir.specs.Run.{Reads, Writes};
+ghost use Rattle.xdir.specs.Run.{FilesRead, Writes};
 ghost use Rattle.xdir.specs.Steps.{Prints, ReadsFile, WritesScript, WritesScriptFile};
 ghost use Rattle.xdir.specs.Summed.{SumsScript, SumsScriptFile, WritesSummed};
 ghost use Rattle.xdir.specs.Taken.{IsBegun};
@@ -28,7 +28,7 @@ use x5_words::{Words, read_words};
 use x5_world::World;
 
 /// The most octets of a file: 16 MiB.
-pub const MOST_OCTETS: usize = 16_777_216;
+pub const MOST_FILE_OCTETS: usize = 16_777_216;
 
 /// How a run ended. The numbers are the exit statuses.
 #[derive(Clone, Copy, Debug, PartialEq, Eq)]
@@ -110,11 +110,11 @@ fn run_files<F: Files, K: Sink>(
     files: &mut F,
     out: &mut K,
 ) -> Status
-    ensures reads { Reads result (record { world = world.now; script = script.now }) (F.contents files.old) (F.fault_count files.old) (F.fault_count files.new) (F.last_failed files.new) (K.octets out.old) (K.octets out.new) }
+    ensures reads { FilesRead result (record { world = world.now; script = script.now }) (F.contents files.old) (F.fault_count files.old) (F.fault_count files.new) (F.last_failed files.new) (K.octets out.old) (K.octets out.new) }
     ensures writes { printed ≡ Printed.Blocks → Writes result (F.contents files.old) (record { world = world.now; script = script.now }) (K.octets out.old) (K.octets out.new) (K.fault_count out.old) (K.fault_count out.new) }
     ensures sums { printed ≡ Printed.Summary → WritesSummed result (F.contents files.old) (record { world = world.now; script = script.now }) (K.octets out.old) (K.octets out.new) (K.fault_count out.old) (K.fault_count out.new) }
 {
-    match files.read_whole(alloc, world, MOST_OCTETS) {
+    match files.read_whole(alloc, world, MOST_FILE_OCTETS) {
         Ok(octets) => match load(alloc, &octets) {
             Ok(world) => run_world(alloc, printed, world, script, files, out),
             Err(fault) => refuse_world(alloc, &fault, out),
@@ -161,7 +161,7 @@ fn run_script<F: Files, K: Sink>(
     ensures writes { printed ≡ Printed.Blocks → WritesScriptFile result (F.contents files.old) script.now (file_view described.now) (K.octets out.old) (K.octets out.new) (K.fault_count out.old) (K.fault_count out.new) }
     ensures sums { printed ≡ Printed.Summary → SumsScriptFile result (F.contents files.old) script.now (file_view described.now) (K.octets out.old) (K.octets out.new) (K.fault_count out.old) (K.fault_count out.new) }
 {
-    match files.read_whole(alloc, script, MOST_OCTETS) {
+    match files.read_whole(alloc, script, MOST_FILE_OCTETS) {
         Ok(octets) => run_octets(alloc, printed, described, network, &octets, out),
         Err(FileFault::Failed) => Status::ReadFault,
         Err(FileFault::TooLong) => Status::TooLong,

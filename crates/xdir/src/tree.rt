@@ -17,7 +17,7 @@ ghost use Rattle.xdir.specs.Tree.{IsReplied, ReadsTree, TellsFile, TellsLines, T
 use crate::check::line_of;
 use crate::refusals::{refuse_script, refuse_world};
 use crate::run::KNOWLEDGE;
-use crate::top::{MOST_OCTETS, Status};
+use crate::top::{MOST_FILE_OCTETS, Status};
 use std::alloc::Global;
 use x5_know::{Described, Start};
 use x5_load::load;
@@ -40,7 +40,7 @@ pub fn tree_files<F: Files, K: Sink>(
     ensures reads { ReadsTree result (record { world = world.now; script = script.now }) (F.contents files.old) (F.fault_count files.old) (F.fault_count files.new) (F.last_failed files.new) (K.octets out.old) (K.octets out.new) }
     ensures writes { WritesTree result (F.contents files.old) (record { world = world.now; script = script.now }) (K.octets out.old) (K.octets out.new) (K.fault_count out.old) (K.fault_count out.new) }
 {
-    match files.read_whole(alloc, world, MOST_OCTETS) {
+    match files.read_whole(alloc, world, MOST_FILE_OCTETS) {
         Ok(octets) => match load(alloc, &octets) {
             Ok(world) => tree_script(alloc, &world, script, files, out),
             Err(fault) => refuse_world(alloc, &fault, out),
@@ -65,7 +65,7 @@ fn tree_script<F: Files, K: Sink>(
     ensures reads { ReadsChecked result script.now (F.contents files.old) (F.fault_count files.old) (F.fault_count files.new) (F.last_failed files.new) }
     ensures writes { TellsFile result (F.contents files.old) script.now (file_view world.now) (K.octets out.old) (K.octets out.new) (K.fault_count out.old) (K.fault_count out.new) }
 {
-    match files.read_whole(alloc, script, MOST_OCTETS) {
+    match files.read_whole(alloc, script, MOST_FILE_OCTETS) {
         Ok(octets) => tree_octets(alloc, world, &octets, out),
         Err(FileFault::Failed) => Status::ReadFault,
         Err(FileFault::TooLong) => Status::TooLong,

@@ -1,5 +1,5 @@
 use Rattle.x5_model_run.specs.Right.{AnswersRight}
-use Rattle.x5_model_star.specs.Runs.{RightAndWhole}
+use Rattle.x5_model_settled.specs.Judges.{RightAndWhole}
 use Rattle.x5_model_complete.proofs.Complete.{lines_are_complete, runs_are_complete}
 use Rattle.x5_model_complete.proofs.completing.Goals as goal
 

@@ -1,5 +1,5 @@
 use Rattle.x5_model_run.specs.Right.{AnswersRight}
-use Rattle.x5_model_star.specs.Runs.{RightAndWhole}
+use Rattle.x5_model_settled.specs.Judges.{RightAndWhole}
 use Rattle.x5_model_settled.proofs.Settled.{lines_are_right, runs_are_right}
 use Rattle.x5_model_settled.proofs.running.Goals as goal
 

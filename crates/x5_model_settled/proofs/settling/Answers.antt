@@ -1,5 +1,5 @@
 use Rattle.x5_model_run.specs.Right.{AnswersRight}
-use Rattle.x5_model_star.specs.Runs.{RightAndWhole}
+use Rattle.x5_model_settled.specs.Judges.{RightAndWhole}
 use Rattle.x5_model_settled.proofs.Settled.{lines_are_settled, runs_are_settled}
 use Rattle.x5_model_settled.proofs.settling.Goals as goal
 

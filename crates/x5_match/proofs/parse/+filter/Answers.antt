@@ -4,7 +4,7 @@ use Rattle.std.proofs.lemmas.Str.Pattern.{strip_prefix_char, starts_char}
 use lib.Utf8.{encode}
 use Rattle.x5_model_text.specs.Filters as text_of
 use Rattle.x5_match.specs.FilterView.{filter_view, filters_of}
-use Rattle.x5_match.specs.FilterText.{Reads}
+use Rattle.x5_match.specs.FilterText.{ReadsFilter}
 use Rattle.x5_match.proofs.CopyLemmas.{and_of_items, or_of_items}
 use Rattle.x5_match.proofs.ParseLemmas.{opened, too_deep, not_opened, and_read, or_read, unsigned, member_read, members_ended}
 use Rattle.x5_match.proofs.parse.+filter.Goals as goal
@@ -13,7 +13,7 @@ use Rattle.x5_match.proofs.parse.+filter.Goals.{filter_from-in_default-via-in-So
 pub filter_from-returns-in-Some-clause-read : goal.filter_from-returns-in-Some-clause-read
 filter_from-returns-in-Some-clause-read t c =
     let there = strip_prefix_char 40 c.args.text.now (Some c.in-Some.inside) c.in-Some.ensures.cases (lit< tt) in
-    subst (λ read. Reads (λ p. (filter_view p.0, p.1.now)) c.inside_from.result read)
+    subst (λ read. ReadsFilter (λ p. (filter_view p.0, p.1.now)) c.inside_from.result read)
     (opened c.args.nesting c.args.all c.args.text.now c.in-Some.inside.now (omega (arith, c.if-nesting-gt0.true)) there)
     c.inside_from.ensures.read
 
@@ -28,7 +28,7 @@ pub inside_from-returns-in-Ok-clause-read : goal.inside_from-returns-in-Ok-claus
 inside_from-returns-in-Ok-clause-read t c =
     let there = strip_prefix_char 38 c.args.text.now (Some c.in-Some.inside) c.in-Some.ensures.cases (lit< tt) in
     let one = text_of.filter_read c.args.nesting c.args.all in
-    subst (λ read. Reads (λ p. (filter_view p.0, p.1.now)) c.closed.result read)
+    subst (λ read. ReadsFilter (λ p. (filter_view p.0, p.1.now)) c.closed.result read)
     (ap (λ f. text_of.closed c.args.all f c.in-Ok.behind.now) (sym (and_of_items c.in-Ok.members))
     ∙ and_read one c.args.all c.args.text.now c.in-Some.inside.now (filters_of c.in-Ok.members.items) c.in-Ok.behind.now there c.in-Ok.ensures.read)
     c.closed.ensures.read
@@ -39,7 +39,7 @@ inside_from-returns-in-Ok-members_from-clause-read t c =
     let read = c.in-Ok-members_from in
     let there = strip_prefix_char 124 c.args.text.now (Some inside) c.in-Some-strip_prefix.ensures.cases (lit< tt) in
     let one = text_of.filter_read c.args.nesting c.args.all in
-    subst (λ read. Reads (λ p. (filter_view p.0, p.1.now)) c.closed-in-Ok-members_from.result read)
+    subst (λ read. ReadsFilter (λ p. (filter_view p.0, p.1.now)) c.closed-in-Ok-members_from.result read)
     (ap (λ f. text_of.closed c.args.all f read.behind.now) (sym (or_of_items read.members))
     ∙ or_read one c.args.all c.args.text.now inside.now (filters_of read.members.items) read.behind.now there read.ensures.read)
     c.closed-in-Ok-members_from.ensures.read
@@ -47,7 +47,7 @@ inside_from-returns-in-Ok-members_from-clause-read t c =
 pub inside_from-returns-in_default-strip_prefix-2-clause-read : goal.inside_from-returns-in_default-strip_prefix-2-clause-read
 unfolding encode
 inside_from-returns-in_default-strip_prefix-2-clause-read t c =
-    subst (λ read. Reads (λ p. (filter_view p.0, p.1.now)) c.item_from.result read)
+    subst (λ read. ReadsFilter (λ p. (filter_view p.0, p.1.now)) c.item_from.result read)
     (unsigned (text_of.filter_read c.args.nesting c.args.all) c.args.all c.args.text.now c.in_default.ensures.cases c.in_default-strip_prefix.ensures.cases c.in_default-strip_prefix-2.ensures.cases)
     c.item_from.ensures.read
 

@@ -1,6 +1,6 @@
 -- The text is what the definitions print.
 use Rattle.std.proofs.Common.{◌∙◌}
-use Rattle.x5_report.specs.Blocks.{names_in}
+use Rattle.x5_model_tree.specs.World.{names_of_agents}
 use Rattle.x5_report.proofs.Blocks.{block_is, in_world}
 use Rattle.x5_report.proofs.report.block.Goals as goal
 
@@ -11,4 +11,4 @@ returns-clause-named c =
 pub returns-clause-in_world : goal.returns-clause-in_world
 returns-clause-in_world c =
     λ w h. in_world w c.args.start.now c.args.line c.args.journal.now c.args.outcome.now c.from_string.result
-    (block_is (names_in w) c.args.start.now c.args.line c.args.journal.now c.args.outcome.now c.from_string.result (c.from_string.ensures ∙ c.in_ok-text.ensures) h)
+    (block_is (names_of_agents w) c.args.start.now c.args.line c.args.journal.now c.args.outcome.now c.from_string.result (c.from_string.ensures ∙ c.in_ok-text.ensures) h)

@@ -2,10 +2,10 @@
 use Rattle.std.proofs.Common.{◌≡◌, [], List, Err, Ok}
 use Rattle.x5_model.specs.Answers.{DirError}
 use Rattle.x5_model.specs.Entries.{Named}
-use Rattle.x5_model_tree.specs.Apply.{Outcome}
+use Rattle.x5_model_tree.specs.Apply.{UpdatedEntries}
 use Rattle.x5_update.proofs.committing.passed.Goals as goal
 
-never : (o : Outcome) (x : DirError) (made : List Named) → o ≡ Ok made → o ≡ Err x → ⊥
+never : (o : UpdatedEntries) (x : DirError) (made : List Named) → o ≡ Ok made → o ≡ Err x → ⊥
 never o x made p q = cc
 
 pub unreachable-requires : goal.unreachable-requires

@@ -1,5 +1,5 @@
 use Rattle.x5_report.specs.Counted.{totals_view}
-use Rattle.x5_world.specs.State.{names_in}
+use Rattle.x5_model_tree.specs.World.{names_of_agents}
 use Rattle.xdir.specs.Taken.{run_view}
 use Rattle.xdir.proofs.Counts.{comment_adds, course_adds}
 use Rattle.xdir.proofs.Courses.{carried, silent}
@@ -11,7 +11,7 @@ returns-in-Some-clause-adds c = λ p stands suits.
     let net = c.carry_out.new.network in
     course_adds p command net c.in-Some.course (totals_view c.args.totals.now) (totals_view c.count.new.self)
     (carried p command net c.in_ok-carried.carried c.in-Some.course c.in-Some.is (c.in_ok-carried.ensures.carried p stands suits))
-    (c.count.ensures.of_run (names_in p.described))
+    (c.count.ensures.of_run (names_of_agents p.described))
 
 pub returns-in-None-clause-adds : goal.returns-in-None-clause-adds
 returns-in-None-clause-adds c = λ p stands suits.

@@ -6,7 +6,8 @@ use Rattle.x5_load.specs.Views.{file_view}
 use Rattle.x5_model_script.specs.Script.{script_of}
 use Rattle.x5_script.specs.Views.{command_view, ReadsScript}
 use Rattle.x5_script.specs.declared.command.Command.{Command}
-use Rattle.xdir.specs.Run.{names_in, lost_in}
+use Rattle.xdir.specs.Run.{lost_in}
+use Rattle.x5_model_tree.specs.World.{names_of_agents}
 use Rattle.xdir.proofs.Few.{few}
 use Rattle.xdir.proofs.TreeEnds.{tells_script, refuses_line}
 use Rattle.xdir.proofs.tree.tree_octets.Goals as goal
@@ -23,8 +24,8 @@ returns-in-Ok-clause-writes g c =
     let w = world_view c.args.world.now in
     let script = c.args.script.now in
     tells_script (file_view c.args.world.now) script (map command_view c.deref.result.now)
-    (subst (λ (cs : List Command). script_of (names_in w) (lost_in w) script ≡ Ok (map command_view cs)) (sym c.deref.ensures.value)
-    (subst (λ (n : ℕ). script_of (names_in w) n script ≡ Ok (map command_view c.in-Ok.commands.items))
+    (subst (λ (cs : List Command). script_of (names_of_agents w) (lost_in w) script ≡ Ok (map command_view cs)) (sym c.deref.ensures.value)
+    (subst (λ (n : ℕ). script_of (names_of_agents w) n script ≡ Ok (map command_view c.in-Ok.commands.items))
     (ap length c.as_slice-lost.ensures ∙ (λ i. length (c.world.view_is i).network.lost_replies))
     (subst (λ (names : List (List ℕ)). script_of names (length c.as_slice-lost.result.now) script
     ≡ Ok (map command_view c.in-Ok.commands.items)) ((λ i. (c.world.view_is i).names) ∙ c.requires.named) c.in-Ok.ensures)))
@@ -36,7 +37,7 @@ returns-in-Err-clause-writes g c =
     let w = world_view c.args.world.now in
     let script = c.args.script.now in
     refuses_line (file_view c.args.world.now) script c.in-Err.refusal
-    (subst (λ (n : ℕ). ReadsScript (Err c.in-Err.refusal) (names_in w) n script)
+    (subst (λ (n : ℕ). ReadsScript (Err c.in-Err.refusal) (names_of_agents w) n script)
     (ap length c.as_slice-lost.ensures ∙ (λ i. length (c.world.view_is i).network.lost_replies))
     (subst (λ (names : List (List ℕ)). ReadsScript (Err c.in-Err.refusal) names (length c.as_slice-lost.result.now) script)
     ((λ i. (c.world.view_is i).names) ∙ c.requires.named) c.in-Err.ensures))

@@ -1,3 +1,0 @@
-pub mod Star
-pub mod Reads
-pub mod Runs
