@@ -1,6 +1,5 @@
 pub mod Shortness
 pub mod Alone
-pub mod Points
 pub mod Replying
 pub mod Asking
 pub mod Saying

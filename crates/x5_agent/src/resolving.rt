@@ -22,8 +22,9 @@ ghost use Rattle.x5_ops.specs.AnswerViews.{reply_view};
 ghost use Rattle.x5_serve.specs.Networks.{IsFound};
 ghost use Rattle.x5_agent.specs.Answers.{KnowsThem, IsAtSupplier, IsNear, IsSaid, is_failed};
 
-use crate::naming::{asked, one, others, reference};
+use crate::naming::{asked, reference};
 use std::alloc::Global;
+use x5_access::{one, others};
 use x5_dse::NodeId;
 use x5_eval::{evaluate, read_copy, read_own};
 use x5_find::{Found as Place, find as resolve};

@@ -11,5 +11,6 @@ mod walk;
 
 pub use children::Children;
 pub use node::{DseFault, NodeId};
+pub use order::compare_rdns;
 pub use tree::DseTree;
 pub use walk::Walk;

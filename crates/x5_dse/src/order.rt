@@ -19,8 +19,8 @@ fn compare_pairs(a: &Pair, b: &Pair) -> Ordering
         .then(a.normal().as_slice().cmp(b.normal().as_slice()))
 }
 
-/// The order of the RDNs of these pairs: pair by pair, a beginning first.
-pub(crate) fn compare_rdns(a: &[Pair], b: &[Pair]) -> Ordering
+/// The order of the RDNs of these pairs: pair by pair, a beginning first (X.501, section 9: relative distinguished names). No memory.
+pub fn compare_rdns(a: &[Pair], b: &[Pair]) -> Ordering
     ensures { result ≡ slice_cmp pair_cmp (map key_of_pair a.now) (map key_of_pair b.now) }
 {
     for (i, pair) in a.iter().enumerate() {

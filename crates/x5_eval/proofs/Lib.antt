@@ -1,4 +1,3 @@
-pub mod Names
 pub mod Telling
 pub mod Within
 pub mod Chosen

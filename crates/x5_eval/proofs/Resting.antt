@@ -30,7 +30,8 @@ use Rattle.x5_ops.specs.declared.knowledge.Nssr as nssr
 use Rattle.x5_ops.specs.declared.knowledge.Specific as specific
 use Rattle.x5_holdings.specs.Runs.{run_of}
 use Rattle.x5_eval.specs.Numbers.{own_place, reaches}
-use Rattle.x5_eval.specs.Rest.{AreAlike, AreKnown, are_known, at_place, depth_in, entry_needs, places_to, pin_needs, root_needs, wide_to, wide_by, nssr_needs, context_needs, unnamed}
+use Rattle.x5_model_heard.specs.Told.{are_agents}
+use Rattle.x5_eval.specs.Rest.{AreAlike, AreKnown, at_place, depth_in, entry_needs, places_to, pin_needs, root_needs, wide_to, wide_by, nssr_needs, context_needs, unnamed}
 use Rattle.x5_eval.proofs.Adding.{map_twice}
 use Rattle.x5_eval.proofs.Classes.{alike_joined}
 use Rattle.x5_eval.proofs.Picking.{picked}
@@ -334,7 +335,7 @@ each_agent name exclusions me agents = singles (wide_to name exclusions) (λ a. 
 pub agent_there : (n : ℕ) (name : Name) (exclusions : List Rdn) (me a : ℕ) → (a == me) ≡ false
     → AreKnown n (wide_by name exclusions me (a ∷ [])) → a < n
 agent_there n name exclusions me a e k =
-    let named : are_known n (a ∷ []) ≡ true = k (wide_to name exclusions a)
+    let named : are_agents n (a ∷ []) ≡ true = k (wide_to name exclusions a)
     (subst (λ (b : Bool). In (wide_to name exclusions a) (map (wide_to name exclusions) (cond (not b) (a ∷ []) []))) (sym e) here) in
     (Decides-ltb a n).0 (both_true (nat_lt a n) true named).0
 
@@ -363,7 +364,7 @@ in_its_scope h m subset c agents name exclusions me e f g =
 -- the agents of a pin that is due
 pub pin_there : (n : ℕ) (h : Holdings) (m : Chained) (subset : Subset) (k : Specific)
     → (in_subset subset (key_of m.target) (key_of k.pin) && is_none (held_at (served m.request h) (key_of k.pin))) ≡ true
-    → AreKnown n (pin_needs h m subset k) → are_known n (usable_agents m.request k.access) ≡ true
+    → AreKnown n (pin_needs h m subset k) → are_agents n (usable_agents m.request k.access) ≡ true
 pin_there n h m subset k e known =
     known (asks h m subset k)
     (subst (λ (b : Bool). In (asks h m subset k) (map (asks h m subset) (cond b (k ∷ []) []))) (sym e) here)

@@ -1,7 +1,7 @@
 -- The references for the rest of a list or search, piece by piece: those to pins below a context, and those for an NSSR
 -- (X.518, section 19.3). Where a list is put in order afterwards, only the order of those that tie is of account.
-use Rattle.std.specs.Prelude.{◌≡◌, ℕ, ◌+◌, nat_lt, Bool, true, if◌then◌else◌, List, [], ◌∷◌, ◌++◌, map, slice_get}
-use Rattle.std.specs.List.{filter, list_all}
+use Rattle.std.specs.Prelude.{◌≡◌, ℕ, ◌+◌, Bool, true, if◌then◌else◌, List, [], ◌∷◌, ◌++◌, map, slice_get}
+use Rattle.std.specs.List.{filter}
 use Rattle.std.specs.List.Sorted.{ties}
 use Rattle.std.specs.declared.option.Option.{Option}
 use Rattle.std.specs.declared.option.Option.TheVariants.{None, Some}
@@ -19,16 +19,14 @@ use Rattle.x5_model_run.specs.Journal.{same_spelled_rdn}
 use Rattle.x5_model_run.specs.Holdings.{Held, Copy, Holdings, served}
 use Rattle.x5_model_run.specs.Needs.{reference, others, answers_root, below_needs, in_scope, to_each, treated_below}
 use Rattle.x5_model_run.specs.Needs.{wide_needs}
+use Rattle.x5_model_heard.specs.Told.{are_agents}
 use Rattle.x5_model_serve.specs.Answering.{taken_before}
 use Rattle.x5_holdings.specs.Runs.{run_of}
 use Rattle.x5_eval.specs.Numbers.{counts, in_reach, own_place}
 
--- agents of a world that has so many, and references that name such agents alone
-abbrev pub are_known : ℕ → List ℕ → Bool
-are_known n agents = list_all (λ a. nat_lt a n) agents
-
+-- references that name agents alone of a world that has so many
 abbrev pub AreKnown : ℕ → List Reference → Type 0
-AreKnown n rs = (r : Reference) → In r rs → are_known n r.agents ≡ true
+AreKnown n rs = (r : Reference) → In r rs → are_agents n r.agents ≡ true
 
 -- put in order they are one list
 abbrev pub AreAlike : List Reference → List Reference → Type 0

@@ -4,8 +4,7 @@
 ghost use Rattle.std.specs.Prelude.{◌≡◌, ◌++◌, [], map, IfOk, OnOk};
 ghost use Rattle.std.specs.List.{filter, flat_map};
 ghost use Rattle.std.specs.List.Sorted.{ties};
-ghost use Rattle.x5_model.specs.Keys.{pair_cmp, rdn_cmp};
-ghost use Rattle.x5_model.specs.Values.{Rdn, key_of, key_of_pair, key_of_rdn, last_rdn};
+ghost use Rattle.x5_model.specs.Values.{Rdn, key_of, last_rdn};
 ghost use Rattle.x5_model.specs.Words.{last_of, some_and, sorted};
 ghost use Rattle.x5_model_run.specs.Journal.{same_spelled_rdn};
 ghost use Rattle.x5_model_run.specs.Needs.{once, rdn_below};
@@ -16,10 +15,10 @@ ghost use Rattle.x5_eval.specs.Numbers.{counts};
 ghost use Rattle.x5_eval.specs.Rest.{at_place, copy_last, last_in, other_last, others_last, own_last, pin_last, treated_pins};
 
 use std::alloc::Global;
-use std::cmp::Ordering;
+use x5_dse::compare_rdns;
 use x5_holdings::{Copied, Held, Holdings};
 use x5_memory::NoMemory;
-use x5_names::{Name, Pair, Rdn};
+use x5_names::{Name, Rdn};
 use x5_ops::{Request, Specific};
 
 /// Adds the last RDN of the name; the root has none.
@@ -110,36 +109,6 @@ fn add_pins(references: &[Specific], places: &[usize], rdns: &mut Vec<Rdn>) -> R
         add_pin(references, place, rdns)?;
     }
     Ok(())
-}
-
-/// The order of pairs: by type numbers, and then by normal values.
-fn compare_pairs(a: &Pair, b: &Pair) -> Ordering
-    ensures { result ≡ pair_cmp (key_of_pair a.now) (key_of_pair b.now) }
-{
-    a.kind()
-        .number()
-        .cmp(&b.kind().number())
-        .then(a.normal().as_slice().cmp(b.normal().as_slice()))
-}
-
-/// The order of the RDNs of these pairs: pair by pair, a beginning first.
-fn compare_rdns(a: &[Pair], b: &[Pair]) -> Ordering
-    ensures { result ≡ rdn_cmp (key_of_rdn a.now) (key_of_rdn b.now) }
-{
-    for (i, pair) in a.iter().enumerate() {
-        if i == b.len() {
-            return Ordering::Greater;
-        }
-        let order = compare_pairs(pair, &b[i]);
-        if order.is_ne() {
-            return order;
-        }
-    }
-    if a.len() == b.len() {
-        Ordering::Equal
-    } else {
-        Ordering::Less
-    }
 }
 
 /// Whether both have the same key. No memory.

@@ -8,7 +8,6 @@ mod exclusions;
 mod local;
 mod naming;
 mod numbers;
-mod points;
 mod reading;
 mod references;
 mod scope;

@@ -20,13 +20,14 @@ ghost use Rattle.x5_ops.specs.RequestViews.{request_view, subset_view};
 ghost use Rattle.x5_dse.specs.Linked.{entries_of};
 ghost use Rattle.x5_holdings.specs.State.{held_view, holdings_view};
 ghost use Rattle.x5_eval.specs.Numbers.{own_place};
-ghost use Rattle.x5_eval.specs.Rest.{AreAlike, AreKnown, are_known, at_place, context_needs, depth_in, entry_needs, nssr_needs, pin_needs, places_to, root_needs, taken_cmp, unnamed, wide_by, wide_to};
+ghost use Rattle.x5_model_heard.specs.Told.{are_agents};
+ghost use Rattle.x5_eval.specs.Rest.{AreAlike, AreKnown, at_place, context_needs, depth_in, entry_needs, nssr_needs, pin_needs, places_to, root_needs, taken_cmp, unnamed, wide_by, wide_to};
 
 use crate::exclusions::exclusions;
-use crate::points::{one, usable};
 use crate::subsets::{is_in_scope, is_in_subset};
 use std::alloc::Global;
 use std::cmp::Ordering;
+use x5_access::{one, usable};
 use x5_holdings::{Held, Holdings, Row};
 use x5_know::AgentNames;
 use x5_memory::NoMemory;
@@ -64,7 +65,7 @@ fn to_pin(
     request: &Request,
     reference: &Specific,
 ) -> Result<Reference, NoMemory>
-    requires known { are_known (length names.now) (usable_agents (request_view request.now) reference.now.access) ≡ true }
+    requires known { are_agents (length names.now) (usable_agents (request_view request.now) reference.now.access) ≡ true }
     requires apart { distinct same_octets names.now ≡ true }
     ensures { IfOk result (λ r. reference_view names.now r ≡ needs.reference reference.now.pin model.Done model.Subordinate (usable_agents (request_view request.now) reference.now.access)) }
 {

@@ -187,7 +187,7 @@ impl Held {
 }
 
 /// Whether a request may be answered from copies: it doesn't ask for none, and it's no update (X.511, section 7.5). No memory.
-pub(crate) fn may_use_copies(request: &Request) -> bool
+pub fn may_use_copies(request: &Request) -> bool
     ensures { result ≡ may_copy (request_view request.now) }
 {
     !request.controls.nocopy && !request.body.is_update()

@@ -15,7 +15,7 @@ mod runs;
 mod tables;
 
 pub use changing::EntryChange;
-pub use held::{Copied, Held};
+pub use held::{Copied, Held, may_use_copies};
 pub use holdings::{Holdings, Pin};
 pub use log::{ChangeLog, Logged};
 pub use rows::Row;

@@ -1,41 +1,12 @@
 //! The order of names, by their RDNs.
 
 ghost use Rattle.std.specs.Prelude.{◌≡◌, map};
-ghost use Rattle.x5_model.specs.Keys.{pair_cmp, rdn_cmp, key_cmp, is_prefix};
-ghost use Rattle.x5_model.specs.Values.{key_of_pair, key_of_rdn, key_of};
+ghost use Rattle.x5_model.specs.Keys.{key_cmp, is_prefix};
+ghost use Rattle.x5_model.specs.Values.{key_of};
 
 use std::cmp::Ordering;
-use x5_names::{Pair, Rdn};
-
-/// The order of pairs: by type numbers, and then by normal values.
-fn compare_pairs(a: &Pair, b: &Pair) -> Ordering
-    ensures { result ≡ pair_cmp (key_of_pair a.now) (key_of_pair b.now) }
-{
-    a.kind()
-        .number()
-        .cmp(&b.kind().number())
-        .then(a.normal().as_slice().cmp(b.normal().as_slice()))
-}
-
-/// The order of the RDNs of these pairs: pair by pair, a beginning first.
-fn compare_rdns(a: &[Pair], b: &[Pair]) -> Ordering
-    ensures { result ≡ rdn_cmp (key_of_rdn a.now) (key_of_rdn b.now) }
-{
-    for (i, pair) in a.iter().enumerate() {
-        if i == b.len() {
-            return Ordering::Greater;
-        }
-        let order = compare_pairs(pair, &b[i]);
-        if order.is_ne() {
-            return order;
-        }
-    }
-    if a.len() == b.len() {
-        Ordering::Equal
-    } else {
-        Ordering::Less
-    }
-}
+use x5_dse::compare_rdns;
+use x5_names::Rdn;
 
 /// The order of the names of these RDNs: RDN by RDN, a beginning first. No memory.
 pub(crate) fn compare_names(a: &[Rdn], b: &[Rdn]) -> Ordering

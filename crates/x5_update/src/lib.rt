@@ -4,7 +4,6 @@
 
 mod committing;
 mod judging;
-mod naming;
 mod place;
 mod plans;
 mod probes;

@@ -10,9 +10,9 @@ ghost use Rattle.x5_ops.specs.RequestViews.{body_view, name_of};
 ghost use Rattle.x5_holdings.specs.State.{held_view, holdings_view};
 ghost use Rattle.x5_update.specs.Judging.{probes_from, probes_of};
 
-use crate::naming::others;
 use crate::values::{copied_name, last_of, new_name};
 use std::alloc::Global;
+use x5_access::others;
 use x5_holdings::{Held, Holdings};
 use x5_know::AgentNames;
 use x5_memory::NoMemory;

@@ -13,7 +13,7 @@ use Rattle.x5_ops.specs.AgentNames.{agent_of}
 use Rattle.x5_ops.proofs.Dropping.{drop_at}
 use Rattle.x5_ops.specs.JournalViews.{printed_view, messages_view}
 use Rattle.x5_ops.specs.declared.journal.Line.{Line}
-use Rattle.x5_eval.proofs.Names.{own_place}
+use Rattle.x5_access.proofs.Names.{own_place}
 use Rattle.x5_world.specs.Answered.{is_agent, line_names_agents}
 use Rattle.x5_world.specs.Sent.{line_view, is_counted}
 use Rattle.x5_world.specs.declared.journal.Sent.{Sent}

@@ -8,7 +8,7 @@ use Rattle.x5_model_serve.specs.Finding as finding
 use Rattle.x5_ops.specs.ReferenceViews.{access_view, chained_view, reference_view}
 use Rattle.x5_ops.specs.declared.references.Reference.{Reference}
 use Rattle.x5_holdings.specs.State.{CopyKept, holdings_view}
-use Rattle.x5_agent.proofs.Points.{first_known}
+use Rattle.x5_access.proofs.Points.{first_known}
 use Rattle.x5_agent.proofs.Replying.{same_some, held_there, proceeding_known, as_spelled}
 use Rattle.x5_agent.proofs.resolving.supplier.Goals as goal
 

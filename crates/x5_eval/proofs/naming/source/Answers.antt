@@ -1,7 +1,7 @@
 -- The agent's name stands once among the names, so it stands for the agent.
 use Rattle.std.proofs.Common.{◌≡◌, ap, ◌∙◌}
 use Rattle.x5_ops.specs.AgentNames.{agent_of}
-use Rattle.x5_eval.proofs.Names.{own_place}
+use Rattle.x5_access.proofs.Names.{own_place}
 use Rattle.x5_eval.proofs.naming.source.Goals as goal
 
 pub returns : goal.returns

@@ -6,7 +6,7 @@ use Rattle.x5_model.proofs.Lists.{and_true}
 use Rattle.x5_ops.specs.AgentNames.{agent_of}
 use Rattle.x5_ops.specs.ReferenceViews.{progress_view, item_view}
 use Rattle.x5_ops.specs.JournalViews.{fate_view}
-use Rattle.x5_eval.proofs.Names.{own_place}
+use Rattle.x5_access.proofs.Names.{own_place}
 use Rattle.x5_world.specs.Answered.{is_agent}
 use Rattle.x5_world.proofs.Journals.{named_is, receiver_there}
 use Rattle.x5_world.proofs.journal.line.Goals as goal

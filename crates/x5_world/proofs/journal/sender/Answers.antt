@@ -2,7 +2,7 @@
 use Rattle.std.proofs.Common.{true, nat_lt, length, sym, ap, ◌∙◌, Some}
 use Rattle.x5_model.specs.Words.{in_option}
 use Rattle.x5_ops.specs.AgentNames.{agent_of}
-use Rattle.x5_eval.proofs.Names.{own_place}
+use Rattle.x5_access.proofs.Names.{own_place}
 use Rattle.x5_world.specs.Answered.{is_agent}
 use Rattle.x5_world.proofs.Journals.{named_is}
 use Rattle.x5_world.proofs.journal.sender.Goals as goal

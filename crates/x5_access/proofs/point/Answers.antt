@@ -1,8 +1,8 @@
 -- The agent's name stands once among the names.
 use Rattle.std.proofs.Common.{ap, ◌∙◌}
 use Rattle.x5_ops.specs.AgentNames.{agent_of}
-use Rattle.x5_update.proofs.Names.{own_place}
-use Rattle.x5_update.proofs.naming.point.Goals as goal
+use Rattle.x5_access.proofs.Names.{own_place}
+use Rattle.x5_access.proofs.point.Goals as goal
 
 pub returns : goal.returns
 returns c =
