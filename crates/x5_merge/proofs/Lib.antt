@@ -2,4 +2,5 @@ pub mod Sorting
 pub mod Merges
 pub mod Searching
 pub mod Views
+pub mod Comparing
 pub mod Halves
