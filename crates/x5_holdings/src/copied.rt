@@ -1,10 +1,10 @@
 //! Changes of one of the copies that an agent has (X.525, section 9: what a refresh brings).
 
-ghost use Rattle.std.specs.Prelude.{◌≡◌, ◌<◌, IsTrue, length, slice_get, OnErr, OnOk, Some};
+ghost use Rattle.std.specs.Prelude.{◌≡◌, ◌<◌, IsSomeAnd, IsTrue, length, slice_get, OnErr, OnOk, Some};
 ghost use Rattle.std.specs.Option.{is_some, option_map};
 ghost use Rattle.x5_model.specs.Values.{key_of};
 ghost use Rattle.x5_holdings.specs.Making.{HasRoomFor, IsChanged, IsLeft, IsReady, IsSame};
-ghost use Rattle.x5_holdings.specs.Placed.{HasBrought, IsBroughtChanged, IsCopyChanged};
+ghost use Rattle.x5_holdings.specs.Placed.{IsBroughtChanged, IsCopyChanged};
 ghost use Rattle.x5_holdings.specs.State.{CopyKept};
 
 use crate::below::Below;
@@ -44,8 +44,8 @@ impl Copied {
 
     /// Makes a change that is ready, and notes it in the log. No memory.
     fn change(&mut self, change: EntryChange, logged: Logged)
-        requires ready { HasBrought (λ kept. IsReady kept change) self.old.refreshed }
-        requires room { HasBrought (λ kept. 0 < kept.log.spare) self.old.refreshed }
+        requires ready { IsSomeAnd self.old.refreshed (λ s. IsReady s.0 change) }
+        requires room { IsSomeAnd self.old.refreshed (λ s. 0 < s.0.log.spare) }
         ensures { IsBroughtChanged (λ before after. IsChanged before change logged after × IsLeft before change after) self.old self.new }
     {
         match &mut self.refreshed {
@@ -110,8 +110,8 @@ impl Holdings {
     /// 9). No memory.
     pub fn change_copy(&mut self, copy: usize, change: EntryChange, logged: Logged)
         requires there { copy < length self.old.copies }
-        requires ready { (c : CopyKept) → slice_get self.old.copies copy ≡ Some c → HasBrought (λ kept. IsReady kept change) c.refreshed }
-        requires room { (c : CopyKept) → slice_get self.old.copies copy ≡ Some c → HasBrought (λ kept. 0 < kept.log.spare) c.refreshed }
+        requires ready { (c : CopyKept) → slice_get self.old.copies copy ≡ Some c → IsSomeAnd c.refreshed (λ s. IsReady s.0 change) }
+        requires room { (c : CopyKept) → slice_get self.old.copies copy ≡ Some c → IsSomeAnd c.refreshed (λ s. 0 < s.0.log.spare) }
         ensures { IsCopyChanged self.old copy (IsBroughtChanged (λ before after. IsChanged before change logged after × IsLeft before change after)) self.new }
     {
         self.copies[copy].change(change, logged);
