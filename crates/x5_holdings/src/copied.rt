@@ -26,12 +26,7 @@ impl Copied {
 
     /// Makes room for so many entries with so many values, and for so many changes in the log. After want of memory all is as it
     /// was.
-    fn make_room(
-        &mut self,
-        entries: usize,
-        values: usize,
-        changes: usize,
-    ) -> Result<(), NoMemory>
+    fn make_room(&mut self, entries: usize, values: usize, changes: usize) -> Result<(), NoMemory>
         requires { IsTrue (is_some self.old.refreshed) }
         ensures same { IsBroughtChanged IsSame self.old self.new }
         ensures ok { OnOk result (IsBroughtChanged (λ before after. IsSame before after × HasRoomFor after entries values changes) self.old self.new) }
@@ -67,12 +62,7 @@ impl Copied {
 impl Holdings {
     /// Puts what a total refresh brought, with its stamp, in place of what its copy of this place had (X.525, section 9). After
     /// want of memory all is as it was.
-    pub fn refresh_copy(
-        &mut self,
-        copy: usize,
-        held: Held,
-        stamp: Moment,
-    ) -> Result<(), NoMemory>
+    pub fn refresh_copy(&mut self, copy: usize, held: Held, stamp: Moment) -> Result<(), NoMemory>
         requires there { copy < length self.old.copies }
         requires prefix { (c : CopyKept) → slice_get self.old.copies copy ≡ Some c → key_of held.prefix ≡ key_of c.prefix }
         ensures ok { OnOk result (IsCopyChanged self.old copy (λ before after. after ≡ record before { refreshed = Some (held, stamp) }) self.new) }

@@ -12,8 +12,12 @@ loop-list-preserved c =
     let f : CopyKept → List Specific = λ x. brought_references x.refreshed in
     let xs : List (List Specific) = slice_set (map f c.args.copies.now) c.args.place c.args.references.now in
     let lt : c.loop-list.list < length (slice_set (map f c.args.copies.now) c.args.place c.args.references.now) =
-    omega (arith, c.loop-list-test.true, length-set (map f c.args.copies.now) c.args.place c.args.references.now,
-    length-map c.args.copies.now f) in
+    omega (
+      arith,
+      c.loop-list-test.true,
+      length-set (map f c.args.copies.now) c.args.place c.args.references.now,
+      length-map c.args.copies.now f,
+    ) in
     let is : c.references_of-these.result.now ≡ get_or xs c.loop-list.list c.references_of-these.result.now =
     placed f c.args.copies.now c.loop-list.list c.args.place c.index-copies-list.result c.args.references.now
     c.loop-list-test.true c.index-copies-list.is c.references_of-these.result.now c.references_of-these.ensures in
