@@ -3,7 +3,7 @@ use Rattle.std.proofs.Common.{◌<◌, length, ap, subst, sym, slice_set}
 use Rattle.x5_holdings.specs.Inside.{state_of}
 use Rattle.x5_holdings.specs.Making.{HasRoomFor, IsSame}
 use Rattle.x5_holdings.specs.Placed.{IsBroughtChanged, IsCopyChanged}
-use Rattle.x5_holdings.specs.State.{Kept, CopyKept, State}
+use Rattle.x5_holdings.specs.State.{CopyKept, State}
 use Rattle.x5_holdings.proofs.Placing.{then_ok}
 use Rattle.x5_holdings.proofs.Replacing.{brought_same, copy_changed, same_tables, still_once}
 use Rattle.x5_holdings.proofs.holdings.Holdings.make_room_at_copy.Goals as goal
