@@ -1,6 +1,6 @@
 -- Changes of the entries of a context that are ready to be made: each can't fail and takes no memory (X.511, section
 -- 11).
-use Rattle.std.specs.Prelude.{◌≡◌, ◌<◌, ◌≤◌, ℕ, true, false, IsTrue, List, length}
+use Rattle.std.specs.Prelude.{◌≡◌, ◌<◌, ◌≤◌, ◌+◌, ℕ, true, false, IsTrue, List, [], length}
 use Rattle.std.specs.declared.option.Option.TheVariants.{Some}
 use Rattle.x5_model.specs.Keys.{KeyPair, parent}
 use Rattle.x5_model.specs.Values.{Name, Rdn, key_of}
@@ -84,3 +84,26 @@ pub record HasRoom (c : Kept) (entries values : ℕ) : Type 0 where
   pub nodes : entries ≤ c.nodes.spare
   pub posted : values ≤ c.postings.spare
   pub note : 0 < c.log.spare
+
+-- room for so many entries with so many values, and for so many changes in the log
+pub record HasRoomFor (c : Kept) (entries values changes : ℕ) : Type 0 where
+  pub nodes : entries ≤ c.nodes.spare
+  pub posted : values ≤ c.postings.spare
+  pub notes : changes ≤ c.log.spare
+
+-- the values for which a change needs room
+abbrev pub room_of : EntryChange → List KeyPair
+room_of (Add name entry room) = room
+room_of (Remove id) = []
+room_of (Replace id entry room) = room
+room_of (Rename id rdn entry room) = room
+
+-- a change takes room of one entry and of its values at most
+pub record IsRoomLeft (old : Kept) (change : EntryChange) (after : Kept) : Type 0 where
+  pub nodes : old.nodes.spare ≤ after.nodes.spare + 1
+  pub posted : old.postings.spare ≤ after.postings.spare + length (room_of change)
+
+-- and of one change in the log
+pub record IsLeft (old : Kept) (change : EntryChange) (after : Kept) : Type 0 where
+  pub room : IsRoomLeft old change after
+  pub notes : old.log.spare ≤ after.log.spare + 1

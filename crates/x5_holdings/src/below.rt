@@ -1,6 +1,6 @@
 //! The subordinate references of contexts, found by their pins without a walk.
 
-ghost use Rattle.std.specs.Prelude.{◌≡◌, ◌++◌, ◌∷◌, [], List, map, IfOk, OnOk};
+ghost use Rattle.std.specs.Prelude.{◌≡◌, ◌++◌, ◌∷◌, [], if◌then◌else◌, List, map, slice_set, IfOk, OnOk};
 ghost use Rattle.std.specs.List.{list_any};
 ghost use Rattle.x5_model.specs.Keys.{Key, is_prefix};
 ghost use Rattle.x5_model.specs.Values.{key_of};
@@ -57,6 +57,21 @@ fn add_list(
     Ok(())
 }
 
+/// The references of the copy, or these in their place. No memory.
+fn references_of<'a>(
+    copy: &'a Copied,
+    is_replaced: bool,
+    references: &'a [Specific],
+) -> &'a [Specific]
+    ensures { result.now ≡ if is_replaced then references.now else brought_references copy.now.refreshed }
+{
+    if is_replaced {
+        references
+    } else {
+        copy.subordinate()
+    }
+}
+
 impl Below {
     /// No references. No memory.
     pub(crate) fn none(alloc: Global) -> Below
@@ -89,6 +104,25 @@ impl Below {
         let mut spots = Vec::new(alloc);
         for (list, copy) in copies.iter().enumerate() {
             add_list(&mut rows, &mut spots, list, copy.subordinate())?;
+        }
+        let pins = Pins::of(rows)?;
+        Ok(Below { pins, spots })
+    }
+
+    /// The references of these copies, where the copy of this place has these.
+    pub(crate) fn with_copy(
+        alloc: Global,
+        copies: &[Copied],
+        place: usize,
+        references: &[Specific],
+    ) -> Result<Below, NoMemory>
+        ensures { IfOk result (λ below. AreBelow below (slice_set (map (λ c. brought_references c.refreshed) copies.now) place references.now)) }
+    {
+        let mut rows = Vec::new(alloc);
+        let mut spots = Vec::new(alloc);
+        for (list, copy) in copies.iter().enumerate() {
+            let these = references_of(copy, list == place, references);
+            add_list(&mut rows, &mut spots, list, these)?;
         }
         let pins = Pins::of(rows)?;
         Ok(Below { pins, spots })

@@ -8,7 +8,7 @@ ghost use Rattle.x5_dse.specs.Changes.{NotRemoved, NotRenamed, Removed, Renamed,
 ghost use Rattle.x5_index.specs.Index.{terms_of};
 ghost use Rattle.x5_holdings.specs.Logs.{IsLogged};
 ghost use Rattle.x5_holdings.specs.declared.changing.EntryChange.TheVariants.{Add, Remove, Rename};
-ghost use Rattle.x5_holdings.specs.Making.{CanAdd, CanRemove, CanRename, HasRoom, IsChanged, IsMade, IsReady, IsSame};
+ghost use Rattle.x5_holdings.specs.Making.{CanAdd, CanRemove, CanRename, HasRoom, HasRoomFor, IsChanged, IsLeft, IsMade, IsReady, IsRoomLeft, IsSame};
 ghost use Rattle.x5_holdings.specs.State.{OnlyEntries, OnlyLog};
 
 use crate::held::Held;
@@ -109,6 +109,7 @@ impl Held {
         requires { CanAdd self.old name entry room }
         ensures made { IsMade self.old (Add name entry room) self.new }
         ensures others { OnlyEntries self.old self.new }
+        ensures left { IsRoomLeft self.old (Add name entry room) self.new }
     {
         match self.insert(name, entry, room) {
             Ok(_) => {}
@@ -121,6 +122,7 @@ impl Held {
         requires { CanRemove self.old node }
         ensures made { IsMade self.old (Remove node) self.new }
         ensures others { OnlyEntries self.old self.new }
+        ensures left { IsRoomLeft self.old (Remove node) self.new }
     {
         match self.remove(node) {
             Ok(_) => {}
@@ -133,6 +135,7 @@ impl Held {
         requires { CanRename self.old node rdn entry room }
         ensures made { IsMade self.old (Rename node rdn entry room) self.new }
         ensures others { OnlyEntries self.old self.new }
+        ensures left { IsRoomLeft self.old (Rename node rdn entry room) self.new }
     {
         match self.rename(node, rdn, entry, room) {
             Ok(_) => {}
@@ -145,6 +148,7 @@ impl Held {
         requires { IsReady self.old change }
         ensures made { IsMade self.old change self.new }
         ensures others { OnlyEntries self.old self.new }
+        ensures left { IsRoomLeft self.old change self.new }
     {
         match change {
             EntryChange::Add { name, entry, room } => self.add_ready(name, entry, room),
@@ -166,6 +170,7 @@ impl Held {
         requires { 0 < self.old.log.spare }
         ensures noted { IsLogged self.old.log logged self.new.log }
         ensures others { OnlyLog self.old self.new }
+        ensures left { self.old.log.spare ≤ self.new.log.spare + 1 }
     {
         self.log.note(logged);
     }
@@ -174,7 +179,8 @@ impl Held {
     pub fn change(&mut self, change: EntryChange, logged: Logged)
         requires ready { IsReady self.old change }
         requires room { 0 < self.old.log.spare }
-        ensures { IsChanged self.old change logged self.new }
+        ensures changed { IsChanged self.old change logged self.new }
+        ensures left { IsLeft self.old change self.new }
     {
         self.make(change);
         self.note(logged);
@@ -187,7 +193,23 @@ impl Held {
         ensures ok { OnOk result (HasRoom self.new entries values) }
     {
         self.reserve(entries, values)?;
-        self.log.reserve()?;
+        self.log.reserve(1)?;
+        Ok(())
+    }
+
+    /// Makes room for so many entries with so many values, and for so many changes in the log. After want of memory the context is
+    /// as it was.
+    pub(crate) fn make_room_for(
+        &mut self,
+        entries: usize,
+        values: usize,
+        changes: usize,
+    ) -> Result<(), NoMemory>
+        ensures same { IsSame self.old self.new }
+        ensures ok { OnOk result (HasRoomFor self.new entries values changes) }
+    {
+        self.reserve(entries, values)?;
+        self.log.reserve(changes)?;
         Ok(())
     }
 }

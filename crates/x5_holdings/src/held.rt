@@ -199,7 +199,7 @@ pub fn may_use_copies(request: &Request) -> bool
 pub struct Copied {
     prefix: Name,
     supplier: AgentId,
-    refreshed: Option<(Held, Moment)>,
+    pub(crate) refreshed: Option<(Held, Moment)>,
 }
 
 impl Model for Copied {

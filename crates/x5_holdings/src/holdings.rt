@@ -41,10 +41,10 @@ pub struct Holdings {
     moment: Moment,
     superior: Option<AgentId>,
     pub(crate) own: Vec<Held>,
-    copies: Vec<Copied>,
+    pub(crate) copies: Vec<Copied>,
     root: SpecificList,
     cross: CrossList,
-    tables: Tables,
+    pub(crate) tables: Tables,
 }
 
 impl Model for Holdings {

@@ -4,6 +4,7 @@
 
 mod below;
 mod changing;
+mod copied;
 mod held;
 mod holdings;
 mod log;

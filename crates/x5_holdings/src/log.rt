@@ -54,6 +54,7 @@ fn put_latest(changes: &mut Vec<Logged>, change: Logged)
     requires { vec_len changes.old < vec_capacity changes.old }
     ensures items { changes.new.items ≡ changes.old.items ++ change ∷ [] }
     ensures len { vec_len changes.new ≡ vec_len changes.old + 1 }
+    ensures capacity { vec_capacity changes.old ≤ vec_capacity changes.new }
 {
     if changes.push(change).is_err() {
         unreachable!();
@@ -87,21 +88,22 @@ impl ChangeLog {
         self.changes.as_slice()
     }
 
-    /// Makes room for a change. After want of memory the log is as it was.
-    pub fn reserve(&mut self) -> Result<(), NoMemory>
+    /// Makes room for so many changes. After want of memory the log is as it was.
+    pub fn reserve(&mut self, count: usize) -> Result<(), NoMemory>
         ensures base { self.new.base ≡ self.old.base }
         ensures changes { self.new.changes ≡ self.old.changes }
         ensures spare { self.old.spare ≤ self.new.spare }
-        ensures ok { OnOk result (0 < self.new.spare) }
+        ensures ok { OnOk result (count ≤ self.new.spare) }
     {
-        self.changes.reserve(1)?;
+        self.changes.reserve(count)?;
         Ok(())
     }
 
     /// Notes a change. Where 256 are there the oldest goes, and its moment is the base then. No memory: it needs `spare`.
     pub fn note(&mut self, change: Logged)
         requires { 0 < self.old.spare }
-        ensures { IsLogged self.old change self.new }
+        ensures noted { IsLogged self.old change self.new }
+        ensures left { self.old.spare ≤ self.new.spare + 1 }
     {
         if self.changes.len() == MOST {
             self.base = drop_oldest(&mut self.changes);
