@@ -1,2 +1,6 @@
+pub mod Listing
+pub mod Leading
 pub mod Noting
+pub mod Mastering
 pub mod Refreshed
+pub mod Replayed
