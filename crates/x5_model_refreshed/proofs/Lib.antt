@@ -1,4 +1,5 @@
 pub mod Listing
+pub mod Stamping
 pub mod Leading
 pub mod Noting
 pub mod Mastering
