@@ -1,6 +1,7 @@
 pub mod Listing
 pub mod Stamping
 pub mod Leading
+pub mod Supplying
 pub mod Noting
 pub mod Mastering
 pub mod Refreshed

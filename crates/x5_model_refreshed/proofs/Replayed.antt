@@ -5,6 +5,7 @@ use Rattle.x5_model_tree.specs.Masters.{masters}
 use Rattle.x5_model_refreshed.specs.Replaying.{MasterReplays}
 use Rattle.x5_model_refreshed.proofs.Leading.{knowledge_stays}
 use Rattle.x5_model_refreshed.proofs.Stamping.{kept_since, as_many, copies_reversed, stamped_moments, since_below, after_steps, stamps_more}
+use Rattle.x5_model_refreshed.proofs.Supplying.{change, source, since, no_log, changes_none}
 use Rattle.x5_model_refreshed.proofs.Mastering.{replays}
 
 pub master_replays : MasterReplays
