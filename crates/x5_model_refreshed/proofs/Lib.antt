@@ -5,4 +5,5 @@ pub mod Supplying
 pub mod Noting
 pub mod Mastering
 pub mod Refreshed
+pub mod Consuming
 pub mod Replayed

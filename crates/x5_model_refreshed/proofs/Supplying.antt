@@ -17,7 +17,7 @@ use Rattle.x5_model_refreshed.specs.Logs.{Log, brought, log_after, logs_by}
 use Rattle.x5_model_refreshed.specs.Replaying.{Happens, AllHappen, GoesOn, IsBrought}
 use Rattle.x5_model_refreshed.proofs.Leading.{at_line, knowledge_stays}
 
-some_agreement : (g h : Agreement) → Some g ≡ Some h → g ≡ h
+pub some_agreement : (g h : Agreement) → Some g ≡ Some h → g ≡ h
 some_agreement g h e = cc
 
 -- ---- what is counted

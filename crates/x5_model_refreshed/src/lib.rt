@@ -3,7 +3,7 @@
 
 ghost use Rattle.x5_model_refreshed.specs.Refreshed.{CopyIsStamped, OtherStampsStay, MasterIsCopied, CopyIsCopied, AllElseStays};
 ghost use Rattle.x5_model_refreshed.specs.Noting.{StepIsUpdate};
-ghost use Rattle.x5_model_refreshed.specs.Replaying.{MasterReplays};
+ghost use Rattle.x5_model_refreshed.specs.Replaying.{LogCounts, MasterReplays, ConsumerReplays};
 
 /// After a refresh the consumer's copy is what its supplier had as of the stamp, and all else is as it was (X.525, section 7:
 /// shadowed information).
@@ -19,5 +19,7 @@ pub fn refreshing()
 /// them, and so do all together (X.525, sections 9 and 11).
 pub fn replaying()
     ensures step { StepIsUpdate }
+    ensures counts { LogCounts }
     ensures master { MasterReplays }
+    ensures consumer { ConsumerReplays }
 {}
