@@ -19,7 +19,7 @@ abbrev pub Falls : List Refreshed → Type 0
 Falls [] = ⊤
 Falls (f ∷ earlier) = ((x : Refreshed) → In x earlier → x.stamp ≤ f.stamp) × Falls earlier
 
-abbrev since_if : Bool → Refreshed → Changes → Changes
+abbrev pub since_if : Bool → Refreshed → Changes → Changes
 since_if b f c =
     if b then record { origin = f.stamp; moments = [] } else record c { moments = replicate f.count f.stamp ++ c.moments }
 
@@ -75,7 +75,7 @@ origin_low (f ∷ rest) n h = by (origin_low rest n (λ x i. h x (there i))) f.t
     by more true = h f here
     by more false = more
 
-in_copies : (n x y : ℕ) → In x (replicate n y) → x ≡ y
+pub in_copies : (n x y : ℕ) → In x (replicate n y) → x ≡ y
 in_copies zero x y i = elim i [ ]
 in_copies (suc n) x y i = elim (in_first x y (replicate n y) i) [ inl e ↦ e | inr j ↦ in_copies n x y j ]
 

@@ -3,7 +3,8 @@
 
 ghost use Rattle.x5_model_refreshed.specs.Refreshed.{CopyIsStamped, OtherStampsStay, MasterIsCopied, CopyIsCopied, AllElseStays};
 ghost use Rattle.x5_model_refreshed.specs.Noting.{StepIsUpdate};
-ghost use Rattle.x5_model_refreshed.specs.Replaying.{LogCounts, MasterReplays, ConsumerReplays};
+ghost use Rattle.x5_model_refreshed.specs.Replaying.{LogCounts, MasterReplays, ConsumerReplays, RefreshReplays, LastAreLater, RunsLead};
+ghost use Rattle.x5_model_run.specs.Right.{AnswersRight};
 
 /// After a refresh the consumer's copy is what its supplier had as of the stamp, and all else is as it was (X.525, section 7:
 /// shadowed information).
@@ -22,4 +23,7 @@ pub fn replaying()
     ensures counts { LogCounts }
     ensures master { MasterReplays }
     ensures consumer { ConsumerReplays }
+    ensures refresh { RefreshReplays }
+    ensures last { LastAreLater }
+    ensures runs { RunsLead AnswersRight }
 {}
