@@ -1,12 +1,11 @@
 -- An incremental refresh brings the consumer's copy to its supplier's entries: the supplier's log replays from the copy's moment to
 -- the refresh's stamp, and a copy has the entries of the tree of its stamp.
-use Rattle.std.proofs.Common.{◌≡◌, ℕ, suc, ◌+◌, ◌==◌, ◌&&◌, Bool, true, false, cond, nat_lt, inl, inr, List, [], ◌∷◌, length, refl, sym, ap, subst, ◌∙◌, arith, Option, Some, None}
+use Rattle.std.proofs.Common.{◌≡◌, ℕ, ◌==◌, ◌&&◌, Bool, true, false, cond, nat_lt, inl, inr, List, [], ◌∷◌, length, refl, sym, ap, subst, ◌∙◌, arith, Option, Some}
 use Rattle.std.specs.List.{filter, find}
 use Rattle.x5_model.specs.Words.{first_of}
 use Rattle.x5_model.specs.Members.{In}
-use Rattle.x5_model.specs.Keys.{Key, same_key}
+use Rattle.x5_model.specs.Keys.{same_key}
 use Rattle.x5_model.specs.Values.{key_of}
-use Rattle.x5_model.specs.Entries.{Named}
 use Rattle.x5_model.proofs.KeyLaws.{key_decides}
 use Rattle.x5_model.proofs.Lists.{in_first, in_filter, of_any, both_true, and_true, true_or_false}
 use Rattle.x5_model.proofs.Decide.{nat_same_decides}
@@ -16,7 +15,7 @@ use Rattle.x5_model_tree.specs.Masters.{Mastered, pin_of, mastered, masters, is_
 use Rattle.x5_model_tree.specs.Conditions.{AgreementSupplies}
 use Rattle.x5_model_tree.proofs.Exact.{conditions_hold}
 use Rattle.x5_model_run.specs.Holdings.{Held}
-use Rattle.x5_model_run.specs.History.{Refreshed, Refreshes, Did, knowledge_at, tree_of_moment, mastered_at, copy_as_of, copy_by}
+use Rattle.x5_model_run.specs.History.{Refreshes, knowledge_at, tree_of_moment, mastered_at, copy_as_of, copy_by}
 use Rattle.x5_model_run.specs.Refresh.{consumed_by, changes_at, base_of}
 use Rattle.x5_model_refreshed.specs.Refreshed.{after_refresh}
 use Rattle.x5_model_refreshed.specs.Steps.{replay}
@@ -84,7 +83,7 @@ refresh_replays p f sent g m led is t i e at =
     ∙ entries_are (knowledge_at p) g.context (part (tree_of_moment (after_refresh p f sent) f.stamp) (key_of g.context)) (mastered_at (knowledge_at p) (key_of g.context)) in
     ap (replay (steps_later m (log_at p g.supplier (key_of g.context)))) had
     ∙ supplier_replays p.described led.described led.consistent (record { deed = Refreshes f; sent = sent }) p.past led.happened
-        g.consumer (key_of g.context) g kept
-        (λ own o c. all_kept p.described led.described led.consistent p.past led.happened g.supplier (key_of g.context) own o c)
-        f refl from m at (subst (λ (n : ℕ). nat_lt n (base_of (changes_at p g.supplier (key_of g.context))) ≡ false) same go.2)
+    g.consumer (key_of g.context) g kept
+    (λ own o c. all_kept p.described led.described led.consistent p.past led.happened g.supplier (key_of g.context) own o c)
+    f refl from m at (subst (λ (n : ℕ). nat_lt n (base_of (changes_at p g.supplier (key_of g.context))) ≡ false) same go.2)
     ∙ sym has

@@ -1,9 +1,9 @@
 -- A consumer's log: it has what is counted of its agreement's refreshes, whose stamps fall, and it replays from each stamp since
 -- the last total refresh. By induction over the lines before, for all consumers at once, since a supplier may be one itself.
-use Rattle.std.proofs.Common.{◌≡◌, ℕ, suc, ◌+◌, ◌-◌, ◌<◌, ◌≤◌, ◌==◌, Bool, true, false, if◌then◌else◌, nat_lt, ◌⊎◌, inl, inr, List, [], ◌∷◌, ◌++◌, map, length, replicate, drop, reverse, refl, sym, ap, subst, ◌∙◌, arith, Option, Some, None}
+use Rattle.std.proofs.Common.{◌≡◌, ℕ, ◌+◌, ◌-◌, ◌<◌, ◌≤◌, ◌==◌, Bool, true, false, if◌then◌else◌, nat_lt, inl, inr, List, [], ◌∷◌, ◌++◌, length, replicate, drop, reverse, refl, sym, ap, subst, ◌∙◌, arith, Option, Some}
 use Rattle.std.proofs.lemmas.List.{map-append, reverse-append}
 use Rattle.x5_model.specs.Words.{first_of, in_option}
-use Rattle.x5_model.specs.Members.{In, here, there}
+use Rattle.x5_model.specs.Members.{In}
 use Rattle.x5_model.specs.Keys.{Key, same_key}
 use Rattle.x5_model.specs.Values.{key_of}
 use Rattle.x5_model.specs.Entries.{Named}
@@ -16,14 +16,14 @@ use Rattle.x5_model_tree.specs.Masters.{masters, is_consumer}
 use Rattle.x5_model_tree.specs.Consistent.{IsConsistent}
 use Rattle.x5_model_tree.specs.Described.{IsDescribed}
 use Rattle.x5_model_run.specs.History.{Refreshed, Deed, Refreshes, Did, tree_after, tree_by, refresh_of, refreshes_of, stamp_of, as_of}
-use Rattle.x5_model_run.specs.Refresh.{Changes, steps_since, consumed_by, changes_at, base_of, later_than}
+use Rattle.x5_model_run.specs.Refresh.{Changes, steps_since, consumed_by, changes_at, base_of}
 use Rattle.x5_model_refreshed.specs.Steps.{Step, replay}
-use Rattle.x5_model_refreshed.specs.Logs.{Log, moments_of, steps_later, stamped, brought, logs_by, stamps_since}
+use Rattle.x5_model_refreshed.specs.Logs.{Log, moments_of, steps_later, stamped, logs_by, stamps_since}
 use Rattle.x5_model_refreshed.specs.Replaying.{Happens, AllHappen, IsBrought}
-use Rattle.x5_model_refreshed.proofs.Listing.{steps_of, later_joined, all_later, none_later, replay_joined, stamped_steps, stamped_at, nothing_more, not_less}
-use Rattle.x5_model_refreshed.proofs.Stamping.{Falls, newest_in, below_newest, since_in, since_below, kept_since, as_many, stamped_moments, copies_reversed, after_total, after_steps, stamps_total, stamps_more}
+use Rattle.x5_model_refreshed.proofs.Listing.{later_joined, all_later, none_later, replay_joined, stamped_steps, stamped_at, not_less}
+use Rattle.x5_model_refreshed.proofs.Stamping.{Falls, newest_in, below_newest, since_below, kept_since, as_many, stamped_moments, copies_reversed, after_total, after_steps, stamps_total, stamps_more}
 use Rattle.x5_model_refreshed.proofs.Leading.{at_line, tree_before, tree_now}
-use Rattle.x5_model_refreshed.proofs.Supplying.{some_agreement, changes_master, changes_consumer, Source, Since, source, since, IsByIt, Change, change}
+use Rattle.x5_model_refreshed.proofs.Supplying.{some_agreement, changes_master, changes_consumer, Source, Since, source, since, IsByIt, change}
 use Rattle.x5_model_refreshed.proofs.Mastering.{counted, replays}
 
 -- the entries of a context as of a moment
@@ -235,7 +235,7 @@ module _ (w : World) (described : IsDescribed w) (consistent : IsConsistent w) (
         map-append (λ (x : ℕ × Step). x.0) log (stamped f.stamp steps)
         ∙ ap (λ (ns : List ℕ). ns ++ moments_of (stamped f.stamp steps)) kept.moments
         ∙ ap (λ (ns : List ℕ). reverse (steps_since fs).moments ++ ns)
-            (stamped_moments f.stamp steps ∙ ap (λ (n : ℕ). replicate n f.stamp) many ∙ sym (copies_reversed f.count f.stamp))
+        (stamped_moments f.stamp steps ∙ ap (λ (n : ℕ). replicate n f.stamp) many ∙ sym (copies_reversed f.count f.stamp))
         ∙ sym (reverse-append (replicate f.count f.stamp) (steps_since fs).moments)
         ∙ ap (λ (ns : List ℕ). reverse ns) (sym (after_steps f fs t))
 

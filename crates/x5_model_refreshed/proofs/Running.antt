@@ -1,14 +1,13 @@
 -- What the lines of a run over consistent knowledge do: an update that was accepted is one that the tree took, and a refresh is
 -- stamped, goes on and counts as its block says. By cases of commands and blocks.
-use Rattle.std.proofs.Common.{◌≡◌, ℕ, suc, ◌+◌, ◌<◌, ◌≤◌, ◌==◌, Bool, true, false, not, ◌&&◌, if◌then◌else◌, nat_lt, nat_le, inl, inr, List, [], ◌∷◌, map, length, reverse, refl, sym, ap, subst, ◌∙◌, arith, Option, Some, None, Result, Ok, Err}
-use Rattle.std.specs.Prelude.{⊤, IsTrue}
+use Rattle.std.proofs.Common.{◌≡◌, ℕ, suc, ◌==◌, Bool, true, false, not, ◌&&◌, if◌then◌else◌, nat_le, List, [], ◌∷◌, map, length, reverse, refl, sym, ap, subst, ◌∙◌, arith, Option, Some, None, Ok, Err}
+use Rattle.std.specs.Prelude.{⊤}
 use Rattle.std.specs.List.{find, list_all}
 use Rattle.std.specs.Result.{is_ok}
 use Rattle.std.specs.Option.{is_some}
 use Rattle.x5_model.specs.Values.{key_of}
 use Rattle.x5_model.specs.Requests.{Request}
-use Rattle.x5_model.specs.Answers.{Reply}
-use Rattle.x5_model.proofs.Lists.{of_find, both_true, true_or_false, not_true, not_false}
+use Rattle.x5_model.proofs.Lists.{of_find, both_true, not_false}
 use Rattle.x5_model.proofs.Decide.{nat_same_decides}
 use Rattle.x5_model_tree.specs.World.{Agreement, World}
 use Rattle.x5_model_tree.specs.Tree.{Tree}
@@ -16,13 +15,13 @@ use Rattle.x5_model_tree.specs.Ask.{is_update}
 use Rattle.x5_model_tree.specs.Apply.{Applied, apply}
 use Rattle.x5_model_tree.specs.Consistent.{first_breach}
 use Rattle.x5_model_run.specs.Network.{is_lost, is_unheard, is_sent}
-use Rattle.x5_model_run.specs.Journal.{Line, Journal, is_reached}
-use Rattle.x5_model_run.specs.Refresh.{RequestShadowUpdate, UpdateShadow, CoordinateShadowUpdate, ShadowLine, RefreshOutcome, Done, Unheard, Problem, Missed, NotConsistent, RefreshBlock, inactive_agreement, full_update_required, invalid_agreement_id, changes_at, base_of, later_than, supplied, peer_moment, same_moment, needs_total, count_of, shadow_line, ended, updates_with, refresh_with, pull, push, refresh_block}
+use Rattle.x5_model_run.specs.Journal.{Line, is_reached}
+use Rattle.x5_model_run.specs.Refresh.{RequestShadowUpdate, UpdateShadow, CoordinateShadowUpdate, ShadowLine, RefreshOutcome, Done, Unheard, Problem, Missed, NotConsistent, RefreshBlock, inactive_agreement, full_update_required, invalid_agreement_id, supplied, peer_moment, same_moment, needs_total, count_of, shadow_line, ended, updates_with, refresh_with, pull, push, refresh_block}
 use Rattle.x5_model_run.specs.History.{Refreshed, Deed, Nothing, Accepts, Did, Point, tree_at, knowledge_at, as_of, acked}
 use Rattle.x5_model_run.specs.Chain.{scene_at}
-use Rattle.x5_model_run.specs.Right.{is_accepted_right, is_master_at, IsRight, AnswersRight}
+use Rattle.x5_model_run.specs.Right.{is_accepted_right, is_master_at, AnswersRight}
 use Rattle.x5_model_run.specs.Run.{Command, Blank, Asks, Changes, Drops, Updates, Block, Silent, Set, Replies, Refreshing, IsBlock, refreshed_by, did_by, IsRun, begin, next}
-use Rattle.x5_model_refreshed.specs.Replaying.{AreTaken, GoesOn, IsBrought, Happens, AllHappen, RunsLead}
+use Rattle.x5_model_refreshed.specs.Replaying.{GoesOn, IsBrought, Happens, AllHappen, RunsLead}
 
 -- ---- an update
 
