@@ -1,4 +1,4 @@
-//! What the line after a refresh finds. The function here does nothing; its clauses are the theorems.
+//! What the line after a refresh finds, and what logs replay to. Each function here does nothing; its clauses are the theorems.
 #![tactic(auto)]
 
 ghost use Rattle.x5_model_refreshed.specs.Refreshed.{CopyIsStamped, OtherStampsStay, MasterIsCopied, CopyIsCopied, AllElseStays};
@@ -16,8 +16,9 @@ pub fn refreshing()
     ensures rest { AllElseStays }
 {}
 
-/// What a master notes of the updates in a context it replays: each step makes of the context's entries what the update made of
-/// them, and so do all together (X.525, sections 9 and 11).
+/// The step of an update makes of a context's entries what the update makes of them. So the later steps of a log make the entries
+/// of now from those of an earlier moment, and an incremental refresh brings a consumer's copy to its supplier's entries (X.525,
+/// sections 7, 9 and 11).
 pub fn replaying()
     ensures step { StepIsUpdate }
     ensures counts { LogCounts }
