@@ -1,1 +1,12 @@
+pub mod Listing
+pub mod Stamping
+pub mod Leading
+pub mod Supplying
+pub mod Noting
+pub mod Mastering
 pub mod Refreshed
+pub mod Consuming
+pub mod Lasting
+pub mod Bringing
+pub mod Replayed
+pub mod Running
