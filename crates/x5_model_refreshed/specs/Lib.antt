@@ -1,1 +1,5 @@
+pub mod Steps
+pub mod Noting
+pub mod Logs
+pub mod Replaying
 pub mod Refreshed
