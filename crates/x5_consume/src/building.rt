@@ -1,12 +1,11 @@
 //! A copy, made of the content of a total refresh.
 
-ghost use Rattle.std.specs.Prelude.{◌≡◌, ◌++◌, ◌∷◌, [], true, List, IfOk};
+ghost use Rattle.std.specs.Prelude.{◌≡◌, ◌++◌, ◌∷◌, [], true, IfOk, Some, option_map};
 ghost use Rattle.x5_model.specs.Keys.{Key};
 ghost use Rattle.x5_model.specs.Values.{key_of};
-ghost use Rattle.x5_model.specs.Words.{ascending};
-ghost use Rattle.x5_model_tree.specs.Tree.{named_below};
+ghost use Rattle.x5_model.specs.Words.{ascending, first_of};
+ghost use Rattle.x5_model_tree.specs.Tree.{key_at, named_below};
 ghost use Rattle.x5_dse.specs.Linked.{entries_of};
-ghost use Rattle.x5_holdings.specs.State.{OnlyEntries};
 ghost use Rattle.x5_consume.specs.Steps.{CanAdd};
 ghost use Rattle.x5_consume.specs.Taken.{AreWhole, IsContent};
 ghost use Rattle.x5_consume.specs.Building.{IsExtended};
@@ -36,7 +35,7 @@ fn with_entry(alloc: Global, held: Held, named: &Named) -> Result<Held, NoMemory
 
 /// The context with these entries more. They are in the order of their keys, each behind the one above it.
 fn with_entries(alloc: Global, held: Held, entries: &[Named]) -> Result<Held, NoMemory>
-    requires { (pin : Key) × AreWhole pin (entries_of held.nodes.nodes ++ entries.now) }
+    requires { (pin : Key) × AreWhole pin (entries_of held.nodes.nodes ++ entries.now) × (option_map key_at (first_of (entries_of held.nodes.nodes)) ≡ Some pin) }
     ensures { IfOk result (λ after. IsExtended held entries.now after) }
 {
     let mut held = held;
@@ -52,12 +51,17 @@ pub(crate) fn held_of(alloc: Global, content: Content, stamp: Moment) -> Result<
     ensures content { IfOk result (λ held. IsContent content stamp held) }
     ensures prefix { IfOk result (λ held. (pin : Key) → AreWhole pin content.entries → key_of held.prefix ≡ pin) }
 {
-    let Some((first, rest)) = content.entries.as_slice().split_first() else {
+    let Content {
+        entries,
+        specific,
+        nssr,
+    } = content;
+    let Some((first, rest)) = entries.as_slice().split_first() else {
         unreachable!()
     };
     let log = ChangeLog::new(alloc, stamp);
     let prefix = first.name.clone()?;
     let entry = first.entry.clone()?;
-    let held = Held::new(alloc, prefix, entry, log, content.specific, content.nssr)?;
+    let held = Held::new(alloc, prefix, entry, log, specific, nssr)?;
     with_entries(alloc, held, rest)
 }

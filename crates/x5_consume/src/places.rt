@@ -29,5 +29,6 @@ pub fn expected(state: &Holdings, context: &Name) -> Option<Moment>
     ensures { result ≡ stamp_at (holdings_view state.now) (key_of context.now) }
 {
     let place = state.copy_at(context.rdns())?;
-    state.copies().get(place)?.stamp()
+    let copy = state.copies().get(place)?;
+    copy.stamp()
 }

@@ -32,5 +32,6 @@ pub fn accept_total(
 {
     let place = place_of(state, context);
     let held = held_of(alloc, content, stamp)?;
-    state.refresh_copy(place, held, stamp)
+    state.refresh_copy(place, held, stamp)?;
+    Ok(())
 }
