@@ -266,7 +266,7 @@ module _ (c : Kept) (linked : IsLinked c.nodes.nodes) where
       long : length (name_above at.node.named.name) ≡ length (name_above name)
       long = as_long at.node.named.name name k
 
-      abbrev rest : Named
+      rest : Named
       rest = if is_prefix (key_of name) (key_at y)
           then record y { name = respelled (length (name_above name)) (last_rdn e.name) y.name } else y
 

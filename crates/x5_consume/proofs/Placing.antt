@@ -32,7 +32,9 @@ pub at_place : (s : State) (pin : Key) (place : ℕ)
 at_place s pin place p = by (slice_get s.copies place) refl
   where
     by : (o : Option CopyKept) → slice_get s.copies place ≡ o → At s pin place
-    by None e = absurd (let t : is_some None ≡ true = ap (λ (o : Option CopyKept). is_some o) (sym e) ∙ p.1 in cc)
+    by None e = absurd (
+        let t : is_some (slice_get s.copies place) ≡ true = p.1 in
+        let f : is_some (slice_get s.copies place) ≡ false = ap (λ (o : Option CopyKept). is_some o) e in cc)
     by (Some c) e =
         let found : copy_at (holdings_view s) pin ≡ Some (copy_view c) = p.0 ∙ ap (option_map copy_view) e in
         record {
@@ -55,7 +57,8 @@ its_stamp s pin place c p e =
 pub never_lacking : (s : State) (pin : Key) (place : ℕ)
     → IsPlaceOf copy_view s.copies (copy_at (holdings_view s) pin) (Some place) → slice_get s.copies place ≡ None → ⊥
 never_lacking s pin place p e =
-    let t : is_some None ≡ true = ap (λ (o : Option CopyKept). is_some o) (sym e) ∙ p.1 in cc
+    let t : is_some (slice_get s.copies place) ≡ true = p.1 in
+    let f : is_some (slice_get s.copies place) ≡ false = ap (λ (o : Option CopyKept). is_some o) e in cc
 
 -- ---- what stands at a place
 

@@ -30,6 +30,11 @@ on_err (Err e) p = p
 copy_view_inside : {a b : Copy} → Some a ≡ Some b → a ≡ b
 copy_view_inside e = cc
 
+pub got_changed : (s t : State) (place : ℕ) (how : CopyKept → CopyKept → Type 0) (x : IsCopyChanged s place how t)
+    → slice_get t.copies place ≡ Some x.after
+got_changed s t place how x =
+    ap (λ (z : State). slice_get z.copies place) x.new_is ∙ got_set s.copies place x.before x.after x.was
+
 -- ---- a total refresh
 
 pub replaced : (s t : State) (pin : Key) (place : ℕ) (at : At s pin place) (content : Content) (stamp : ℕ) (held : Kept)

@@ -30,8 +30,9 @@ pub fn accept_steps(
 {
     let place = place_of(state, context);
     let all = all_prepared(alloc, steps)?;
+    let count = all.len();
     let values = values_for_all(&all)?;
-    state.make_room_at_copy(place, all.len(), values, all.len())?;
+    state.make_room_at_copy(place, count, values, count)?;
     do_all(state, place, all, stamp);
     state.set_stamp(place, stamp);
     Ok(())
