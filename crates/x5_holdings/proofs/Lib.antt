@@ -8,5 +8,6 @@ pub mod Holding
 pub mod Posted
 pub mod Changed
 pub mod Placing
+pub mod Replacing
 pub mod Under
 pub mod Standing

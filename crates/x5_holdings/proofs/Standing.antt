@@ -8,13 +8,12 @@ use Rattle.x5_model.specs.Members.{In, here, there}
 use Rattle.x5_model.specs.Keys.{Key, is_prefix}
 use Rattle.x5_model.specs.Values.{Name, key_of}
 use Rattle.x5_model.specs.Requests.{Request}
-use Rattle.x5_model.proofs.Lists.{true_or_false, in_first, in_map, of_map, in_filter, of_filter, any_in, of_any}
+use Rattle.x5_model.proofs.Lists.{true_or_false, in_first, in_filter, of_filter, any_in, of_any}
 use Rattle.x5_model.proofs.Ascending.{in_sorted, of_sorted}
 use Rattle.x5_model_tree.specs.World as world
 use Rattle.x5_model_run.specs.Holdings as model
 use Rattle.x5_ops.specs.KnowledgeViews.{specific_view, cross_view}
-use Rattle.x5_holdings.specs.declared.tables.Tables.{Tables}
-use Rattle.x5_holdings.specs.Rows.{KeyRow, AreRowsOf, numbered, row_below, rows_of}
+use Rattle.x5_holdings.specs.Rows.{KeyRow, numbered, row_below, rows_of}
 use Rattle.x5_holdings.specs.Runs.{run_of, stands_under}
 use Rattle.x5_holdings.specs.Spots.{joined, pins_in}
 use Rattle.x5_holdings.specs.State.{Kept, CopyKept, State, held_view, copy_view, holdings_view}

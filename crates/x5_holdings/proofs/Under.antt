@@ -1,6 +1,6 @@
 -- What stands at a key or below it is a run of rows in order: those of lesser keys stand before it, and what stands
 -- between two of it belongs to it. Where a longer key stands, none of its run has so many RDNs as are asked for.
-use Rattle.std.proofs.Common.{◌≡◌, ℕ, zero, suc, ◌+◌, ◌<◌, ◌≤◌, Bool, true, false, cond, ◌==◌, List, [], ◌∷◌, ◌++◌}
+use Rattle.std.proofs.Common.{◌≡◌, ℕ, zero, suc, ◌+◌, ◌<◌, ◌≤◌, Bool, true, false, cond, List, [], ◌∷◌, ◌++◌}
 use Rattle.std.proofs.Common.{inl, inr, append_assoc, map, length, take, drop, get_or, refl, sym, ap, subst, ◌∙◌, arith}
 use Rattle.std.proofs.lemmas.List.{append-nil, drop_more, get_or-drop, get_or-take, length-drop, length-map, length-take, take-map}
 use Rattle.std.proofs.lemmas.List.Sorted.{sorted_far, ranks_by}

@@ -1,8 +1,7 @@
 -- One of the contexts that an agent masters, or one of its copies, changes, by its place among them; nothing else of
 -- what the agent holds does.
 use Rattle.std.specs.Prelude.{◌≡◌, ℕ, slice_get, slice_set}
-use Rattle.std.specs.declared.option.Option.{Option}
-use Rattle.std.specs.declared.option.Option.TheVariants.{None, Some}
+use Rattle.std.specs.declared.option.Option.TheVariants.{Some}
 use Rattle.x5_holdings.specs.State.{Kept, CopyKept, State}
 
 pub record IsOwnChanged (old : State) (place : ℕ) (how : Kept → Kept → Type 0) (new : State) : Type 0 where
@@ -19,12 +18,7 @@ pub record IsCopyChanged (old : State) (place : ℕ) (how : CopyKept → CopyKep
   pub changed : how before after
   pub new_is : new ≡ record old { copies = slice_set old.copies place after }
 
--- refreshes brought something of a copy, and it is so (X.525, section 9)
-abbrev pub HasBrought : (Kept → Type 0) → Option (Kept × ℕ) → Type 0
-HasBrought such None = ⊥
-HasBrought such (Some s) = such s.0
-
--- what refreshes brought of a copy changes; its stamp stays
+-- what refreshes brought of a copy changes; its stamp stays (X.525, section 9)
 pub record IsBroughtChanged (how : Kept → Kept → Type 0) (old after : CopyKept) : Type 0 where
   pub stamp : ℕ
   pub before : Kept

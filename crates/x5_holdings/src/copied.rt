@@ -1,10 +1,10 @@
 //! Changes of one of the copies that an agent has (X.525, section 9: what a refresh brings).
 
-ghost use Rattle.std.specs.Prelude.{◌≡◌, ◌<◌, IsTrue, length, slice_get, OnErr, OnOk, Some};
+ghost use Rattle.std.specs.Prelude.{◌≡◌, ◌<◌, IsSomeAnd, IsTrue, length, slice_get, OnErr, OnOk, Some};
 ghost use Rattle.std.specs.Option.{is_some, option_map};
 ghost use Rattle.x5_model.specs.Values.{key_of};
 ghost use Rattle.x5_holdings.specs.Making.{HasRoomFor, IsChanged, IsLeft, IsReady, IsSame};
-ghost use Rattle.x5_holdings.specs.Placed.{HasBrought, IsBroughtChanged, IsCopyChanged};
+ghost use Rattle.x5_holdings.specs.Placed.{IsBroughtChanged, IsCopyChanged};
 ghost use Rattle.x5_holdings.specs.State.{CopyKept};
 
 use crate::below::Below;
@@ -26,12 +26,7 @@ impl Copied {
 
     /// Makes room for so many entries with so many values, and for so many changes in the log. After want of memory all is as it
     /// was.
-    fn make_room(
-        &mut self,
-        entries: usize,
-        values: usize,
-        changes: usize,
-    ) -> Result<(), NoMemory>
+    fn make_room(&mut self, entries: usize, values: usize, changes: usize) -> Result<(), NoMemory>
         requires { IsTrue (is_some self.old.refreshed) }
         ensures same { IsBroughtChanged IsSame self.old self.new }
         ensures ok { OnOk result (IsBroughtChanged (λ before after. IsSame before after × HasRoomFor after entries values changes) self.old self.new) }
@@ -44,8 +39,8 @@ impl Copied {
 
     /// Makes a change that is ready, and notes it in the log. No memory.
     fn change(&mut self, change: EntryChange, logged: Logged)
-        requires ready { HasBrought (λ kept. IsReady kept change) self.old.refreshed }
-        requires room { HasBrought (λ kept. 0 < kept.log.spare) self.old.refreshed }
+        requires ready { IsSomeAnd self.old.refreshed (λ s. IsReady s.0 change) }
+        requires room { IsSomeAnd self.old.refreshed (λ s. 0 < s.0.log.spare) }
         ensures { IsBroughtChanged (λ before after. IsChanged before change logged after × IsLeft before change after) self.old self.new }
     {
         match &mut self.refreshed {
@@ -67,12 +62,7 @@ impl Copied {
 impl Holdings {
     /// Puts what a total refresh brought, with its stamp, in place of what its copy of this place had (X.525, section 9). After
     /// want of memory all is as it was.
-    pub fn refresh_copy(
-        &mut self,
-        copy: usize,
-        held: Held,
-        stamp: Moment,
-    ) -> Result<(), NoMemory>
+    pub fn refresh_copy(&mut self, copy: usize, held: Held, stamp: Moment) -> Result<(), NoMemory>
         requires there { copy < length self.old.copies }
         requires prefix { (c : CopyKept) → slice_get self.old.copies copy ≡ Some c → key_of held.prefix ≡ key_of c.prefix }
         ensures ok { OnOk result (IsCopyChanged self.old copy (λ before after. after ≡ record before { refreshed = Some (held, stamp) }) self.new) }
@@ -110,8 +100,8 @@ impl Holdings {
     /// 9). No memory.
     pub fn change_copy(&mut self, copy: usize, change: EntryChange, logged: Logged)
         requires there { copy < length self.old.copies }
-        requires ready { (c : CopyKept) → slice_get self.old.copies copy ≡ Some c → HasBrought (λ kept. IsReady kept change) c.refreshed }
-        requires room { (c : CopyKept) → slice_get self.old.copies copy ≡ Some c → HasBrought (λ kept. 0 < kept.log.spare) c.refreshed }
+        requires ready { (c : CopyKept) → slice_get self.old.copies copy ≡ Some c → IsSomeAnd c.refreshed (λ s. IsReady s.0 change) }
+        requires room { (c : CopyKept) → slice_get self.old.copies copy ≡ Some c → IsSomeAnd c.refreshed (λ s. 0 < s.0.log.spare) }
         ensures { IsCopyChanged self.old copy (IsBroughtChanged (λ before after. IsChanged before change logged after × IsLeft before change after)) self.new }
     {
         self.copies[copy].change(change, logged);

@@ -1,7 +1,6 @@
 -- None of those below the first row's first RDNs has just so many.
-use Rattle.std.proofs.Common.{[], sym, ap, ◌∙◌}
-use Rattle.x5_model.specs.Keys.{Key}
-use Rattle.x5_model.specs.Values.{Name, key_of}
+use Rattle.std.proofs.Common.{[], ap, ◌∙◌}
+use Rattle.x5_model.specs.Values.{key_of}
 use Rattle.x5_holdings.specs.Rows.{KeyRow}
 use Rattle.x5_holdings.proofs.Under.{behind_name, some_under, none_missed}
 use Rattle.x5_holdings.proofs.runs.count_longer.Goals as goal

@@ -1,5 +1,5 @@
 -- What is below the name stands before the run, and behind it nothing stands under the name.
-use Rattle.std.proofs.Common.{◌≡◌, ◌-◌, true, false, length, take, drop, List, ap, subst, ◌∙◌, sym}
+use Rattle.std.proofs.Common.{◌≡◌, ◌-◌, true, false, length, take, drop, List, ap, subst, ◌∙◌}
 use Rattle.std.proofs.lemmas.List.{take_rest}
 use Rattle.std.specs.List.Sorted.{IsPartitionPoint}
 use Rattle.x5_model.specs.Values.{key_of}

@@ -11,10 +11,10 @@ use Rattle.x5_holdings.proofs.holdings.Holdings.change.Goals as goal
 pub invariant_of-self : goal.invariant_of-self
 invariant_of-self c = record {
   apart = still_apart (state_of c.self.inside).own c.args.own c.index_mut.result.now c.change.new.self c.index_mut.ensures.value
-      c.change.ensures.prefix c.self.invariant.apart;
+      c.change.ensures.changed.prefix c.self.invariant.apart;
   once = c.self.invariant.once;
   tables = same_tables (state_of c.self.inside) c.self.inside.tables c.args.own c.index_mut.result.now c.change.new.self
-      c.index_mut.ensures.value c.change.ensures.prefix c.change.ensures.subordinate c.self.invariant.tables;
+      c.index_mut.ensures.value c.change.ensures.changed.prefix c.change.ensures.changed.subordinate c.self.invariant.tables;
 }
 
 pub returns : goal.returns
@@ -27,6 +27,6 @@ returns c =
       before = c.index_mut.result.now;
       after = c.change.new.self;
       was = got c.self.inside.own.items c.args.own c.index_mut.result.now there c.index_mut.ensures.value;
-      changed = c.change.ensures;
+      changed = c.change.ensures.changed;
       new_is = refl;
     })
