@@ -1,6 +1,6 @@
 -- What each line of a run over consistent knowledge finds: no context was moved, so the knowledge is that of the described
 -- world, and the tree has its pins; and what a line did is told by the updates that it accepted.
-use Rattle.std.proofs.Common.{◌≡◌, ℕ, suc, ◌+◌, ◌-◌, ◌≤◌, ◌==◌, ◌&&◌, true, List, [], ◌∷◌, map, length, drop, refl, sym, ap, subst, ◌∙◌, arith}
+use Rattle.std.proofs.Common.{◌≡◌, ℕ, suc, ◌-◌, ◌≤◌, ◌==◌, ◌&&◌, true, List, [], ◌∷◌, map, length, drop, refl, ap, subst, ◌∙◌, arith}
 use Rattle.x5_model.specs.Members.{In}
 use Rattle.x5_model.specs.Keys.{Key, same_key}
 use Rattle.x5_model.proofs.KeyLaws.{key_decides}

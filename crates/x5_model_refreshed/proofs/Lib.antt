@@ -5,4 +5,8 @@ pub mod Supplying
 pub mod Noting
 pub mod Mastering
 pub mod Refreshed
+pub mod Consuming
+pub mod Lasting
+pub mod Bringing
 pub mod Replayed
+pub mod Running

@@ -1,14 +1,14 @@
 -- Logs as lists: what is later than a moment in two logs joined, in one whose changes are all of one moment, and in one whose
 -- changes are all as early; and steps replayed one after the other.
-use Rattle.std.proofs.Common.{◌≡◌, ℕ, ◌<◌, ◌≤◌, Bool, true, false, cond, nat_lt, List, [], ◌∷◌, ◌++◌, map, length, reverse, refl, sym, ap, ◌∙◌, arith}
+use Rattle.std.proofs.Common.{◌≡◌, ℕ, ◌<◌, ◌≤◌, Bool, true, false, cond, nat_lt, List, [], ◌∷◌, ◌++◌, map, reverse, refl, ap, ◌∙◌, arith}
 use Rattle.std.specs.List.{filter}
-use Rattle.std.proofs.lemmas.List.{map-append, append_assoc}
+use Rattle.std.proofs.lemmas.List.{map-append}
 use Rattle.std.proofs.lemmas.List.Elements.{filter-append}
 use Rattle.std.proofs.lemmas.Grind.{reverse_onto}
 use Rattle.x5_model.specs.Members.{In, here, there}
 use Rattle.x5_model.specs.Entries.{Named}
 use Rattle.x5_model_refreshed.specs.Steps.{Step, replayed, replay}
-use Rattle.x5_model_refreshed.specs.Logs.{Log, moments_of, steps_later, stamped}
+use Rattle.x5_model_refreshed.specs.Logs.{Log, steps_later, stamped}
 
 abbrev pub steps_of : Log → List Step
 steps_of log = map (λ (x : ℕ × Step). x.1) log

@@ -1,13 +1,12 @@
 -- The master's log: line by line it grows by the steps of the updates that the line accepted in the context, at the line's
 -- moment, and these make of the context's entries what the updates make of them.
-use Rattle.std.proofs.Common.{◌≡◌, ℕ, suc, ◌+◌, ◌-◌, ◌≤◌, Bool, true, false, nat_lt, if◌then◌else◌, ◌⊎◌, inl, inr, List, [], ◌∷◌, ◌++◌, map, length, drop, reverse, refl, sym, ap, subst, ◌∙◌, arith, Option, Some, None, Ok, Err}
+use Rattle.std.proofs.Common.{◌≡◌, ℕ, suc, ◌+◌, ◌-◌, ◌≤◌, Bool, true, false, nat_lt, if◌then◌else◌, ◌⊎◌, inl, inr, List, [], ◌∷◌, ◌++◌, length, drop, reverse, refl, sym, ap, subst, ◌∙◌, arith, Option, Some, None, Ok, Err}
 use Rattle.std.specs.List.{filter}
 use Rattle.std.proofs.lemmas.List.{map-append, reverse-append}
 use Rattle.x5_model.specs.Words.{in_option}
 use Rattle.x5_model.specs.Members.{In}
 use Rattle.x5_model.specs.Keys.{Key}
 use Rattle.x5_model.specs.Values.{key_of}
-use Rattle.x5_model.specs.Entries.{Named}
 use Rattle.x5_model.proofs.Lists.{in_either, in_first, true_or_false}
 use Rattle.x5_model.proofs.Decide.{less_decides}
 use Rattle.x5_model_tree.specs.World.{World}

@@ -1,17 +1,16 @@
 -- An accepted update, noted as a step, replays as the update: by what each update gives in the context by itself.
-use Rattle.std.proofs.Common.{◌≡◌, ℕ, suc, ◌+◌, ◌-◌, ◌<◌, Bool, true, false, not, inl, inr, List, [], ◌∷◌, ◌++◌, map, length, take, drop, refl, sym, ap, subst, ◌∙◌, arith, length-take, Option, Some, None, Ok, if◌then◌else◌}
+use Rattle.std.proofs.Common.{◌≡◌, ℕ, ◌+◌, ◌-◌, ◌<◌, Bool, true, false, not, List, [], ◌∷◌, ◌++◌, map, length, take, drop, refl, sym, ap, subst, ◌∙◌, arith, length-take, Some, None, Ok, if◌then◌else◌}
 use Rattle.std.specs.List.{filter}
 use Rattle.std.specs.Option.{option_map}
 use Rattle.std.proofs.lemmas.List.{drop_all}
-use Rattle.x5_model.specs.Words.{ascending, in_option}
+use Rattle.x5_model.specs.Words.{in_option}
 use Rattle.x5_model.specs.Members.{In, here, there}
-use Rattle.x5_model.specs.Keys.{Key, same_key, is_prefix, parent}
+use Rattle.x5_model.specs.Keys.{Key, same_key, is_prefix}
 use Rattle.x5_model.specs.Values.{Rdn, Name, key_of, last_rdn, name_above}
 use Rattle.x5_model.specs.Entries.{Entry, Named}
-use Rattle.x5_model.specs.Changes.{ChangedEntry, modified, renamed}
+use Rattle.x5_model.specs.Changes.{modified, renamed}
 use Rattle.x5_model.specs.Requests.{Body, Read, Compare, ListBelow, Search, AddEntry, RemoveEntry, ModifyEntry, ModifyDn}
 use Rattle.x5_model.proofs.KeyLaws.{key_decides}
-use Rattle.x5_model.proofs.Lists.{true_or_false}
 use Rattle.x5_model.proofs.Ascending.{filter_ascending}
 use Rattle.x5_model_tree.specs.Tree.{Tree, key_at, named_below, sorted_entries, belongs, part}
 use Rattle.x5_model_tree.specs.Ask.{is_update}

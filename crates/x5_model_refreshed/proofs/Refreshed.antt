@@ -61,7 +61,7 @@ spelled : (w : World) (before after : Name) (key : Key) (entries : List Named) (
 spelled w before after key entries None = refl
 spelled w before after key entries (Some c) = refl
 
-entries_are : (w : World) (prefix : Name) (entries : List Named) (x : Option Mastered)
+pub entries_are : (w : World) (prefix : Name) (entries : List Named) (x : Option Mastered)
     → (in_option {Y = Held} (record { prefix = prefix; entries = entries; subordinate = []; nssrs = [] })
     (λ (c : Mastered). record { prefix = prefix; entries = entries; subordinate = sent_references w c entries; nssrs = c.context.nssrs }) x).entries
     ≡ entries
@@ -72,7 +72,7 @@ module _ (p : Point) (f : Refreshed) (sent : ℕ) (g : Agreement) (by_it : g.num
   stamped : as_of (after_refresh p f sent) g.number ≡ Some f.stamp
   stamped = subst (λ (n : ℕ). as_of (after_refresh p f sent) n ≡ Some f.stamp) (sym by_it) (copy_is_stamped p f sent)
 
-  copied : copy_as_of (after_refresh p f sent) g (as_of (after_refresh p f sent) g.number)
+  pub copied : copy_as_of (after_refresh p f sent) g (as_of (after_refresh p f sent) g.number)
       ≡ copy_with (knowledge_at p) g.context (key_of g.context) (part (tree_of_moment (after_refresh p f sent) f.stamp) (key_of g.context))
   copied = ap (λ (x : Option ℕ). copy_as_of (after_refresh p f sent) g x) stamped
 

@@ -1,9 +1,9 @@
 -- The refreshes by one agreement, the newest first, whose stamps fall: what the changes that are counted of them begin with, and
 -- which stamps stand since the last total one.
-use Rattle.std.proofs.Common.{◌≡◌, ℕ, zero, suc, ◌+◌, ◌<◌, ◌≤◌, Bool, true, false, if◌then◌else◌, nat_lt, nat_le, ◌⊎◌, inl, inr, List, [], ◌∷◌, ◌++◌, map, length, replicate, reverse, refl, sym, ap, subst, ◌∙◌, arith, Option, Some, None}
+use Rattle.std.proofs.Common.{◌≡◌, ℕ, zero, suc, ◌+◌, ◌<◌, ◌≤◌, Bool, true, false, if◌then◌else◌, nat_lt, nat_le, ◌⊎◌, inl, inr, List, [], ◌∷◌, ◌++◌, map, length, replicate, reverse, refl, sym, ap, subst, ◌∙◌, arith, Some}
 use Rattle.std.specs.Prelude.{⊤, slice_index}
 use Rattle.std.specs.List.{filter}
-use Rattle.std.proofs.lemmas.List.{length-append, length-map}
+use Rattle.std.proofs.lemmas.List.{length-append}
 use Rattle.std.proofs.lemmas.List.Elements.{filter-append}
 use Rattle.std.proofs.lemmas.Grind.{reverse_onto}
 use Rattle.x5_model.specs.Words.{first_of}
@@ -19,7 +19,7 @@ abbrev pub Falls : List Refreshed → Type 0
 Falls [] = ⊤
 Falls (f ∷ earlier) = ((x : Refreshed) → In x earlier → x.stamp ≤ f.stamp) × Falls earlier
 
-abbrev since_if : Bool → Refreshed → Changes → Changes
+abbrev pub since_if : Bool → Refreshed → Changes → Changes
 since_if b f c =
     if b then record { origin = f.stamp; moments = [] } else record c { moments = replicate f.count f.stamp ++ c.moments }
 
@@ -75,7 +75,7 @@ origin_low (f ∷ rest) n h = by (origin_low rest n (λ x i. h x (there i))) f.t
     by more true = h f here
     by more false = more
 
-in_copies : (n x y : ℕ) → In x (replicate n y) → x ≡ y
+pub in_copies : (n x y : ℕ) → In x (replicate n y) → x ≡ y
 in_copies zero x y i = elim i [ ]
 in_copies (suc n) x y i = elim (in_first x y (replicate n y) i) [ inl e ↦ e | inr j ↦ in_copies n x y j ]
 

@@ -17,7 +17,7 @@ use Rattle.x5_model_refreshed.specs.Logs.{Log, brought, log_after, logs_by}
 use Rattle.x5_model_refreshed.specs.Replaying.{Happens, AllHappen, GoesOn, IsBrought}
 use Rattle.x5_model_refreshed.proofs.Leading.{at_line, knowledge_stays}
 
-some_agreement : (g h : Agreement) → Some g ≡ Some h → g ≡ h
+pub some_agreement : (g h : Agreement) → Some g ≡ Some h → g ≡ h
 some_agreement g h e = cc
 
 -- ---- what is counted
@@ -145,12 +145,19 @@ module _ (w : World) (before : List Did) (h : AllHappen w before) (a : ℕ) (pin
   change (Splits name to) m = absurd m
   change (Unsplits name) m = absurd m
   change (Refreshes f) m = elim (true_or_false (f.agreement == g.number)) [
-    | inl e ↦ inr (f, (refl, (nat_same_decides f.agreement g.number).0 e,
+    | inl e ↦ inr (
+      f,
+      (
+        refl,
+        (nat_same_decides f.agreement g.number).0 e,
         refreshed f ∙ ap (λ (b : Bool). if b then brought f (last g) own (logs_by w before g.supplier pin) else own) e,
-        ap (λ (b : Bool). when b f ++ refreshes_of before g.number) e))
+        ap (λ (b : Bool). when b f ++ refreshes_of before g.number) e,
+      ),
+    )
     | inr e ↦ inl (
-        refreshed f ∙ ap (λ (b : Bool). if b then brought f (last g) own (logs_by w before g.supplier pin) else own) e,
-        ap (λ (b : Bool). when b f ++ refreshes_of before g.number) e)
+      refreshed f ∙ ap (λ (b : Bool). if b then brought f (last g) own (logs_by w before g.supplier pin) else own) e,
+      ap (λ (b : Bool). when b f ++ refreshes_of before g.number) e,
+    )
   ]
 
 -- who neither masters nor consumes a context keeps no log of it

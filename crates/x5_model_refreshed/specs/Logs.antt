@@ -1,6 +1,6 @@
 -- What a holder of a naming context keeps of its changes, at a line of a run (X.525, section 9: incremental refreshes
--- bring the changes since the last update). That a consumer keeps them for its own consumers with the refresh's stamp as
--- their moment is this project's own.
+-- bring the changes since the last update). That a consumer keeps them for its own consumers, with the refresh's stamp
+-- as their moment, is this project's own.
 use Rattle.std.specs.Prelude.{ℕ, ◌+◌, ◌==◌, nat_lt, if◌then◌else◌, List, [], ◌∷◌, ◌++◌, length, map}
 use Rattle.std.specs.List.{filter}
 use Rattle.std.specs.declared.option.Option.{Option}
@@ -10,7 +10,7 @@ use Rattle.x5_model_tree.specs.World.{World}
 use Rattle.x5_model_tree.specs.Tree.{Tree, part}
 use Rattle.x5_model_tree.specs.Masters.{masters, pins}
 use Rattle.x5_model_run.specs.History.{Acceptance, Refreshed, Deed, Nothing, Outs, Loses, Accepts, Refreshes, Splits}
-use Rattle.x5_model_run.specs.History.{Unsplits, Did, tree_with, tree_by, knowledge_by, refreshes_of, stamp_of}
+use Rattle.x5_model_run.specs.History.{Unsplits, Did, tree_with, tree_by, knowledge_by}
 use Rattle.x5_model_run.specs.History.{Point, as_of}
 use Rattle.x5_model_run.specs.Refresh.{is_change_in, consumed_by}
 use Rattle.x5_model_refreshed.specs.Steps.{Step, step_of}
@@ -53,7 +53,7 @@ brought f last own theirs =
 abbrev pub log_after : World → List Did → (ℕ → Key → Log) → Deed → ℕ → Key → Log
 log_after w before logs (Accepts accepted) a pin =
     if masters (knowledge_by w before) a pin then logs a pin
-        ++ noted (length before + 1) (pins (knowledge_by w before)) pin (tree_by w before) accepted
+    ++ noted (length before + 1) (pins (knowledge_by w before)) pin (tree_by w before) accepted
     else logs a pin
 log_after w before logs (Refreshes f) a pin =
     if masters (knowledge_by w before) a pin then logs a pin

@@ -29,7 +29,8 @@ use Rattle.x5_model_refreshed.specs.Logs.{Log, moments_of, steps_later, log_at, 
 abbrev pub AreTaken : Tree → List Acceptance → Type 0
 AreTaken t [] = ⊤
 AreTaken t (a ∷ more) =
-    (is_update a.request.body ≡ true) × ((u : Tree) × (apply t a.request ≡ Ok u)) × AreTaken (tree_with t a.request) more
+    (is_update a.request.body ≡ true) × ((u : Tree) × (apply t a.request ≡ Ok u))
+    × AreTaken (tree_with t a.request) more
 
 -- An incremental refresh goes on from the copy's moment, from which its supplier still has all changes; it counts them.
 pub record GoesOn (p : Point) (g : Agreement) (f : Refreshed) : Type 0 where

@@ -8,11 +8,12 @@ use Rattle.std.specs.declared.option.Option.{Option}
 use Rattle.std.specs.declared.option.Option.TheVariants.{None, Some}
 use Rattle.std.specs.declared.result.Result.TheVariants.{Ok, Err}
 use Rattle.x5_model.specs.Words.{in_option}
-use Rattle.x5_model.specs.Keys.{Key, same_key, is_prefix, parent}
+use Rattle.x5_model.specs.Keys.{same_key, is_prefix, parent}
 use Rattle.x5_model.specs.Values.{Name, key_of, last_rdn, name_above}
-use Rattle.x5_model.specs.Entries.{Entry, Named}
+use Rattle.x5_model.specs.Entries.{Named}
 use Rattle.x5_model.specs.Changes.{ChangedEntry, modified, renamed}
-use Rattle.x5_model.specs.Requests.{Body, Read, Compare, ListBelow, Search, AddEntry, RemoveEntry, ModifyEntry, ModifyDn}
+use Rattle.x5_model.specs.Requests.{Body, Read, Compare, ListBelow, Search, AddEntry, RemoveEntry}
+use Rattle.x5_model.specs.Requests.{ModifyEntry, ModifyDn}
 use Rattle.x5_model_tree.specs.Tree.{key_at, sorted_entries, entry_at}
 use Rattle.x5_model_tree.specs.Apply.{replace_at, respelled}
 use Rattle.x5_model_updates.specs.Afterwards.{new_entry, name_after}
@@ -54,7 +55,8 @@ step_of entries (AddEntry name attributes) =
     option_map (λ above. Add (new_entry above name attributes)) (entry_at entries (parent (key_of name)))
 step_of entries (RemoveEntry name) = option_map (λ old. Remove old.name) (entry_at entries (key_of name))
 step_of entries (ModifyEntry name changes) =
-    in_option None (λ old. modify_step old (modified (last_rdn name) changes old.entry)) (entry_at entries (key_of name))
+    in_option None (λ old. modify_step old (modified (last_rdn name) changes old.entry))
+    (entry_at entries (key_of name))
 step_of entries (ModifyDn name rdn drops) =
     option_map (λ old. Rename old.name (record {
       name = name_after name rdn old;

@@ -1,9 +1,10 @@
-//! What the line after a refresh finds. The function here does nothing; its clauses are the theorems.
+//! What the line after a refresh finds, and what logs replay to. Each function here does nothing; its clauses are the theorems.
 #![tactic(auto)]
 
 ghost use Rattle.x5_model_refreshed.specs.Refreshed.{CopyIsStamped, OtherStampsStay, MasterIsCopied, CopyIsCopied, AllElseStays};
 ghost use Rattle.x5_model_refreshed.specs.Noting.{StepIsUpdate};
-ghost use Rattle.x5_model_refreshed.specs.Replaying.{MasterReplays};
+ghost use Rattle.x5_model_refreshed.specs.Replaying.{LogCounts, MasterReplays, ConsumerReplays, RefreshReplays, LastAreLater, RunsLead};
+ghost use Rattle.x5_model_run.specs.Right.{AnswersRight};
 
 /// After a refresh the consumer's copy is what its supplier had as of the stamp, and all else is as it was (X.525, section 7:
 /// shadowed information).
@@ -15,9 +16,15 @@ pub fn refreshing()
     ensures rest { AllElseStays }
 {}
 
-/// What a master notes of the updates in a context it replays: each step makes of the context's entries what the update made of
-/// them, and so do all together (X.525, sections 9 and 11).
+/// The step of an update makes of a context's entries what the update makes of them. So the later steps of a log make the entries
+/// of now from those of an earlier moment, and an incremental refresh brings a consumer's copy to its supplier's entries (X.525,
+/// sections 7, 9 and 11).
 pub fn replaying()
     ensures step { StepIsUpdate }
+    ensures counts { LogCounts }
     ensures master { MasterReplays }
+    ensures consumer { ConsumerReplays }
+    ensures refresh { RefreshReplays }
+    ensures last { LastAreLater }
+    ensures runs { RunsLead AnswersRight }
 {}
