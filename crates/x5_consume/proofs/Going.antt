@@ -184,8 +184,7 @@ module _ (first : State) (place stamp : ℕ) (all : List Prepared) (now : State)
   next_going next x =
       let b = x.changed in
       let before : x.before ≡ copy_now = copy_inside (sym x.was ∙ got_now) in
-      let pair : (b.before, b.stamp) ≡ (g.kept, g.last) =
-      some_inside (sym b.was ∙ ap (λ (c : CopyKept). c.refreshed) before) in
+      let pair = some_inside {A = Kept × ℕ} (sym b.was ∙ ap (λ (c : CopyKept). c.refreshed) before) in
       let same : b.before ≡ g.kept = ap (λ (r : Kept × ℕ). r.0) pair in
       let stamp_is : b.stamp ≡ g.last = ap (λ (r : Kept × ℕ). r.1) pair in
       let done : IsDone p stamp g.kept b.now = subst (λ (k : Kept). IsDone p stamp k b.now) same b.changed in

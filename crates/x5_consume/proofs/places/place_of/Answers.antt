@@ -7,8 +7,8 @@ use Rattle.x5_holdings.specs.Known.{IsPlaceOf}
 use Rattle.x5_holdings.specs.State.{copy_view, holdings_view}
 use Rattle.x5_consume.proofs.places.place_of.Goals as goal
 
-pub returns-in-Some : goal.returns-in-Some
-returns-in-Some c =
+pub returns : goal.returns
+returns c =
     subst (λ (n : Name). IsPlaceOf copy_view c.args.state.now.copies (copy_at (holdings_view c.args.state.now) (key_of n)) (Some c.in-Some.place))
     c.rdns.ensures c.in-Some.ensures
 

@@ -3,8 +3,8 @@ use Rattle.x5_holdings.proofs.Holding.{some_within}
 use Rattle.x5_consume.proofs.Going.{find_first, one_done, ready_at, room_at}
 use Rattle.x5_consume.proofs.stepping.do_one.Goals as goal
 
-pub change_at-requires : goal.change_at-requires
-change_at-requires c = find_first c.args.state.now c.args.place c.args.one c.requires
+pub change_at-change-requires : goal.change_at-change-requires
+change_at-change-requires c = find_first c.args.state.now c.args.place c.args.one c.requires
 
 pub change_copy-requires-clause-there : goal.change_copy-requires-clause-there
 change_copy-requires-clause-there c = some_within c.args.state.now.copies c.args.place c.requires.copy c.requires.there

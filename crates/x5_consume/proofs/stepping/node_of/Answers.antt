@@ -9,8 +9,8 @@ use Rattle.x5_consume.proofs.stepping.node_of.Goals as goal
 pub entry-requires : goal.entry-requires
 entry-requires c = top_live c.args.tree.now.nodes c.top.result c.top.ensures
 
-pub returns-in-Some : goal.returns-in-Some
-returns-in-Some c = found_node c.args.tree.now.nodes _ c.in-Some.node c.entry.ensures.numbered c.in-Some.ensures
+pub returns : goal.returns
+returns c = found_node c.args.tree.now.nodes _ c.in-Some.node c.entry.ensures.numbered c.in-Some.ensures
 
 pub unreachable-requires : goal.unreachable-requires
 unreachable-requires c = lacks c.args.tree.now.nodes _ c.in-None.ensures c.requires
