@@ -1,5 +1,6 @@
 -- The copy of the context changes, and nothing else of what is held; after want of memory nothing does.
 use Rattle.std.proofs.Common.{◌≡◌, ℕ, ◌<◌, true, List, [], ◌∷◌, ◌++◌, length, map, refl, sym, ap, subst, ◌∙◌, Option, Some, None, Result, Ok, Err}
+use Rattle.std.proofs.lemmas.List.{length-map}
 use Rattle.std.specs.Prelude.{IsTrue, OnErr, slice_get, slice_set}
 use Rattle.std.specs.Option.{is_some, option_map}
 use Rattle.x5_model.specs.Keys.{Key}
@@ -73,10 +74,13 @@ module _ (s : State) (pin : Key) (place : ℕ) (at : At s pin place) (given : Li
       (refreshed_by at.copy.refreshed has_stamp)
 
   module _ (t : State) (all : List Prepared) (told : steps_in all ≡ given) (prepared : ArePrepared all) (count values : ℕ)
-      (entries_are : count ≡ length all) (values_are : values ≡ values_in all)
+      (given_are : count ≡ length given) (values_are : values ≡ values_in all)
       (room : IsCopyChanged s place (IsBroughtChanged (λ before after. IsSame before after × HasRoomFor after count values count)) t) where
     abbrev kept : Kept
     kept = room.changed.now
+
+    entries_are : count ≡ length all
+    entries_are = given_are ∙ ap length (sym told) ∙ length-map all (λ (p : Prepared). p.step)
 
     before_is : room.before ≡ at.copy
     before_is = copy_inside (sym room.was ∙ at.got)

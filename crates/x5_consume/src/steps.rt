@@ -29,8 +29,8 @@ pub fn accept_steps(
     ensures err { OnErr result (holdings_view state.new ≡ holdings_view state.old) }
 {
     let place = place_of(state, context);
+    let count = steps.len();
     let all = all_prepared(alloc, steps)?;
-    let count = all.len();
     let values = values_for_all(&all)?;
     state.make_room_at_copy(place, count, values, count)?;
     do_all(state, place, all, stamp);
