@@ -68,7 +68,7 @@ module _ (s : State) (place : ℕ) (one : Prepared) (change : EntryChange) (w : 
 
   pub one_done : (stamp : ℕ) (t : State)
       → IsCopyChanged s place (IsBroughtChanged (λ before after.
-          IsChanged before change (record { moment = stamp; step = one.step }) after × IsLeft before change after)) t
+      IsChanged before change (record { moment = stamp; step = one.step }) after × IsLeft before change after)) t
       → IsCopyChanged s place (IsBroughtChanged (IsDone one stamp)) t
   one_done stamp t x =
       let b = x.changed in
