@@ -1,0 +1,11 @@
+pub mod Lasts
+pub mod Adding
+pub mod Extending
+pub mod Whole
+pub mod Changing
+pub mod Placing
+pub mod Standing
+pub mod Found
+pub mod Counting
+pub mod Going
+pub mod Taking

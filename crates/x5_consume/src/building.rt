@@ -1,0 +1,67 @@
+//! A copy, made of the content of a total refresh.
+
+ghost use Rattle.std.specs.Prelude.{◌≡◌, ◌++◌, ◌∷◌, [], true, IfOk, Some, option_map};
+ghost use Rattle.x5_model.specs.Keys.{Key};
+ghost use Rattle.x5_model.specs.Values.{key_of};
+ghost use Rattle.x5_model.specs.Words.{ascending, first_of};
+ghost use Rattle.x5_model_tree.specs.Tree.{key_at, named_below};
+ghost use Rattle.x5_dse.specs.Linked.{entries_of};
+ghost use Rattle.x5_consume.specs.Steps.{CanAdd};
+ghost use Rattle.x5_consume.specs.Taken.{AreWhole, IsContent};
+ghost use Rattle.x5_consume.specs.Building.{IsExtended};
+
+use std::alloc::Global;
+use x5_holdings::{ChangeLog, Held};
+use x5_index::Room;
+use x5_memory::NoMemory;
+use x5_ops::{Content, Moment, Named};
+
+/// The context with this entry more, behind all others.
+fn with_entry(alloc: Global, held: Held, named: &Named) -> Result<Held, NoMemory>
+    requires order { ascending named_below (entries_of held.nodes.nodes ++ named.now ∷ []) ≡ true }
+    requires can { CanAdd (entries_of held.nodes.nodes) named.now }
+    ensures { IfOk result (λ after. IsExtended held (named.now ∷ []) after) }
+{
+    let mut held = held;
+    let room = Room::new(alloc, &named.entry)?;
+    held.reserve(1, room.len())?;
+    let name = named.name.clone()?;
+    let entry = named.entry.clone()?;
+    let Ok(_node) = held.insert(name, entry, room) else {
+        unreachable!()
+    };
+    Ok(held)
+}
+
+/// The context with these entries more. They are in the order of their keys, each behind the one above it.
+fn with_entries(alloc: Global, held: Held, entries: &[Named]) -> Result<Held, NoMemory>
+    requires { (pin : Key) × AreWhole pin (entries_of held.nodes.nodes ++ entries.now) × (option_map key_at (first_of (entries_of held.nodes.nodes)) ≡ Some pin) }
+    ensures { IfOk result (λ after. IsExtended held entries.now after) }
+{
+    let mut held = held;
+    for named in entries {
+        held = with_entry(alloc, held, named)?;
+    }
+    Ok(held)
+}
+
+/// What the content is as a context that is held, with no changes since the stamp.
+pub(crate) fn held_of(alloc: Global, content: Content, stamp: Moment) -> Result<Held, NoMemory>
+    requires { (pin : Key) × AreWhole pin content.entries }
+    ensures content { IfOk result (λ held. IsContent content stamp held) }
+    ensures prefix { IfOk result (λ held. (pin : Key) → AreWhole pin content.entries → key_of held.prefix ≡ pin) }
+{
+    let Content {
+        entries,
+        specific,
+        nssr,
+    } = content;
+    let Some((first, rest)) = entries.as_slice().split_first() else {
+        unreachable!()
+    };
+    let log = ChangeLog::new(alloc, stamp);
+    let prefix = first.name.clone()?;
+    let entry = first.entry.clone()?;
+    let held = Held::new(alloc, prefix, entry, log, specific, nssr)?;
+    with_entries(alloc, held, rest)
+}

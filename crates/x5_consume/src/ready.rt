@@ -1,0 +1,37 @@
+//! Steps, with what they need made ready.
+
+use x5_index::Room;
+use x5_match::Entry;
+use x5_names::{Name, Rdn};
+use x5_ops::Step;
+
+/// What a step needs: the entry that comes with its values, and the name of the one that it changes.
+#[derive(Debug, Drop)]
+pub(crate) enum Ready {
+    Add {
+        name: Name,
+        entry: Entry,
+        room: Room,
+    },
+    Remove {
+        name: Name,
+    },
+    Modify {
+        name: Name,
+        entry: Entry,
+        room: Room,
+    },
+    Rename {
+        name: Name,
+        rdn: Rdn,
+        entry: Entry,
+        room: Room,
+    },
+}
+
+/// A step, with what it needs.
+#[derive(Debug, Drop)]
+pub(crate) struct Prepared {
+    pub(crate) ready: Ready,
+    pub(crate) step: Step,
+}
