@@ -21,7 +21,7 @@ use Rattle.x5_dse.specs.Linked.{Node, Nodes, entries_of, node_key, named_of}
 use Rattle.x5_dse.specs.Changes.{Inserted, NotInserted}
 use Rattle.x5_dse.proofs.Parents.{front_less}
 use Rattle.x5_dse.proofs.Renaming.{name_above_push}
-use Rattle.x5_consume.specs.Steps.{IsBelow, CanAdd}
+use Rattle.x5_model_refreshed.specs.Doable.{IsBelow, CanAdd}
 
 module _ (xs : List Named) (e : Named) (below : IsBelow xs e) where
   pub above_key_is : key_at below.above ≡ parent (key_at e)

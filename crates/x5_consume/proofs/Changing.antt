@@ -30,7 +30,7 @@ use Rattle.x5_holdings.specs.State.{Kept}
 use Rattle.x5_holdings.proofs.Finding.{find_map}
 use Rattle.x5_consume.specs.declared.ready.Ready.{Ready}
 use Rattle.x5_consume.specs.declared.ready.Ready.TheVariants as ready
-use Rattle.x5_consume.specs.Steps.{CanAdd, CanDo, CanModify, CanRemove, CanRename}
+use Rattle.x5_model_refreshed.specs.Doable.{CanAdd, CanDo, CanModify, CanRemove, CanRename}
 use Rattle.x5_consume.specs.Ready.{IsChangeFor, IsFindable, IsNodeOf, IsReadyFor, IsRoom, room_of as ready_room}
 use Rattle.x5_consume.proofs.Adding.{parent_there, same_entry}
 

@@ -19,8 +19,7 @@ use Rattle.x5_dse.specs.Linked.{Node, entries_of}
 use Rattle.x5_dse.specs.Changes.{Inserted, NotInserted}
 use Rattle.x5_ops.proofs.Dropping.{drop_at}
 use Rattle.x5_holdings.specs.State.{Kept, OnlyEntries}
-use Rattle.x5_consume.specs.Steps.{IsBelow, CanAdd}
-use Rattle.x5_consume.specs.Taken.{AreWhole}
+use Rattle.x5_model_refreshed.specs.Doable.{IsBelow, CanAdd, AreWhole}
 use Rattle.x5_consume.specs.Building.{IsExtended}
 use Rattle.x5_consume.proofs.Adding.{above_before, not_refused, same_entry}
 

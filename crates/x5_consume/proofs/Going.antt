@@ -16,7 +16,8 @@ use Rattle.x5_holdings.specs.State.{CopyKept, Kept, State}
 use Rattle.x5_consume.specs.declared.ready.Ready.{Ready}
 use Rattle.x5_consume.specs.declared.ready.Prepared.{Prepared}
 use Rattle.x5_consume.specs.Ready.{ArePrepared, CanGo, CanGoOn, IsDone, IsDue, IsFindable, Stands, room_of as ready_room, steps_in, values_in}
-use Rattle.x5_consume.specs.Steps.{CanReplay, step_view, steps_view}
+use Rattle.x5_model_refreshed.specs.Doable.{CanReplay}
+use Rattle.x5_consume.specs.Steps.{step_view, steps_view}
 use Rattle.x5_consume.specs.Taken.{AreDone, AreNoted}
 use Rattle.x5_consume.proofs.Changing.{Makes, can_change, findable, made, makes, room_is}
 use Rattle.x5_consume.proofs.Placing.{copy_inside, got_set, one_copy, one_kept, set_same, set_twice, some_inside}

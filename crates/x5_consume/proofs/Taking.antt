@@ -20,7 +20,8 @@ use Rattle.x5_holdings.specs.Placed.{IsBroughtChanged, IsCopyChanged}
 use Rattle.x5_holdings.specs.State.{CopyKept, Kept, State, brought_entries, copy_view, holdings_view, stamp_of}
 use Rattle.x5_consume.specs.declared.ready.Prepared.{Prepared}
 use Rattle.x5_consume.specs.Ready.{ArePrepared, CanGoOn, Stands, steps_in, values_in}
-use Rattle.x5_consume.specs.Steps.{CanReplay, steps_view}
+use Rattle.x5_model_refreshed.specs.Doable.{CanReplay}
+use Rattle.x5_consume.specs.Steps.{steps_view}
 use Rattle.x5_consume.specs.Taken.{AreDone, AreNoted, CanTake, IsAdvanced, IsContent, IsReplaced, IsTaken}
 use Rattle.x5_consume.proofs.Placing.{At, copy_inside, got_set, set_mapped, set_twice, some_inside}
 

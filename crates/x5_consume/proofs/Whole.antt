@@ -14,7 +14,8 @@ use Rattle.x5_dse.specs.Linked.{entries_of}
 use Rattle.x5_holdings.specs.Logs.{Log}
 use Rattle.x5_holdings.specs.State.{Kept}
 use Rattle.x5_consume.specs.Building.{IsExtended}
-use Rattle.x5_consume.specs.Taken.{AreWhole, IsContent}
+use Rattle.x5_model_refreshed.specs.Doable.{AreWhole}
+use Rattle.x5_consume.specs.Taken.{IsContent}
 
 key_inside : {a b : Key} → Some a ≡ Some b → a ≡ b
 key_inside e = cc

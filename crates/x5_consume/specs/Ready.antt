@@ -7,6 +7,7 @@ use Rattle.x5_model.specs.Attributes.{is_ordered}
 use Rattle.std.specs.declared.option.Option.TheVariants.{Some}
 use Rattle.x5_model_refreshed.specs.Steps as model
 use Rattle.x5_model_refreshed.specs.Steps.{replayed}
+use Rattle.x5_model_refreshed.specs.Doable.{CanDo, CanReplay}
 use Rattle.x5_model_tree.specs.Tree.{is_there}
 use Rattle.x5_ops.specs.declared.knowledge.Step.{Step}
 use Rattle.x5_dse.specs.declared.node.NodeId.{NodeId}
@@ -20,7 +21,7 @@ use Rattle.x5_holdings.specs.State.{Kept, CopyKept, IsKept, State}
 use Rattle.x5_consume.specs.declared.ready.Ready.{Ready}
 use Rattle.x5_consume.specs.declared.ready.Ready.TheVariants as ready
 use Rattle.x5_consume.specs.declared.ready.Prepared.{Prepared}
-use Rattle.x5_consume.specs.Steps.{CanDo, CanReplay, step_view, steps_view}
+use Rattle.x5_consume.specs.Steps.{step_view, steps_view}
 
 -- the entry's values, once each
 abbrev pub IsRoom : Entry → List KeyPair → Type 0

@@ -1,38 +1,28 @@
 -- What a consumer's copy is after a refresh (X.525, sections 7: shadowed information; 9 and 11: total and incremental
 -- refreshes). That the log of a copy has the steps at the refresh's stamp is this project's own.
-use Rattle.std.specs.Prelude.{◌≡◌, ◌<◌, ◌⊎◌, ℕ, true, List, [], ◌∷◌, length}
-use Rattle.std.specs.Option.{is_some, option_map}
+use Rattle.std.specs.Prelude.{◌≡◌, ℕ, true, List, [], ◌∷◌}
+use Rattle.std.specs.Option.{is_some}
 use Rattle.std.specs.declared.option.Option.{Option}
 use Rattle.std.specs.declared.option.Option.TheVariants.{None, Some}
-use Rattle.x5_model.specs.Members.{In}
-use Rattle.x5_model.specs.Words.{ascending, first_of, in_option}
+use Rattle.x5_model.specs.Words.{in_option}
 use Rattle.x5_model.specs.Keys.{Key}
 use Rattle.x5_model.specs.Values.{key_of}
-use Rattle.x5_model.specs.Entries.{Named}
-use Rattle.x5_model_tree.specs.Tree.{key_at, named_below}
 use Rattle.x5_model_run.specs.Holdings.{Copy, Holdings, copy_at}
 use Rattle.x5_model_refreshed.specs.Steps.{replay}
+use Rattle.x5_model_refreshed.specs.Doable.{CanReplay}
 use Rattle.x5_ops.specs.declared.knowledge.Content.{Content}
 use Rattle.x5_ops.specs.declared.knowledge.Step.{Step}
 use Rattle.x5_dse.specs.Linked.{entries_of}
 use Rattle.x5_holdings.specs.Logs.{Log, IsLogged}
 use Rattle.x5_holdings.specs.Placed.{IsCopyChanged}
 use Rattle.x5_holdings.specs.State.{Kept, CopyKept, State}
-use Rattle.x5_consume.specs.Steps.{IsBelow, CanReplay, steps_view}
+use Rattle.x5_consume.specs.Steps.{steps_view}
 
 -- the stamp of the copy of a context: none where it was never refreshed, or is no copy at all
 abbrev pub stamp_at : Holdings → Key → Option ℕ
 stamp_at h pin = in_option None (λ c. c.stamp) (copy_at h pin)
 
 -- ---- what may come
-
--- The entries of a naming context in the order of their keys, the prefix's first, and of each other the one just above
--- (X.501, section 7), by the name that its own goes on.
-pub record AreWhole (pin : Key) (entries : List Named) : Type 0 where
-  pub below_root : 0 < length pin
-  pub first : option_map key_at (first_of entries) ≡ Some pin
-  pub in_order : ascending named_below entries ≡ true
-  pub above : (e : Named) → In e entries → (key_at e ≡ pin) ⊎ IsBelow entries e
 
 -- steps that can be done one after another on what refreshes brought of the context
 pub record CanTake (h : Holdings) (pin : Key) (given : List Step) : Type 0 where

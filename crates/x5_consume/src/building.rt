@@ -6,8 +6,8 @@ ghost use Rattle.x5_model.specs.Values.{key_of};
 ghost use Rattle.x5_model.specs.Words.{ascending, first_of};
 ghost use Rattle.x5_model_tree.specs.Tree.{key_at, named_below};
 ghost use Rattle.x5_dse.specs.Linked.{entries_of};
-ghost use Rattle.x5_consume.specs.Steps.{CanAdd};
-ghost use Rattle.x5_consume.specs.Taken.{AreWhole, IsContent};
+ghost use Rattle.x5_model_refreshed.specs.Doable.{AreWhole, CanAdd};
+ghost use Rattle.x5_consume.specs.Taken.{IsContent};
 ghost use Rattle.x5_consume.specs.Building.{IsExtended};
 
 use std::alloc::Global;

@@ -5,7 +5,8 @@ ghost use Rattle.std.specs.Option.{is_some};
 ghost use Rattle.x5_model.specs.Values.{key_of};
 ghost use Rattle.x5_model_run.specs.Holdings.{copy_at};
 ghost use Rattle.x5_holdings.specs.State.{holdings_view};
-ghost use Rattle.x5_consume.specs.Taken.{AreWhole, IsReplaced, IsTaken};
+ghost use Rattle.x5_model_refreshed.specs.Doable.{AreWhole};
+ghost use Rattle.x5_consume.specs.Taken.{IsReplaced, IsTaken};
 
 use crate::building::held_of;
 use crate::places::place_of;
