@@ -43,7 +43,7 @@ one_first x (y ∷ z ∷ more) e i = absurd (omega arith)
 
 -- the consumer of an agreement doesn't master its context, and consumes it by this agreement
 module _ (w : World) (g : Agreement) (i : In g w.agreements) (supplies : AgreementSupplies w g) where
-  not_master : masters w g.consumer (key_of g.context) ≡ false
+  pub not_master : masters w g.consumer (key_of g.context) ≡ false
   not_master = elim (true_or_false (masters w g.consumer (key_of g.context))) [
     | inr e ↦ e
     | inl e ↦
@@ -57,13 +57,13 @@ module _ (w : World) (g : Agreement) (i : In g w.agreements) (supplies : Agreeme
       and_true (g.consumer == g.consumer) (same_key (key_of g.context) (key_of g.context))
       ((nat_same_decides g.consumer g.consumer).1 refl) ((key_decides (key_of g.context) (key_of g.context)).1 refl)
 
-  by_it : consumed_by w g.consumer (key_of g.context) ≡ Some g
+  pub by_it : consumed_by w g.consumer (key_of g.context) ≡ Some g
   by_it =
       found_first (is_consumer g.consumer (key_of g.context)) w.agreements
       ∙ one_first g (filter (is_consumer g.consumer (key_of g.context)) w.agreements) supplies.1.0
       (in_filter (is_consumer g.consumer (key_of g.context)) g w.agreements i is_by_it)
 
-some_number : (a b : ℕ) → Some a ≡ Some b → a ≡ b
+pub some_number : (a b : ℕ) → Some a ≡ Some b → a ≡ b
 some_number a b e = cc
 
 pub refresh_replays : RefreshReplays

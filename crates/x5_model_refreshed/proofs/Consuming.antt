@@ -143,7 +143,7 @@ module _ (w : World) (described : IsDescribed w) (consistent : IsConsistent w) (
   ]
 
   -- a stamp of the copy so far
-  last_early : (m : ℕ) → last ≡ Some m → (m ≤ length before) × (m ≤ f.stamp)
+  pub last_early : (m : ℕ) → last ≡ Some m → (m ≤ length before) × (m ≤ f.stamp)
   last_early m e =
       let n = newest_in fs m e in
       let q : n.0.stamp ≡ m = n.2 in
@@ -167,6 +167,20 @@ module _ (w : World) (described : IsDescribed w) (consistent : IsConsistent w) (
         k.moments ∙ ap (λ (c : Changes). reverse c.moments) (sym (changes_consumer w before h g.supplier pin v.1.0 v.0 v.1.1))
   ]
 
+  -- where it still has all changes since the copy's stamp, that is a stamp of a consumer's that supplies it
+  pub still_since : (m : ℕ) → last ≡ Some m → nat_lt m (base_of (changes_at (at_line w before) g.supplier pin)) ≡ false
+      → (own : Agreement) → masters w g.supplier pin ≡ false → consumed_by w g.supplier pin ≡ Some own → In m (stamps_since (refreshes_of before own.number))
+  still_since m e known own o c =
+      let k : KeptBy w before g.supplier pin own = theirs own o c in
+      let n = newest_in fs m e in
+      let x = kept.from own o c n.0 n.1 in
+      let same : x.0.stamp ≡ m = x.2 ∙ n.2 in
+      let not_low : nat_lt x.0.stamp (base_of (steps_since (refreshes_of before own.number))) ≡ false =
+      ap (λ (y : ℕ). nat_lt y (base_of (steps_since (refreshes_of before own.number)))) same
+      ∙ ap (λ (c : Changes). nat_lt m (base_of c)) (sym (changes_consumer w before h g.supplier pin own o c))
+      ∙ known in
+      subst (λ (y : ℕ). In y (stamps_since (refreshes_of before own.number))) same (kept_since (refreshes_of before own.number) k.falls x.0 x.1 not_low)
+
   -- and replays from the copy's stamp to the new one, where it still has all changes
   pub supplier_replays : (m : ℕ) → last ≡ Some m → nat_lt m (base_of (changes_at (at_line w before) g.supplier pin)) ≡ false
       → replay (steps_later m supplied_log) (then_of w before pin m) ≡ then_of w (d ∷ before) pin f.stamp
@@ -181,15 +195,7 @@ module _ (w : World) (described : IsDescribed w) (consistent : IsConsistent w) (
         | inr v ↦
             let own : Agreement = v.1.0 in
             let k : KeptBy w before g.supplier pin own = theirs own v.0 v.1.1 in
-            let n = newest_in fs m e in
-            let x = kept.from own v.0 v.1.1 n.0 n.1 in
-            let same : x.0.stamp ≡ m = x.2 ∙ n.2 in
-            let not_low : nat_lt x.0.stamp (base_of (steps_since (refreshes_of before own.number))) ≡ false =
-            ap (λ (y : ℕ). nat_lt y (base_of (steps_since (refreshes_of before own.number)))) same
-            ∙ ap (λ (c : Changes). nat_lt m (base_of c)) (sym (changes_consumer w before h g.supplier pin own v.0 v.1.1))
-            ∙ known in
-            let i : In m (stamps_since (refreshes_of before own.number)) =
-            subst (λ (y : ℕ). In y (stamps_since (refreshes_of before own.number))) same (kept_since (refreshes_of before own.number) k.falls x.0 x.1 not_low) in
+            let i : In m (stamps_since (refreshes_of before own.number)) = still_since m e known own v.0 v.1.1 in
             let y = newest_in (refreshes_of before own.number) f.stamp v.1.2 in
             let l : y.0.stamp ≤ length before = k.early y.0 y.1 in
             let q : y.0.stamp ≡ f.stamp = y.2 in
@@ -239,7 +245,7 @@ module _ (w : World) (described : IsDescribed w) (consistent : IsConsistent w) (
         ∙ sym (reverse-append (replicate f.count f.stamp) (steps_since fs).moments)
         ∙ ap (λ (ns : List ℕ). reverse ns) (sym (after_steps f fs t))
 
-    more_under : (x : ℕ × Step) → In x more → x.0 ≤ f.stamp
+    pub more_under : (x : ℕ × Step) → In x more → x.0 ≤ f.stamp
     more_under x i = elim (in_either x log (stamped f.stamp steps) i) [
       | inl j ↦ (let l : x.0 ≤ m = kept.under m go.1 x j in let r = (last_early m go.1).1 in omega arith)
       | inr j ↦ (let e = stamped_at f.stamp steps x j in omega arith)

@@ -10,3 +10,5 @@ pub mod Lasting
 pub mod Bringing
 pub mod Replayed
 pub mod Running
+pub mod Spelling
+pub mod Stepping

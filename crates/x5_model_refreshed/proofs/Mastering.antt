@@ -38,13 +38,13 @@ use Rattle.x5_model_refreshed.proofs.Leading.{at_line, accepts_taken, tree_accep
 
 -- ---- one update
 
-abbrev as_noted : ℕ → Bool → Option Step → Log
+abbrev pub as_noted : ℕ → Bool → Option Step → Log
 as_noted n b o = if b then in_option [] (λ (s : Step). (n, s) ∷ []) o else []
 
 module _ (k : Knowledge) (t u : Tree) (good : Coherent k) (is : IsTreeOf k t) (n : ℕ) (pin : Key) (a : Acceptance)
     (up : is_update a.request.body ≡ true) (done : apply t a.request ≡ Ok u) (held : In pin t.pins) where
   -- a context in which the update isn't has what it had
-  elsewhere : belongs t.pins pin (key_of (target_of a.request.body)) ≡ false → part t pin ≡ part u pin
+  pub elsewhere : belongs t.pins pin (key_of (target_of a.request.body)) ≡ false → part t pin ≡ part u pin
   elsewhere out =
       let v = accepted_over (ground_of t) a.request.body u.entries (tree_made t u a.request done).0 in
       let c = target_in k t good is a.request.body u.entries up v.1 in
@@ -53,7 +53,7 @@ module _ (k : Knowledge) (t u : Tree) (good : Coherent k) (is : IsTreeOf k t) (n
       (λ s. (let both : true ≡ false = sym own ∙ ap (λ (x : Key). belongs t.pins x (key_of (target_of a.request.body))) (sym s) ∙ out in cc)))
 
   -- what is noted of it: one change where it is in the context, and nothing elsewhere
-  noted_one : (b : Bool) → is_change_in t.pins pin a ≡ b
+  pub noted_one : (b : Bool) → is_change_in t.pins pin a ≡ b
       → (moments_of (noted_of n t.pins pin t a) ≡ (if b then n ∷ [] else []))
       × (replay (steps_of (noted_of n t.pins pin t a)) (part t pin) ≡ part u pin)
   noted_one true e =
@@ -72,7 +72,7 @@ or_left t (Ok u) = u
 or_left t (Err x) = t
 
 -- what is noted is at one moment
-noted_at : (n : ℕ) (ps : List Key) (pin : Key) (t : Tree) (accepted : List Acceptance) (x : ℕ × Step)
+pub noted_at : (n : ℕ) (ps : List Key) (pin : Key) (t : Tree) (accepted : List Acceptance) (x : ℕ × Step)
     → In x (noted n ps pin t accepted) → x.0 ≡ n
 noted_at n ps pin t [] x i = elim i [ ]
 noted_at n ps pin t (a ∷ more) x i =
@@ -127,10 +127,10 @@ module _ (w : World) (described : IsDescribed w) (consistent : IsConsistent w) (
   abbrev log : List Did → Log
   log past = logs_by w past a pin
 
-  abbrev news : Did → List Did → Log
+  abbrev pub news : Did → List Did → Log
   news d before = noted (length before + 1) (pins w) pin (tree_by w before) (accepted_in d.deed)
 
-  grows : (d : Did) (before : List Did) → AllHappen w (d ∷ before) → log (d ∷ before) ≡ log before ++ news d before
+  pub grows : (d : Did) (before : List Did) → AllHappen w (d ∷ before) → log (d ∷ before) ≡ log before ++ news d before
   grows d before h =
       let same : knowledge_by w before ≡ w = knowledge_stays w before h.1 in
       by d.deed h.0 (ap (λ (x : World). masters x a pin) same ∙ mine)
@@ -147,7 +147,7 @@ module _ (w : World) (described : IsDescribed w) (consistent : IsConsistent w) (
       by (Splits name to) m e = absurd m
       by (Unsplits name) m e = absurd m
 
-  brings : (d : Did) (before : List Did) → AllHappen w (d ∷ before)
+  pub brings : (d : Did) (before : List Did) → AllHappen w (d ∷ before)
       → (moments_of (news d before) ≡ constant (length before + 1) (filter (is_change_in (pins w) pin) (accepted_in d.deed)))
       × (replay (steps_of (news d before)) (part (tree_by w before) pin) ≡ part (tree_by w (d ∷ before)) pin)
   brings d before h =

@@ -36,7 +36,7 @@ map_alike {A} {B} f g (x ∷ xs) h =
     ap (λ (y : B). y ∷ map f xs) (h x here)
     ∙ ap (λ (ys : List B). g x ∷ ys) (map_alike f g xs (λ y i. h y (there i)))
 
-last_of_end : (n : Name) (r : Rdn) → last_rdn (n ++ r ∷ []) ≡ r
+pub last_of_end : (n : Name) (r : Rdn) → last_rdn (n ++ r ∷ []) ≡ r
 last_of_end [] r = refl
 last_of_end (q ∷ []) r = refl
 last_of_end (q ∷ s ∷ n) r = last_of_end (s ∷ n) r
@@ -50,7 +50,7 @@ same_above m n q =
     omega (arith, length-take (length m - 1) m, length-take (length n - 1) n)
 
 -- the new name ends with the new RDN
-new_end : (name : Name) (rdn : Rdn) (old : Named) → key_at old ≡ key_of name → 0 < length name
+pub new_end : (name : Name) (rdn : Rdn) (old : Named) → key_at old ≡ key_of name → 0 < length name
     → last_rdn (name_after name rdn old) ≡ rdn
 new_end name rdn old q full =
     let l : length old.name ≡ length name = sym (key_length old.name) ∙ ap length q ∙ key_length name in

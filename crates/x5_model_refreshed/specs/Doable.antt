@@ -17,14 +17,15 @@ use Rattle.x5_model_tree.specs.Masters.{masters}
 use Rattle.x5_model_tree.specs.Ask.{is_update}
 use Rattle.x5_model_tree.specs.Apply.{apply}
 use Rattle.x5_model_run.specs.Needs.{target_of}
-use Rattle.x5_model_run.specs.History.{Point, tree_at, tree_of_moment, knowledge_at, refreshes_of}
+use Rattle.x5_model_run.specs.History.{Point, Refreshed, tree_at, tree_of_moment, knowledge_at, refreshes_of, as_of}
+use Rattle.x5_model_run.specs.History.{copy_by}
 use Rattle.x5_model_run.specs.Refresh.{consumed_by}
 use Rattle.x5_model_theory.specs.Knowledge.{Knowledge}
 use Rattle.x5_model_theory.specs.Coherent.{Coherent}
 use Rattle.x5_model_updates.specs.Standing.{IsTreeOf}
 use Rattle.x5_model_refreshed.specs.Steps.{Step, Add, Remove, Modify, Rename, replayed, step_of}
 use Rattle.x5_model_refreshed.specs.Logs.{steps_later, log_at, stamps_since}
-use Rattle.x5_model_refreshed.specs.Replaying.{IsLed}
+use Rattle.x5_model_refreshed.specs.Replaying.{IsLed, IsBrought}
 
 -- the entry just above is there, by the name that this one's goes on
 pub record IsBelow (entries : List Named) (e : Named) : Type 0 where
@@ -104,3 +105,10 @@ ConsumerCanReplay =
     (p : Point) (a m : ℕ) (pin : Key) (g : Agreement) → IsLed p → masters (knowledge_at p) a pin ≡ false
     → consumed_by (knowledge_at p) a pin ≡ Some g → In m (stamps_since (refreshes_of p.past g.number))
     → CanReplay pin (part (tree_of_moment p m) pin) (steps_later m (log_at p a pin))
+
+-- 5. So the steps of an incremental refresh can be done on the copy's entries.
+abbrev pub RefreshCanReplay : Type 0
+RefreshCanReplay =
+    (p : Point) (f : Refreshed) (g : Agreement) (m : ℕ) → IsLed p → IsBrought p f → f.total ≡ false
+    → In g (knowledge_at p).agreements → g.number ≡ f.agreement → as_of p g.number ≡ Some m
+    → CanReplay (key_of g.context) (copy_by p g).held.entries (steps_later m (log_at p g.supplier (key_of g.context)))

@@ -4,6 +4,7 @@
 ghost use Rattle.x5_model_refreshed.specs.Refreshed.{CopyIsStamped, OtherStampsStay, MasterIsCopied, CopyIsCopied, AllElseStays};
 ghost use Rattle.x5_model_refreshed.specs.Noting.{StepIsUpdate};
 ghost use Rattle.x5_model_refreshed.specs.Replaying.{LogCounts, MasterReplays, ConsumerReplays, RefreshReplays, LastAreLater, RunsLead};
+ghost use Rattle.x5_model_refreshed.specs.Doable.{PartsAreWhole, StepCanBeDone, MasterCanReplay, ConsumerCanReplay, RefreshCanReplay};
 ghost use Rattle.x5_model_run.specs.Right.{AnswersRight};
 
 /// After a refresh the consumer's copy is what its supplier had as of the stamp, and all else is as it was (X.525, section 7:
@@ -27,4 +28,14 @@ pub fn replaying()
     ensures refresh { RefreshReplays }
     ensures last { LastAreLater }
     ensures runs { RunsLead AnswersRight }
+{}
+
+/// What a supplier has of a context is whole, with each name spelled on that of the entry above; and the later steps of its log can
+/// be done one after another, so that an incremental refresh never fails (X.525, section 11.3: update shadow).
+pub fn doing()
+    ensures whole { PartsAreWhole }
+    ensures step { StepCanBeDone }
+    ensures master { MasterCanReplay }
+    ensures consumer { ConsumerCanReplay }
+    ensures refresh { RefreshCanReplay }
 {}
