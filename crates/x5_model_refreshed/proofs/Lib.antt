@@ -12,3 +12,6 @@ pub mod Replayed
 pub mod Running
 pub mod Spelling
 pub mod Stepping
+pub mod Wholes
+pub mod Redoing
+pub mod Resuming
