@@ -50,12 +50,13 @@ module _ (w : World) (described : IsDescribed w) (consistent : IsConsistent w) (
   -- what the supplier has since the copy's stamp can be done on the copy
   supplier_can : (m : ℕ) → last ≡ Some m → nat_lt m (base_of (changes_at (at_line w before) g.supplier pin)) ≡ false
       → CanReplay pin (then_of w before pin m) (steps_later m supplied_log)
-  supplier_can m e known = elim from [
-    | inl v ↦ can_from w described consistent g.supplier pin v.0 before m h
-        (last_early w described consistent d before h a pin g kept theirs f brings from m e).0
-    | inr v ↦ they_can v.1.0 v.0 v.1.1 m
-        (still_since w described consistent d before h a pin g kept theirs f brings from m e known v.1.0 v.0 v.1.1)
-  ]
+  supplier_can m e known =
+      let early = last_early w described consistent d before h a pin g kept theirs f brings from m e in
+      let still = still_since w described consistent d before h a pin g kept theirs f brings from m e known in
+      elim from [
+        | inl v ↦ can_from w described consistent g.supplier pin v.0 before m h early.0
+        | inr v ↦ they_can v.1.0 v.0 v.1.1 m (still v.1.0 v.0 v.1.1)
+      ]
 
   module _ (mine : CanBy w before a pin g) (t : f.total ≡ false) (go : Since w before pin g f) where
     abbrev steps : List Step
@@ -91,8 +92,7 @@ module _ (w : World) (described : IsDescribed w) (consistent : IsConsistent w) (
         (can_joined pin (steps_later n (logs_by w before a pin)) (steps_later n (stamped f.stamp steps)) (then_of w before pin n) (mine n i) (can_new n i))
 
     can_more : (n : ℕ) → In n (stamps_since (f ∷ refreshes_of before g.number)) → CanReplay pin (then_of w (d ∷ before) pin n) (steps_later n more)
-    can_more n i = elim (in_first n f.stamp (stamps_since (refreshes_of before g.number))
-    (subst (λ (ms : List ℕ). In n ms) (stamps_more f (refreshes_of before g.number) t) i)) [
+    can_more n i = elim (in_first n f.stamp (stamps_since (refreshes_of before g.number)) (subst (λ (ms : List ℕ). In n ms) (stamps_more f (refreshes_of before g.number) t) i)) [
       | inl q ↦ subst (λ (xs : List Step). CanReplay pin (then_of w (d ∷ before) pin n) xs)
           (sym (none_later n more (λ x j. (let l = more_under w described consistent d before h a pin g kept theirs f brings from t go x j in omega arith)))) tt
       | inr j ↦ can_after n j
@@ -104,7 +104,7 @@ module _ (w : World) (described : IsDescribed w) (consistent : IsConsistent w) w
   module _ (d : Did) (before : List Did) (h : AllHappen w (d ∷ before)) (a : ℕ) (pin : Key) (g : Agreement) (o : masters w a pin ≡ false)
       (c : consumed_by w a pin ≡ Some g) (mine : CanBy w before a pin g)
       (they_can : (own : Agreement) → masters w g.supplier pin ≡ false → consumed_by w g.supplier pin ≡ Some own → CanBy w before g.supplier pin own) where
-    new_if : Refreshed → Bool → Log
+    abbrev new_if : Refreshed → Bool → Log
     new_if f b =
         if b then [] else (logs_by w before a pin ++ in_option [] (λ (m : ℕ). stamped f.stamp (steps_later m (logs_by w before g.supplier pin))) (as_of (at_line w before) g.number))
 
