@@ -15,3 +15,4 @@ pub mod Stepping
 pub mod Wholes
 pub mod Redoing
 pub mod Resuming
+pub mod Copied

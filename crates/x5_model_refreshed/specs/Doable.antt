@@ -80,33 +80,39 @@ pub record AreWhole (pin : Key) (entries : List Named) : Type 0 where
 
 -- ---- what a supplier has is so
 
--- 1. Whatever its master has of a context is whole.
+-- 1. Whatever its master has of a context is whole,
 abbrev pub PartsAreWhole : Type 0
 PartsAreWhole =
     (p : Point) (a : ℕ) (pin : Key) → IsLed p → masters (knowledge_at p) a pin ≡ true
     → AreWhole pin (part (tree_at p) pin)
 
--- 2. The step that the master notes of an update can be done on what the context had.
+-- 2. and so is a copy that was refreshed, which its consumer may supply to others.
+abbrev pub CopiesAreWhole : Type 0
+CopiesAreWhole =
+    (p : Point) (g : Agreement) (m : ℕ) → IsLed p → In g (knowledge_at p).agreements → as_of p g.number ≡ Some m
+    → AreWhole (key_of g.context) (copy_by p g).held.entries
+
+-- 3. The step that the master notes of an update can be done on what the context had.
 abbrev pub StepCanBeDone : Type 0
 StepCanBeDone =
     (k : Knowledge) (t u : Tree) (r : Request) (pin : Key) (step : Step) → Coherent k → IsTreeOf k t
     → is_update r.body ≡ true → apply t r ≡ Ok u → belongs t.pins pin (key_of (target_of r.body)) ≡ true
     → step_of (part t pin) r.body ≡ Some step → CanDo pin (part t pin) step
 
--- 3. The later steps of the master's log can be done on what the context had at an earlier moment,
+-- 4. The later steps of the master's log can be done on what the context had at an earlier moment,
 abbrev pub MasterCanReplay : Type 0
 MasterCanReplay =
     (p : Point) (a m : ℕ) (pin : Key) → IsLed p → masters (knowledge_at p) a pin ≡ true → m ≤ length p.past
     → CanReplay pin (part (tree_of_moment p m) pin) (steps_later m (log_at p a pin))
 
--- 4. and those of a consumer's log on what it had at a stamp of its copy since the last total refresh.
+-- 5. and those of a consumer's log on what it had at a stamp of its copy since the last total refresh.
 abbrev pub ConsumerCanReplay : Type 0
 ConsumerCanReplay =
     (p : Point) (a m : ℕ) (pin : Key) (g : Agreement) → IsLed p → masters (knowledge_at p) a pin ≡ false
     → consumed_by (knowledge_at p) a pin ≡ Some g → In m (stamps_since (refreshes_of p.past g.number))
     → CanReplay pin (part (tree_of_moment p m) pin) (steps_later m (log_at p a pin))
 
--- 5. So the steps of an incremental refresh can be done on the copy's entries.
+-- 6. So the steps of an incremental refresh can be done on the copy's entries.
 abbrev pub RefreshCanReplay : Type 0
 RefreshCanReplay =
     (p : Point) (f : Refreshed) (g : Agreement) (m : ℕ) → IsLed p → IsBrought p f → f.total ≡ false

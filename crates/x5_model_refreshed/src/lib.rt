@@ -4,7 +4,7 @@
 ghost use Rattle.x5_model_refreshed.specs.Refreshed.{CopyIsStamped, OtherStampsStay, MasterIsCopied, CopyIsCopied, AllElseStays};
 ghost use Rattle.x5_model_refreshed.specs.Noting.{StepIsUpdate};
 ghost use Rattle.x5_model_refreshed.specs.Replaying.{LogCounts, MasterReplays, ConsumerReplays, RefreshReplays, LastAreLater, RunsLead};
-ghost use Rattle.x5_model_refreshed.specs.Doable.{PartsAreWhole, StepCanBeDone, MasterCanReplay, ConsumerCanReplay, RefreshCanReplay};
+ghost use Rattle.x5_model_refreshed.specs.Doable.{PartsAreWhole, CopiesAreWhole, StepCanBeDone, MasterCanReplay, ConsumerCanReplay, RefreshCanReplay};
 ghost use Rattle.x5_model_run.specs.Right.{AnswersRight};
 
 /// After a refresh the consumer's copy is what its supplier had as of the stamp, and all else is as it was (X.525, section 7:
@@ -34,6 +34,7 @@ pub fn replaying()
 /// be done one after another, so that an incremental refresh never fails (X.525, section 11.3: update shadow).
 pub fn doing()
     ensures whole { PartsAreWhole }
+    ensures copies { CopiesAreWhole }
     ensures step { StepCanBeDone }
     ensures master { MasterCanReplay }
     ensures consumer { ConsumerCanReplay }
