@@ -1,9 +1,9 @@
 -- A copy that was refreshed is whole: it has what its context's master had at the moment of its stamp.
-use Rattle.std.proofs.Common.{◌≡◌, ℕ, zero, suc, ◌-◌, List, [], ◌∷◌, length, drop, sym, ap, subst, ◌∙◌, Option, Some, true}
+use Rattle.std.proofs.Common.{◌≡◌, ℕ, zero, suc, ◌-◌, List, [], ◌∷◌, length, drop, sym, ap, subst, ◌∙◌, Option, true}
 use Rattle.x5_model.specs.Members.{In}
 use Rattle.x5_model.specs.Values.{key_of}
 use Rattle.x5_model.specs.Entries.{Named}
-use Rattle.x5_model_tree.specs.World.{Agreement, World}
+use Rattle.x5_model_tree.specs.World.{World}
 use Rattle.x5_model_tree.specs.Tree.{part}
 use Rattle.x5_model_tree.specs.Masters.{masters}
 use Rattle.x5_model_tree.specs.Conditions.{AgreementSupplies}

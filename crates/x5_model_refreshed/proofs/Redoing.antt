@@ -1,5 +1,5 @@
 -- The later steps of the master's log can be done one after another: each could when it was noted, on what those before it had made.
-use Rattle.std.proofs.Common.{◌≡◌, ℕ, suc, ◌+◌, ◌-◌, ◌≤◌, Bool, true, false, nat_lt, ◌⊎◌, inl, inr, List, [], ◌∷◌, ◌++◌, length, drop, refl, sym, ap, subst, ◌∙◌, arith, Option, Ok, Err}
+use Rattle.std.proofs.Common.{◌≡◌, ℕ, suc, ◌+◌, ◌-◌, ◌≤◌, Bool, true, false, nat_lt, ◌⊎◌, inl, inr, List, [], ◌∷◌, ◌++◌, length, drop, refl, sym, ap, subst, ◌∙◌, arith, Ok, Err}
 use Rattle.std.proofs.lemmas.List.{map-append}
 use Rattle.x5_model.specs.Members.{In}
 use Rattle.x5_model.specs.Keys.{Key}
@@ -29,8 +29,8 @@ use Rattle.x5_model_refreshed.specs.Doable.{CanReplay, MasterCanReplay}
 use Rattle.x5_model_refreshed.proofs.Listing.{steps_of, later_joined, all_later, none_later, not_less}
 use Rattle.x5_model_refreshed.proofs.Noting.{step_is_update}
 use Rattle.x5_model_refreshed.proofs.Stepping.{step_can_be_done}
-use Rattle.x5_model_refreshed.proofs.Leading.{at_line, accepts_taken, tree_before, tree_now, knowledge_stays, mastered_pin, stands, pins_stay}
-use Rattle.x5_model_refreshed.proofs.Mastering.{as_noted, noted_one, noted_at, news, grows, past_only, replays}
+use Rattle.x5_model_refreshed.proofs.Leading.{at_line, accepts_taken, tree_before, knowledge_stays, mastered_pin, stands, pins_stay}
+use Rattle.x5_model_refreshed.proofs.Mastering.{as_noted, noted_one, noted_at, grows, past_only, replays}
 
 pub can_joined : (pin : Key) (xs ys : List Step) (es : List Named) → CanReplay pin es xs → CanReplay pin (replay xs es) ys → CanReplay pin es (xs ++ ys)
 can_joined pin [] ys es a b = b
@@ -73,9 +73,10 @@ can_all k t good is n ps pin same held (a ∷ more) taken =
     let pins_now : u.pins ≡ ps = ap (λ (x : Tree). x.pins) (tree_made t u a.request done).1 ∙ same in
     let rest = can_all (with_entries (keys_in u) k) u next.0 next.1 n ps pin pins_now held more (subst (λ (x : Tree). AreTaken x more) now taken.2) in
     let first = subst (λ (qs : List Key). CanReplay pin (part t pin) (steps_of (noted_of n qs pin t a))
-    × (replay (steps_of (noted_of n qs pin t a)) (part t pin) ≡ part u pin)) same
-    (can_one k t u good is n pin a taken.0 done (is_change_in t.pins pin a) refl,
-    (noted_one k t u good is n pin a taken.0 done (subst (λ (qs : List Key). In pin qs) (sym same) held) (is_change_in t.pins pin a) refl).1) in
+    × (replay (steps_of (noted_of n qs pin t a)) (part t pin) ≡ part u pin)) same (
+      can_one k t u good is n pin a taken.0 done (is_change_in t.pins pin a) refl,
+      (noted_one k t u good is n pin a taken.0 done (subst (λ (qs : List Key). In pin qs) (sym same) held) (is_change_in t.pins pin a) refl).1,
+    ) in
     let moved : noted n ps pin t (a ∷ more) ≡ noted_of n ps pin t a ++ noted n ps pin u more =
     ap (λ (x : Tree). noted_of n ps pin t a ++ noted n ps pin x more) now in
     can_same pin (steps_of (noted n ps pin t (a ∷ more))) (steps_of (noted_of n ps pin t a) ++ steps_of (noted n ps pin u more)) (part t pin) (part t pin)

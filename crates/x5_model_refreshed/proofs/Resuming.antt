@@ -1,6 +1,6 @@
 -- The later steps of a consumer's log can be done one after another: each refresh brought such as its supplier's log had since the
 -- copy's stamp. By induction over the lines before, for all consumers at once, since a supplier may be one itself.
-use Rattle.std.proofs.Common.{◌≡◌, ℕ, ◌≤◌, ◌<◌, Bool, true, false, if◌then◌else◌, nat_lt, inl, inr, List, [], ◌∷◌, ◌++◌, length, refl, sym, ap, subst, ◌∙◌, arith, Option, Some}
+use Rattle.std.proofs.Common.{◌≡◌, ℕ, ◌≤◌, ◌<◌, Bool, false, if◌then◌else◌, nat_lt, inl, inr, List, [], ◌∷◌, ◌++◌, length, refl, sym, ap, subst, ◌∙◌, arith, Option, Some}
 use Rattle.x5_model.specs.Words.{in_option}
 use Rattle.x5_model.specs.Members.{In}
 use Rattle.x5_model.specs.Keys.{Key}
@@ -21,7 +21,7 @@ use Rattle.x5_model_refreshed.specs.Logs.{Log, steps_later, stamped, logs_by, st
 use Rattle.x5_model_refreshed.specs.Replaying.{Happens, AllHappen, IsBrought}
 use Rattle.x5_model_refreshed.specs.Doable.{CanReplay, ConsumerCanReplay, RefreshCanReplay}
 use Rattle.x5_model_refreshed.proofs.Listing.{later_joined, all_later, none_later, stamped_steps, stamped_at, not_less}
-use Rattle.x5_model_refreshed.proofs.Stamping.{since_in, since_below, stamps_total, stamps_more}
+use Rattle.x5_model_refreshed.proofs.Stamping.{since_in, since_below, stamps_more}
 use Rattle.x5_model_refreshed.proofs.Refreshed.{entries_are}
 use Rattle.x5_model_refreshed.proofs.Leading.{at_line, knowledge_stays}
 use Rattle.x5_model_refreshed.proofs.Supplying.{Source, Since, source, since, IsByIt, change}

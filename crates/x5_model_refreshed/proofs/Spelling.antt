@@ -2,20 +2,19 @@
 use Rattle.std.proofs.Common.{◌≡◌, ◌≢◌, ℕ, zero, suc, ◌+◌, ◌-◌, ◌<◌, ◌≤◌, Bool, true, false, not, ◌||◌, ◌⊎◌, inl, inr, List, [], ◌∷◌, ◌++◌, map, length, take, drop, refl, sym, ap, subst, ◌∙◌, arith, length-take, Ok, if◌then◌else◌}
 use Rattle.std.specs.List.{filter, list_any}
 use Rattle.std.proofs.lemmas.List.{map-append, append_assoc, drop_all}
-use Rattle.x5_model.specs.Words.{ascending}
-use Rattle.x5_model.specs.Members.{In, here, there}
-use Rattle.x5_model.specs.Keys.{Key, KeyRdn, IsPrefix, same_key, is_prefix, is_below, parent}
+use Rattle.x5_model.specs.Members.{In}
+use Rattle.x5_model.specs.Keys.{Key, IsPrefix, same_key, is_prefix, is_below, parent}
 use Rattle.x5_model.specs.Values.{Rdn, Name, key_of, key_of_rdn, last_rdn, name_above}
 use Rattle.x5_model.specs.Entries.{Entry, Named}
 use Rattle.x5_model.specs.Changes.{renamed}
 use Rattle.x5_model.specs.Requests.{Attribute, Body, Read, Compare, ListBelow, Search, AddEntry, RemoveEntry, ModifyEntry, ModifyDn}
 use Rattle.x5_model.proofs.KeyLaws.{key_decides}
-use Rattle.x5_model.proofs.Lists.{true_or_false, in_first, in_either, in_left, in_right, in_map, of_map, in_filter, of_filter, none_of}
+use Rattle.x5_model.proofs.Lists.{true_or_false, in_first, in_either, in_left, in_map, of_map, in_filter, of_filter, none_of}
 use Rattle.x5_model.proofs.Prefixes.{prefix_decides, prefix_length, prefix_chain, prefix_by_length, below_decides}
 use Rattle.x5_model.proofs.Ascending.{in_sorted, of_sorted}
 use Rattle.x5_model_tree.specs.Tree.{Tree, key_at, named_below, sorted_entries, has_below}
 use Rattle.x5_model_tree.specs.Ask.{is_update}
-use Rattle.x5_model_tree.specs.Apply.{Ground, ground_of, replace_at, above_pin, above_nssr, update}
+use Rattle.x5_model_tree.specs.Apply.{Ground, ground_of, above_pin, above_nssr, update}
 use Rattle.x5_model_theory.proofs.Stages.{key_length}
 use Rattle.x5_model_updates.specs.Afterwards.{new_entry, name_after}
 use Rattle.x5_model_updates.proofs.Lookups.{OneEach, entry_found}
@@ -213,7 +212,7 @@ module _ (pin : Key) (es : List Named) (name : Name) (rdn : Rdn) (new : Entry) (
           let l : length e.name ≡ suc (length b.above.name) = long in
           let same : cut ≡ length b.above.name = omega (arith, key_length e.name, key_length name) in
           let o : IsPrefix (key_of name) (key_at b.above) → ⊥ = (λ u. (let v : length (key_of name) ≤ length (key_at b.above) = prefix_length (key_of name) (key_at b.above) u in
-              absurd (omega (arith, key_length name, key_length b.above.name)))) in
+          absurd (omega (arith, key_length name, key_length b.above.name)))) in
           let none : drop (cut + 1) e.name ≡ [] = drop_all (cut + 1) e.name (omega arith) in (
             rdn,
             under_name e p

@@ -1,5 +1,5 @@
 -- The step of an update can be done on what the context had: by the tests that the update passed.
-use Rattle.std.proofs.Common.{◌≡◌, ℕ, ◌+◌, ◌-◌, ◌<◌, ◌≤◌, Bool, true, false, not, ◌&&◌, ◌||◌, List, [], ◌∷◌, ◌++◌, length, take, drop, refl, sym, ap, subst, ◌∙◌, arith, length-take, Some, None, Ok, inl, inr}
+use Rattle.std.proofs.Common.{◌≡◌, ℕ, ◌+◌, ◌-◌, ◌<◌, Bool, true, false, not, ◌&&◌, ◌||◌, List, [], ◌∷◌, ◌++◌, length, take, drop, refl, sym, ap, subst, ◌∙◌, arith, length-take, Some, None, Ok, inl, inr}
 use Rattle.std.specs.Option.{option_map}
 use Rattle.std.proofs.lemmas.List.{drop_all}
 use Rattle.x5_model.specs.Words.{in_option, has}
@@ -12,12 +12,10 @@ use Rattle.x5_model.specs.Requests.{Attribute, Body, Read, Compare, ListBelow, S
 use Rattle.x5_model.proofs.KeyLaws.{key_decides}
 use Rattle.x5_model.proofs.Lists.{true_or_false}
 use Rattle.x5_model.proofs.Prefixes.{prefix_itself}
-use Rattle.x5_model.proofs.Ascending.{filter_ascending}
-use Rattle.x5_model_tree.specs.Tree.{Tree, key_at, named_below, entry_at, is_there, has_below, belongs, part}
+use Rattle.x5_model_tree.specs.Tree.{Tree, key_at, entry_at, is_there, has_below, part}
 use Rattle.x5_model_tree.specs.Ask.{is_update}
-use Rattle.x5_model_tree.specs.Apply.{Ground, ground_of, is_taken, update}
+use Rattle.x5_model_tree.specs.Apply.{ground_of, is_taken, update}
 use Rattle.x5_model_tree.proofs.Exact.{there_decides}
-use Rattle.x5_model_tree.proofs.Order.{named_chain}
 use Rattle.x5_model_tree.proofs.Longest.{longest_is, belongs_decides}
 use Rattle.x5_model_run.specs.Needs.{target_of}
 use Rattle.x5_model_theory.proofs.Stages.{key_length}
@@ -28,7 +26,7 @@ use Rattle.x5_model_updates.proofs.Renaming.{filled_name, filled_key, new_entry_
 use Rattle.x5_model_updates.proofs.Trees.{of_part, tree_filled}
 use Rattle.x5_model_updates.proofs.After.{parts_after}
 use Rattle.x5_model_refreshed.specs.Steps.{Step, Add, Remove, Modify, Rename, modify_step, step_of}
-use Rattle.x5_model_refreshed.specs.Doable.{IsBelow, CanAdd, CanRemove, CanModify, CanRename, CanDo, StepCanBeDone}
+use Rattle.x5_model_refreshed.specs.Doable.{CanAdd, CanRemove, CanModify, CanRename, CanDo, StepCanBeDone}
 use Rattle.x5_model_refreshed.proofs.Noting.{last_of_end, new_end}
 use Rattle.x5_model_refreshed.proofs.Spelling.{not_over_pin}
 

@@ -1,5 +1,5 @@
 -- What a context's master has is whole at each line: it is so as the world is described, and accepted updates keep it.
-use Rattle.std.proofs.Common.{◌≡◌, ℕ, zero, suc, ◌-◌, ◌<◌, Bool, true, false, not, ◌&&◌, ◌==◌, inl, inr, List, [], ◌∷◌, ◌++◌, map, take, length, refl, sym, ap, subst, ◌∙◌, arith, Some, Ok, Err}
+use Rattle.std.proofs.Common.{◌≡◌, ℕ, suc, ◌-◌, Bool, true, false, not, ◌&&◌, ◌==◌, inl, inr, List, [], ◌∷◌, ◌++◌, take, length, refl, sym, ap, subst, ◌∙◌, arith, Some, Ok, Err}
 use Rattle.std.specs.List.{list_any, list_all}
 use Rattle.std.specs.Option.{option_map}
 use Rattle.std.specs.Cmp.{tied_itself}
@@ -11,16 +11,15 @@ use Rattle.x5_model.specs.Keys.{Key, KeyRdn, IsPrefix, same_key, rdn_cmp, key_cm
 use Rattle.x5_model.specs.Values.{Name, key_of, last_rdn, name_above}
 use Rattle.x5_model.specs.Entries.{Named}
 use Rattle.x5_model.proofs.KeyLaws.{key_decides, rdn_cmp_total}
-use Rattle.x5_model.proofs.Lists.{true_or_false, both_true, of_any, of_all, in_first}
+use Rattle.x5_model.proofs.Lists.{both_true, of_any, of_all, in_first}
 use Rattle.x5_model.proofs.Ascending.{in_sorted, of_sorted, first_below, filter_ascending}
 use Rattle.x5_model_tree.specs.World.{Context, World}
 use Rattle.x5_model_tree.specs.Tree.{Tree, key_at, named_below, sorted_entries, is_there, belongs, part}
-use Rattle.x5_model_tree.specs.Masters.{Mastered, pin_of, mastered, masters, pins, whole}
+use Rattle.x5_model_tree.specs.Masters.{Mastered, pin_of, mastered, masters, whole}
 use Rattle.x5_model_tree.specs.Ask.{is_update}
 use Rattle.x5_model_tree.specs.Apply.{Applied, ground_of, apply}
 use Rattle.x5_model_tree.specs.Consistent.{IsConsistent}
 use Rattle.x5_model_tree.specs.Described.{same_spelling, is_entry_name, is_kept, is_grown, is_rooted, is_context, is_agent, are_references, IsDescribed}
-use Rattle.x5_model_tree.specs.Good.{Good}
 use Rattle.x5_model_tree.proofs.Exact.{conditions_hold}
 use Rattle.x5_model_tree.proofs.Order.{named_chain}
 use Rattle.x5_model_tree.proofs.Longest.{longest_is, belongs_decides}
@@ -33,7 +32,7 @@ use Rattle.x5_model_run.specs.Refresh.{is_change_in, accepted_in}
 use Rattle.x5_model_theory.specs.Knowledge.{Knowledge, Area}
 use Rattle.x5_model_theory.specs.Coherent.{Coherent}
 use Rattle.x5_model_theory.specs.Changing.{with_entries}
-use Rattle.x5_model_updates.specs.Standing.{IsTreeOf, StandsWhole}
+use Rattle.x5_model_updates.specs.Standing.{IsTreeOf}
 use Rattle.x5_model_updates.specs.Afterwards.{only_part}
 use Rattle.x5_model_updates.specs.Keeping.{keys_in}
 use Rattle.x5_model_updates.proofs.Lookups.{one_each}
@@ -43,7 +42,7 @@ use Rattle.x5_model_updates.proofs.After.{parts_after}
 use Rattle.x5_model_updates.proofs.Keeps.{updates_keep}
 use Rattle.x5_model_refreshed.specs.Doable.{IsBelow, AreWhole, PartsAreWhole}
 use Rattle.x5_model_refreshed.specs.Replaying.{AreTaken, AllHappen}
-use Rattle.x5_model_refreshed.proofs.Spelling.{IsSpelled, AreSpelled, more_spelled, update_keeps}
+use Rattle.x5_model_refreshed.proofs.Spelling.{AreSpelled, more_spelled, update_keeps}
 use Rattle.x5_model_refreshed.proofs.Mastering.{elsewhere}
 use Rattle.x5_model_refreshed.proofs.Leading.{at_line, accepts_taken, tree_accepted, knowledge_stays, mastered_pin, stands, pins_stay}
 
