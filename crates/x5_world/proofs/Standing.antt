@@ -1,6 +1,6 @@
 -- The network of a line, as the definitions judge it: each agent holds what it holds at that line, and each kind of line
 -- leads to the network of the next one.
-use Rattle.std.proofs.Common.{◌≡◌, ℕ, zero, suc, ◌+◌, ◌*◌, ◌<◌, ◌==◌, Bool, true, false, List, [], ◌∷◌, length, map, slice_get, Some, refl, sym, ap, ◌∙◌, arith}
+use Rattle.std.proofs.Common.{◌≡◌, ℕ, zero, suc, ◌+◌, ◌*◌, ◌<◌, ◌==◌, Bool, true, false, List, [], ◌∷◌, length, map, slice_get, Result, Ok, Err, IfOk, Some, refl, sym, ap, ◌∙◌, arith}
 use Rattle.std.specs.List.{filter}
 use Rattle.std.specs.Prelude.{nat_lt, if◌then◌else◌}
 use Rattle.std.proofs.lemmas.List.{length-map}
@@ -113,6 +113,11 @@ after_drop old new p reply number s q =
     stands old new p (Drops reply number) Set (after_loss reply (old.sent + number) old.network) old.sent tt refl s q
     (λ i. after_loss reply (s.sent i + number) (s.network i))
     (s.sent ∙ (let z : sent_before p.past ≡ 0 + sent_before p.past = omega arith in z))
+
+pub if_ok_then : {T E : Type 0} {P Q : T → Type 0} (result : Result T E) → IfOk result P → ((x : T) → P x → Q x)
+    → IfOk result Q
+if_ok_then (Ok x) p more = more x p
+if_ok_then (Err e) p more = p
 
 -- a network after a request: each agent holds what it held, changed where it accepted the update
 pub record IsAfter (old new : Net) (r : Request) (accepted : List ℕ) (count : ℕ) : Type 0 where
