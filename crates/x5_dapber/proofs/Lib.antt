@@ -1,10 +1,12 @@
-mod AttributeParts
-mod Decoding
+pub mod AttributeParts
+pub mod Clockless
+pub mod Decoding
 mod FilterMembers
 mod FilterRows
-mod Fitting
+pub mod Fitting
 mod Invokes
-mod Members
-mod Octets
-mod ReadIsSayable
+pub mod Members
+pub mod Octets
+pub mod ReadIsSayable
 mod Selections
+pub mod Tables

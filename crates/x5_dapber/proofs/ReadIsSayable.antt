@@ -79,7 +79,7 @@ part_fits (Many ns) f = tt
 -- ---- members
 
 -- what has members of a type has members that are so
-many_of : (form : named.Named) (P : Node → Type 0) → ((n : Node) → Fits table (table form) n → P n) → (n : Node)
+pub many_of : (form : named.Named) (P : Node → Type 0) → ((n : Node) → Fits table (table form) n → P n) → (n : Node)
     → IsMade table (Members form) n → All P (nodes.parts n)
 many_of form P of n m =
     subst (λ (x : Node). All P (nodes.parts x)) (sym m.is_many)
@@ -308,7 +308,7 @@ selection_fits n f =
 abbrev anything : Node → Type 0
 anything n = Unit {0}
 
-no_count : IsCount Vacant
+pub no_count : IsCount Vacant
 no_count k e = absurd (cc e)
 
 controls_fit : (n : Node) → Fits table (table named.Controls) n → AreControls n
@@ -423,7 +423,7 @@ code_first x form k m limit true o h e low later = (let same : k ≡ m = eqb-tru
 code_first x form k m limit false o h e low later = later e
 
 -- the code is one of those that there are
-code_below : (rows : List (ℕ × named.Named)) (m limit : ℕ) (form : named.Named)
+pub code_below : (rows : List (ℕ × named.Named)) (m limit : ℕ) (form : named.Named)
     → Rattle.std.specs.List.list_all (λ r. nat_lt r.0 limit) rows ≡ true → layouts.named_by rows (pos m) ≡ Some form → m < limit
 code_below [] m limit form h e = absurd (cc e)
 code_below (r ∷ rows) m limit form h e =
@@ -431,7 +431,7 @@ code_below (r ∷ rows) m limit form h e =
     code_first r.1 form r.0 m limit (r.0 == m) (layouts.named_by rows (pos m)) refl e (leb-true (suc r.0) limit w.0)
     (λ f. code_below rows m limit form w.1 f)
 
-abbrev number_or_zero : ℤ → ℕ
+abbrev pub number_or_zero : ℤ → ℕ
 number_or_zero k = in_option 0 (λ m. m) (number_in (Number k))
 
 argument_fits : (k : ℤ) (form : named.Named) (n : Node) → codes k ≡ Some form → Fits table (table form) n
@@ -492,11 +492,11 @@ invoke_in _ (given {n = i} nd f required (given {n = c} nd' f' (named k form is 
       fits_argument = f'';
     }
 
-abbrev is_sequence : forms.Content → Bool
+abbrev pub is_sequence : forms.Content → Bool
 is_sequence (Sequence cs) = true
 is_sequence c = false
 
-sequence_explicit : (c : forms.Content) (form : named.Named) → is_sequence c ≡ true → c ≡ Explicit form → ⊥
+pub sequence_explicit : (c : forms.Content) (form : named.Named) → is_sequence c ≡ true → c ≡ Explicit form → ⊥
 sequence_explicit c form e is = absurd (cc (sym (ap is_sequence is) ∙ e))
 
 pub request_fits : (n : Node) → Fits table (table named.DapRequest) n → IsRequest n

@@ -1,0 +1,3 @@
+mod ReplyIsSayable
+mod Sequences
+mod ShownParts
