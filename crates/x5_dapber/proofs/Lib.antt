@@ -8,5 +8,9 @@ mod Invokes
 pub mod Members
 pub mod Octets
 pub mod ReadIsSayable
+mod RequestRooms
+mod RequestsSpelled
+pub mod Rooms
 mod Selections
 pub mod Tables
+pub mod Tags
