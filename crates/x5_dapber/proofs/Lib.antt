@@ -1,10 +1,12 @@
 pub mod AttributeParts
 pub mod Clockless
 pub mod Decoding
+mod FilterLevels
 mod FilterMembers
 mod FilterRows
 pub mod Fitting
 mod Invokes
+mod Levels
 pub mod Members
 pub mod Octets
 pub mod ReadIsSayable

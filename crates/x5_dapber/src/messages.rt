@@ -1,6 +1,5 @@
 //! Whole messages of a user (X.519, section 7), as octets.
 ghost use Rattle.std.specs.Prelude.{◌≡◌, ℕ, IfOk, Result, Ok};
-ghost use Rattle.x5_dapber.specs.Levels.{IsShallow};
 ghost use Rattle.x5_dapber.specs.Results.{IsWritten, Decodes, IsRead};
 ghost use Rattle.x5_model.specs.Requests as model;
 ghost use Rattle.x5_model_messages.specs.Laws.{IsBody};
@@ -45,10 +44,9 @@ fn request_node<'a>(alloc: Global, id: u32, request: &'a Request) -> Result<Node
 /// 16 RDNs, a text of more than 1,024 octets or a filter of more than 16 levels does. Or that memory ran out.
 pub fn encode_request(alloc: Global, id: u32, request: &Request) -> Result<Octets, WriteFault>
     ensures written { IsWritten (canonical_octets table named.DapRequest (requests.request_node id (request_view request.now))) result }
-    // They spell the request that they are written of, where it is a value of the type by all rules (an attribute has values, parts of
-    // substrings stand in their places) and its filter has sixteen levels at most. So they are read back, by `back` below.
+    // They spell the request that they are written of, where it is a value of the type by all rules: so an attribute has values, and parts
+    // of substrings stand in their places. Then they are read back, by `back` below.
     ensures spelled { Fits table (table named.DapRequest) (requests.request_node id (request_view request.now))
-        → IsShallow (request_view request.now).body
         → IfOk result (λ octets. Spells table named.DapRequest octets (requests.request_node id (request_view request.now))) }
 {
     let node = request_node(alloc, id, request)?;

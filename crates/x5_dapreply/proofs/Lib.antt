@@ -1,3 +1,4 @@
 mod ReplyIsSayable
 mod Sequences
 mod ShownParts
+mod Six
