@@ -1,3 +1,4 @@
+mod RepliesBack
 mod ReplyIsSayable
 mod Sequences
 mod ShownParts

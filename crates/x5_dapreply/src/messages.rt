@@ -1,7 +1,8 @@
 //! Whole answers to a user (X.519, section 7), as octets.
 ghost use Rattle.std.specs.Prelude.{◌≡◌, ℕ, IfOk, Result, Ok};
-ghost use Rattle.x5_dapber.specs.Results.{IsWritten, Decodes};
-ghost use Rattle.x5_dapreply.specs.ReplyViews.{told_reply, heard, heard_in};
+ghost use Rattle.x5_dapber.specs.Results.{IsWritten, Decodes, IsRead};
+ghost use Rattle.x5_dapreply.specs.ReplyViews.{told_reply, heard, heard_in, unnumbered};
+ghost use Rattle.x5_dapreply.specs.Told.{IsTold};
 ghost use Rattle.x5_model_messages.specs.Replies as replies;
 ghost use Rattle.x5_model_typed.specs.Judged as judged;
 ghost use Rattle.x5_model_typed.specs.Named as named;
@@ -60,6 +61,9 @@ pub fn decode_reply(alloc: Global, octets: &[u8]) -> Result<(u32, Reply), WireFa
         → Decodes (λ p. (p.0, heard p.1)) heard_in (Ok n) result }
     ensures spelled { IfOk result (λ p. (n : nodes.Node) × Spells table named.DapAnswer octets.now n
         × ((p.0, heard p.1) ≡ heard_in n)) }
+    // Octets that spell what is written of a reply whose parts are as they are spelled give it back, with the id of its request.
+    ensures back { (id : ℕ) (r : replies.Reply) → IsTold r → Spells table named.DapAnswer octets.now (replies.reply_node replies.to_user id r)
+        → IsRead {Y = ℕ × replies.Reply} (λ p. (p.0, heard p.1)) (id, unnumbered r) result }
 {
     let node = read(alloc, Named::DapAnswer, octets)?;
     Ok(reply_in(alloc, &node)?)

@@ -1,10 +1,11 @@
 //! Results and errors (X.511, sections 7.7, 9, 10 and 12) that values of types of messages say.
-ghost use Rattle.std.specs.Prelude.{◌≡◌, IfOk, All, map};
+ghost use Rattle.std.specs.Prelude.{◌≡◌, IfOk, All, map, not};
 ghost use Rattle.std.specs.Option.{option_map};
-ghost use Rattle.x5_dapber.specs.Sayable.{IsAttribute};
+ghost use Rattle.x5_dapber.specs.Sayable.{IsAttribute, IsType};
 ghost use Rattle.x5_dapreply.specs.ReplyViews.{heard, heard_in, told_answer, told_item, told_outcome, told_reference, result_said};
 ghost use Rattle.x5_dapreply.specs.Sayable as sayable;
 ghost use Rattle.x5_model_messages.specs.Replies as replies;
+ghost use Rattle.x5_model_messages.specs.Terms as terms;
 ghost use Rattle.x5_model_typed.specs.Nodes.{parts};
 ghost use Rattle.x5_ops.specs.AnswerViews.{info_view, shown_view, sub_view};
 ghost use Rattle.x5_types.specs.NodeView.{node_view};
@@ -110,6 +111,35 @@ fn outcome_in(alloc: Global, node: &Node<'_>) -> Result<Outcome, NoMemory>
     })
 }
 
+/// What a read found.
+fn entry_in(alloc: Global, entry: &Node<'_>, source: &Node<'_>) -> Result<Answer, NoMemory>
+    requires { sayable.IsInfo (node_view entry.now) × sayable.IsSource (node_view source.now) }
+    ensures { IfOk result (λ a. told_answer a ≡ replies.Entry (replies.info_in (node_view entry.now)) (replies.source_in (node_view source.now))) }
+{
+    Ok(Answer::Entry {
+        entry: info_in(alloc, entry)?,
+        source: source_in(alloc, source)?,
+    })
+}
+
+/// What a compare found.
+fn matched_in(
+    alloc: Global,
+    matched: &Node<'_>,
+    from_entry: &Node<'_>,
+    source: &Node<'_>,
+) -> Result<Answer, NoMemory>
+    requires { sayable.IsSource (node_view source.now) }
+    ensures { IfOk result (λ a. told_answer a ≡ replies.Match (terms.flag_in (node_view matched.now)) (not (terms.flag_in (node_view from_entry.now)))
+        (replies.source_in (node_view source.now))) }
+{
+    Ok(Answer::Match {
+        matched: flag_in(matched),
+        copy: !flag_in(from_entry),
+        source: source_in(alloc, source)?,
+    })
+}
+
 /// What a list found.
 fn listed_in(
     alloc: Global,
@@ -152,16 +182,9 @@ fn answer_in(alloc: Global, code: u32, node: &Node<'_>) -> Result<Answer, NoMemo
     ensures { IfOk result (λ a. told_answer a ≡ replies.answer_in code (node_view node.now)) }
 {
     match node.parts() {
-        [entry, source] => Ok(Answer::Entry {
-            entry: info_in(alloc, entry)?,
-            source: source_in(alloc, source)?,
-        }),
+        [entry, source] => entry_in(alloc, entry, source),
         [first, second, third] => match code {
-            2 => Ok(Answer::Match {
-                matched: flag_in(first),
-                copy: !flag_in(second),
-                source: source_in(alloc, third)?,
-            }),
+            2 => matched_in(alloc, first, second, third),
             4 => listed_in(alloc, first, second, third),
             _ => found_in(alloc, first, second, third),
         },
@@ -189,6 +212,45 @@ fn item_if(alloc: Global, node: &Node<'_>) -> Result<Option<TraceItem>, NoMemory
     }
 }
 
+/// A problem of an attribute.
+fn attribute_in(alloc: Global, problem: &Node<'_>, kind: &Node<'_>) -> Result<Reply, NoMemory>
+    requires { sayable.IsSmall (node_view problem.now) × IsType (node_view kind.now) }
+    ensures { IfOk result (λ r. heard r
+        ≡ replies.AttributeProblem (replies.or_zero (terms.number_in (node_view problem.now))) (terms.type_in (node_view kind.now))) }
+{
+    Ok(Reply::Failed(DirError::Attribute {
+        problem: small_in(problem),
+        kind: type_in(alloc, kind)?,
+    }))
+}
+
+/// A name that has no entry.
+fn unmatched_in(alloc: Global, matched: &Node<'_>) -> Result<Reply, NoMemory>
+    ensures { IfOk result (λ r. heard r ≡ replies.NoSuchObject (terms.name_of (node_view matched.now))) }
+{
+    Ok(Reply::Failed(DirError::Name {
+        matched: name_of(alloc, matched)?,
+    }))
+}
+
+/// A problem of the service.
+fn service_in(
+    alloc: Global,
+    problem: &Node<'_>,
+    reference: &Node<'_>,
+    item: &Node<'_>,
+) -> Result<Reply, NoMemory>
+    requires { sayable.IsSmall (node_view problem.now) × sayable.IsReferenceIf (node_view reference.now) × sayable.IsItemIf (node_view item.now) }
+    ensures { IfOk result (λ r. heard r ≡ replies.ServiceProblem (replies.or_zero (terms.number_in (node_view problem.now)))
+        (replies.reference_if (node_view reference.now)) (replies.item_if (node_view item.now))) }
+{
+    Ok(Reply::Failed(DirError::Service {
+        problem: small_in(problem),
+        reference: reference_if(alloc, reference)?,
+        item: item_if(alloc, item)?,
+    }))
+}
+
 /// The error of the code, or the referral, that the node says.
 fn error_in(alloc: Global, code: u32, node: &Node<'_>) -> Result<Reply, NoMemory>
     requires { sayable.IsError code (node_view node.now) }
@@ -198,18 +260,14 @@ fn error_in(alloc: Global, code: u32, node: &Node<'_>) -> Result<Reply, NoMemory
         [problem] => Ok(Reply::Failed(DirError::Update {
             problem: small_in(problem),
         })),
-        [problem, kind] if code == 1 => Ok(Reply::Failed(DirError::Attribute {
-            problem: small_in(problem),
-            kind: type_in(alloc, kind)?,
-        })),
-        [_, matched] => Ok(Reply::Failed(DirError::Name {
-            matched: name_of(alloc, matched)?,
-        })),
-        [problem, reference, item] => Ok(Reply::Failed(DirError::Service {
-            problem: small_in(problem),
-            reference: reference_if(alloc, reference)?,
-            item: item_if(alloc, item)?,
-        })),
+        [problem, subject] => {
+            if code == 1 {
+                attribute_in(alloc, problem, subject)
+            } else {
+                unmatched_in(alloc, subject)
+            }
+        }
+        [problem, reference, item] => service_in(alloc, problem, reference, item),
         _ => Ok(Reply::Refer(reference_in(alloc, node)?)),
     }
 }
