@@ -1,3 +1,4 @@
+mod References
 mod RepliesBack
 mod ReplyIsSayable
 mod Sequences

@@ -1,5 +1,5 @@
 -- Just six members, by what they stand for.
-use Rattle.std.proofs.Common.{◌≡◌, List, [], ◌∷◌, map, get_or, refl, sym, subst}
+use Rattle.std.proofs.Common.{◌≡◌, List, [], ◌∷◌, map, get_or, refl, sym, ap, subst, ◌∙◌}
 use Rattle.x5_model_typed.specs.Nodes as nodes
 use Rattle.x5_types.specs.declared.node.Node.{Node}
 use Rattle.x5_types.specs.NodeView.{node_view}
@@ -37,3 +37,19 @@ six_are P xs ns a b c d e f same i j k l m n h =
         (subst (λ (v : Node). AreSix P vs p q r s t v) (sym n')
         (record { split = refl; are = o }))))))
     by (p ∷ q ∷ r ∷ s ∷ t ∷ u ∷ w ∷ ys) i' j' k' l' m' n' o = absurd o
+
+row_list : (ns : nodes.Nodes) → nodes.row (nodes.list ns) ≡ ns
+row_list nodes.Nil = refl
+row_list (nodes.More n ns) = ap (nodes.More n) (row_list ns)
+
+-- what has parts is made of them
+pub as_row : (n x : nodes.Node) (l : List nodes.Node) → nodes.parts n ≡ x ∷ l → n ≡ nodes.Many (nodes.row (x ∷ l))
+as_row (nodes.Many ns) x l e = ap nodes.Many (sym (row_list ns)) ∙ ap (λ (k : List nodes.Node). nodes.Many (nodes.row k)) e
+as_row nodes.Vacant x l e = absurd (cc e)
+as_row (nodes.Flag b) x l e = absurd (cc e)
+as_row (nodes.Number k) x l e = absurd (cc e)
+as_row (nodes.Oid arcs) x l e = absurd (cc e)
+as_row (nodes.Bits b) x l e = absurd (cc e)
+as_row (nodes.Octets o) x l e = absurd (cc e)
+as_row (nodes.Text t) x l e = absurd (cc e)
+as_row (nodes.Chosen tag m) x l e = absurd (cc e)

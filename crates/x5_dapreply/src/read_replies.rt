@@ -1,5 +1,5 @@
 //! Results and errors (X.511, sections 7.7, 9, 10 and 12) that values of types of messages say.
-ghost use Rattle.std.specs.Prelude.{◌≡◌, IfOk, All, map, not};
+ghost use Rattle.std.specs.Prelude.{◌≡◌, ℕ, IfOk, All, map, not};
 ghost use Rattle.std.specs.Option.{option_map};
 ghost use Rattle.x5_dapber.specs.Sayable.{IsAttribute, IsType};
 ghost use Rattle.x5_dapreply.specs.ReplyViews.{heard, heard_in, told_answer, told_item, told_outcome, told_reference, result_said};
@@ -251,6 +251,14 @@ fn service_in(
     }))
 }
 
+/// A referral, whatever its code.
+fn referral_in(alloc: Global, node: &Node<'_>) -> Result<Reply, NoMemory>
+    requires { sayable.IsReference (node_view node.now) }
+    ensures { (code : ℕ) → IfOk result (λ r. heard r ≡ replies.error_in code (node_view node.now)) }
+{
+    Ok(Reply::Refer(reference_in(alloc, node)?))
+}
+
 /// The error of the code, or the referral, that the node says.
 fn error_in(alloc: Global, code: u32, node: &Node<'_>) -> Result<Reply, NoMemory>
     requires { sayable.IsError code (node_view node.now) }
@@ -268,7 +276,7 @@ fn error_in(alloc: Global, code: u32, node: &Node<'_>) -> Result<Reply, NoMemory
             }
         }
         [problem, reference, item] => service_in(alloc, problem, reference, item),
-        _ => Ok(Reply::Refer(reference_in(alloc, node)?)),
+        _ => referral_in(alloc, node),
     }
 }
 
