@@ -1,4 +1,4 @@
-mod References
+mod ReferenceParts
 mod RepliesBack
 mod ReplyIsSayable
 mod Sequences

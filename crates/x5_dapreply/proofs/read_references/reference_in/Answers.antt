@@ -8,7 +8,7 @@ use Rattle.x5_types.specs.NodeView.{node_view}
 use Rattle.x5_dapber.specs.Sayable.{IsCount}
 use Rattle.x5_dapber.proofs.Members.{members_are}
 use Rattle.x5_dapreply.specs.Sayable.{IsAccess, IsProgress}
-use Rattle.x5_dapreply.proofs.References.{reference_said}
+use Rattle.x5_dapreply.proofs.ReferenceParts.{reference_said}
 use Rattle.x5_dapreply.proofs.Six.{Six, six_are}
 use Rattle.x5_dapreply.proofs.read_references.reference_in.Goals as goal
 

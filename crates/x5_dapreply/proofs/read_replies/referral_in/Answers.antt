@@ -2,7 +2,7 @@
 use Rattle.std.proofs.Common.{ap, sym, ◌∙◌}
 use Rattle.x5_model_messages.specs.Replies.{Referred}
 use Rattle.x5_types.specs.NodeView.{node_view}
-use Rattle.x5_dapreply.proofs.References.{referral_said}
+use Rattle.x5_dapreply.proofs.ReferenceParts.{referral_said}
 use Rattle.x5_dapreply.proofs.read_replies.referral_in.Goals as goal
 
 pub returns : goal.returns
