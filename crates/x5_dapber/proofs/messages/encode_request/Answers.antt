@@ -16,7 +16,7 @@ pub returns-clause-spelled : goal.returns-clause-spelled
 returns-clause-spelled c = λ fit.
     let n = request_node c.args.id (request_view c.args.request.now) in
     let items = c.in_ok-write.field-0.items in
-    let short : length items < 2 ^ 64 = omega (arith, c.in_ok-write.field-0.ok, c.in_ok-write.field-0.small) in
+    let short : length items < 2 ^ 64 = omega (arith, c.in_ok-write.field-0.ok.0, c.in_ok-write.field-0.small) in
     let written : canonical_octets table named.DapRequest n ≡ Some items =
     subst (λ (m : nodes.Node). canonical_octets table named.DapRequest m ≡ Some items) c.in_ok-node.ensures c.in_ok-write.ensures in
     subst (λ (os : List ℕ). Spells table named.DapRequest os n) (sym c.new.ensures)
