@@ -13,7 +13,8 @@ use std::alloc::Global;
 use x5_dapber::read_parts::{code_in, count_in, flag_in, rdn_of};
 use x5_memory::NoMemory;
 use x5_ops::{
-    AccessList, AccessPoint, AgentName, Moment, Progress, RdnList, RefType, Reference, ReferenceList, Source, SourceList, TraceItem,
+    AccessList, AccessPoint, AgentName, Moment, Progress, RdnList, RefType, Reference,
+    ReferenceList, Source, SourceList, TraceItem,
 };
 use x5_rules::{name_of, text_in};
 use x5_types::Node;

@@ -10,13 +10,16 @@ ghost use Rattle.x5_model_typed.specs.Nodes.{parts};
 ghost use Rattle.x5_ops.specs.AnswerViews.{info_view, shown_view, sub_view};
 ghost use Rattle.x5_types.specs.NodeView.{node_view};
 
-use crate::read_references::{item_in, reference_in, references_in, small_in, source_in, sources_in};
+use crate::read_references::{
+    item_in, reference_in, references_in, small_in, source_in, sources_in,
+};
 use std::alloc::Global;
 use x5_dapber::read_parts::{code_in, count_in, flag_in, is_vacant, rdn_of};
 use x5_dapber::read_values::{type_in, values_in};
 use x5_memory::NoMemory;
 use x5_ops::{
-    Answer, Attribute, AttributeList, DirError, EntryInfo, EntryList, Listed, Outcome, Reference, Reply, Sub, SubList, TraceItem,
+    Answer, Attribute, AttributeList, DirError, EntryInfo, EntryList, Listed, Outcome, Reference,
+    Reply, Sub, SubList, TraceItem,
 };
 use x5_rules::name_of;
 use x5_types::Node;

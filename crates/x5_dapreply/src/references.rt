@@ -95,7 +95,13 @@ pub(crate) fn item_node<'a>(alloc: Global, item: &'a TraceItem) -> Result<Node<'
 {
     let target = name_node(alloc, &item.target)?;
     let progress = progress_node(alloc, item.progress)?;
-    four(alloc, agent_node(&item.agent), target, progress, Node::Flag(item.wide))
+    four(
+        alloc,
+        agent_node(&item.agent),
+        target,
+        progress,
+        Node::Flag(item.wide),
+    )
 }
 
 fn moment_node<'a>(moment: Option<Moment>) -> Node<'a>
@@ -112,7 +118,12 @@ pub(crate) fn source_node<'a>(alloc: Global, source: &'a Source) -> Result<Node<
     ensures { IfOk result (λ n. node_view n ≡ replies.source_node (told_source source.now)) }
 {
     let context = name_node(alloc, &source.context)?;
-    three(alloc, context, agent_node(&source.agent), moment_node(source.moment))
+    three(
+        alloc,
+        context,
+        agent_node(&source.agent),
+        moment_node(source.moment),
+    )
 }
 
 /// Sources: a SEQUENCE OF them.

@@ -7,17 +7,13 @@ ghost use Rattle.x5_model_messages.specs.Terms.{node_of};
 ghost use Rattle.x5_ops.specs.AnswerViews.{info_view, shown_view, sub_view};
 ghost use Rattle.x5_types.specs.NodeView.{node_view};
 
-use crate::references::{
-    item_node, reference_node, references_node, source_node, sources_node,
-};
+use crate::references::{item_node, reference_node, references_node, source_node, sources_node};
 use std::alloc::Global;
 use x5_dapber::names::{name_node, rdn_node, type_node};
 use x5_dapber::parts::{chosen, many, number, one, three, two};
 use x5_dapber::values::values_node;
 use x5_memory::NoMemory;
-use x5_ops::{
-    Answer, Attribute, DirError, EntryInfo, Outcome, Reference, Reply, Sub, TraceItem,
-};
+use x5_ops::{Answer, Attribute, DirError, EntryInfo, Outcome, Reference, Reply, Sub, TraceItem};
 use x5_types::Node;
 
 fn shown_node<'a>(alloc: Global, attribute: &'a Attribute) -> Result<Node<'a>, NoMemory>

@@ -84,12 +84,7 @@ fn kind(reply: &Reply) -> &'static str {
 }
 
 /// Whether the octets are read as such a reply to request 5, which is written as them again.
-fn comes_back(
-    alloc: Global,
-    octets: &[u8],
-    operation: u8,
-    wanted: &str,
-) -> Result<bool, Fail> {
+fn comes_back(alloc: Global, octets: &[u8], operation: u8, wanted: &str) -> Result<bool, Fail> {
     let (id, reply) = decode_reply(alloc, octets)?;
     let written = encode_reply(alloc, id, operation, &reply)?;
     Ok(id == 5 && kind(&reply) == wanted && written.as_slice() == octets)
