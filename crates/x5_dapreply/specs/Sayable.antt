@@ -1,6 +1,6 @@
--- Values of types of messages for whose parts the code has types, of answers: problems and places of RDNs have one octet,
--- ids, codes and moments four at most, and each type of an attribute is an object identifier. What octets spell of an
--- answer is such a value.
+-- Values of types of messages for whose parts the code has types, of answers: problems and places of RDNs have one
+-- octet, ids, codes and moments four at most, and each type of an attribute is an object identifier. What octets spell
+-- of an answer is such a value.
 use Rattle.std.specs.Prelude.{◌≡◌, ℕ, ◌<◌, ◌^◌, ◌==◌, List, [], ◌∷◌, All}
 use Rattle.std.specs.declared.option.Option.TheVariants.{Some}
 use Rattle.x5_model_typed.specs.Nodes.{Node, Vacant, Chosen, parts}
