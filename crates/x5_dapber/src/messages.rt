@@ -40,8 +40,8 @@ fn request_node<'a>(alloc: Global, id: u32, request: &'a Request) -> Result<Node
 /// The canonical octets of a user's message with the id and the request (X.519, section 7; X.690, section 10).
 ///
 /// # Errors
-/// `Misfit` exactly where there are none, since a part of the request passes a limit of messages, as a name of more than
-/// 16 RDNs, a text of more than 1,024 octets or a filter of more than 16 levels does. Or that memory ran out.
+/// `Misfit` exactly where there are none, since a part of the request passes a limit of messages, as a text of more than
+/// 1,024 octets or a filter of more than 16 levels does. Or that memory ran out.
 pub fn encode_request(alloc: Global, id: u32, request: &Request) -> Result<Octets, WriteFault>
     ensures written { IsWritten (canonical_octets table named.DapRequest (requests.request_node id (request_view request.now))) result }
     // They spell the request that they are written of, where it is a value of the type by all rules: so an attribute has values, and parts
