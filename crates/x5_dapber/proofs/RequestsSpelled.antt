@@ -19,6 +19,6 @@ pub request_spelled : (id : ℕ) (r : Request) (octets : List ℕ) → Fits tabl
     → Spells table named.DapRequest octets (request_node id r)
 request_spelled id r octets fit written short =
     written_spells nowhere named.DapRequest (request_node id r) octets refl fit
-    (has_spelling table (good_tags nowhere) named.DapRequest (request_node id r) octets 
+    (has_spelling table (good_tags nowhere) named.DapRequest (request_node id r) octets
     (request_room id r (request_shallow id r fit)) written short)
     written

@@ -64,7 +64,9 @@ last_shorter a c k h = omega (arith, h, length-append a c)
 mutual
   has_canonical : (d : ℕ) (e : Element) → Low d e → length (canonical e) < 2 ^ 64 → HasCanonical d e
   has_canonical d (elements.Primitive class tag content) low short = (
-    low.0, low.1, low.2,
+    low.0,
+    low.1,
+    low.2,
     last_shorter (identifier_octets (identifier false class tag) ++ shortest_length (length content)) content (2 ^ 64) short,
     λ c t empty. low.3 c t,
   )

@@ -36,12 +36,7 @@ pub fn two<'a>(alloc: Global, a: Node<'a>, b: Node<'a>) -> Result<Node<'a>, NoMe
 }
 
 /// The value of three parts.
-pub fn three<'a>(
-    alloc: Global,
-    a: Node<'a>,
-    b: Node<'a>,
-    c: Node<'a>,
-) -> Result<Node<'a>, NoMemory>
+pub fn three<'a>(alloc: Global, a: Node<'a>, b: Node<'a>, c: Node<'a>) -> Result<Node<'a>, NoMemory>
     ensures { IfOk result (λ n. node_view n ≡ node_of (node_view a.entry ∷ node_view b.entry ∷ node_view c.entry ∷ [])) }
 {
     let mut parts = Vec::new(alloc);
