@@ -22,8 +22,8 @@ pub enum Start {
 }
 
 /// Whether they are the same moment, or both none. No memory.
-fn is_same(first: Option<Moment>, second: Option<Moment>) -> bool
-    ensures { result ≡ same_moment first second }
+fn is_same(first: &Option<Moment>, second: &Option<Moment>) -> bool
+    ensures { result ≡ same_moment first.now second.now }
 {
     match (first, second) {
         (None, None) => true,
@@ -51,7 +51,7 @@ fn refused(problem: Option<u8>) -> Start
 fn missed(total: bool, own: Option<Moment>, acked: Option<Moment>) -> Start
     ensures { (heard : Bool) (number : ℕ) → start_view heard number result ≡ (if not total && not (same_moment acked own) then Some (Missed own acked) else None) }
 {
-    if total || is_same(acked, own) {
+    if total || is_same(&acked, &own) {
         return Start::GoesOn;
     }
     Start::Ended(Refreshed::Failed {

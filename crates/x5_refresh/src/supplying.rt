@@ -20,7 +20,8 @@ fn sent(
     total: bool,
     last: Option<Moment>,
 ) -> Result<Brought, SupplyFault>
-    ensures { Answers (brought_of supplier.now (key_of context.now) total last) result }
+    ensures sent { Answers (brought_of supplier.now (key_of context.now) total last) result }
+    ensures told { IsTold result }
 {
     if total {
         return Ok(Brought::Total(whole(alloc, supplier, context)?));
