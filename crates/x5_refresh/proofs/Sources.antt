@@ -1,6 +1,6 @@
 -- A supplier that holds what the run says sends what a refresh looks at: its stamp is the run's, and what it sends is counted by
 -- its entries or by the changes of its log; and it tells an inactive agreement or the need of a total refresh alone.
-use Rattle.std.proofs.Common.{◌≡◌, ℕ, Bool, true, false, not, ◌&&◌, ◌⊎◌, inl, inr, nat_lt, length, refl, sym, ap, ◌∙◌, Option, Some, None, Result, Ok, Err}
+use Rattle.std.proofs.Common.{◌≡◌, ℕ, Bool, true, false, ◌⊎◌, inl, inr, nat_lt, length, refl, sym, ap, ◌∙◌, Option, Some, None, Ok}
 use Rattle.x5_model.specs.Words.{in_option}
 use Rattle.x5_model.specs.Keys.{Key}
 use Rattle.x5_model.specs.Values.{key_of}
@@ -11,7 +11,7 @@ use Rattle.x5_model_run.specs.Refresh.{Changes, changes_at, base_of, count_of, n
 use Rattle.x5_ops.specs.declared.knowledge.Content.{Content}
 use Rattle.x5_dse.specs.Linked.{entries_of}
 use Rattle.x5_holdings.specs.State.{Kept, State}
-use Rattle.x5_supply.specs.Supplied.{supplied, stamp_of, total_of, mastered_of, refreshed_of, content_of_master, content_of_copy, steps_after}
+use Rattle.x5_supply.specs.Supplied.{supplied, stamp_of, total_of, mastered_of, refreshed_of, content_of_master, content_of_copy}
 use Rattle.x5_supply.proofs.Counting.{steps_are_changes}
 use Rattle.x5_refresh.specs.Course.{Facts, facts_at}
 use Rattle.x5_refresh.specs.Joined.{IsSupplier, IsByFacts, SuppliesAreFacts}

@@ -1,23 +1,20 @@
 -- Over consistent knowledge the block of a refresh is the course of what it looks at: by the cases that both tell apart.
-use Rattle.std.proofs.Common.{◌≡◌, ℕ, Bool, true, false, not, ◌&&◌, if◌then◌else◌, List, [], ◌∷◌, refl, Option, Some, None}
-use Rattle.std.specs.Prelude.{◌==◌}
-use Rattle.std.specs.List.{find}
-use Rattle.std.specs.Option.{is_some, option_map}
+use Rattle.std.proofs.Common.{◌≡◌, ℕ, Bool, true, false, not, ◌&&◌, if◌then◌else◌, [], ◌∷◌, refl, Option, Some, None}
+use Rattle.std.specs.Option.{option_map}
 use Rattle.x5_model_tree.specs.World.{Agreement}
-use Rattle.x5_model_tree.specs.Consistent.{first_breach}
 use Rattle.x5_model_run.specs.Network.{is_unheard, is_lost, is_sent}
-use Rattle.x5_model_run.specs.History.{Refreshed, Point, knowledge_at, as_of, acked}
-use Rattle.x5_model_run.specs.Refresh.{RequestShadowUpdate, UpdateShadow, CoordinateShadowUpdate, ShadowLine, RefreshOutcome, Done, Unheard, Problem, Missed, RefreshBlock, inactive_agreement, full_update_required, supplied, peer_moment, same_moment, needs_total, shadow_line, ended, refresh_with, pull, push, refresh_block}
+use Rattle.x5_model_run.specs.History.{Refreshed, Point, as_of, acked}
+use Rattle.x5_model_run.specs.Refresh.{RequestShadowUpdate, UpdateShadow, CoordinateShadowUpdate, ShadowLine, Done, Unheard, Problem, Missed, RefreshBlock, inactive_agreement, full_update_required, supplied, peer_moment, same_moment, needs_total, shadow_line, ended, refresh_with, pull, push}
 use Rattle.x5_refresh.specs.Course.{problem_with, unless_ended, course, facts_at, BlocksAreCourses}
 
 -- the steps of either, one after another, and the course's
 module _ (first last : ShadowLine) (stamp : ℕ) (f : Refreshed) where
   pull_steps : (unheard short lost : Bool)
       → (if unheard then ended (first ∷ []) Unheard
-        else (if short then ended (first ∷ []) (Problem full_update_required)
-        else (if lost then ended (first ∷ last ∷ []) Unheard else ended (first ∷ last ∷ []) (Done f))))
+      else (if short then ended (first ∷ []) (Problem full_update_required)
+      else (if lost then ended (first ∷ last ∷ []) Unheard else ended (first ∷ last ∷ []) (Done f))))
       ≡ unless_ended (if unheard then Some Unheard else option_map Problem (problem_with short (Some stamp))) (first ∷ [])
-        (ended (first ∷ last ∷ []) (if lost then Unheard else Done f))
+      (ended (first ∷ last ∷ []) (if lost then Unheard else Done f))
   pull_steps true short lost = refl
   pull_steps false true lost = refl
   pull_steps false false true = refl
@@ -25,12 +22,12 @@ module _ (first last : ShadowLine) (stamp : ℕ) (f : Refreshed) where
 
   push_steps : (own acknowledged : Option ℕ) (unheard short miss lost : Bool)
       → (if short then ended [] (Problem full_update_required)
-        else (if unheard then ended (first ∷ []) Unheard
-        else (if miss then ended (first ∷ []) (Missed own acknowledged)
-        else (if lost then ended (first ∷ last ∷ []) Unheard else ended (first ∷ last ∷ []) (Done f)))))
+      else (if unheard then ended (first ∷ []) Unheard
+      else (if miss then ended (first ∷ []) (Missed own acknowledged)
+      else (if lost then ended (first ∷ last ∷ []) Unheard else ended (first ∷ last ∷ []) (Done f)))))
       ≡ unless_ended (option_map Problem (problem_with short (Some stamp))) []
-        (unless_ended (if unheard then Some Unheard else (if miss then Some (Missed own acknowledged) else None)) (first ∷ [])
-        (ended (first ∷ last ∷ []) (if lost then Unheard else Done f)))
+      (unless_ended (if unheard then Some Unheard else (if miss then Some (Missed own acknowledged) else None)) (first ∷ [])
+      (ended (first ∷ last ∷ []) (if lost then Unheard else Done f)))
   push_steps own acknowledged unheard true miss lost = refl
   push_steps own acknowledged true false miss lost = refl
   push_steps own acknowledged false false true lost = refl

@@ -1,4 +1,5 @@
--- The course of one refresh, by what is looked at of a run (X.525, sections 9 to 12): its messages and what becomes of it.
+-- The course of one refresh, by what is looked at of a run (X.525, sections 9 to 12): its messages and what becomes of
+-- it.
 use Rattle.std.specs.Prelude.{◌≡◌, ℕ, Bool, true, false, not, ◌&&◌, ◌==◌, if◌then◌else◌, List, [], ◌∷◌}
 use Rattle.std.specs.List.{find}
 use Rattle.std.specs.Option.{is_some, option_map}
@@ -43,11 +44,13 @@ abbrev pub unsent : Bool → Option ℕ → Option RefreshOutcome
 unsent true problem = option_map Problem problem
 unsent false problem = None
 
--- behind the first message, where it is heard: in a pull the supplier's problem; in a push, of an incremental refresh,
--- that the consumer has it as of another moment than it acknowledged
+-- behind the first message, where it is heard: in a push, of an incremental refresh, that the consumer has it as of
+-- another moment than it acknowledged; in a pull the supplier's problem
+abbrev pub missing : Bool → Option ℕ → Option ℕ → Option RefreshOutcome
+missing total own acked = if not total && not (same_moment acked own) then Some (Missed own acked) else None
+
 abbrev pub answered : Bool → Bool → Option ℕ → Option ℕ → Option ℕ → Option RefreshOutcome
-answered true total problem own acked =
-    if not total && not (same_moment acked own) then Some (Missed own acked) else None
+answered true total problem own acked = missing total own acked
 answered false total problem own acked = option_map Problem problem
 
 abbrev pub stopped : Bool → Bool → Option ℕ → Option ℕ → Option ℕ → Fate → Option RefreshOutcome
@@ -55,16 +58,13 @@ stopped push total problem own acked first =
     if is_unheard first then Some Unheard else answered push total problem own acked
 
 -- with the last message: where it is lost nothing was taken; where its reply is lost the supplier doesn't know
+abbrev pub taken : Bool → ℕ → ℕ → ℕ → Bool → RefreshOutcome
+taken total number stamp count heard =
+    Done (record { agreement = number; total = total; stamp = stamp; count = count; acknowledged = heard })
+
 abbrev pub finished : Bool → ℕ → ℕ → ℕ → Fate → RefreshOutcome
 finished total number stamp count last =
-    if is_lost last then Unheard
-    else Done (record {
-      agreement = number;
-      total = total;
-      stamp = stamp;
-      count = count;
-      acknowledged = is_sent last;
-    })
+    if is_lost last then Unheard else taken total number stamp count (is_sent last)
 
 -- ---- the messages
 
@@ -107,7 +107,8 @@ unless_ended (Some outcome) lines next = ended lines outcome
 abbrev pub course : Bool → Bool → Agreement → Facts → RefreshBlock
 course push total g f =
     unless_ended (unsent push (problem_of total f)) []
-    (unless_ended (stopped push total (problem_of total f) f.own f.acked f.first) (line_of g (opening push) f.first ∷ [])
+    (unless_ended (stopped push total (problem_of total f) f.own f.acked f.first)
+    (line_of g (opening push) f.first ∷ [])
     (ended (line_of g (opening push) f.first ∷ line_of g UpdateShadow f.last ∷ [])
     (finished total g.number (in_option 0 (λ m. m) f.supplied) f.count f.last)))
 

@@ -1,17 +1,15 @@
 -- What is sent by a refresh, total or incremental, and what the consumer's copy is then (X.525, sections 9 to 11).
-use Rattle.std.specs.Prelude.{◌≡◌, ℕ, Bool, true, false, length, nat_lt}
+use Rattle.std.specs.Prelude.{◌≡◌, ℕ, Bool, true, false, length}
 use Rattle.std.specs.Option.{is_some}
 use Rattle.std.specs.declared.option.Option.{Option}
 use Rattle.std.specs.declared.option.Option.TheVariants.{None, Some}
 use Rattle.std.specs.declared.result.Result.{Result}
 use Rattle.std.specs.declared.result.Result.TheVariants.{Ok, Err}
-use Rattle.x5_model.specs.Words.{in_option}
 use Rattle.x5_model.specs.Keys.{Key}
 use Rattle.x5_model_run.specs.Holdings.{copy_at}
 use Rattle.x5_model_run.specs.Refresh.{inactive_agreement}
-use Rattle.x5_holdings.specs.Logs.{Log}
 use Rattle.x5_holdings.specs.State.{CopyKept, State, holdings_view}
-use Rattle.x5_supply.specs.Supplied.{supplied, stamp_of, total_of, since_of}
+use Rattle.x5_supply.specs.Supplied.{stamp_of, total_of, since_of}
 use Rattle.x5_consume.specs.Taken.{AreWhole, CanTake, IsReplaced, IsAdvanced}
 use Rattle.x5_refresh.specs.declared.brought.Brought.{Brought}
 use Rattle.x5_refresh.specs.declared.brought.Brought.TheVariants.{Total, Steps}

@@ -1,11 +1,11 @@
 //! Whether a refresh goes on, and what became of it.
 
-ghost use Rattle.std.specs.Prelude.{◌≡◌, ◌&&◌, ℕ, Bool, not, if◌then◌else◌, true, None, Some};
+ghost use Rattle.std.specs.Prelude.{◌≡◌, ℕ, Bool, true};
 ghost use Rattle.std.specs.Option.{option_map};
 ghost use Rattle.x5_model_run.specs.Network.{is_sent};
-ghost use Rattle.x5_model_run.specs.Refresh.{Done, Missed, Problem, same_moment};
+ghost use Rattle.x5_model_run.specs.Refresh.{Problem, same_moment};
 ghost use Rattle.x5_ops.specs.JournalViews.{fate_view};
-ghost use Rattle.x5_refresh.specs.Course.{finished, stopped, unsent};
+ghost use Rattle.x5_refresh.specs.Course.{finished, missing, stopped, taken, unsent};
 ghost use Rattle.x5_refresh.specs.Joined.{is_of_supplier};
 ghost use Rattle.x5_refresh.specs.Outcomes.{outcome_view, start_view};
 
@@ -49,7 +49,7 @@ fn refused(problem: Option<u8>) -> Start
 
 /// An incremental refresh ends where the consumer has it as of another moment than it acknowledged. No memory.
 fn missed(total: bool, own: Option<Moment>, acked: Option<Moment>) -> Start
-    ensures { (heard : Bool) (number : ℕ) → start_view heard number result ≡ (if not total && not (same_moment acked own) then Some (Missed own acked) else None) }
+    ensures { (heard : Bool) (number : ℕ) → start_view heard number result ≡ missing total own acked }
 {
     if total || is_same(&acked, &own) {
         return Start::GoesOn;
@@ -99,7 +99,7 @@ pub fn begins(
 
 /// A refresh that the consumer took. No memory.
 fn done(total: bool, stamp: Moment, count: u64) -> Refreshed
-    ensures { (heard : Bool) (number : ℕ) → outcome_view heard number result ≡ Done (record { agreement = number; total = total; stamp = stamp; count = count; acknowledged = heard }) }
+    ensures { (heard : Bool) (number : ℕ) → outcome_view heard number result ≡ taken total number stamp count heard }
 {
     if total {
         return Refreshed::Total(stamp, count);
