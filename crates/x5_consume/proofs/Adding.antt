@@ -1,13 +1,13 @@
 -- An entry that can be added is taken among the others just as it is: the one above it is there and begins its name, and no entry
 -- has its key.
-use Rattle.std.proofs.Common.{◌≡◌, ℕ, ◌+◌, ◌-◌, ◌<◌, Bool, true, false, List, [], ◌∷◌, ◌++◌, length, take, refl, sym, ap, subst, ◌∙◌, arith}
+use Rattle.std.proofs.Common.{◌≡◌, ◌+◌, ◌-◌, ◌<◌, true, false, List, [], ◌∷◌, ◌++◌, length, sym, ap, subst, ◌∙◌, arith}
 use Rattle.std.proofs.lemmas.List.{length-map, length_push}
 use Rattle.std.specs.Ordering.{is_lt}
-use Rattle.x5_model.specs.Members.{In, Once}
+use Rattle.x5_model.specs.Members.{Once}
 use Rattle.x5_model.specs.Words.{ascending}
 use Rattle.x5_model.specs.Keys.{Key, same_key, key_below, parent}
 use Rattle.x5_model.specs.Values.{Name, key_of, key_of_rdn, last_rdn, name_above}
-use Rattle.x5_model.specs.Entries.{Entry, Named}
+use Rattle.x5_model.specs.Entries.{Named}
 use Rattle.x5_model.proofs.KeyLaws.{key_decides}
 use Rattle.x5_model.proofs.Lists.{any_in, in_map, of_find, once_map}
 use Rattle.x5_model.proofs.Decide.{once_decides}

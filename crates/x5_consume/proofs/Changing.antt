@@ -1,8 +1,8 @@
 -- A step that can be done is a change that is ready, once there is room; and the change makes of the entries what the step does.
-use Rattle.std.proofs.Common.{◌≡◌, ℕ, zero, suc, ◌+◌, ◌-◌, ◌<◌, ◌≤◌, Bool, true, false, not, ◌&&◌, List, [], ◌∷◌, ◌++◌, map, take, drop, length, refl, sym, ap, subst, ◌∙◌, arith, Option, Some, None, if◌then◌else◌}
+use Rattle.std.proofs.Common.{◌≡◌, ℕ, zero, suc, ◌+◌, ◌-◌, ◌≤◌, Bool, true, false, not, ◌&&◌, List, [], ◌∷◌, ◌++◌, map, take, drop, length, refl, sym, ap, subst, ◌∙◌, arith, Some, if◌then◌else◌}
 use Rattle.std.proofs.lemmas.List.{length-map, length-take}
 use Rattle.std.specs.Prelude.{IsTrue}
-use Rattle.std.specs.List.{filter, find}
+use Rattle.std.specs.List.{filter}
 use Rattle.std.specs.Option.{option_map}
 use Rattle.x5_model.specs.Members.{In, Once, here, there}
 use Rattle.x5_model.specs.Words.{ascending}
@@ -20,7 +20,7 @@ use Rattle.x5_model_tree.proofs.Order.{entries_once}
 use Rattle.x5_model_refreshed.specs.Steps.{Step, Add, Remove, Modify, Rename, moved_along, replayed}
 use Rattle.x5_dse.specs.declared.node.NodeId.{NodeId}
 use Rattle.x5_dse.specs.Linked.{IsLinked, Node, entries_of, has_id, is_first, is_live, named_of, node_at, node_below, node_key, node_with, prefix_of}
-use Rattle.x5_dse.specs.Changes.{Inserted, is_taken, moved_entry, new_key}
+use Rattle.x5_dse.specs.Changes.{Inserted, moved_entry, new_key}
 use Rattle.x5_index.specs.Index.{terms_of}
 use Rattle.x5_holdings.specs.declared.changing.EntryChange.{EntryChange}
 use Rattle.x5_holdings.specs.declared.changing.EntryChange.TheVariants as changes
@@ -30,7 +30,7 @@ use Rattle.x5_holdings.specs.State.{Kept}
 use Rattle.x5_holdings.proofs.Finding.{find_map}
 use Rattle.x5_consume.specs.declared.ready.Ready.{Ready}
 use Rattle.x5_consume.specs.declared.ready.Ready.TheVariants as ready
-use Rattle.x5_model_refreshed.specs.Doable.{CanAdd, CanDo, CanModify, CanRemove, CanRename}
+use Rattle.x5_model_refreshed.specs.Doable.{CanDo}
 use Rattle.x5_consume.specs.Ready.{IsChangeFor, IsFindable, IsNodeOf, IsReadyFor, IsRoom, room_of as ready_room}
 use Rattle.x5_consume.proofs.Adding.{parent_there, same_entry}
 

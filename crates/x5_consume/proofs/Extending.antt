@@ -1,9 +1,9 @@
 -- The entries of a whole context, taken one by one in the order of their keys: each next one can be added, and comes behind all
 -- others.
-use Rattle.std.proofs.Common.{◌≡◌, ℕ, zero, suc, ◌+◌, ◌<◌, ◌≤◌, Bool, true, false, ◌&&◌, ◌⊎◌, inl, inr, List, [], ◌∷◌, ◌++◌, length, drop, get_or, refl, sym, ap, subst, ◌∙◌, Option, Some, None, append_assoc, arith}
+use Rattle.std.proofs.Common.{◌≡◌, ℕ, zero, suc, ◌+◌, ◌<◌, ◌≤◌, true, false, inl, inr, List, [], ◌∷◌, ◌++◌, length, drop, get_or, refl, sym, ap, subst, ◌∙◌, Some, append_assoc, arith}
 use Rattle.std.proofs.lemmas.List.{append-nil}
 use Rattle.std.specs.Option.{option_map}
-use Rattle.x5_model.specs.Members.{In, here, there}
+use Rattle.x5_model.specs.Members.{In, here}
 use Rattle.x5_model.specs.Words.{ascending, first_of}
 use Rattle.x5_model.specs.Keys.{Key, same_key, key_below}
 use Rattle.x5_model.specs.Values.{Name, key_of}

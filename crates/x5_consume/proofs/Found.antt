@@ -1,5 +1,5 @@
 -- The node that a name is found at.
-use Rattle.std.proofs.Common.{◌≡◌, Bool, true, false, ◌||◌, List, [], ◌∷◌, refl, sym, ap, subst, ◌∙◌, Option, Some, None, if◌then◌else◌}
+use Rattle.std.proofs.Common.{◌≡◌, Bool, true, false, ◌||◌, List, [], ◌∷◌, refl, ap, ◌∙◌, Option, Some, None, if◌then◌else◌}
 use Rattle.std.specs.Option.{is_some, option_map}
 use Rattle.x5_model.specs.Keys.{Key, same_key}
 use Rattle.x5_model.proofs.Lists.{of_find}

@@ -1,21 +1,19 @@
 -- Steps that are done on a copy one after another: what is done and what is left are all, and there is room for what is left.
-use Rattle.std.proofs.Common.{◌≡◌, ℕ, ◌+◌, ◌<◌, ◌≤◌, List, [], ◌∷◌, map, length, refl, sym, ap, subst, ◌∙◌, arith, Option, Some, None}
+use Rattle.std.proofs.Common.{◌≡◌, ℕ, ◌+◌, ◌<◌, ◌≤◌, List, [], ◌∷◌, length, refl, sym, ap, subst, ◌∙◌, arith, Option, Some}
 use Rattle.std.specs.Prelude.{slice_get, slice_set}
 use Rattle.std.specs.Option.{IsSomeAnd}
 use Rattle.x5_model.specs.Values.{key_of}
 use Rattle.x5_model.specs.Entries.{Named}
 use Rattle.x5_model_refreshed.specs.Steps.{replay, replayed}
-use Rattle.x5_dse.specs.Linked.{IsLinked, entries_of}
+use Rattle.x5_dse.specs.Linked.{entries_of}
 use Rattle.x5_holdings.specs.declared.changing.EntryChange.{EntryChange}
-use Rattle.x5_holdings.specs.declared.log.Logged.{Logged}
-use Rattle.x5_holdings.specs.Logs.{IsLogged, Log}
+use Rattle.x5_holdings.specs.Logs.{Log}
 use Rattle.x5_holdings.specs.Making.{IsChanged, IsMade, IsReady}
-use Rattle.x5_holdings.specs.Making.{HasRoomFor, IsLeft, room_of}
+use Rattle.x5_holdings.specs.Making.{IsLeft, room_of}
 use Rattle.x5_holdings.specs.Placed.{IsBroughtChanged, IsCopyChanged}
 use Rattle.x5_holdings.specs.State.{CopyKept, Kept, State}
-use Rattle.x5_consume.specs.declared.ready.Ready.{Ready}
 use Rattle.x5_consume.specs.declared.ready.Prepared.{Prepared}
-use Rattle.x5_consume.specs.Ready.{ArePrepared, CanGo, CanGoOn, IsDone, IsDue, IsFindable, Stands, room_of as ready_room, steps_in, values_in}
+use Rattle.x5_consume.specs.Ready.{CanGo, CanGoOn, IsDone, IsDue, IsFindable, Stands, room_of as ready_room, steps_in, values_in}
 use Rattle.x5_model_refreshed.specs.Doable.{CanReplay}
 use Rattle.x5_consume.specs.Steps.{step_view, steps_view}
 use Rattle.x5_consume.specs.Taken.{AreDone, AreNoted}

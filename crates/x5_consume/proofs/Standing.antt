@@ -1,5 +1,5 @@
 -- What is found at a place is the change that is due there.
-use Rattle.std.proofs.Common.{◌≡◌, ℕ, ◌<◌, sym, ap, subst, ◌∙◌}
+use Rattle.std.proofs.Common.{◌≡◌, ℕ, sym, ap, subst, ◌∙◌}
 use Rattle.x5_model.specs.Values.{key_of}
 use Rattle.x5_dse.specs.Linked.{IsLinked, Nodes, entries_of}
 use Rattle.x5_holdings.specs.declared.changing.EntryChange.{EntryChange}

@@ -1,12 +1,12 @@
 -- The copy of the context changes, and nothing else of what is held; after want of memory nothing does.
-use Rattle.std.proofs.Common.{◌≡◌, ℕ, ◌<◌, true, List, [], ◌∷◌, ◌++◌, length, map, refl, sym, ap, subst, ◌∙◌, Option, Some, None, Result, Ok, Err}
+use Rattle.std.proofs.Common.{◌≡◌, ℕ, true, List, [], ◌∷◌, ◌++◌, length, map, refl, sym, ap, subst, ◌∙◌, Option, Some, None, Result, Ok, Err}
 use Rattle.std.proofs.lemmas.List.{length-map}
 use Rattle.std.specs.Prelude.{IsTrue, OnErr, slice_get, slice_set}
 use Rattle.std.specs.Option.{is_some, option_map}
 use Rattle.x5_model.specs.Keys.{Key}
 use Rattle.x5_model.specs.Values.{key_of}
 use Rattle.x5_model.specs.Entries.{Named}
-use Rattle.x5_model_run.specs.Holdings.{Copy, copy_at}
+use Rattle.x5_model_run.specs.Holdings.{Copy}
 use Rattle.x5_model_refreshed.specs.Steps.{replay}
 use Rattle.x5_ops.specs.declared.knowledge.Content.{Content}
 use Rattle.x5_ops.specs.declared.knowledge.Step.{Step}

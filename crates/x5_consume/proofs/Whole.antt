@@ -1,11 +1,11 @@
 -- A whole content: its first entry is the prefix's.
-use Rattle.std.proofs.Common.{◌≡◌, ℕ, ◌<◌, List, [], ◌∷◌, ◌++◌, length, refl, sym, ap, subst, ◌∙◌, arith, Option, Some, None}
+use Rattle.std.proofs.Common.{◌≡◌, ℕ, ◌<◌, List, [], ◌∷◌, ◌++◌, length, sym, ap, subst, ◌∙◌, arith, Some, None}
 use Rattle.std.proofs.lemmas.List.{length-map}
 use Rattle.std.specs.Option.{option_map}
 use Rattle.x5_model.specs.Words.{first_of}
 use Rattle.x5_model.specs.Keys.{Key}
 use Rattle.x5_model.specs.Values.{Name, key_of, key_of_rdn}
-use Rattle.x5_model.specs.Entries.{Entry, Named}
+use Rattle.x5_model.specs.Entries.{Named}
 use Rattle.x5_model_tree.specs.Tree.{key_at}
 use Rattle.x5_ops.specs.declared.knowledge.Content.{Content}
 use Rattle.x5_ops.specs.declared.knowledge.Specific.{Specific}

@@ -1,6 +1,6 @@
 -- One entry more is taken each time, until none is left.
 use Rattle.std.proofs.Common.{drop, ◌+◌}
-use Rattle.x5_consume.proofs.Extending.{SoFar, at_end, at_place, begun, next_add, next_order, one_taken}
+use Rattle.x5_consume.proofs.Extending.{at_end, at_place, begun, next_add, next_order, one_taken}
 use Rattle.x5_consume.proofs.building.with_entries.Goals as goal
 
 pub loop-named-init : goal.loop-named-init

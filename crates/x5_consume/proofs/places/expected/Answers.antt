@@ -1,8 +1,7 @@
 -- What stands at the place that the table gives is the copy.
-use Rattle.std.proofs.Common.{List, Bor, sym, subst, ap, ◌∙◌, Some}
+use Rattle.std.proofs.Common.{List, subst, ap, ◌∙◌}
 use Rattle.std.specs.Slice.{IsItemAt}
 use Rattle.x5_model.specs.Values.{Name, key_of}
-use Rattle.x5_model_run.specs.Holdings.{copy_at}
 use Rattle.x5_holdings.specs.State.{CopyKept, holdings_view}
 use Rattle.x5_holdings.proofs.Holding.{none_got, some_got}
 use Rattle.x5_consume.specs.Taken.{stamp_at}

@@ -1,5 +1,5 @@
 -- The table has it, since there is a copy.
-use Rattle.std.proofs.Common.{◌≡◌, true, sym, subst, ap, ◌∙◌, Some, Option}
+use Rattle.std.proofs.Common.{subst, ap, ◌∙◌, Some, Option}
 use Rattle.std.specs.Option.{is_some}
 use Rattle.x5_model.specs.Values.{Name, key_of}
 use Rattle.x5_model_run.specs.Holdings.{Copy, copy_at}

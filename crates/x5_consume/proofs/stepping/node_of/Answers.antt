@@ -1,7 +1,4 @@
 -- The node that is found is the one of its number.
-use Rattle.std.proofs.Common.{◌≡◌, true, sym, ap, ◌∙◌, Option}
-use Rattle.std.specs.Option.{is_some}
-use Rattle.x5_dse.specs.declared.node.NodeId.{NodeId}
 use Rattle.x5_holdings.proofs.Posted.{top_live}
 use Rattle.x5_consume.proofs.Found.{found_node, lacks}
 use Rattle.x5_consume.proofs.stepping.node_of.Goals as goal

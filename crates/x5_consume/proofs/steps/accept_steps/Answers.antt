@@ -1,13 +1,13 @@
 -- The steps can be done on the copy at the place that the table gives, once there is room; and then they are done.
-use Rattle.std.proofs.Common.{◌≡◌, ◌≤◌, List, sym, ap, subst, ◌∙◌, Option}
-use Rattle.std.specs.Option.{is_some, option_map}
+use Rattle.std.proofs.Common.{ap, ◌∙◌, Option}
+use Rattle.std.specs.Option.{is_some}
 use Rattle.x5_model.specs.Values.{key_of}
 use Rattle.x5_model_run.specs.Holdings.{Copy}
 use Rattle.x5_holdings.specs.Placed.{IsBroughtChanged}
 use Rattle.x5_holdings.proofs.Holding.{some_within}
 use Rattle.x5_consume.specs.Ready.{steps_in, values_in}
 use Rattle.x5_consume.specs.Taken.{AreDone}
-use Rattle.x5_consume.proofs.Placing.{At, at_place}
+use Rattle.x5_consume.proofs.Placing.{at_place}
 use Rattle.x5_consume.proofs.Taking.{advanced, got_changed, is_refreshed, on_err, room_alone, stands}
 use Rattle.x5_consume.proofs.steps.accept_steps.Goals as goal
 
