@@ -21,6 +21,8 @@ use Rattle.x5_model_held.specs.Beginning.{described_holdings, holdings_described
 use Rattle.x5_model_known.specs.Holding.{holdings_name}
 use Rattle.x5_model_known.proofs.Counted.{described_counted}
 use Rattle.x5_model_known.proofs.Describing.{described_name_agents, described_are_themselves, described_names_apart}
+use Rattle.x5_model_settled.proofs.After.{stamped_at_first}
+use Rattle.x5_model_settled.proofs.Held.{held_at_first}
 use Rattle.x5_holdings.specs.State.{State, holdings_view}
 use Rattle.x5_know.specs.WorldView.{described_agent_view, world_view}
 use Rattle.x5_know.specs.declared.described.DescribedAgent.{DescribedAgent}
@@ -202,8 +204,9 @@ pub stands_begun : (w : World) (n : Net) → IsDescribed w → IsBegun w n
 stands_begun w n d b = record {
   described = d;
   unmoved = tt;
+  stamped = λ consistent. stamped_at_first w;
   names = b.names;
-  holds = λ a. holds_begun w n a b;
+  holds = λ a. holds_begun w n a b ∙ sym (held_at_first w a d);
   network = b.network;
   sent = b.sent;
   contexts = b.contexts;

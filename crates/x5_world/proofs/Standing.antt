@@ -1,6 +1,6 @@
 -- The network of a line, as the definitions judge it: each agent holds what it holds at that line, and each kind of line
 -- leads to the network of the next one.
-use Rattle.std.proofs.Common.{◌≡◌, ℕ, ◌+◌, ◌*◌, ◌==◌, Bool, false, List, ◌∷◌, length, map, refl, sym, ap, ◌∙◌, arith}
+use Rattle.std.proofs.Common.{◌≡◌, ℕ, zero, suc, ◌+◌, ◌*◌, ◌<◌, ◌==◌, Bool, true, false, List, [], ◌∷◌, length, map, slice_get, Result, Ok, Err, IfOk, Some, refl, sym, ap, ◌∙◌, arith}
 use Rattle.std.specs.List.{filter}
 use Rattle.std.specs.Prelude.{nat_lt, if◌then◌else◌}
 use Rattle.std.proofs.lemmas.List.{length-map}
@@ -8,7 +8,7 @@ use mathlib.Core.Path.{fun_ext}
 use Rattle.x5_model.specs.Words.{has}
 use Rattle.x5_model.specs.Requests.{Request}
 use Rattle.x5_model.specs.Answers.{Reply}
-use Rattle.x5_model_tree.specs.World.{Network, World}
+use Rattle.x5_model_tree.specs.World.{Agent, Network, World}
 use Rattle.x5_model_tree.specs.Masters.{mastered}
 use Rattle.x5_model_run.specs.Network.{Outage, after_outage, after_loss}
 use Rattle.x5_model_run.specs.Holdings.{Holdings}
@@ -16,12 +16,15 @@ use Rattle.x5_model_run.specs.Journal.{Journal}
 use Rattle.x5_model_run.specs.History.{Point, knowledge_at, network_at, sent_before}
 use Rattle.x5_model_run.specs.Stage.{budget, nssr_pairs, once_each}
 use Rattle.x5_model_run.specs.Chain.{opening}
-use Rattle.x5_model_run.specs.Run.{Asks, Command, Changes, Drops, Block, Blank, Silent, Set, Replies, did_by}
+use Rattle.x5_model_run.specs.Run.{Asks, Command, Changes, Drops, Block, Blank, Silent, Set, Replies, IsBlock, did_by}
 use Rattle.x5_model_serve.specs.Committed.{committed}
+use Rattle.x5_model_held.specs.Theorems.{is_still}
+use Rattle.x5_model_settled.specs.Settled.{HasAgent}
+use Rattle.x5_model_settled.specs.Held.{BySteps, held_at, scene_held}
 use Rattle.x5_model_settled.proofs.After.{network_stays, moved_none_after, knows_as_described}
-use Rattle.x5_model_settled.specs.Held.{held_after, held_at, scene_held}
-use Rattle.x5_model_settled.proofs.Steps.{held_after_request}
-use Rattle.x5_world.specs.State.{Net, StandsAt, after, holdings_in}
+use Rattle.x5_model_settled.proofs.Held.{held_on, held_after_line}
+use Rattle.x5_model_settled.proofs.Stamped.{stamped_after}
+use Rattle.x5_world.specs.State.{Net, StandsAt, HasShortNames, after, holdings_in}
 use Rattle.x5_world.specs.Sent.{held_since, scene_of}
 
 -- ---- what a line is judged by
@@ -74,15 +77,16 @@ pub record IsAs (old new : Net) (links : Network) (count : ℕ) : Type 0 where
 
 -- at a line that changes nothing that is held
 stands : (old new : Net) (p : Point) (command : Command) (block : Block) (network : Network) (sent : ℕ)
-    → ((a : ℕ) (h : Holdings) → held_after (did_by command block).deed a h ≡ h) → StandsAt old p
+    → IsBlock BySteps p command block → is_still (did_by command block).deed ≡ true → StandsAt old p
     → IsAs old new network sent → network ≡ network_at (after (did_by command block) p)
     → sent ≡ sent_before (did_by command block ∷ p.past) → StandsAt new (after (did_by command block) p)
-stands old new p command block network sent still s q e f = record {
+stands old new p command block network sent is still s q e f = record {
   described = s.described;
   unmoved = moved_none_after p.past command block s.unmoved;
+  stamped = λ consistent. stamped_after BySteps p.described p.past command block is (s.stamped consistent);
   names = q.names ∙ s.names;
   holds = λ a. ap (λ (hs : List Holdings). holdings_in (record old { agents = hs }) a) q.agents ∙ s.holds a
-      ∙ sym (still a (held_at p a));
+      ∙ sym (held_on p.described p.past (did_by command block) a still);
   network = q.network ∙ e;
   sent = q.sent ∙ f;
   contexts = q.contexts ∙ s.contexts;
@@ -91,14 +95,14 @@ stands old new p command block network sent still s q e f = record {
 
 pub after_comment : (n : Net) (p : Point) → StandsAt n p → StandsAt n (after (did_by Blank Silent) p)
 after_comment n p s =
-    stands n n p Blank Silent n.network n.sent (λ a h. refl) s
+    stands n n p Blank Silent n.network n.sent tt refl s
     (record { names = refl; agents = refl; network = refl; sent = refl; contexts = refl; pairs = refl })
     s.network (s.sent ∙ (let z : sent_before p.past ≡ 0 + sent_before p.past = omega arith in z))
 
 pub after_change : (old new : Net) (p : Point) (o : Outage) → StandsAt old p
     → IsAs old new (after_outage o old.network) old.sent → StandsAt new (after (did_by (Changes o) Set) p)
 after_change old new p o s q =
-    stands old new p (Changes o) Set (after_outage o old.network) old.sent (λ a h. refl) s q
+    stands old new p (Changes o) Set (after_outage o old.network) old.sent tt refl s q
     (ap (after_outage o) s.network)
     (s.sent ∙ (let z : sent_before p.past ≡ 0 + sent_before p.past = omega arith in z))
 
@@ -106,9 +110,14 @@ pub after_drop : (old new : Net) (p : Point) (reply : Bool) (number : ℕ) → S
     → IsAs old new (after_loss reply (old.sent + number) old.network) old.sent
     → StandsAt new (after (did_by (Drops reply number) Set) p)
 after_drop old new p reply number s q =
-    stands old new p (Drops reply number) Set (after_loss reply (old.sent + number) old.network) old.sent (λ a h. refl) s q
+    stands old new p (Drops reply number) Set (after_loss reply (old.sent + number) old.network) old.sent tt refl s q
     (λ i. after_loss reply (s.sent i + number) (s.network i))
     (s.sent ∙ (let z : sent_before p.past ≡ 0 + sent_before p.past = omega arith in z))
+
+pub if_ok_then : {T E : Type 0} {P Q : T → Type 0} (result : Result T E) → IfOk result P → ((x : T) → P x → Q x)
+    → IfOk result Q
+if_ok_then (Ok x) p more = more x p
+if_ok_then (Err e) p more = p
 
 -- a network after a request: each agent holds what it held, changed where it accepted the update
 pub record IsAfter (old new : Net) (r : Request) (accepted : List ℕ) (count : ℕ) : Type 0 where
@@ -119,18 +128,33 @@ pub record IsAfter (old new : Net) (r : Request) (accepted : List ℕ) (count : 
   pub contexts : new.contexts ≡ old.contexts
   pub pairs : new.pairs ≡ old.pairs
 
+at_agent : (agents : List Agent) (a : ℕ) → a < length agents → (x : Agent) × (slice_get agents a ≡ Some x)
+at_agent [] a l = absurd (omega (arith, l))
+at_agent (x ∷ more) zero l = (x, refl)
+at_agent (x ∷ more) (suc a) l = at_agent more a (omega (arith, l))
+
+-- an agent of the network is one of the world
+agent_there : (n : Net) (p : Point) (first : ℕ) → StandsAt n p → first < length n.names → HasAgent p.described first
+agent_there n p first s there =
+    let few : first < length p.described.agents =
+    (let e = ap length s.names ∙ agents_are p.described in omega (arith, e, there)) in
+    at_agent p.described.agents first few
+
 pub after_request : (old new : Net) (p : Point) (first : ℕ) (r : Request) (j : Journal) (reply : Reply)
     (accepted : List ℕ)
-    → StandsAt old p → ((a : ℕ) → has ◌==◌ j.accepted a ≡ has ◌==◌ accepted a)
+    → StandsAt old p → first < length old.names → HasShortNames r.body → BySteps p first r j reply
+    → ((a : ℕ) → has ◌==◌ j.accepted a ≡ has ◌==◌ accepted a)
     → IsAfter old new r accepted (old.sent + length j.lines)
     → StandsAt new (after (did_by (Asks first r) (Replies j reply)) p)
-after_request old new p first r j reply accepted s same q = record {
+after_request old new p first r j reply accepted s there short asked same q = record {
   described = s.described;
   unmoved = moved_none_after p.past (Asks first r) (Replies j reply) s.unmoved;
+  stamped = λ consistent. stamped_after BySteps p.described p.past (Asks first r) (Replies j reply) asked (s.stamped consistent);
   names = q.names ∙ s.names;
   holds = λ a. q.holds a ∙ ap (held_since accepted r a) (s.holds a)
       ∙ ap (λ (b : Bool). if b then committed r (held_at p a) else held_at p a) (sym (same a))
-      ∙ sym (held_after_request r j a (held_at p a));
+      ∙ sym (held_after_line p.described p.past first r j reply a s.described s.unmoved s.stamped
+      (agent_there old p first s there) short.target short.new_name asked);
   network = q.network ∙ s.network ∙ sym (network_stays p.described p.past first r j reply);
   sent = q.sent ∙ ap (λ (k : ℕ). k + length j.lines) s.sent
       ∙ (let z : sent_before p.past + length j.lines ≡ length j.lines + sent_before p.past = omega arith in z);

@@ -18,7 +18,7 @@ use Rattle.x5_ops.specs.JournalViews.{messages_view}
 use Rattle.x5_ops.specs.declared.answers.Reply.{Reply}
 use Rattle.x5_ops.specs.declared.journal.Journal.{Journal}
 use Rattle.x5_world.specs.Answered.{IsAnswered}
-use Rattle.x5_world.specs.State.{Net, StandsAt, HasRoom, holdings_in}
+use Rattle.x5_world.specs.State.{Net, StandsAt, HasRoom, HasShortNames, holdings_in}
 use Rattle.x5_world.specs.Sent.{IsChanged, line_view, journal_of, scene_of}
 use Rattle.x5_world.specs.declared.journal.Sent.{Sent}
 use Rattle.x5_world.proofs.Holding.{has_reverse}
@@ -83,8 +83,8 @@ pub answered : (old new : Net) (p : Point) (first most : ℕ) (r : Request) (lin
     → most ≡ most_of old
     → messages_view old.names journal.lines ≡ map (λ l. model.printed_line (line_view old.names l)) lines
     → map (agent_of old.names) journal.accepted ≡ accepted → IsAfter old new r accepted (old.sent + length lines)
-    → StandsAt old p → IsAnswered old new p first r reply journal
-answered old new p first most r lines accepted reply journal asked limit printed named q s =
+    → first < length old.names → HasShortNames r.body → StandsAt old p → IsAnswered old new p first r reply journal
+answered old new p first most r lines accepted reply journal asked limit printed named q there short s =
     let j : model.Journal = journal_of old.names lines accepted in
     let at_line : BySteps p first r j (reply_view old.names reply) =
     subst (λ (x : Scene). IsRequest x (budget p) j (reply_view old.names reply)) (scene_is old p first r s)
@@ -97,7 +97,7 @@ answered old new p first most r lines accepted reply journal asked limit printed
           ∙ map_both (line_view old.names) model.printed_line lines
           ∙ sym printed;
       accepted = reverse-reverse accepted ∙ sym named;
-      stands = after_request old new p first r j (reply_view old.names reply) accepted s
+      stands = after_request old new p first r j (reply_view old.names reply) accepted s there short at_line
           (λ a. has_reverse accepted a)
           (record {
             names = q.names;

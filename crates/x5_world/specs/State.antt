@@ -6,12 +6,14 @@ use Rattle.x5_model.specs.Values.{Name}
 use Rattle.x5_model.specs.Requests.{Body}
 use Rattle.x5_model_tree.specs.World.{Network, World, names_of_agents}
 use Rattle.x5_model_tree.specs.Masters.{mastered}
+use Rattle.x5_model_tree.specs.Consistent.{IsConsistent}
 use Rattle.x5_model_tree.specs.Described.{IsDescribed}
 use Rattle.x5_model_run.specs.Holdings.{Holdings}
 use Rattle.x5_model_run.specs.History.{Did, Point, no_holdings, network_at, sent_before}
 use Rattle.x5_model_run.specs.Needs as needs
 use Rattle.x5_model_run.specs.Stage.{nssr_pairs}
 use Rattle.x5_model_updates.specs.Keeping.{NoneMoved}
+use Rattle.x5_model_verdicts.specs.Committing.{IsStamped}
 use Rattle.x5_model_settled.specs.Held.{held_at}
 
 -- The agents' names and what each holds, in their order; how the network stands; how many messages were sent; and what
@@ -28,11 +30,12 @@ pub record Net : Type 0 where
 abbrev pub holdings_in : Net → ℕ → Holdings
 holdings_in n a = in_option (no_holdings a) (λ h. h) (slice_get n.agents a)
 
--- It is the network of this line, whether or not knowledge is consistent: each agent holds what is described of it,
--- changed by each update that it accepted; no copy was refreshed, and no context was moved.
+-- It is the network of this line, whether or not knowledge is consistent: each agent holds what it holds there, and no
+-- context was moved. Over consistent knowledge the stamps of copies are moments of lines before.
 pub record StandsAt (n : Net) (p : Point) : Type 0 where
   pub described : IsDescribed p.described
   pub unmoved : NoneMoved p.past
+  pub stamped : IsConsistent p.described → IsStamped p
   pub names : n.names ≡ names_of_agents p.described
   pub holds : (a : ℕ) → holdings_in n a ≡ held_at p a
   pub network : n.network ≡ network_at p

@@ -45,6 +45,7 @@ returns-clause-answered c =
     c.in_ok-told.ensures.asked (c.in_ok-most.ensures.is ∙ ap most_of (sym was)) printed called
     (is_after old mid mid (request_view c.args.request.now) c.in_ok-told.told.accepted.items c.len-messages.result
     (length sent) c.in_ok-told.ensures.held refl count)
+    (subst (λ (n : Net). c.args.first < length n.names) (sym was) c.requires.there) c.requires.short
     (subst (λ (n : Net). StandsAt n p) (sym was) s)))
 
 pub returns-clause-named : goal.returns-clause-named
