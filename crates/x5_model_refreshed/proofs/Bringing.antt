@@ -43,7 +43,7 @@ one_first x (y ∷ z ∷ more) e i = absurd (omega arith)
 
 -- the consumer of an agreement doesn't master its context, and consumes it by this agreement
 module _ (w : World) (g : Agreement) (i : In g w.agreements) (supplies : AgreementSupplies w g) where
-  not_master : masters w g.consumer (key_of g.context) ≡ false
+  pub not_master : masters w g.consumer (key_of g.context) ≡ false
   not_master = elim (true_or_false (masters w g.consumer (key_of g.context))) [
     | inr e ↦ e
     | inl e ↦

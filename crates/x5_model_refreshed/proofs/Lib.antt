@@ -10,3 +10,4 @@ pub mod Lasting
 pub mod Bringing
 pub mod Replayed
 pub mod Running
+pub mod Growing

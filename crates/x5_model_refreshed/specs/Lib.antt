@@ -3,3 +3,4 @@ pub mod Noting
 pub mod Logs
 pub mod Replaying
 pub mod Refreshed
+pub mod Growing
