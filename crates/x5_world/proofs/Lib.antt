@@ -1,3 +1,6 @@
+pub mod Keeping
+pub mod Noted
+pub mod Logging
 pub mod Standing
 pub mod Journals
 pub mod Repeating

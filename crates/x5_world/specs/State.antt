@@ -15,6 +15,7 @@ use Rattle.x5_model_run.specs.Needs as needs
 use Rattle.x5_model_run.specs.Stage.{nssr_pairs}
 use Rattle.x5_model_updates.specs.Keeping.{NoneMoved}
 use Rattle.x5_model_verdicts.specs.Committing.{IsStamped}
+use Rattle.x5_model_refreshed.specs.Replaying.{AllHappen}
 use Rattle.x5_model_settled.specs.Held.{held_at}
 use Rattle.x5_world.specs.Logs.{Logs, logs_at, no_logs}
 
@@ -47,7 +48,8 @@ abbrev pub LogsStand : Net → Point → Type 0
 LogsStand n p = (a : ℕ) → logs_in n a ≡ logs_at p a
 
 -- It is the network of this line, whether or not knowledge is consistent: each agent holds what it holds there, and no
--- context was moved. Over consistent knowledge the stamps of copies are moments of lines before.
+-- context was moved. Over consistent knowledge the stamps of copies are moments of lines before, these lines did what
+-- lines of a run do, and agents keep the last changes.
 pub record StandsAt (n : Net) (p : Point) : Type 0 where
   pub described : IsDescribed p.described
   pub unmoved : NoneMoved p.past
@@ -61,6 +63,7 @@ pub record StandsAt (n : Net) (p : Point) : Type 0 where
   pub agreements : n.agreements ≡ p.described.agreements
   pub acked : n.acked ≡ map (λ g. acked p g.number) p.described.agreements
   pub line : n.line ≡ length p.past
+  pub happened : IsConsistent p.described → AllHappen p.described p.past
   pub logs : IsConsistent p.described → LogsStand n p
 
 -- after one more line
