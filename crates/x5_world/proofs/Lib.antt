@@ -12,3 +12,4 @@ pub mod Adding
 pub mod Changing
 pub mod Worlds
 pub mod Beginning
+pub mod Stamps

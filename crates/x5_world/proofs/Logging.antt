@@ -41,6 +41,9 @@ pub request_acked : (p : Point) (r : Request) (accepted : List ℕ) (sent number
 request_acked p r [] sent number = refl
 request_acked p r (a ∷ more) sent number = refl
 
+too_many : (n : ℕ) → nat_le (suc (suc n)) 1 ≡ true → ⊥
+too_many n e = grind arith
+
 module _ (old new : Net) (p : Point) (r : Request) (s : StandsAt old p) (consistent : IsConsistent p.described)
     (accepted : List ℕ)
     (notes : (a : ℕ) → NotedWhere (has ◌==◌ accepted a) (old.line + 1) r (holdings_in old a) (logs_in old a) (logs_in new a)) where
@@ -85,6 +88,3 @@ module _ (old new : Net) (p : Point) (r : Request) (s : StandsAt old p) (consist
             ∙ sym (others_stay p led o r sent a at_o.0 (λ e. false_true (sym f ∙ (nat_same_decides o a).1 (sym e))))
       ]
   logs_after (o ∷ b ∷ more) sent one same a = absurd (too_many (length more) one)
-    where
-      too_many : (n : ℕ) → nat_le (suc (suc n)) 1 ≡ true → ⊥
-      too_many n e = grind arith

@@ -88,6 +88,22 @@ pub record IsAs (old new : Net) (links : Network) (count : ℕ) : Type 0 where
   pub acked : new.acked ≡ old.acked
   pub line : new.line ≡ old.line + 1
 
+-- as where one line more was counted
+pub as_before : (old new : Net) (links : Network) → new ≡ record old { network = links; line = old.line + 1 }
+    → IsAs old new links old.sent
+as_before old new links e = record {
+  names = ap (λ (n : Net). n.names) e;
+  agents = ap (λ (n : Net). n.agents) e;
+  logs = ap (λ (n : Net). n.logs) e;
+  network = ap (λ (n : Net). n.network) e;
+  sent = ap (λ (n : Net). n.sent) e;
+  contexts = ap (λ (n : Net). n.contexts) e;
+  pairs = ap (λ (n : Net). n.pairs) e;
+  agreements = ap (λ (n : Net). n.agreements) e;
+  acked = ap (λ (n : Net). n.acked) e;
+  line = ap (λ (n : Net). n.line) e;
+}
+
 next_line : (n k length_now : ℕ) → n ≡ k + 1 → k ≡ length_now → n ≡ suc length_now
 next_line n k length_now e f = omega (arith, e, f)
 

@@ -39,6 +39,13 @@ one_line_more old new lines sent lost line h =
     let e : new.line ≤ lines + 1 = (let f = h.line in omega (arith, f, line)) in
     record { line = e; sent = b; lost = c }
 
+-- where links aside nothing but the line was counted
+pub room_next : (old new : Net) (links : Network) (lines : ℕ) → new ≡ record old { network = links; line = old.line + 1 }
+    → length links.lost_replies ≤ length old.network.lost_replies + 1 → HasRoom old lines → HasRoom new (lines + 1)
+room_next old new links lines e lost h =
+    one_line_more old new lines (let f = ap (λ (n : Net). n.sent) e in omega (arith, f))
+    (let f = ap (λ (n : Net). length n.network.lost_replies) e in omega (arith, f, lost)) (ap (λ (n : Net). n.line) e) h
+
 -- so one line more can be counted
 pub few_lines : (n : Net) → (lines : ℕ) × (HasRoom n lines × (lines < 100000)) → n.line < 100000
 few_lines n h = (let e = h.1.0.line in let f = h.1.1 in omega (arith, e, f))

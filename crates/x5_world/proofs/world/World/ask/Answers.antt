@@ -35,7 +35,7 @@ returns-clause-answered c =
     named (c.in_ok-journal.ensures.accepted ∙ c.deref-2.ensures.value) in
     let count : c.len-messages.result ≡ length sent = (omega (arith, c.len-messages.ensures)) in
     let mid : Net = c.in_ok-told.told.world in
-    let after : Net = record mid { sent = mid.sent + c.len-messages.result } in
+    let after : Net = record mid { sent = mid.sent + c.len-messages.result; line = mid.line + 1 } in
     λ p s. subst (λ (n : Net). IsAnswered c.args.self.now n p c.args.first (request_view c.args.request.now)
     c.in_ok-told.told.reply c.in_ok-journal.journal) (sym c.count.ensures)
     (subst (λ (n : Net). IsAnswered n after p c.args.first (request_view c.args.request.now) c.in_ok-told.told.reply
