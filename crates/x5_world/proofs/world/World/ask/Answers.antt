@@ -13,8 +13,15 @@ use Rattle.x5_world.specs.State.{Net, StandsAt}
 use Rattle.x5_world.specs.Sent.{line_view}
 use Rattle.x5_world.specs.declared.journal.Sent.{Sent}
 use Rattle.x5_world.proofs.Standing.{most_of}
-use Rattle.x5_world.proofs.Worlds.{answered, is_after}
+use Rattle.x5_world.proofs.Worlds.{answered, few_lines, is_after}
 use Rattle.x5_world.proofs.world.World.ask.Goals as goal
+
+pub count-requires-clause-lines : goal.count-requires-clause-lines
+count-requires-clause-lines c =
+    let e = ap (λ (n : Net). n.line) c.in_ok-told.ensures.held.rest in
+    let was = ap (λ (n : Net). n.line) c.replace-before.ensures.value in
+    let few = few_lines c.args.self.now c.requires.room in
+    omega (arith, e, was, few)
 
 pub returns-clause-answered : goal.returns-clause-answered
 returns-clause-answered c =
