@@ -12,4 +12,4 @@ pub mod Adding
 pub mod Changing
 pub mod Worlds
 pub mod Beginning
-pub mod Stamps
+pub mod Unstamped

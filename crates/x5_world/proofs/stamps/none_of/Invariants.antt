@@ -1,6 +1,6 @@
 -- So far there is none for each agreement before.
 use Rattle.std.proofs.Common.{◌≡◌, ◌++◌, map, drop}
-use Rattle.x5_world.proofs.Stamps.{none_for}
+use Rattle.x5_world.proofs.Unstamped.{none_for}
 use Rattle.x5_world.proofs.stamps.none_of.Given as goal
 
 abbrev pub invariant-loop : goal.invariant-loop
