@@ -12,3 +12,4 @@ pub mod Copying
 pub mod Parts
 pub mod Described
 pub mod Each
+pub mod Unnoted

@@ -8,6 +8,7 @@ ghost use Rattle.x5_model_held.specs.Beginning.{described_context};
 ghost use Rattle.x5_holdings.specs.State.{are_apart, held_view};
 ghost use Rattle.x5_ops.specs.KnowledgeViews.{context_view, specific_view};
 ghost use Rattle.x5_agents.specs.Growing.{is_whole};
+ghost use Rattle.x5_agents.specs.Unnoted.{AreUnnoted, IsUnnoted};
 
 use crate::entries::with_entries;
 use crate::references::references_of;
@@ -21,7 +22,8 @@ use x5_ops::{ContextSpec, Moment, Specific};
 /// The context as its agent holds it, with those of the references that belong to it. Its first entry is the prefix's.
 fn held_of(alloc: Global, context: &ContextSpec, specific: &[Specific]) -> Result<Held, NoMemory>
     requires { is_whole (context_view context.now) ≡ true }
-    ensures { IfOk result (λ held. held_view held ≡ described_context (map specific_view specific.now) (context_view context.now)) }
+    ensures held { IfOk result (λ held. held_view held ≡ described_context (map specific_view specific.now) (context_view context.now)) }
+    ensures unnoted { IfOk result (λ held. IsUnnoted held) }
 {
     let Some((first, rest)) = context.entries.as_slice().split_first() else {
         unreachable!()
@@ -50,6 +52,7 @@ pub(crate) fn own_of(
     requires { list_all is_whole (map context_view contexts.now) ≡ true }
     ensures held { IfOk result (λ v. map held_view v.items ≡ map (described_context (map specific_view specific.now)) (held_contexts [] (map context_view contexts.now))) }
     ensures apart { IfOk result (λ v. are_apart v.items ≡ true) }
+    ensures unnoted { IfOk result (λ v. AreUnnoted v.items) }
 {
     let mut own = Vec::new(alloc);
     let mut prefixes: IndexSet<Key> = IndexSet::new(alloc);

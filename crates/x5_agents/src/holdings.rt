@@ -9,6 +9,7 @@ ghost use Rattle.x5_holdings.specs.State.{holdings_view};
 ghost use Rattle.x5_know.specs.WorldView.{described_agent_view, world_view};
 ghost use Rattle.x5_ops.specs.KnowledgeViews.{context_view, specific_view};
 ghost use Rattle.x5_agents.specs.Growing.{is_whole};
+ghost use Rattle.x5_agents.specs.Unnoted.{AllUnnoted, AreUnnoted};
 
 use crate::contexts::own_of;
 use crate::copies::copies_of;
@@ -37,7 +38,8 @@ fn holdings_of(
     agent: &DescribedAgent,
 ) -> Result<Holdings, NoMemory>
     requires { list_all is_whole (map context_view agent.now.spec.contexts) ≡ true }
-    ensures { IfOk result (λ h. holdings_view h ≡ described_holdings (world_view world.now) me (described_agent_view agent.now)) }
+    ensures held { IfOk result (λ h. holdings_view h ≡ described_holdings (world_view world.now) me (described_agent_view agent.now)) }
+    ensures unnoted { IfOk result (λ h. AreUnnoted h.own) }
 {
     let spec = &agent.spec;
     let own = own_of(alloc, spec.contexts.as_slice(), spec.specific.as_slice())?;
@@ -52,6 +54,7 @@ pub fn agents_of(alloc: Global, world: &Described) -> Result<Vec<Holdings>, NoMe
     requires { IsDescribed (world_view world.now) }
     ensures count { IfOk result (λ v. length v.items ≡ length world.now.agents) }
     ensures each { IfOk result (λ v. (me : ℕ) → me < length world.now.agents → option_map holdings_view (slice_get v.items me) ≡ Some (holdings_described (world_view world.now) me)) }
+    ensures unnoted { IfOk result (λ v. AllUnnoted v.items) }
 {
     let mut all = Vec::new(alloc);
     for (place, agent) in world.agents.as_slice().iter().enumerate() {

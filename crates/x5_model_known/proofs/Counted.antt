@@ -27,12 +27,12 @@ use Rattle.x5_model_known.proofs.Describing.{at_place, of_held, of_first}
 
 -- ---- the names of a world
 
-stored_counted : (n : Name) → is_stored n ≡ true → is_counted n ≡ true
+pub stored_counted : (n : Name) → is_stored n ≡ true → is_counted n ≡ true
 stored_counted n e =
     let short : length (key_of n) ≤ most_rdns = stored_short n (stored_is n e) in
     le-leb (length n) 254 (omega (arith, short, key_length n))
 
-all_counted : (ks : List Specific) → ((k : Specific) → In k ks → is_stored k.pin ≡ true) → references_counted ks ≡ true
+pub all_counted : (ks : List Specific) → ((k : Specific) → In k ks → is_stored k.pin ≡ true) → references_counted ks ≡ true
 all_counted ks f = all_in (λ (k : Specific). is_counted k.pin) ks (λ k i. stored_counted k.pin (f k i))
 
 module _ (w : World) (described : IsDescribed w) where
@@ -62,17 +62,17 @@ module _ (w : World) (described : IsDescribed w) where
       (stored_counted x.0.context (of_all (λ (g : Agreement). is_stored g.context) x.0 w.agreements all.1 l.0)) refl)
 
   module _ (me : ℕ) (a : Agent) (stored : is_stored_agent a ≡ true) where
-    contexts : list_all is_stored_context a.contexts ≡ true
+    pub contexts : list_all is_stored_context a.contexts ≡ true
     contexts = (both_true (list_all is_stored_context a.contexts) _ stored).0
 
-    subordinate : (k : Specific) → In k a.subordinate → is_stored k.pin ≡ true
+    pub subordinate : (k : Specific) → In k a.subordinate → is_stored k.pin ≡ true
     subordinate k i =
         of_all (λ (x : Specific). is_stored x.pin) k a.subordinate
         (both_true (list_all (λ (x : Specific). is_stored x.pin) a.subordinate)
         (list_all (λ (x : Specific). is_stored x.pin) a.cross)
         (both_true (list_all is_stored_context a.contexts) _ stored).1).0 i
 
-    cross : (k : Specific) → In k a.cross → is_stored k.pin ≡ true
+    pub cross : (k : Specific) → In k a.cross → is_stored k.pin ≡ true
     cross k i =
         of_all (λ (x : Specific). is_stored x.pin) k a.cross
         (both_true (list_all (λ (x : Specific). is_stored x.pin) a.subordinate)
@@ -88,7 +88,7 @@ module _ (w : World) (described : IsDescribed w) where
         ∙ context_of a.subordinate x.0 subordinate
         (of_all is_stored_context x.0 a.contexts contexts (of_held [] a.contexts x.0 x.1)))
 
-    root_of : (b : Bool) → references_counted (if b then filter (λ k. length k.pin == 1) a.subordinate else []) ≡ true
+    pub root_of : (b : Bool) → references_counted (if b then filter (λ k. length k.pin == 1) a.subordinate else []) ≡ true
     root_of true =
         all_counted (filter (λ k. length k.pin == 1) a.subordinate)
         (λ k i. subordinate k (of_filter (λ (x : Specific). length x.pin == 1) k a.subordinate i).0)

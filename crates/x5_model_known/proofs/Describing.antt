@@ -74,11 +74,11 @@ module _ (w : World) (described : IsDescribed w) where
       reference_names k (of_all (is_reference w) k ks
       (both_true (list_all (is_reference w) ks) (distinct same_key (map (λ r. key_of r.pin) ks)) e).0 i)
 
-  all_references : (ks : List Specific) → ((k : Specific) → In k ks → access_names size k.access ≡ true)
+  pub all_references : (ks : List Specific) → ((k : Specific) → In k ks → access_names size k.access ≡ true)
       → references_name size ks ≡ true
   all_references ks f = all_in (λ (k : Specific). access_names size k.access) ks f
 
-  nssrs_of : (c : Context) → is_context w c ≡ true → nssrs_name size c.nssrs ≡ true
+  pub nssrs_of : (c : Context) → is_context w c ≡ true → nssrs_name size c.nssrs ≡ true
   nssrs_of c e =
       let a = both_true (is_rooted c c.entries) _ e in
       let b = both_true (list_all is_kept c.entries) _ a.1 in
@@ -100,13 +100,13 @@ module _ (w : World) (described : IsDescribed w) where
           twice true g = refl
           twice false g = g
 
-  record Known (a : Agent) : Type 0 where
-    superior : superior_names size a.superior ≡ true
-    contexts : (c : Context) → In c a.contexts → is_context w c ≡ true
-    subordinate : (k : Specific) → In k a.subordinate → access_names size k.access ≡ true
-    cross : (k : Specific) → In k a.cross → access_names size k.access ≡ true
+  pub record Known (a : Agent) : Type 0 where
+    pub superior : superior_names size a.superior ≡ true
+    pub contexts : (c : Context) → In c a.contexts → is_context w c ≡ true
+    pub subordinate : (k : Specific) → In k a.subordinate → access_names size k.access ≡ true
+    pub cross : (k : Specific) → In k a.cross → access_names size k.access ≡ true
 
-  known : (a : Agent) → In a w.agents → Known a
+  pub known : (a : Agent) → In a w.agents → Known a
   known a i =
       let e = of_all (is_agent w) a w.agents described.agents i in
       let b = both_true (is_agent_name a.name) _ e in
@@ -122,7 +122,7 @@ module _ (w : World) (described : IsDescribed w) where
   abbrev is_below : List Named → Specific → Bool
   is_below entries k = is_there entries (parent (key_of k.pin))
 
-  below_names : (a : Agent) (entries : List Named) → Known a
+  pub below_names : (a : Agent) (entries : List Named) → Known a
       → references_name size (references_below entries a.subordinate) ≡ true
   below_names a entries k =
       all_references (references_below entries a.subordinate)
@@ -140,7 +140,7 @@ module _ (w : World) (described : IsDescribed w) where
       (below_names a (sorted_entries x.0.entries) k)
       (nssrs_of x.0 (k.contexts x.0 (of_held [] a.contexts x.0 x.1))))
 
-  supplier_there : (g : Agreement) → is_agreement w g ≡ true → nat_lt g.supplier size ≡ true
+  pub supplier_there : (g : Agreement) → is_agreement w g ≡ true → nat_lt g.supplier size ≡ true
   supplier_there g e =
       let a = both_true (is_number g.number) _ e in
       let b = both_true (is_entry_name g.context) _ a.1 in
@@ -157,7 +157,7 @@ module _ (w : World) (described : IsDescribed w) where
       ∙ and_true (nat_lt x.0.supplier size) true
       (supplier_there x.0 (of_all (is_agreement w) x.0 w.agreements described.agreements l.0)) refl)
 
-  root_names : (a : Agent) → Known a → (b : Bool)
+  pub root_names : (a : Agent) → Known a → (b : Bool)
       → references_name size (if b then filter (λ k. length k.pin == 1) a.subordinate else []) ≡ true
   root_names a k true =
       all_references (filter (λ k. length k.pin == 1) a.subordinate)

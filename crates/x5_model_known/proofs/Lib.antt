@@ -3,3 +3,4 @@ pub mod Describing
 pub mod Counted
 pub mod Replying
 pub mod Resolving
+pub mod AtLines

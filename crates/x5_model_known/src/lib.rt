@@ -5,6 +5,7 @@
 
 ghost use Rattle.x5_model_known.specs.Holding.{KnowledgeNamesAgents, KnowledgeStays, DescribedNameAgents, DescribedAreThemselves, DescribedNamesApart};
 ghost use Rattle.x5_model_known.specs.Counted.{DescribedCounted, CountedStays};
+ghost use Rattle.x5_model_known.specs.AtLines.{LinesNameAgents, LinesCounted, LinesAreThemselves};
 ghost use Rattle.x5_model_known.specs.Replying.{RepliesNameAgents};
 ghost use Rattle.x5_model_known.specs.Resolving.{ResolvesAlike, UnresolvedIsStuck};
 
@@ -30,6 +31,15 @@ pub fn described()
 pub fn counting()
     ensures described { DescribedCounted }
     ensures stays { CountedStays }
+{}
+
+/// At every line that moved no context, copies refreshed or not, what an agent holds is its own, names agents of the world alone,
+/// and knows no name whose RDNs an octet doesn't count (X.525, section 9).
+#[tactic(auto, using(crate::proofs::AtLines::lines_name_agents, crate::proofs::AtLines::lines_counted, crate::proofs::AtLines::lines_are_themselves))]
+pub fn lines()
+    ensures agents { LinesNameAgents }
+    ensures counted { LinesCounted }
+    ensures whose { LinesAreThemselves }
 {}
 
 /// So does the reply to every request: in its references, in the sources of its answer, and in the item of a loop.

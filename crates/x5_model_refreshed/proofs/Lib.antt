@@ -16,3 +16,4 @@ pub mod Wholes
 pub mod Redoing
 pub mod Resuming
 pub mod Copied
+pub mod Growing

@@ -168,7 +168,7 @@ module _ (p : Point) where
 
   -- ---- a command
 
-  did_happen : (command : Command) (block : Block) → IsBlock AnswersRight p command block → Happens p (did_by command block).deed
+  pub did_happen : (command : Command) (block : Block) → IsBlock AnswersRight p command block → Happens p (did_by command block).deed
   did_happen Blank block is = tt
   did_happen (Changes o) block is = tt
   did_happen (Drops reply n) block is = tt

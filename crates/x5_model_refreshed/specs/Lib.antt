@@ -4,3 +4,4 @@ pub mod Logs
 pub mod Replaying
 pub mod Refreshed
 pub mod Doable
+pub mod Growing

@@ -2,6 +2,7 @@
 #![tactic(auto)]
 
 ghost use Rattle.x5_model_refreshed.specs.Refreshed.{CopyIsStamped, OtherStampsStay, MasterIsCopied, CopyIsCopied, AllElseStays};
+ghost use Rattle.x5_model_refreshed.specs.Growing.{QuietLogsStay, UpdateIsNoted, NoOtherNotes, KeptGrows};
 ghost use Rattle.x5_model_refreshed.specs.Noting.{StepIsUpdate};
 ghost use Rattle.x5_model_refreshed.specs.Replaying.{LogCounts, MasterReplays, ConsumerReplays, RefreshReplays, LastAreLater, RunsLead};
 ghost use Rattle.x5_model_refreshed.specs.Doable.{PartsAreWhole, CopiesAreWhole, StepCanBeDone, MasterCanReplay, ConsumerCanReplay, RefreshCanReplay};
@@ -39,4 +40,13 @@ pub fn doing()
     ensures master { MasterCanReplay }
     ensures consumer { ConsumerCanReplay }
     ensures refresh { RefreshCanReplay }
+{}
+
+/// Line by line a log grows by the steps of the updates that its agent, as the context's master, accepted in the context; of them the
+/// last 256 are kept, and the moment of the newest that went is the base (X.525, section 9).
+pub fn logging()
+    ensures quiet { QuietLogsStay }
+    ensures noted { UpdateIsNoted }
+    ensures others { NoOtherNotes }
+    ensures kept { KeptGrows }
 {}

@@ -1,7 +1,7 @@
 -- What is held at the line after. A request over consistent knowledge is right, so one agent at most accepted, it is the
 -- judge of the update, and the tree doesn't refuse: then the next line is one after an accepted update. Where none did,
 -- the line did nothing; then tree, knowledge and stamps stay, and with them what is held.
-use Rattle.std.proofs.Common.{◌≡◌, ℕ, suc, ◌-◌, ◌≤◌, ◌==◌, nat_le, Bool, true, false, inl, inr, List, [], ◌∷◌, ◌++◌, map, length, reverse, refl, sym, ap, subst, ◌∙◌, arith, Option, Some, None, Ok, Err, if◌then◌else◌}
+use Rattle.std.proofs.Common.{◌≡◌, ℕ, suc, ◌-◌, ◌≤◌, ◌==◌, nat_le, Bool, true, inl, inr, List, [], ◌∷◌, ◌++◌, map, length, reverse, refl, sym, ap, subst, ◌∙◌, arith, Option, Some, None, Ok, Err, if◌then◌else◌}
 use Rattle.std.specs.List.{list_all}
 use Rattle.std.specs.Result.{is_ok}
 use Rattle.std.proofs.lemmas.Bool.Decides.{leb_tells}
@@ -25,7 +25,6 @@ use Rattle.x5_model_run.specs.Needs.{target_of}
 use Rattle.x5_model_run.specs.History.{Deed, Nothing, Outs, Loses, Accepts, Refreshes, Splits, Unsplits, Did, Point, Refreshed, network_after, network_at, tree_by, tree_after, tree_at, knowledge_by, knowledge_after, knowledge_at, tree_of_moment, refresh_of, refreshes_of, stamp_of, as_of, sent_references, mastered_at, copy_as_of, copy_by, own_context, agreements_of, agent_holdings, holdings_at, no_holdings, sent_before}
 use Rattle.x5_model_run.specs.Chain.{opening, scene_at}
 use Rattle.x5_model_run.specs.Right.{master_at, is_master_at, is_accepted_right}
-use Rattle.x5_model_run.specs.Run.{Command, Blank, Asks, Changes, Drops, Updates, Block, Silent, Set, Replies, Refreshing, did_by}
 use Rattle.x5_model_updates.specs.Keeping.{MovesNone, NoneMoved}
 use Rattle.x5_model_updates.specs.Judging.{IsJudge}
 use Rattle.x5_model_updates.proofs.Stood.{lines_stand}
@@ -33,7 +32,7 @@ use Rattle.x5_model_verdicts.specs.Committing.{IsStamped}
 use Rattle.x5_model_verdicts.proofs.Committed.{committed_is_after}
 use Rattle.x5_model_serve.specs.Committed.{committed}
 use Rattle.x5_model_held.specs.Theorems.{is_still}
-use Rattle.x5_model_settled.specs.Afterwards.{HoldsAfter, HoldsOn, NetworkStays, MovedNoneAfter, KnowsAsDescribed, StampedAtFirst, StampedOn, is_refresh, StampedAfter}
+use Rattle.x5_model_settled.specs.Afterwards.{HoldsAfter, HoldsOn, NetworkStays, MovedNoneAfter, KnowsAsDescribed, StampedAtFirst, StampedOn}
 use Rattle.x5_model_settled.proofs.Settled.{accepted_deed, knowledge_stays, did_none_move, lines_are_right}
 
 -- ---- knowledge
@@ -147,7 +146,7 @@ holds_on w past d a still = holds_same w past d still a
 
 -- ---- stamps
 
-one_knowledge : (w : World) (past : List Did) (d : Deed) (k : World) → MovesNone d → knowledge_after w past d k ≡ k
+pub one_knowledge : (w : World) (past : List Did) (d : Deed) (k : World) → MovesNone d → knowledge_after w past d k ≡ k
 one_knowledge w past Nothing k m = refl
 one_knowledge w past (Outs o) k m = refl
 one_knowledge w past (Loses reply n) k m = refl
@@ -164,25 +163,6 @@ stamped_on w past d none plain stamped g moment i e =
     let there = subst (λ (k : World). In g k.agreements) (one_knowledge w past d.deed (knowledge_by w past) none) i in
     let same = ap (λ (fs : List Refreshed). stamp_of (first_of (fs ++ refreshes_of past g.number))) (plain g.number) in
     let l : moment ≤ length past = stamped g moment there (sym same ∙ e) in omega arith
-
-accepts_plain : (r : Request) (accepted : List ℕ) (agreement : ℕ) → refresh_of (accepted_deed r accepted) agreement ≡ []
-accepts_plain r [] agreement = refl
-accepts_plain r (a ∷ more) agreement = refl
-
-did_plain : (command : Command) (block : Block) (agreement : ℕ) → is_refresh command ≡ false
-    → refresh_of (did_by command block).deed agreement ≡ []
-did_plain Blank block agreement e = refl
-did_plain (Changes o) block agreement e = refl
-did_plain (Drops reply n) block agreement e = refl
-did_plain (Asks to r) Silent agreement e = refl
-did_plain (Asks to r) Set agreement e = refl
-did_plain (Asks to r) (Replies j reply) agreement e = accepts_plain r (reverse j.accepted) agreement
-did_plain (Asks to r) (Refreshing b) agreement e = refl
-did_plain (Updates number pushes total) block agreement e = cc
-
-pub stamped_after : StampedAfter
-stamped_after w past command block plain stamped =
-    stamped_on w past (did_by command block) (did_none_move command block) (λ n. did_plain command block n plain) stamped
 
 -- ---- a request
 

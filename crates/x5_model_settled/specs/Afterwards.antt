@@ -1,6 +1,6 @@
 -- What agents hold at the line after a request, or after a line that changes nothing that they hold: so whoever keeps
 -- their holdings from line to line has those of the next one.
-use Rattle.std.specs.Prelude.{◌≡◌, ◌≤◌, ◌==◌, ℕ, Bool, true, false, if◌then◌else◌, List, [], ◌∷◌, length}
+use Rattle.std.specs.Prelude.{◌≡◌, ◌≤◌, ◌==◌, ℕ, Bool, true, if◌then◌else◌, List, [], ◌∷◌, length}
 use Rattle.std.specs.declared.option.Option.TheVariants.{Some}
 use Rattle.x5_model.specs.Words.{has}
 use Rattle.x5_model.specs.Values.{Name}
@@ -14,7 +14,8 @@ use Rattle.x5_model_run.specs.Needs.{target_of, new_name}
 use Rattle.x5_model_run.specs.History.{Did, Point, knowledge_at, network_at, holdings_at, refresh_of}
 use Rattle.x5_model_run.specs.Stage.{budget}
 use Rattle.x5_model_run.specs.Chain.{scene_at}
-use Rattle.x5_model_run.specs.Run.{Command, Blank, Asks, Changes, Drops, Updates, Block, Replies, did_by}
+use Rattle.x5_model_run.specs.Refresh.{refresh_block}
+use Rattle.x5_model_run.specs.Run.{Command, Asks, Updates, Block, Replies, Refreshing, Judge, IsBlock, did_by}
 use Rattle.x5_model_updates.specs.Keeping.{MovesNone, NoneMoved}
 use Rattle.x5_model_verdicts.specs.Committing.{IsStamped}
 use Rattle.x5_model_serve.specs.Committed.{committed}
@@ -59,8 +60,7 @@ MovedNoneAfter =
 abbrev pub KnowsAsDescribed : Type 0
 KnowsAsDescribed = (w : World) (past : List Did) → NoneMoved past → knowledge_at (line_after w past) ≡ w
 
--- and stamps are moments of lines before: so it is at first, after a line that refreshes no copy, and so after each
--- command that is no refresh.
+-- and stamps are moments of lines before: so it is at first, after a line that refreshes no copy,
 abbrev pub StampedAtFirst : Type 0
 StampedAtFirst = (w : World) → IsStamped (line_after w [])
 
@@ -69,14 +69,16 @@ StampedOn =
     (w : World) (past : List Did) (d : Did) → MovesNone d.deed → ((agreement : ℕ) → refresh_of d.deed agreement ≡ [])
     → IsStamped (line_after w past) → IsStamped (line_after w (d ∷ past))
 
-abbrev pub is_refresh : Command → Bool
-is_refresh Blank = false
-is_refresh (Asks to r) = false
-is_refresh (Changes o) = false
-is_refresh (Drops reply k) = false
-is_refresh (Updates number pushes total) = true
+-- after a refresh line, whose stamp is its own moment or that of its supplier's copy (X.525, section 9: last update),
+abbrev pub StampedAfterRefresh : Type 0
+StampedAfterRefresh =
+    (w : World) (past : List Did) (number : ℕ) (pushes total : Bool) → IsStamped (line_after w past)
+    → IsStamped (line_after w (did_by (Updates number pushes total)
+    (Refreshing (refresh_block (line_after w past) number pushes total)) ∷ past))
 
-abbrev pub StampedAfter : Type 0
-StampedAfter =
-    (w : World) (past : List Did) (command : Command) (block : Block) → is_refresh command ≡ false
-    → IsStamped (line_after w past) → IsStamped (line_after w (did_by command block ∷ past))
+-- and so after each command of a run, however requests are judged.
+abbrev pub StampedAfter : Judge → Type 0
+StampedAfter judge =
+    (w : World) (past : List Did) (command : Command) (block : Block)
+    → IsBlock judge (line_after w past) command block → IsStamped (line_after w past)
+    → IsStamped (line_after w (did_by command block ∷ past))

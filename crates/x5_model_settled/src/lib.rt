@@ -6,8 +6,8 @@ ghost use Rattle.x5_model_run.specs.Right.{AnswersRight};
 ghost use Rattle.x5_model_settled.specs.Judges.{RightAndWhole};
 ghost use Rattle.x5_model_settled.specs.Settled.{LinesAreSettled, RunsAreSettled, LinesAreRight, RunsAreRight};
 ghost use Rattle.x5_model_settled.specs.Runs.{AgentsRunIsRun, AgentsPrintRun};
-ghost use Rattle.x5_model_settled.specs.Afterwards.{HoldsAfter, HoldsOn, NetworkStays, MovedNoneAfter, KnowsAsDescribed, StampedAtFirst, StampedOn, StampedAfter};
-ghost use Rattle.x5_model_settled.specs.Held.{HeldAfterRequest, HeldIsHoldings, StepsAreAgents, StepsAreRight, StepsPrintRun, StepsArePerformed, StepsPrintPerformed, PerformedIsRight};
+ghost use Rattle.x5_model_settled.specs.Afterwards.{HoldsAfter, HoldsOn, NetworkStays, MovedNoneAfter, KnowsAsDescribed, StampedAtFirst, StampedOn, StampedAfterRefresh, StampedAfter};
+ghost use Rattle.x5_model_settled.specs.Held.{BySteps, HeldIsHoldings, HeldIsByStep, HeldAtFirst, HeldOn, HeldAfterLine, StepsAreAgents, StepsAreRight, StepsPrintRun, StepsArePerformed, StepsPrintPerformed, PerformedIsRight};
 
 /// Every line of a run is a setting of a user's request to an agent of the world, and so is every line that was led to without
 /// moving contexts (X.501, section 22).
@@ -41,15 +41,25 @@ pub fn afterwards()
     ensures knows { KnowsAsDescribed }
     ensures first { StampedAtFirst }
     ensures on { StampedOn }
-    ensures stamped { StampedAfter }
+    ensures refreshed { StampedAfterRefresh }
+    ensures stamped { StampedAfter BySteps }
+    ensures right { StampedAfter RightAndWhole }
 {}
 
-/// What agents hold, step by step, is their part of the one tree where knowledge is consistent and no copy is refreshed (X.501,
-/// section 22); so a script that they carry out step by step is one that they carry out, each answer is right, and what is printed
-/// of it is the output of such a run. One judge says both: what agents do, and that it is right where knowledge is consistent.
+/// What agents hold, whether or not knowledge is consistent (X.501, section 22): at first what is described of them, and after each
+/// line that refreshes and moves nothing what they held, changed where they accepted an update.
+pub fn holding()
+    ensures consistent { HeldIsHoldings }
+    ensures other { HeldIsByStep }
+    ensures first { HeldAtFirst }
+    ensures on { HeldOn }
+    ensures after { HeldAfterLine }
+{}
+
+/// A script that agents carry out step by step over consistent knowledge is one that they carry out, copies refreshed or not; each
+/// answer is right, and what is printed of it is the output of such a run. One judge says both: what agents do, and that it is
+/// right where knowledge is consistent.
 pub fn stepping()
-    ensures after { HeldAfterRequest }
-    ensures holds { HeldIsHoldings }
     ensures agents { StepsAreAgents }
     ensures runs { StepsAreRight }
     ensures prints { StepsPrintRun }

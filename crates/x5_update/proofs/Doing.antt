@@ -1,5 +1,5 @@
 -- Once its plan is carried out the agent holds what is committed of an update.
-use Rattle.std.proofs.Common.{◌≡◌, ℕ, zero, suc, ◌<◌, ◌≤◌, ◌∷◌, ◌++◌, [], List, map, length, sym, ap, subst, ◌∙◌, arith, Some, Result, Ok, Err, slice_set, if◌then◌else◌}
+use Rattle.std.proofs.Common.{◌≡◌, ℕ, zero, suc, ◌<◌, ◌≤◌, ◌∷◌, ◌++◌, [], List, map, length, refl, sym, ap, subst, ◌∙◌, arith, Some, Result, Ok, Err, slice_set, if◌then◌else◌}
 use Rattle.std.specs.Prelude.{OnErr, slice_get, nat_lt}
 use Rattle.x5_model.specs.Words.{first_of, in_option}
 use Rattle.x5_model.specs.Keys.{Key}
@@ -18,7 +18,7 @@ use Rattle.x5_holdings.specs.Making.{HasRoom, IsChanged, IsReady, IsSame}
 use Rattle.x5_holdings.specs.Placed.{IsOwnChanged}
 use Rattle.x5_holdings.specs.State.{Kept, State, held_view, holdings_view}
 use Rattle.x5_update.specs.declared.plans.Plan.{Plan}
-use Rattle.x5_update.specs.Committing.{IsCommitted}
+use Rattle.x5_update.specs.Committing.{IsCommitted, IsUncommitted}
 use Rattle.x5_update.specs.Judging.{judged}
 use Rattle.x5_update.specs.Plans.{IsPlanOf, IsChangeOf, IsStepOf, values_in}
 use Rattle.x5_update.specs.Seats.{IsSeat}
@@ -40,23 +40,36 @@ pub on_err : {T E : Type 0} {P : Type 0} (r : Result T E) → P → OnErr r P
 on_err (Ok x) p = tt
 on_err (Err e) p = p
 
--- room aside an agent holds the same
-set_same : (xs : List Kept) (n : ℕ) (x y : Kept) → slice_get xs n ≡ Some x → held_view y ≡ held_view x
-    → map held_view (slice_set xs n y) ≡ map held_view xs
-set_same [] n x y g e = cc
-set_same (z ∷ xs) zero x y g e = ap (λ (h : Held). h ∷ map held_view xs) (e ∙ ap held_view (sym (kept_inside g)))
-set_same (z ∷ xs) (suc n) x y g e = ap (λ (hs : List Held). held_view z ∷ hs) (set_same xs n x y g e)
+-- room aside an agent holds the same, and has noted the same
+set_same : {B : Type 0} (f : Kept → B) (xs : List Kept) (n : ℕ) (x y : Kept) → slice_get xs n ≡ Some x → f y ≡ f x
+    → map f (slice_set xs n y) ≡ map f xs
+set_same f [] n x y g e = cc
+set_same {B} f (z ∷ xs) zero x y g e = ap (λ (h : B). h ∷ map f xs) (e ∙ ap f (sym (kept_inside g)))
+set_same {B} f (z ∷ xs) (suc n) x y g e = ap (λ (hs : List B). f z ∷ hs) (set_same f xs n x y g e)
 
-pub room_alone : (s t : State) (own : ℕ) → IsOwnChanged s own IsSame t → holdings_view t ≡ holdings_view s
+room_alone : (s t : State) (own : ℕ) → IsOwnChanged s own IsSame t → holdings_view t ≡ holdings_view s
 room_alone s t own room =
     ap holdings_view room.new_is
     ∙ ap (λ (l : List Held). record (holdings_view s) { own = l })
-    (set_same s.own own room.before room.after room.was (λ i. record {
+    (set_same held_view s.own own room.before room.after room.was (λ i. record {
       prefix = room.changed.prefix i;
       entries = entries_of (room.changed.nodes i);
       subordinate = map specific_view (room.changed.subordinate i);
       nssrs = map nssr_view (room.changed.nssrs i);
     }))
+
+pub uncommitted : (s t : State) (own : ℕ) → IsOwnChanged s own IsSame t → IsUncommitted s t
+uncommitted s t own room = record {
+  holdings = room_alone s t own room;
+  bases = ap (λ (x : State). map (λ (c : Kept). c.log.base) x.own) room.new_is
+      ∙ set_same (λ (c : Kept). c.log.base) s.own own room.before room.after room.was room.changed.base;
+  changes = ap (λ (x : State). map (λ (c : Kept). c.log.changes) x.own) room.new_is
+      ∙ set_same (λ (c : Kept). c.log.changes) s.own own room.before room.after room.was room.changed.changes;
+  copies = ap (λ (x : State). x.copies) room.new_is;
+}
+
+pub still_uncommitted : (s : State) → IsUncommitted s s
+still_uncommitted s = record { holdings = refl; bases = refl; changes = refl; copies = refl }
 
 module _ (s : State) (r : Request) (key : Key) (own : ℕ) (id : NodeId) (is : IsSeat s r key own id) where
   -- the target isn't the root

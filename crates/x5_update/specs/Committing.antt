@@ -1,6 +1,6 @@
 -- What is committed of an update: the context of its target changes, and the change is noted in that context's log with
 -- the agent's moment; nothing else does (X.511, section 11; X.525, section 9).
-use Rattle.std.specs.Prelude.{◌≡◌, ℕ, slice_get, slice_set}
+use Rattle.std.specs.Prelude.{◌≡◌, ℕ, map, slice_get, slice_set}
 use Rattle.std.specs.declared.option.Option.TheVariants.{Some}
 use Rattle.x5_model.specs.Requests.{Request}
 use Rattle.x5_model_serve.specs.Committed.{committed}
@@ -19,3 +19,10 @@ pub record IsCommitted (old : State) (r : Request) (new : State) : Type 0 where
   pub holdings : holdings_view new ≡ committed r (holdings_view old)
   pub told : IsStepOf before r.body step
   pub noted : IsLogged before.log (record { moment = old.moment; step = step }) after.log
+
+-- nothing that is held or noted changed, but for room
+pub record IsUncommitted (old new : State) : Type 0 where
+  pub holdings : holdings_view new ≡ holdings_view old
+  pub bases : map (λ c. c.log.base) new.own ≡ map (λ c. c.log.base) old.own
+  pub changes : map (λ c. c.log.changes) new.own ≡ map (λ c. c.log.changes) old.own
+  pub copies : new.copies ≡ old.copies

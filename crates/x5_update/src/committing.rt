@@ -9,7 +9,7 @@ ghost use Rattle.x5_model_run.specs.Needs.{target_of};
 ghost use Rattle.x5_ops.specs.ReferenceViews.{chained_view};
 ghost use Rattle.x5_ops.specs.RequestViews.{body_view, request_view};
 ghost use Rattle.x5_holdings.specs.State.{holdings_view};
-ghost use Rattle.x5_update.specs.Committing.{IsCommitted};
+ghost use Rattle.x5_update.specs.Committing.{IsCommitted, IsUncommitted};
 ghost use Rattle.x5_update.specs.Judging.{IsReady, judged};
 ghost use Rattle.x5_update.specs.Plans.{IsPlanOf, values_in};
 ghost use Rattle.x5_update.specs.Seats.{IsSeat};
@@ -58,7 +58,7 @@ fn passed(
 pub fn commit(alloc: Global, state: &mut Holdings, message: &Chained) -> Result<(), NoMemory>
     requires { (names : List (List ℕ)) × IsReady (holdings_view state.old) (chained_view names message.now) }
     ensures ok { OnOk result (IsCommitted state.old (request_view message.now.request) state.new) }
-    ensures err { OnErr result (holdings_view state.new ≡ holdings_view state.old) }
+    ensures err { OnErr result (IsUncommitted state.old state.new) }
 {
     let place = place_of(state, message);
     let plan = passed(alloc, state, &message.request, place)?;

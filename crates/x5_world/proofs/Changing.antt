@@ -1,6 +1,6 @@
 -- An update that an agent carries out changes what it holds, and it's a network as before.
-use Rattle.std.proofs.Common.{◌≡◌, ℕ, zero, suc, ◌<◌, ◌⊎◌, inl, inr, List, [], ◌∷◌, length, map, slice_get, slice_set, refl, sym, ap, subst, ◌∙◌, arith, Some, Result, Ok, Err, OnOk, OnErr}
-use Rattle.std.proofs.lemmas.List.{length-set, map-set}
+use Rattle.std.proofs.Common.{◌≡◌, ℕ, zero, suc, ◌+◌, ◌<◌, ◌⊎◌, inl, inr, List, [], ◌∷◌, length, map, slice_get, slice_set, refl, sym, ap, subst, ◌∙◌, arith, Some, Result, Ok, Err, OnOk, OnErr}
+use Rattle.std.proofs.lemmas.List.{length-map, length-set, map-set}
 use Rattle.x5_model.specs.Words.{in_option}
 use Rattle.x5_model.specs.Requests.{Request}
 use Rattle.x5_model_run.specs.Holdings.{Holdings}
@@ -9,10 +9,13 @@ use Rattle.x5_model_serve.specs.Committed.{committed}
 use Rattle.x5_model_known.proofs.Finding.{knowledge_stays}
 use Rattle.x5_model_known.proofs.Counted.{counted_stays}
 use Rattle.x5_holdings.specs.State.{State, holdings_view}
-use Rattle.x5_update.specs.Committing.{IsCommitted}
-use Rattle.x5_world.specs.State.{Net, holdings_in}
-use Rattle.x5_world.specs.Sent.{IsHolder, IsNet, no_net}
+use Rattle.x5_update.specs.Committing.{IsCommitted, IsUncommitted}
+use Rattle.x5_world.specs.Logs.{AreNoted, Logs, no_logs}
+use Rattle.x5_world.specs.LogViews.{logs_view}
+use Rattle.x5_world.specs.State.{Net, holdings_in, logs_in}
+use Rattle.x5_world.specs.Sent.{IsCommittedAt, IsHolder, IsNet, no_net}
 use Rattle.x5_world.specs.Laws.{holder}
+use Rattle.x5_world.proofs.Noted.{are_noted, are_unnoted}
 
 -- what stands in a list of which one place was set
 set_has : (hs : List Holdings) (i a : ℕ) (y h : Holdings) → slice_get (slice_set hs i y) a ≡ Some h
@@ -33,85 +36,141 @@ changed_holder names a r h x =
     let stays = knowledge_stays (length names) r h in
     record { me = stays.0 ∙ x.me; known = stays.1 ∙ x.known; counted = counted_stays r h ∙ x.counted }
 
-abbrev pub changed : Net → ℕ → Request → Net
-changed n a r = record n { agents = slice_set n.agents a (committed r (holdings_in n a)) }
+-- the network once an agent accepted an update, with the logs that agents have then
+abbrev pub changed : Net → List Logs → ℕ → Request → Net
+changed n logs a r = record n { agents = slice_set n.agents a (committed r (holdings_in n a)); logs = logs }
 
-changed_each : (n : Net) (agent : ℕ) (r : Request) (a : ℕ) (h : Holdings) → IsNet n → agent < length n.names
-    → slice_get (changed n agent r).agents a ≡ Some h → IsHolder n.names a h
-changed_each n agent r a h net there at = elim (set_has n.agents agent a (committed r (holdings_in n agent)) h at) [
-  | inl z ↦
-      subst (λ (k : ℕ). IsHolder n.names k h) (sym z.0)
-      (subst (IsHolder n.names agent) (sym z.1)
-      (changed_holder n.names agent r (holdings_in n agent) (holder n agent net there)))
-  | inr z ↦ net.each a h z
-]
+changed_each : (n : Net) (logs : List Logs) (agent : ℕ) (r : Request) (a : ℕ) (h : Holdings) → IsNet n
+    → agent < length n.names → slice_get (changed n logs agent r).agents a ≡ Some h → IsHolder n.names a h
+changed_each n logs agent r a h net there at =
+    elim (set_has n.agents agent a (committed r (holdings_in n agent)) h at) [
+      | inl z ↦
+          subst (λ (k : ℕ). IsHolder n.names k h) (sym z.0)
+          (subst (IsHolder n.names agent) (sym z.1)
+          (changed_holder n.names agent r (holdings_in n agent) (holder n agent net there)))
+      | inr z ↦ net.each a h z
+    ]
 
-pub net_changed : (n : Net) (agent : ℕ) (r : Request) → IsNet n → agent < length n.names → IsNet (changed n agent r)
-net_changed n agent r net there = record {
+net_changed : (n : Net) (logs : List Logs) (agent : ℕ) (r : Request) → IsNet n → agent < length n.names
+    → length logs ≡ length n.logs → IsNet (changed n logs agent r)
+net_changed n logs agent r net there same = record {
   apart = net.apart;
   few = net.few;
   count = length-set n.agents agent (committed r (holdings_in n agent)) ∙ net.count;
-  each = λ a h at. changed_each n agent r a h net there at;
+  logs = same ∙ net.logs;
+  each = λ a h at. changed_each n logs agent r a h net there at;
   contexts = net.contexts;
   pairs = net.pairs;
+  lines = net.lines;
 }
 
 -- ---- whether or not there was memory for it
 
-set_same : (hs : List Holdings) (i : ℕ) (h : Holdings) → slice_get hs i ≡ Some h → slice_set hs i h ≡ hs
+set_same : {A : Type 0} (hs : List A) (i : ℕ) (h : A) → slice_get hs i ≡ Some h → slice_set hs i h ≡ hs
 set_same [] i h e = cc
-set_same (x ∷ xs) zero h e = let q : h ≡ x = cc in ap (λ (z : Holdings). z ∷ xs) q
-set_same (x ∷ xs) (suc i) h e = ap (λ (zs : List Holdings). x ∷ zs) (set_same xs i h e)
+set_same {A} (x ∷ xs) zero h e = let q : h ≡ x = cc in ap (λ (z : A). z ∷ xs) q
+set_same {A} (x ∷ xs) (suc i) h e = ap (λ (zs : List A). x ∷ zs) (set_same xs i h e)
+
+set_got : {A : Type 0} (xs : List A) (i : ℕ) (x y : A) → slice_get xs i ≡ Some x → slice_get (slice_set xs i y) i ≡ Some y
+set_got [] i x y e = cc
+set_got (z ∷ xs) zero x y e = refl
+set_got (z ∷ xs) (suc i) x y e = set_got xs i x y e
+
+map_at : {A B : Type 0} (f : A → B) (xs : List A) (i : ℕ) (x : A) → slice_get xs i ≡ Some x
+    → slice_get (map f xs) i ≡ Some (f x)
+map_at f [] i x e = cc
+map_at {A} f (y ∷ ys) zero x e = let q : y ≡ x = cc in ap (λ (z : A). Some (f z)) q
+map_at f (y ∷ ys) (suc i) x e = map_at f ys i x e
 
 -- what is in a network of which these are the agents' states
 abbrev pub of_states : Net → List State → Net
-of_states n items = record n { agents = map holdings_view items }
+of_states n items = record n { agents = map holdings_view items; logs = map logs_view items }
 
-held_is : (n : Net) (i : ℕ) (h : Holdings) → slice_get n.agents i ≡ Some h → holdings_in n i ≡ h
-held_is n i h at = ap (in_option (no_holdings i) (λ (x : Holdings). x)) at
+-- an agent's state that is like another one in what it holds and has noted
+abbrev pub IsLike : State → State → Type 0
+IsLike s t = (holdings_view t ≡ holdings_view s) × (logs_view t ≡ logs_view s)
 
--- one state is another one
-one_is : (n : Net) (items : List State) (i : ℕ) (t : State) (h : Holdings) → holdings_view t ≡ h
-    → of_states n (slice_set items i t) ≡ record n { agents = slice_set (map holdings_view items) i h }
-one_is n items i t h e =
-    ap (λ (hs : List Holdings). record n { agents = hs })
-    (map-set holdings_view items i t ∙ ap (slice_set (map holdings_view items) i) e)
+-- as with another moment
+pub like : {s t : State} {moment : ℕ} → t ≡ record s { moment = moment } → IsLike s t
+like e = (ap holdings_view e, ap logs_view e)
 
-it_is : (n : Net) (items : List State) (i : ℕ) (r : Request) (s t : State)
-    → slice_get (map holdings_view items) i ≡ Some (holdings_view s) → IsCommitted s r t
-    → of_states n (slice_set items i t) ≡ changed (of_states n items) i r
-it_is n items i r s t at done =
-    one_is n items i t (committed r (holdings_in (of_states n items) i))
-    (done.holdings ∙ ap (committed r) (sym (held_is (of_states n items) i (holdings_view s) at)))
+module _ (n : Net) (items : List State) (i : ℕ) (s : State) (at : slice_get items i ≡ Some s) where
+  held_is : holdings_in (of_states n items) i ≡ holdings_view s
+  held_is = ap (in_option (no_holdings i) (λ (x : Holdings). x)) (map_at holdings_view items i s at)
 
-nothing_is : (n : Net) (items : List State) (i : ℕ) (s t : State)
-    → slice_get (map holdings_view items) i ≡ Some (holdings_view s) → holdings_view t ≡ holdings_view s
-    → of_states n (slice_set items i t) ≡ of_states n items
-nothing_is n items i s t at e =
-    one_is n items i t (holdings_view s) e
-    ∙ ap (λ (hs : List Holdings). record n { agents = hs }) (set_same (map holdings_view items) i (holdings_view s) at)
+  logs_are : logs_in (of_states n items) i ≡ logs_view s
+  logs_are = ap (in_option no_logs (λ (x : Logs). x)) (map_at logs_view items i s at)
 
-pub stays_net : {T E : Type 0} (result : Result T E) (n : Net) (items : List State) (i : ℕ) (r : Request) (s t : State)
-    → IsNet (of_states n items) → i < length n.names → slice_get (map holdings_view items) i ≡ Some (holdings_view s)
-    → OnOk result (IsCommitted s r t) → OnErr result (holdings_view t ≡ holdings_view s)
-    → IsNet (of_states n (slice_set items i t))
-stays_net (Ok x) n items i r s t net there at done same =
-    subst IsNet (sym (it_is n items i r s t at done)) (net_changed (of_states n items) i r net there)
-stays_net (Err x) n items i r s t net there at done same = subst IsNet (sym (nothing_is n items i s t at same)) net
+  logs_then : (t : State) → logs_in (of_states n (slice_set items i t)) i ≡ logs_view t
+  logs_then t = ap (in_option no_logs (λ (x : Logs). x)) (map_at logs_view (slice_set items i t) i t (set_got items i s t at))
 
-pub is_committed : {T E : Type 0} (result : Result T E) (old n : Net) (items : List State) (i a : ℕ) (r : Request)
-    (s t : State)
-    → of_states n items ≡ old → i ≡ a → slice_get (map holdings_view items) i ≡ Some (holdings_view s)
-    → OnOk result (IsCommitted s r t) → OnOk result (of_states n (slice_set items i t) ≡ changed old a r)
-is_committed (Ok x) old n items i a r s t was place at done =
-    it_is n items i r s t at done ∙ (λ j. changed (was j) (place j) r)
-is_committed (Err x) old n items i a r s t was place at done = tt
+  it_is : (t : State) (r : Request) → holdings_view t ≡ committed r (holdings_view s)
+      → of_states n (slice_set items i t) ≡ changed (of_states n items) (map logs_view (slice_set items i t)) i r
+  it_is t r e =
+      ap (λ (hs : List Holdings). record n { agents = hs; logs = map logs_view (slice_set items i t) })
+      (map-set holdings_view items i t
+      ∙ ap (λ (h : Holdings). slice_set (map holdings_view items) i h) (e ∙ ap (committed r) (sym held_is)))
 
-pub is_as_it_was : {T E : Type 0} (result : Result T E) (old n : Net) (items : List State) (i : ℕ) (s t : State)
-    → of_states n items ≡ old → slice_get (map holdings_view items) i ≡ Some (holdings_view s)
-    → OnErr result (holdings_view t ≡ holdings_view s) → OnErr result (of_states n (slice_set items i t) ≡ old)
-is_as_it_was (Ok x) old n items i s t was at same = tt
-is_as_it_was (Err x) old n items i s t was at same = nothing_is n items i s t at same ∙ was
+  nothing_is : (t : State) → IsLike s t → of_states n (slice_set items i t) ≡ of_states n items
+  nothing_is t e =
+      let hs : map holdings_view (slice_set items i t) ≡ map holdings_view items =
+      map-set holdings_view items i t ∙ ap (λ (h : Holdings). slice_set (map holdings_view items) i h) e.0
+      ∙ set_same (map holdings_view items) i (holdings_view s) (map_at holdings_view items i s at) in
+      let ls : map logs_view (slice_set items i t) ≡ map logs_view items =
+      map-set logs_view items i t ∙ ap (λ (l : Logs). slice_set (map logs_view items) i l) e.1
+      ∙ set_same (map logs_view items) i (logs_view s) (map_at logs_view items i s at) in
+      λ j. record n { agents = hs j; logs = ls j }
+
+  -- what is committed by a state that is like it, at this moment
+  committed_at : (u t : State) (a moment : ℕ) (r : Request) (old : Net) → IsLike s u → IsCommitted u r t
+      → u.moment ≡ moment → of_states n items ≡ old → moment ≡ old.line + 1 → i ≡ a
+      → IsCommittedAt a r old (of_states n (slice_set items i t))
+  committed_at u t a moment r old like done at_moment was line place =
+      subst (λ (x : Net). IsCommittedAt a r x (of_states n (slice_set items i t))) was
+      (subst (λ (k : ℕ). IsCommittedAt k r (of_states n items) (of_states n (slice_set items i t))) place
+      (record {
+        agents = ap (λ (x : Net). x.agents) (it_is t r (done.holdings ∙ ap (committed r) like.0));
+        logs = map-set logs_view items i t ∙ ap (λ (l : Logs). slice_set (map logs_view items) i l) (sym (logs_then t));
+        rest = refl;
+        noted = noted;
+      }))
+    where
+      first : AreNoted u.moment r (holdings_view u) (logs_view u) (logs_view t)
+      first = are_noted u t r done
+
+      noted : AreNoted (n.line + 1) r (holdings_in (of_states n items) i) (logs_in (of_states n items) i) (logs_in (of_states n (slice_set items i t)) i)
+      noted =
+          subst (λ (m : ℕ). AreNoted m r (holdings_in (of_states n items) i) (logs_in (of_states n items) i) (logs_in (of_states n (slice_set items i t)) i))
+          (at_moment ∙ line ∙ ap (λ (x : Net). x.line + 1) (sym was))
+          (subst (λ (h : Holdings). AreNoted u.moment r h (logs_in (of_states n items) i) (logs_in (of_states n (slice_set items i t)) i))
+          (like.0 ∙ sym held_is)
+          (subst (λ (l : Logs). AreNoted u.moment r (holdings_view u) l (logs_in (of_states n (slice_set items i t)) i))
+          (like.1 ∙ sym logs_are)
+          (subst (λ (l : Logs). AreNoted u.moment r (holdings_view u) (logs_view u) l) (sym (logs_then t)) first)))
+
+  pub stays_net : {T E : Type 0} (result : Result T E) (r : Request) (u t : State) → IsNet (of_states n items)
+      → i < length n.names → IsLike s u → OnOk result (IsCommitted u r t) → OnErr result (IsUncommitted u t)
+      → IsNet (of_states n (slice_set items i t))
+  stays_net (Ok x) r u t net there like done same =
+      subst IsNet (sym (it_is t r (done.holdings ∙ ap (committed r) like.0)))
+      (net_changed (of_states n items) (map logs_view (slice_set items i t)) i r net there
+      (length-map (slice_set items i t) logs_view ∙ length-set items i t ∙ sym (length-map items logs_view)))
+  stays_net (Err x) r u t net there like done same =
+      subst IsNet (sym (nothing_is t (same.holdings ∙ like.0, are_unnoted u t same ∙ like.1))) net
+
+  pub is_committed : {T E : Type 0} (result : Result T E) (old : Net) (a moment : ℕ) (r : Request) (u t : State)
+      → of_states n items ≡ old → i ≡ a → IsLike s u → u.moment ≡ moment → moment ≡ old.line + 1
+      → OnOk result (IsCommitted u r t) → OnOk result (IsCommittedAt a r old (of_states n (slice_set items i t)))
+  is_committed (Ok x) old a moment r u t was place like at_moment line done =
+      committed_at u t a moment r old like done at_moment was line place
+  is_committed (Err x) old a moment r u t was place like at_moment line done = tt
+
+  pub is_as_it_was : {T E : Type 0} (result : Result T E) (old : Net) (u t : State)
+      → of_states n items ≡ old → IsLike s u → OnErr result (IsUncommitted u t)
+      → OnErr result (of_states n (slice_set items i t) ≡ old)
+  is_as_it_was (Ok x) old u t was like same = tt
+  is_as_it_was (Err x) old u t was like same =
+      nothing_is t (same.holdings ∙ like.0, are_unnoted u t same ∙ like.1) ∙ was
 
 -- ---- the network of nobody
 
@@ -120,7 +179,9 @@ nobody_is_net = record {
   apart = refl;
   few = omega arith;
   count = refl;
+  logs = refl;
   each = λ a h e. cc;
   contexts = omega arith;
   pairs = omega arith;
+  lines = omega arith;
 }

@@ -28,8 +28,10 @@ use Rattle.x5_serve.specs.Networks.{IsDue, IsFound, IsReady, IsVerdict}
 use Rattle.x5_serve.specs.declared.network.Found.{Found}
 use Rattle.x5_serve.specs.declared.network.Verdict.TheVariants.{Passed}
 use Rattle.x5_update.specs.Judging as judging
-use Rattle.x5_world.specs.State.{Net, HasShortNames, holdings_in}
-use Rattle.x5_world.specs.Sent.{IsChanged, IsUnderWay, held_since, journal_of, line_view, scene_of}
+use Rattle.x5_model_refreshed.specs.Steps.{step_of}
+use Rattle.x5_world.specs.Logs.{AreNoted, Logs, NotedWhere, no_logs}
+use Rattle.x5_world.specs.State.{Net, HasShortNames, holdings_in, logs_in}
+use Rattle.x5_world.specs.Sent.{IsChanged, IsCommittedAt, IsUnderWay, held_since, journal_of, line_view, scene_of}
 use Rattle.x5_world.specs.declared.journal.Sent.{Sent}
 
 -- ---- who accepted, in either order
@@ -118,12 +120,12 @@ itself a = (nat_same_decides a a).1 refl
 apart : (a b : ℕ) → (a == b) ≡ false → a ≡ b → ⊥
 apart a b f e = false_true (sym f ∙ (nat_same_decides a b).1 e)
 
-set_here : (hs : List Holdings) (a : ℕ) (h : Holdings) → a < length hs → slice_get (slice_set hs a h) a ≡ Some h
+set_here : {A : Type 0} (hs : List A) (a : ℕ) (h : A) → a < length hs → slice_get (slice_set hs a h) a ≡ Some h
 set_here [] a h l = absurd (omega (arith, l))
 set_here (x ∷ xs) zero h l = refl
 set_here (x ∷ xs) (suc a) h l = set_here xs a h (omega (arith, l))
 
-set_there : (hs : List Holdings) (a b : ℕ) (h : Holdings) → (a ≡ b → ⊥)
+set_there : {A : Type 0} (hs : List A) (a b : ℕ) (h : A) → (a ≡ b → ⊥)
     → slice_get (slice_set hs a h) b ≡ slice_get hs b
 set_there [] a b h f = refl
 set_there (x ∷ xs) zero zero h f = absurd (f refl)
@@ -131,16 +133,30 @@ set_there (x ∷ xs) zero (suc b) h f = refl
 set_there (x ∷ xs) (suc a) zero h f = refl
 set_there (x ∷ xs) (suc a) (suc b) h f = set_there xs a b h (λ e. f (ap suc e))
 
-as_many : (hs : List Holdings) (a : ℕ) (h : Holdings) → length (slice_set hs a h) ≡ length hs
+as_many : {A : Type 0} (hs : List A) (a : ℕ) (h : A) → length (slice_set hs a h) ≡ length hs
 as_many [] a h = refl
 as_many (x ∷ xs) zero h = refl
 as_many (x ∷ xs) (suc a) h = ap suc (as_many xs a h)
+
+-- what is noted of an update is by what it does, whatever its controls
+noted_alike : (moment : ℕ) (r q : Request) (h : Holdings) (old new : Logs) → q.body ≡ r.body
+    → AreNoted moment q h old new → AreNoted moment r h old new
+noted_alike moment r q h old new e n = record {
+  place = n.place;
+  context = n.context;
+  notes = n.notes;
+  step = n.step;
+  held = n.held;
+  kept = n.kept;
+  told = ap (step_of n.context.entries) (sym e) ∙ n.told;
+  new_is = n.new_is;
+}
 
 -- the agent, which has accepted none, does the update that is the user's
 module _ (n now new : Net) (r q : Request) (accepted : List ℕ) (me : ℕ) (c : IsChanged n now r accepted)
     (fresh : has ◌==◌ accepted me ≡ false) (there : me < length now.agents) (alike : q.body ≡ r.body)
     (update : is_update r.body ≡ true)
-    (is : new ≡ record now { agents = slice_set now.agents me (committed q (holdings_in now me)) }) where
+    (is : IsCommittedAt me q now new) where
   abbrev done : Net
   done = record now { agents = slice_set now.agents me (committed q (holdings_in now me)) }
 
@@ -182,12 +198,45 @@ module _ (n now new : Net) (r q : Request) (accepted : List ℕ) (me : ℕ) (c :
     | inr f ↦ at_other a f
   ]
 
+  -- and has noted it, where all others have the logs that they had
+  abbrev Notes : Bool → ℕ → Logs → Type 0
+  Notes b a new_logs = NotedWhere b (n.line + 1) r (holdings_in n a) (logs_in n a) new_logs
+
+  notes_at_me : Notes (has ◌==◌ (accepted ++ me ∷ []) me) me (logs_in new me)
+  notes_at_me =
+      let same : logs_in now me ≡ logs_in n me = subst (λ (b : Bool). Notes b me (logs_in now me)) fresh (c.notes me) in
+      let line : now.line ≡ n.line = ap (λ (x : Net). x.line) c.rest in
+      let noted : AreNoted (n.line + 1) r (holdings_in n me) (logs_in n me) (logs_in new me) =
+      noted_alike (n.line + 1) r q (holdings_in n me) (logs_in n me) (logs_in new me) alike
+      (subst (λ (k : ℕ). AreNoted (k + 1) q (holdings_in n me) (logs_in n me) (logs_in new me)) line
+      (subst (λ (h : Holdings). AreNoted (now.line + 1) q h (logs_in n me) (logs_in new me)) before
+      (subst (λ (l : Logs). AreNoted (now.line + 1) q (holdings_in now me) l (logs_in new me)) same is.noted))) in
+      subst (λ (b : Bool). Notes b me (logs_in new me))
+      (sym (more me ∙ ap (λ (b : Bool). has ◌==◌ accepted me || b) (itself me) ∙ or_true (has ◌==◌ accepted me))) noted
+
+  notes_at_other : (a : ℕ) → (me == a) ≡ false → Notes (has ◌==◌ (accepted ++ me ∷ []) a) a (logs_in new a)
+  notes_at_other a f =
+      let same : logs_in new a ≡ logs_in now a =
+      ap (λ (ls : List Logs). in_option no_logs (λ (l : Logs). l) (slice_get ls a)) is.logs
+      ∙ ap (in_option no_logs (λ (l : Logs). l)) (set_there now.logs me a (logs_in new me) (apart me a f)) in
+      subst (λ (b : Bool). Notes b a (logs_in new a))
+      (sym (more a ∙ ap (λ (b : Bool). has ◌==◌ accepted a || b) f ∙ or_none (has ◌==◌ accepted a)))
+      (subst (λ (l : Logs). Notes (has ◌==◌ accepted a) a l) (sym same) (c.notes a))
+
+  notes_at_each : (a : ℕ) → Notes (has ◌==◌ (accepted ++ me ∷ []) a) a (logs_in new a)
+  notes_at_each a = elim (same_or_not me a) [
+    | inl e ↦ subst (λ (b : ℕ). Notes (has ◌==◌ (accepted ++ me ∷ []) b) b (logs_in new b)) e notes_at_me
+    | inr f ↦ notes_at_other a f
+  ]
+
   pub one_more_changed : IsChanged n new r (accepted ++ me ∷ [])
   one_more_changed = record {
-    rest = is ∙ ap (λ (x : Net). record x { agents = done.agents }) c.rest
-        ∙ ap (λ (hs : List Holdings). record n { agents = hs }) (sym (ap (λ (x : Net). x.agents) is));
-    count = ap (λ (x : Net). length x.agents) is ∙ as_many now.agents me (committed q (holdings_in now me)) ∙ c.count;
-    holds = λ a. ap (λ (x : Net). holdings_in x a) is ∙ at_each a;
+    rest = is.rest ∙ ap (λ (x : Net). record x { agents = new.agents; logs = new.logs }) c.rest;
+    count = ap length is.agents ∙ as_many now.agents me (committed q (holdings_in now me)) ∙ c.count;
+    kept = ap length is.logs ∙ as_many now.logs me (logs_in new me) ∙ c.kept;
+    holds = λ a. ap (λ (hs : List Holdings). in_option (no_holdings a) (λ (h : Holdings). h) (slice_get hs a)) is.agents
+        ∙ at_each a;
+    notes = notes_at_each;
   }
 
 -- ---- names of 16 RDNs at most
@@ -265,7 +314,7 @@ pub still_with : (n now new : Net) (first : ℕ) (m : Chained) (most : ℕ) (lin
     (me : ℕ) (msg : Chained)
     → IsUnderWay n now first m most lines accepted → me < length n.names
     → IsReady (scene_of n first m) (journal_of n.names lines accepted) (hand me msg)
-    → new ≡ record now { agents = slice_set now.agents me (committed msg.request (holdings_in now me)) }
+    → IsCommittedAt me msg.request now new
     → more ≡ accepted ++ me ∷ [] → IsUnderWay n new first m most lines more
 still_with n now new first m most lines accepted more me msg w there ready is e =
     let same : msg.request.body ≡ m.request.body = ready.due.of_user.update ready.due.update in

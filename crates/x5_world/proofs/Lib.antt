@@ -1,3 +1,6 @@
+pub mod Keeping
+pub mod Noted
+pub mod Logging
 pub mod Standing
 pub mod Journals
 pub mod Repeating
@@ -9,3 +12,4 @@ pub mod Adding
 pub mod Changing
 pub mod Worlds
 pub mod Beginning
+pub mod Unstamped

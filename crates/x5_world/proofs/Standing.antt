@@ -1,6 +1,6 @@
 -- The network of a line, as the definitions judge it: each agent holds what it holds at that line, and each kind of line
 -- leads to the network of the next one.
-use Rattle.std.proofs.Common.{◌≡◌, ℕ, ◌+◌, ◌*◌, ◌==◌, Bool, false, List, ◌∷◌, length, map, refl, sym, ap, ◌∙◌, arith}
+use Rattle.std.proofs.Common.{◌≡◌, ℕ, zero, suc, ◌+◌, ◌*◌, ◌<◌, ◌==◌, Bool, true, false, List, [], ◌∷◌, length, map, reverse, slice_get, Option, Result, Ok, Err, IfOk, Some, refl, sym, ap, subst, ◌∙◌, arith}
 use Rattle.std.specs.List.{filter}
 use Rattle.std.specs.Prelude.{nat_lt, if◌then◌else◌}
 use Rattle.std.proofs.lemmas.List.{length-map}
@@ -8,21 +8,33 @@ use mathlib.Core.Path.{fun_ext}
 use Rattle.x5_model.specs.Words.{has}
 use Rattle.x5_model.specs.Requests.{Request}
 use Rattle.x5_model.specs.Answers.{Reply}
-use Rattle.x5_model_tree.specs.World.{Network, World}
+use Rattle.x5_model_tree.specs.World.{Agent, Agreement, Network, World}
 use Rattle.x5_model_tree.specs.Masters.{mastered}
+use Rattle.x5_model_tree.specs.Consistent.{IsConsistent}
 use Rattle.x5_model_run.specs.Network.{Outage, after_outage, after_loss}
 use Rattle.x5_model_run.specs.Holdings.{Holdings}
 use Rattle.x5_model_run.specs.Journal.{Journal}
 use Rattle.x5_model_run.specs.History.{Point, knowledge_at, network_at, sent_before}
 use Rattle.x5_model_run.specs.Stage.{budget, nssr_pairs, once_each}
-use Rattle.x5_model_run.specs.Chain.{opening}
-use Rattle.x5_model_run.specs.Run.{Asks, Command, Changes, Drops, Block, Blank, Silent, Set, Replies, did_by}
+use Rattle.x5_model_run.specs.Chain.{Scene, opening}
+use Rattle.x5_model_run.specs.Run.{Asks, Command, Changes, Drops, Block, Blank, Silent, Set, Replies, IsBlock, did_by}
+use Rattle.x5_model_run.specs.Right.{AnswersRight}
 use Rattle.x5_model_serve.specs.Committed.{committed}
+use Rattle.x5_model_serve.specs.Serving.{IsRequest}
+use Rattle.x5_model_held.specs.Theorems.{is_still}
+use Rattle.x5_model_settled.specs.Settled.{HasAgent}
+use Rattle.x5_model_settled.specs.Held.{BySteps, held_at, scene_held}
 use Rattle.x5_model_settled.proofs.After.{network_stays, moved_none_after, knows_as_described}
-use Rattle.x5_model_settled.specs.Held.{held_after, held_at, scene_held}
-use Rattle.x5_model_settled.proofs.Steps.{held_after_request}
-use Rattle.x5_world.specs.State.{Net, StandsAt, after, holdings_in}
+use Rattle.x5_model_settled.proofs.Held.{held_on, held_after_line, scene_is as settled_scene_is}
+use Rattle.x5_model_settled.proofs.Settled.{lines_are_right}
+use Rattle.x5_model_refreshed.specs.Growing.{IsQuiet}
+use Rattle.x5_model_refreshed.proofs.Running.{did_happen}
+use Rattle.x5_model_settled.proofs.Stamped.{stamped_after}
+use Rattle.x5_world.specs.Logs.{Logs, NotedWhere}
+use Rattle.x5_world.specs.State.{Net, StandsAt, HasShortNames, after, holdings_in, logs_in}
 use Rattle.x5_world.specs.Sent.{held_since, scene_of}
+use Rattle.x5_world.proofs.Keeping.{logs_stay}
+use Rattle.x5_world.proofs.Logging.{logs_after, quiet_acked, quiet_happens, request_acked}
 
 -- ---- what a line is judged by
 
@@ -67,38 +79,71 @@ budget_is n p s =
 pub record IsAs (old new : Net) (links : Network) (count : ℕ) : Type 0 where
   pub names : new.names ≡ old.names
   pub agents : new.agents ≡ old.agents
+  pub logs : new.logs ≡ old.logs
   pub network : new.network ≡ links
   pub sent : new.sent ≡ count
   pub contexts : new.contexts ≡ old.contexts
   pub pairs : new.pairs ≡ old.pairs
+  pub agreements : new.agreements ≡ old.agreements
+  pub acked : new.acked ≡ old.acked
+  pub line : new.line ≡ old.line + 1
+
+-- as where one line more was counted
+pub as_before : (old new : Net) (links : Network) → new ≡ record old { network = links; line = old.line + 1 }
+    → IsAs old new links old.sent
+as_before old new links e = record {
+  names = ap (λ (n : Net). n.names) e;
+  agents = ap (λ (n : Net). n.agents) e;
+  logs = ap (λ (n : Net). n.logs) e;
+  network = ap (λ (n : Net). n.network) e;
+  sent = ap (λ (n : Net). n.sent) e;
+  contexts = ap (λ (n : Net). n.contexts) e;
+  pairs = ap (λ (n : Net). n.pairs) e;
+  agreements = ap (λ (n : Net). n.agreements) e;
+  acked = ap (λ (n : Net). n.acked) e;
+  line = ap (λ (n : Net). n.line) e;
+}
+
+next_line : (n k length_now : ℕ) → n ≡ k + 1 → k ≡ length_now → n ≡ suc length_now
+next_line n k length_now e f = omega (arith, e, f)
 
 -- at a line that changes nothing that is held
 stands : (old new : Net) (p : Point) (command : Command) (block : Block) (network : Network) (sent : ℕ)
-    → ((a : ℕ) (h : Holdings) → held_after (did_by command block).deed a h ≡ h) → StandsAt old p
-    → IsAs old new network sent → network ≡ network_at (after (did_by command block) p)
+    → IsBlock BySteps p command block → is_still (did_by command block).deed ≡ true → IsQuiet (did_by command block).deed
+    → StandsAt old p → IsAs old new network sent → network ≡ network_at (after (did_by command block) p)
     → sent ≡ sent_before (did_by command block ∷ p.past) → StandsAt new (after (did_by command block) p)
-stands old new p command block network sent still s q e f = record {
-  described = s.described;
-  unmoved = moved_none_after p.past command block s.unmoved;
-  names = q.names ∙ s.names;
-  holds = λ a. ap (λ (hs : List Holdings). holdings_in (record old { agents = hs }) a) q.agents ∙ s.holds a
-      ∙ sym (still a (held_at p a));
-  network = q.network ∙ e;
-  sent = q.sent ∙ f;
-  contexts = q.contexts ∙ s.contexts;
-  pairs = q.pairs ∙ s.pairs;
-}
+stands old new p command block network sent is still quiet s q e f =
+    let did = did_by command block in record {
+      described = s.described;
+      unmoved = moved_none_after p.past command block s.unmoved;
+      stamped = λ consistent. stamped_after BySteps p.described p.past command block is (s.stamped consistent);
+      names = q.names ∙ s.names;
+      holds = λ a. ap (λ (hs : List Holdings). holdings_in (record old { agents = hs }) a) q.agents ∙ s.holds a
+          ∙ sym (held_on p.described p.past did a still);
+      network = q.network ∙ e;
+      sent = q.sent ∙ f;
+      contexts = q.contexts ∙ s.contexts;
+      pairs = q.pairs ∙ s.pairs;
+      agreements = q.agreements ∙ s.agreements;
+      acked = q.acked ∙ s.acked
+          ∙ ap (λ (known : Agreement → Option ℕ). map known p.described.agreements)
+          (fun_ext (λ g. sym (quiet_acked p did.deed did.sent g.number quiet)));
+      line = next_line new.line old.line (length p.past) q.line s.line;
+      happened = λ consistent. (quiet_happens p did.deed quiet, s.happened consistent);
+      logs = λ consistent a. ap (λ (ls : List Logs). logs_in (record old { logs = ls }) a) q.logs ∙ s.logs consistent a
+          ∙ sym (logs_stay p did.deed did.sent a quiet);
+    }
 
-pub after_comment : (n : Net) (p : Point) → StandsAt n p → StandsAt n (after (did_by Blank Silent) p)
-after_comment n p s =
-    stands n n p Blank Silent n.network n.sent (λ a h. refl) s
-    (record { names = refl; agents = refl; network = refl; sent = refl; contexts = refl; pairs = refl })
+pub after_comment : (old new : Net) (p : Point) → StandsAt old p → IsAs old new old.network old.sent
+    → StandsAt new (after (did_by Blank Silent) p)
+after_comment old new p s q =
+    stands old new p Blank Silent old.network old.sent tt refl tt s q
     s.network (s.sent ∙ (let z : sent_before p.past ≡ 0 + sent_before p.past = omega arith in z))
 
 pub after_change : (old new : Net) (p : Point) (o : Outage) → StandsAt old p
     → IsAs old new (after_outage o old.network) old.sent → StandsAt new (after (did_by (Changes o) Set) p)
 after_change old new p o s q =
-    stands old new p (Changes o) Set (after_outage o old.network) old.sent (λ a h. refl) s q
+    stands old new p (Changes o) Set (after_outage o old.network) old.sent tt refl tt s q
     (ap (after_outage o) s.network)
     (s.sent ∙ (let z : sent_before p.past ≡ 0 + sent_before p.past = omega arith in z))
 
@@ -106,9 +151,14 @@ pub after_drop : (old new : Net) (p : Point) (reply : Bool) (number : ℕ) → S
     → IsAs old new (after_loss reply (old.sent + number) old.network) old.sent
     → StandsAt new (after (did_by (Drops reply number) Set) p)
 after_drop old new p reply number s q =
-    stands old new p (Drops reply number) Set (after_loss reply (old.sent + number) old.network) old.sent (λ a h. refl) s q
+    stands old new p (Drops reply number) Set (after_loss reply (old.sent + number) old.network) old.sent tt refl tt s q
     (λ i. after_loss reply (s.sent i + number) (s.network i))
     (s.sent ∙ (let z : sent_before p.past ≡ 0 + sent_before p.past = omega arith in z))
+
+pub if_ok_then : {T E : Type 0} {P Q : T → Type 0} (result : Result T E) → IfOk result P → ((x : T) → P x → Q x)
+    → IfOk result Q
+if_ok_then (Ok x) p more = more x p
+if_ok_then (Err e) p more = p
 
 -- a network after a request: each agent holds what it held, changed where it accepted the update
 pub record IsAfter (old new : Net) (r : Request) (accepted : List ℕ) (count : ℕ) : Type 0 where
@@ -118,22 +168,62 @@ pub record IsAfter (old new : Net) (r : Request) (accepted : List ℕ) (count : 
   pub sent : new.sent ≡ count
   pub contexts : new.contexts ≡ old.contexts
   pub pairs : new.pairs ≡ old.pairs
+  pub agreements : new.agreements ≡ old.agreements
+  pub acked : new.acked ≡ old.acked
+  pub line : new.line ≡ old.line + 1
+  pub notes : (a : ℕ)
+      → NotedWhere (has ◌==◌ accepted a) (old.line + 1) r (holdings_in old a) (logs_in old a) (logs_in new a)
+
+at_agent : (agents : List Agent) (a : ℕ) → a < length agents → (x : Agent) × (slice_get agents a ≡ Some x)
+at_agent [] a l = absurd (omega (arith, l))
+at_agent (x ∷ more) zero l = (x, refl)
+at_agent (x ∷ more) (suc a) l = at_agent more a (omega (arith, l))
+
+-- an agent of the network is one of the world
+agent_there : (n : Net) (p : Point) (first : ℕ) → StandsAt n p → first < length n.names → HasAgent p.described first
+agent_there n p first s there =
+    let few : first < length p.described.agents =
+    (let e = ap length s.names ∙ agents_are p.described in omega (arith, e, there)) in
+    at_agent p.described.agents first few
+
+-- over consistent knowledge what is done with the request is right
+right : (n : Net) (p : Point) (first : ℕ) (r : Request) (j : Journal) (reply : Reply) → StandsAt n p
+    → first < length n.names → HasShortNames r.body → BySteps p first r j reply → IsConsistent p.described
+    → AnswersRight p first r j reply
+right n p first r j reply s there short asked consistent =
+    (lines_are_right p.described p.past first r s.described consistent s.unmoved (agent_there n p first s there) j reply
+    short.target short.new_name
+    (subst (λ (x : Scene). IsRequest x (budget p) j reply) (settled_scene_is p first r consistent) asked)).0
 
 pub after_request : (old new : Net) (p : Point) (first : ℕ) (r : Request) (j : Journal) (reply : Reply)
     (accepted : List ℕ)
-    → StandsAt old p → ((a : ℕ) → has ◌==◌ j.accepted a ≡ has ◌==◌ accepted a)
+    → StandsAt old p → first < length old.names → HasShortNames r.body → BySteps p first r j reply
+    → ((a : ℕ) → has ◌==◌ j.accepted a ≡ has ◌==◌ accepted a)
     → IsAfter old new r accepted (old.sent + length j.lines)
     → StandsAt new (after (did_by (Asks first r) (Replies j reply)) p)
-after_request old new p first r j reply accepted s same q = record {
+after_request old new p first r j reply accepted s there short asked same q = record {
   described = s.described;
   unmoved = moved_none_after p.past (Asks first r) (Replies j reply) s.unmoved;
+  stamped = λ consistent. stamped_after BySteps p.described p.past (Asks first r) (Replies j reply) asked (s.stamped consistent);
   names = q.names ∙ s.names;
   holds = λ a. q.holds a ∙ ap (held_since accepted r a) (s.holds a)
       ∙ ap (λ (b : Bool). if b then committed r (held_at p a) else held_at p a) (sym (same a))
-      ∙ sym (held_after_request r j a (held_at p a));
+      ∙ sym (held_after_line p.described p.past first r j reply a s.described s.unmoved s.stamped
+      (agent_there old p first s there) short.target short.new_name asked);
   network = q.network ∙ s.network ∙ sym (network_stays p.described p.past first r j reply);
   sent = q.sent ∙ ap (λ (k : ℕ). k + length j.lines) s.sent
       ∙ (let z : sent_before p.past + length j.lines ≡ length j.lines + sent_before p.past = omega arith in z);
   contexts = q.contexts ∙ s.contexts;
   pairs = q.pairs ∙ s.pairs;
+  agreements = q.agreements ∙ s.agreements;
+  acked = q.acked ∙ s.acked
+      ∙ ap (λ (known : Agreement → Option ℕ). map known p.described.agreements)
+      (fun_ext (λ g. sym (request_acked p r (reverse j.accepted) (length j.lines) g.number)));
+  line = next_line new.line old.line (length p.past) q.line s.line;
+  happened = λ consistent. (
+        did_happen p (Asks first r) (Replies j reply) (right old p first r j reply s there short asked consistent),
+        s.happened consistent,
+      );
+  logs = λ consistent a. logs_after old new p r s consistent accepted q.notes j.accepted (length j.lines)
+      (right old p first r j reply s there short asked consistent).accepts.one same a;
 }

@@ -13,7 +13,7 @@ use Rattle.x5_serve.specs.declared.network.Carried.{Carried}
 use Rattle.x5_serve.specs.declared.network.Carried.TheVariants.{Undelivered, Unheard, Taken}
 use Rattle.x5_ops.specs.declared.references.Chained as code
 use Rattle.x5_model_run.specs.Holdings.{Holdings}
-use Rattle.x5_world.specs.State.{Net, HasShortNames, holdings_in}
+use Rattle.x5_world.specs.State.{Net, HasShortNames, holdings_in, logs_in}
 use Rattle.x5_world.specs.Sent.{IsChanged, IsNet, IsUnderWay}
 
 -- before its first message
@@ -25,9 +25,11 @@ begun n now first most r m same e net there short room =
     (record {
       net = net;
       changed = record {
-        rest = same ∙ ap (λ (hs : List Holdings). record n { agents = hs }) (sym (ap (λ (x : Net). x.agents) same));
+        rest = same ∙ (λ i. record n { agents = (sym same i).agents; logs = (sym same i).logs });
         count = ap (λ (x : Net). length x.agents) same;
+        kept = ap (λ (x : Net). length x.logs) same;
         holds = λ a. ap (λ (x : Net). holdings_in x a) same;
+        notes = λ a. ap (λ (x : Net). logs_in x a) same;
       };
       there = there;
       short = short;

@@ -1,3 +1,5 @@
+pub mod Logs
+pub mod LogViews
 pub mod State
 pub mod Answered
 pub mod Counts

@@ -1,7 +1,7 @@
 -- A request on its way through the network: the messages that were sent for it, who accepted its update, and what
 -- agents hold since, as the definitions' journal has them (X.518, sections 17 to 21).
 use Rattle.std.specs.Prelude.{◌≡◌, ℕ, ◌<◌, ◌+◌, ◌≤◌, ◌&&◌, ◌==◌, nat_lt, nat_le, Bool, true, false}
-use Rattle.std.specs.Prelude.{if◌then◌else◌, List, [], length, map, reverse, slice_get, Some}
+use Rattle.std.specs.Prelude.{if◌then◌else◌, List, [], length, map, reverse, slice_get, slice_set, Some}
 use Rattle.std.specs.List.{list_all}
 use Rattle.x5_model.specs.Words.{distinct, has, in_option, same_octets}
 use Rattle.x5_model.specs.References.{Chained}
@@ -15,7 +15,8 @@ use Rattle.x5_model_known.specs.Holding.{holdings_name}
 use Rattle.x5_model_known.specs.Counted.{holdings_counted}
 use Rattle.x5_ops.specs.JournalViews.{fate_view}
 use Rattle.x5_ops.specs.ReferenceViews.{chained_view}
-use Rattle.x5_world.specs.State.{Net, HasShortNames, holdings_in}
+use Rattle.x5_world.specs.Logs.{AreNoted, NotedWhere}
+use Rattle.x5_world.specs.State.{Net, HasShortNames, holdings_in, logs_in}
 use Rattle.x5_world.specs.declared.journal.Sent.{Sent}
 
 abbrev pub line_view : List (List ℕ) → Sent → model.Line
@@ -48,10 +49,14 @@ abbrev pub no_net : Net
 no_net = record {
   names = [];
   agents = [];
+  logs = [];
   network = record { down = []; refusing = []; cut = []; lost_messages = []; lost_replies = [] };
   sent = 0;
   contexts = 0;
   pairs = 0;
+  agreements = [];
+  acked = [];
+  line = 0;
 }
 
 -- What is so of every network: no two agents have one name, each holds what is its own, names agents of the network and
@@ -66,9 +71,11 @@ pub record IsNet (n : Net) : Type 0 where
   pub apart : distinct same_octets n.names ≡ true
   pub few : length n.names ≤ 64
   pub count : length n.agents ≡ length n.names
+  pub logs : length n.logs ≡ length n.names
   pub each : (a : ℕ) (h : Holdings) → slice_get n.agents a ≡ Some h → IsHolder n.names a h
   pub contexts : n.contexts ≤ 4096
   pub pairs : n.pairs ≤ 4096
+  pub lines : n.line ≤ 100000
 
 -- between agents of the network, and with a trace that can be counted
 abbrev pub is_counted : List (List ℕ) → Sent → Bool
@@ -80,11 +87,21 @@ is_counted names l =
 abbrev pub held_since : List ℕ → Request → ℕ → Holdings → Holdings
 held_since accepted r a h = if has ◌==◌ accepted a then committed r h else h
 
--- the network once these accepted the update: nothing but what they hold has changed
+-- the network once these accepted the update at the line: nothing but what they hold, and note of it, has changed
 pub record IsChanged (old new : Net) (r : Request) (accepted : List ℕ) : Type 0 where
-  pub rest : new ≡ record old { agents = new.agents }
+  pub rest : new ≡ record old { agents = new.agents; logs = new.logs }
   pub count : length new.agents ≡ length old.agents
+  pub kept : length new.logs ≡ length old.logs
   pub holds : (a : ℕ) → holdings_in new a ≡ held_since accepted r a (holdings_in old a)
+  pub notes : (a : ℕ)
+      → NotedWhere (has ◌==◌ accepted a) (old.line + 1) r (holdings_in old a) (logs_in old a) (logs_in new a)
+
+-- this agent accepted the update at the line: it holds the change, and has noted it
+pub record IsCommittedAt (agent : ℕ) (r : Request) (old new : Net) : Type 0 where
+  pub agents : new.agents ≡ slice_set old.agents agent (committed r (holdings_in old agent))
+  pub logs : new.logs ≡ slice_set old.logs agent (logs_in new agent)
+  pub rest : new ≡ record old { agents = new.agents; logs = new.logs }
+  pub noted : AreNoted (old.line + 1) r (holdings_in old agent) (logs_in old agent) (logs_in new agent)
 
 -- A user's request on its way, which began in the one network and has led to the other, with the messages so far and
 -- those who accepted its update.

@@ -10,6 +10,7 @@ mod exchange;
 mod journal;
 mod links;
 mod naming;
+mod stamps;
 mod world;
 
 pub use world::World;

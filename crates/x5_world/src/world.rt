@@ -1,6 +1,6 @@
 //! The network of a run.
 
-ghost use Rattle.std.specs.Prelude.{◌≡◌, ℕ, ◌<◌, ◌+◌, ◌≤◌, ◌*◌, [], true, nat_lt, length, List, IfOk, OnErr, slice_get, slice_set, Some};
+ghost use Rattle.std.specs.Prelude.{◌≡◌, ℕ, ◌<◌, ◌+◌, ◌≤◌, ◌*◌, [], true, nat_lt, length, List, IfOk, OnErr, slice_get, Some};
 ghost use Rattle.std.specs.List.{filter};
 ghost use Rattle.std.specs.Option.{option_map};
 ghost use Rattle.x5_know.specs.WorldView.{world_view};
@@ -8,7 +8,6 @@ ghost use Rattle.x5_model_run.specs.Network as network;
 ghost use Rattle.x5_model_run.specs.History.{Point};
 ghost use Rattle.x5_model_run.specs.Run.{Changes, Drops, Blank, Set, Silent, did_by};
 ghost use Rattle.x5_model_run.specs.Stage.{once_each};
-ghost use Rattle.x5_model_serve.specs.Committed.{committed};
 ghost use Rattle.x5_model_tree.specs.Described.{IsDescribed};
 ghost use Rattle.x5_holdings.specs.State.{holdings_view};
 ghost use Rattle.x5_ops.specs.JournalViews.{fate_view, outage_view};
@@ -16,7 +15,7 @@ ghost use Rattle.x5_ops.specs.ReferenceViews.{chained_view};
 ghost use Rattle.x5_ops.specs.RequestViews.{body_view, request_view};
 ghost use Rattle.x5_update.specs.Judging.{IsReady};
 ghost use Rattle.x5_world.specs.Answered.{IsAnswered, NamesAgents};
-ghost use Rattle.x5_world.specs.Sent.{IsHolder, no_net};
+ghost use Rattle.x5_world.specs.Sent.{IsCommittedAt, IsHolder, no_net};
 ghost use Rattle.x5_world.specs.State.{StandsAt, HasRoom, HasShortNames, after, holdings_in, most_messages};
 ghost use Rattle.x5_model_tree.specs.World.{names_of_agents};
 
@@ -25,16 +24,18 @@ use crate::counts::{contexts, pairs};
 use crate::journal;
 use crate::links::Links;
 use crate::naming::copied;
+use crate::stamps::none_of;
 use std::alloc::Global;
 use std::marker::{Brand, Model};
 use std::mem::replace;
 use x5_agents::agents_of;
 use x5_holdings::Holdings;
-use x5_know::{AgentNames, Described};
+use x5_know::{AgentNames, AgreementList, Described};
 use x5_memory::NoMemory;
-use x5_ops::{AgentId, Chained, Fate, Journal, Outage, Reply, Request};
+use x5_ops::{AgentId, Chained, Fate, Journal, Listed, Moment, Outage, Reply, Request};
 
-/// The agents with what each holds, and the network between them.
+/// The agents with what each holds, the network between them, and their agreements with the stamp of the last refresh by each that
+/// its supplier knows to be taken.
 #[derive(Drop)]
 pub struct World {
     names: AgentNames,
@@ -43,19 +44,23 @@ pub struct World {
     sent: u64,
     contexts: usize,
     pairs: usize,
+    agreements: AgreementList,
+    acked: Vec<Option<Moment>>,
+    line: u32,
 }
 
 impl Model for World {
     ghost use Rattle.std.specs.Prelude.{map};
     ghost use Rattle.x5_holdings.specs.State.{holdings_view};
+    ghost use Rattle.x5_world.specs.LogViews.{logs_view};
     ghost use Rattle.x5_world.specs.State.{Net};
     ghost use Rattle.x5_world.specs.Sent.{IsNet};
 
     ghost Value = { Net };
 
-    ghost view = { λ w. record { names = w.names; agents = map holdings_view w.agents.items; network = w.links; sent = w.sent; contexts = w.contexts; pairs = w.pairs } };
+    ghost view = { λ w. record { names = w.names; agents = map holdings_view w.agents.items; logs = map logs_view w.agents.items; network = w.links; sent = w.sent; contexts = w.contexts; pairs = w.pairs; agreements = w.agreements; acked = w.acked.items; line = w.line } };
 
-    ghost invariant = { λ w. IsNet (record { names = w.names; agents = map holdings_view w.agents.items; network = w.links; sent = w.sent; contexts = w.contexts; pairs = w.pairs }) };
+    ghost invariant = { λ w. IsNet (record { names = w.names; agents = map holdings_view w.agents.items; logs = map logs_view w.agents.items; network = w.links; sent = w.sent; contexts = w.contexts; pairs = w.pairs; agreements = w.agreements; acked = w.acked.items; line = w.line }) };
 }
 
 impl World {
@@ -79,6 +84,9 @@ impl World {
             sent: 0,
             contexts,
             pairs,
+            agreements: described.agreements.clone()?,
+            acked: none_of(alloc, described.agreements.as_slice())?,
+            line: 0,
         })
     }
 
@@ -93,6 +101,9 @@ impl World {
             sent: 0,
             contexts: 0,
             pairs: 0,
+            agreements: Listed::new(alloc),
+            acked: Vec::new(alloc),
+            line: 0,
         }
     }
 
@@ -133,8 +144,8 @@ impl World {
         &self.agents[agent.0 as usize]
     }
 
-    /// Does an update that the agent passes, as the master of its target: it holds the change then. After want of memory all is as
-    /// it was.
+    /// Does an update that the agent passes, as the master of its target: it holds the change then, and notes it with the line's
+    /// moment. After want of memory all is as it was.
     pub(crate) fn commit(
         &mut self,
         alloc: Global,
@@ -143,18 +154,31 @@ impl World {
     ) -> Result<(), NoMemory>
         requires there { agent < length self.old.names }
         requires ready { (names : List (List ℕ)) × IsReady (holdings_in self.old agent) (chained_view names message.now) }
-        ensures committed { IfOk result (λ _. self.new ≡ record self.old { agents = slice_set self.old.agents agent (committed (request_view message.now.request) (holdings_in self.old agent)) }) }
+        ensures committed { IfOk result (λ _. IsCommittedAt agent (request_view message.now.request) self.old self.new) }
         ensures err { OnErr result (self.new ≡ self.old) }
     {
-        x5_update::commit(alloc, &mut self.agents[agent.0 as usize], message)
+        let moment = Moment(self.line + 1);
+        let held = &mut self.agents[agent.0 as usize];
+        held.set_moment(moment);
+        x5_update::commit(alloc, held, message)
     }
 
-    /// So many messages more were sent. No memory.
+    /// One line more was done. No memory.
+    fn count_line(&mut self)
+        requires { self.old.line < 100000 }
+        ensures { self.new ≡ record self.old { line = self.old.line + 1 } }
+    {
+        self.line += 1;
+    }
+
+    /// One line more was done, by so many messages. No memory.
     fn count(&mut self, messages: usize)
-        requires { self.old.sent + messages ≤ 18446744073709551615 }
-        ensures { self.new ≡ record self.old { sent = self.old.sent + messages } }
+        requires room { self.old.sent + messages ≤ 18446744073709551615 }
+        requires lines { self.old.line < 100000 }
+        ensures { self.new ≡ record self.old { sent = self.old.sent + messages; line = self.old.line + 1 } }
     {
         self.sent += messages as u64;
+        self.line += 1;
     }
 
     /// How many messages a request may take that is asked now.
@@ -198,12 +222,15 @@ impl World {
     /// An agent is down or up again, a pair is cut or joined again, an agent refuses to chain or is willing again. After want of
     /// memory all is as it was.
     pub fn change(&mut self, outage: Outage) -> Result<(), NoMemory>
+        requires room { (lines : ℕ) × (HasRoom self.old lines × (lines < 100000)) }
         ensures names { self.new.names ≡ self.old.names }
         ensures stands { IfOk result (λ _. (p : Point) → StandsAt self.old p → StandsAt self.new (after (did_by (Changes (outage_view outage)) Set) p)) }
-        ensures room { IfOk result (λ _. (lines : ℕ) → HasRoom self.old lines → HasRoom self.new (lines + 1)) }
+        ensures room_after { IfOk result (λ _. (lines : ℕ) → HasRoom self.old lines → HasRoom self.new (lines + 1)) }
         ensures err { OnErr result (self.new ≡ self.old) }
     {
-        self.links.change(outage)
+        self.links.change(outage)?;
+        self.count_line();
+        Ok(())
     }
 
     /// Of the messages sent from now on the one of this number, from 1, is lost, or the reply to it. After want of memory all is
@@ -216,12 +243,18 @@ impl World {
         ensures err { OnErr result (self.new ≡ self.old) }
     {
         let number = self.sent + u64::from(number);
-        self.links.lose(reply, number)
+        self.links.lose(reply, number)?;
+        self.count_line();
+        Ok(())
     }
 
     /// A comment: nothing happens, and the next line finds the network as it is. No memory.
-    pub fn pass(&self)
-        ensures stands { (p : Point) → StandsAt self.now p → StandsAt self.now (after (did_by Blank Silent) p) }
-        ensures room { (lines : ℕ) → HasRoom self.now lines → HasRoom self.now (lines + 1) }
-    {}
+    pub fn pass(&mut self)
+        requires room { (lines : ℕ) × (HasRoom self.old lines × (lines < 100000)) }
+        ensures names { self.new.names ≡ self.old.names }
+        ensures stands { (p : Point) → StandsAt self.old p → StandsAt self.new (after (did_by Blank Silent) p) }
+        ensures room_after { (lines : ℕ) → HasRoom self.old lines → HasRoom self.new (lines + 1) }
+    {
+        self.count_line();
+    }
 }

@@ -21,13 +21,13 @@ use Rattle.xdir.specs.Blocks.{Gives, IsTold, IsCourse}
 use Rattle.xdir.specs.Checked.{knowledge_text}
 use Rattle.xdir.specs.Counted.{CountsOneMore, AddsBlock, IsCounted}
 use Rattle.xdir.specs.Summed.{IsSummary}
-use Rattle.xdir.specs.Taken.{Suits, point}
+use Rattle.xdir.specs.Taken.{point}
 use Rattle.xdir.proofs.SoFar.{and_last}
-use Rattle.xdir.proofs.Sound.{knowledge_is, none_refreshed}
+use Rattle.xdir.proofs.Sound.{knowledge_is}
 
 pub none_counted : (f : File) (net : Net) (counts : Counts) → StandsAt net (point f.world []) → counts ≡ no_counts → IsCounted f [] net counts
 none_counted f net counts stands e =
-    record { blocks = []; past = []; runs = begin; askable = tt; suits = tt; stands = stands; counted = e }
+    record { blocks = []; past = []; runs = begin; askable = tt; stands = stands; counted = e }
 
 -- a comment adds nothing
 silent_adds_none : (blocks : List Block) → counts_of blocks ≡ counts_of (blocks ++ Silent ∷ [])
@@ -57,16 +57,15 @@ course_adds p command net c old new course counts blocks before = record {
 }
 
 pub counted_more : (f : File) (commands : List Command) (net later : Net) (old new : Counts) → IsCounted f commands net old → (c : Command)
-    → IsAskable f.world c → Suits f.world c → ((past : List Did) → StandsAt net (point f.world past) → AddsBlock (point f.world past) c later old new)
+    → IsAskable f.world c → ((past : List Did) → StandsAt net (point f.world past) → AddsBlock (point f.world past) c later old new)
     → IsCounted f (commands ++ c ∷ []) later new
-counted_more f commands net later old new far c askable suits adds =
+counted_more f commands net later old new far c askable adds =
     let m : CountsOneMore (point f.world far.past) c later far.blocks new = adds far.past far.stands far.blocks far.counted in
     record {
       blocks = far.blocks ++ m.block ∷ [];
       past = did_by c m.block ∷ far.past;
       runs = next c m.block far.runs m.gives.is;
       askable = and_last (IsAskable f.world) commands c far.askable askable;
-      suits = and_last (Suits f.world) commands c far.suits suits;
       stands = m.gives.stands;
       counted = m.counted;
     }
@@ -80,7 +79,7 @@ is_summary f commands net counts far line text line_is is =
       prints = record {
         blocks = far.blocks;
         past = far.past;
-        runs = steps_are_performed f.world commands far.blocks far.past far.stands.described (far.askable, λ consistent. none_refreshed f.world consistent commands far.suits) far.runs;
+        runs = steps_are_performed f.world commands far.blocks far.past far.stands.described far.askable far.runs;
         octets_are = refl;
       };
       sums_up = is

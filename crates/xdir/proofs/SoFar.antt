@@ -27,7 +27,7 @@ use Rattle.xdir.specs.Run.{IsOutput}
 use Rattle.xdir.specs.Steps.{IsFirstOutput, Prints, WritesRun}
 use Rattle.xdir.specs.Taken.{IsTaken, Suits, point, run_view}
 use Rattle.xdir.proofs.Ends.{rose_later, took_after}
-use Rattle.xdir.proofs.Sound.{knowledge_is, none_refreshed}
+use Rattle.xdir.proofs.Sound.{knowledge_is}
 
 -- one block more, at the end
 blocks_text-snoc : (names : Names) (n : ℕ) (commands : List Command) (blocks : List Block) (c : Command) (b : Block) → length blocks ≡ length commands → blocks_text names n (commands ++ c ∷ []) (blocks ++ b ∷ []) ≡ blocks_text names n commands blocks ++ block_text names (n + length commands) c b
@@ -50,14 +50,13 @@ pub record IsText (f : File) (commands : List Command) (net : Net) (text : List 
   pub past : List Did
   pub runs : IsRun BySteps f.world commands blocks past
   pub askable : AllByRecursion (IsAskable f.world) commands
-  pub suits : AllByRecursion (Suits f.world) commands
   pub as_many : length blocks ≡ length commands
   pub printed : text ≡ knowledge_text f.world ++ blocks_text (printing f) 1 commands blocks
   pub stands : StandsAt net (point f.world past)
 
 pub of_nothing : (f : File) (net : Net) (text : List ℕ) → StandsAt net (point f.world []) → text ≡ knowledge_text f.world → IsText f [] net text
 of_nothing f net text stands e =
-    record { blocks = []; past = []; runs = begin; askable = tt; suits = tt; as_many = refl; printed = e ∙ sym (append-nil (knowledge_text f.world)); stands = stands }
+    record { blocks = []; past = []; runs = begin; askable = tt; as_many = refl; printed = e ∙ sym (append-nil (knowledge_text f.world)); stands = stands }
 
 pub and_last : {X : Type 0} (P : X → Type 0) (xs : List X) (x : X) → AllByRecursion P xs → P x → AllByRecursion P (xs ++ x ∷ [])
 and_last P [] x all p = (p, tt)
@@ -77,14 +76,13 @@ module _ (f : File) (commands : List Command) (net : Net) (text : List ℕ) (far
       ∙ append_assoc (knowledge_text f.world) (blocks_text (printing f) 1 commands far.blocks) (block_text (printing f) (1 + length commands) c b)
       ∙ ap (λ (t : List ℕ). knowledge_text f.world ++ t) (sym (blocks_text-snoc (printing f) 1 commands far.blocks c b far.as_many))
 
-  pub one_more : (c : Command) (later : Net) (block : List ℕ) → IsAskable f.world c → Suits f.world c → IsBlockText f far.past (length commands + 1) c later block
+  pub one_more : (c : Command) (later : Net) (block : List ℕ) → IsAskable f.world c → IsBlockText f far.past (length commands + 1) c later block
       → IsText f (commands ++ c ∷ []) later (text ++ block)
-  one_more c later block askable suits b = record {
+  one_more c later block askable b = record {
     blocks = far.blocks ++ b.block ∷ [];
     past = did_by c b.block ∷ far.past;
     runs = next c b.block far.runs b.gives.is;
     askable = and_last (IsAskable f.world) commands c far.askable askable;
-    suits = and_last (Suits f.world) commands c far.suits suits;
     as_many = snoc_length far.blocks commands b.block c far.as_many;
     printed = grown c b.block block b.printed;
     stands = b.gives.stands;
@@ -93,7 +91,7 @@ module _ (f : File) (commands : List Command) (net : Net) (text : List ℕ) (far
   -- it is the output of a run
   pub is_output : IsOutput f commands text
   is_output =
-      steps_print_performed f.world (moment_text f.start) commands text far.stands.described (far.askable, λ consistent. none_refreshed f.world consistent commands far.suits) (record {
+      steps_print_performed f.world (moment_text f.start) commands text far.stands.described far.askable (record {
         blocks = far.blocks;
         past = far.past;
         runs = far.runs;
@@ -147,13 +145,13 @@ WritesNext status f line command net later old new before after =
     (past : List Did) → StandsAt net (point f.world past) → WritesBlock status f past line command later old new before after
 
 pub so_far_more : (f : File) (commands : List Command) (command : Command) (net later : Net) (old mid new : Option (List ℕ)) (before after : ℕ)
-    → IsAskable f.world command → Suits f.world command → IsSoFar f commands net old mid
+    → IsAskable f.world command → IsSoFar f commands net old mid
     → WritesNext Done f (length commands + 1) command net later mid new before after → IsSoFar f (commands ++ command ∷ []) later old new
-so_far_more f commands command net later old mid new before after askable suits far writes =
+so_far_more f commands command net later old mid new before after askable far writes =
     let wrote = writes far.is_text.past far.is_text.stands in
     record {
       text = far.text ++ wrote.text;
-      is_text = one_more f commands net far.text far.is_text command later wrote.text askable suits wrote.is;
+      is_text = one_more f commands net far.text far.is_text command later wrote.text askable wrote.is;
       whole = wrote.whole ∙ ap (λ (taken : Option (List ℕ)). with_octets wrote.text taken) far.whole ∙ with_octets-with_octets far.text wrote.text old;
     }
 
@@ -163,7 +161,7 @@ first_output f net commands first rest text parts is =
     record { first = first; rest = rest; parts = parts; prints = is_output f first net text is }
 
 -- a block that can't be written ends the run
-module _ (f : File) (commands first : List Command) (command : Command) (rest : List Command) (parts : commands ≡ first ++ command ∷ rest) (askable : IsAskable f.world command) (suits : Suits f.world command) where
+module _ (f : File) (commands first : List Command) (command : Command) (rest : List Command) (parts : commands ≡ first ++ command ∷ rest) (askable : IsAskable f.world command) where
   stopped : (status : Status) (net later : Net) (old mid new : Option (List ℕ)) (begun before after : ℕ) → (status ≡ Done → ⊥) → begun ≤ before
       → (far : IsSoFar f first net old mid) → WritesBlock status f far.is_text.past (length first + 1) command later mid new before after
       → WritesRun status f commands old new begun after
@@ -172,7 +170,7 @@ module _ (f : File) (commands first : List Command) (command : Command) (rest : 
     rose_later begun before after le w.0,
     record {
       text = far.text ++ w.1.text;
-      is = inl (first_output f later commands (first ++ command ∷ []) rest (far.text ++ w.1.text) (parts ∙ sym (append_assoc first (command ∷ []) rest)) (one_more f first net far.text far.is_text command later w.1.text askable suits w.1.is));
+      is = inl (first_output f later commands (first ++ command ∷ []) rest (far.text ++ w.1.text) (parts ∙ sym (append_assoc first (command ∷ []) rest)) (one_more f first net far.text far.is_text command later w.1.text askable w.1.is));
       part = took_after far.text w.1.text old mid new far.whole w.1.part;
     },
   )

@@ -1,19 +1,16 @@
 -- Whether knowledge is consistent, and the line on it, in which no moment stands.
 use Rattle.std.proofs.Common.{◌≡◌, ◌↔◌, ℕ, Bool, true, false, List, [], ◌∷◌, codes, Option, Some, None, is_some, is_none, IsTrue, refl, sym, ap, ap₂, ◌∙◌}
 use Rattle.std.specs.Fmt.{decimal}
-use Rattle.std.specs.List.{concat, list_any, AllByRecursion}
+use Rattle.std.specs.List.{concat}
 use Rattle.x5_know.specs.Moments.{moment_text}
 use Rattle.x5_model.specs.Values.{Text}
 use Rattle.x5_model_output.specs.Output.{knowledge_line, names_of, printed_text}
-use Rattle.x5_model_run.specs.Run.{Command, Blank, Asks, Changes, Drops, Updates}
-use Rattle.x5_model_settled.specs.Afterwards.{is_refresh}
 use Rattle.x5_model_tree.proofs.FirstBreach.{consistent_has_none, none_is_consistent}
 use Rattle.x5_model_tree.specs.Consistent.{Inconsistency, Printed, NamePrinted, AgentPrinted, AgreementPrinted, first_breach, IsConsistent}
 use Rattle.x5_model_tree.specs.World.{World}
 use Rattle.x5_model_world.specs.WorldFile.{File}
 use Rattle.xdir.specs.Checked.{knowledge_text}
 use Rattle.xdir.specs.Run.{is_sound}
-use Rattle.xdir.specs.Taken.{Suits}
 
 -- ---- whether it is
 
@@ -51,14 +48,3 @@ line_alike w m n (Some b) =
 
 pub knowledge_is : (f : File) → knowledge_text f.world ≡ knowledge_line (names_of f.world (moment_text f.start)) (first_breach f.world)
 knowledge_is f = line_alike f.world (λ moment. []) (moment_text f.start) (first_breach f.world)
-
--- ---- over consistent knowledge nothing is refreshed
-
-pub none_refreshed : (w : World) → IsConsistent w → (commands : List Command) → AllByRecursion (Suits w) commands
-    → list_any is_refresh commands ≡ false
-none_refreshed w consistent [] suits = refl
-none_refreshed w consistent (Blank ∷ more) suits = none_refreshed w consistent more suits.1
-none_refreshed w consistent (Asks to r ∷ more) suits = none_refreshed w consistent more suits.1
-none_refreshed w consistent (Changes o ∷ more) suits = none_refreshed w consistent more suits.1
-none_refreshed w consistent (Drops reply k ∷ more) suits = none_refreshed w consistent more suits.1
-none_refreshed w consistent (Updates number pushes total ∷ more) suits = absurd (suits.0 consistent)

@@ -9,7 +9,7 @@ use Rattle.x5_model_settled.specs.Runs.{IsAskable}
 use Rattle.x5_model_world.specs.WorldFile.{File}
 use Rattle.x5_world.specs.State.{Net, StandsAt}
 use Rattle.xdir.specs.Blocks.{Gives}
-use Rattle.xdir.specs.Taken.{Suits, point}
+use Rattle.xdir.specs.Taken.{point}
 
 -- the counts of some blocks, then of these and a command's
 pub record CountsOneMore (p : Point) (command : Command) (net : Net) (blocks : List Block) (new : Counts) : Type 0 where
@@ -28,6 +28,5 @@ pub record IsCounted (f : File) (commands : List Command) (net : Net) (counts : 
   pub past : List Did
   pub runs : IsRun BySteps f.world commands blocks past
   pub askable : AllByRecursion (IsAskable f.world) commands
-  pub suits : AllByRecursion (Suits f.world) commands
   pub stands : StandsAt net (point f.world past)
   pub counted : counts ≡ capped_counts (counts_of blocks)

@@ -1,11 +1,6 @@
-use Rattle.x5_model_settled.proofs.Steps.{held_after_request, held_is_holdings, steps_are_agents, steps_are_right, steps_print_run, steps_are_performed, steps_print_performed, performed_is_right}
+-- By the run's steps.
+use Rattle.x5_model_settled.proofs.Steps.{steps_are_agents, steps_are_right, steps_print_run, steps_are_performed, steps_print_performed, performed_is_right}
 use Rattle.x5_model_settled.proofs.stepping.Goals as goal
-
-pub returns-clause-after : goal.returns-clause-after
-returns-clause-after c = held_after_request
-
-pub returns-clause-holds : goal.returns-clause-holds
-returns-clause-holds c = held_is_holdings
 
 pub returns-clause-agents : goal.returns-clause-agents
 returns-clause-agents c = steps_are_agents

@@ -7,7 +7,10 @@ use Rattle.x5_model_tree.specs.Described.{is_grown}
 use Rattle.x5_dse.specs.Linked.{entries_of}
 use Rattle.x5_holdings.specs.State.{held_view}
 use Rattle.x5_model_held.specs.Beginning.{described_context}
+use Rattle.x5_holdings.specs.Logs.{Log}
 use Rattle.x5_agents.specs.Growing.{Grown}
+use Rattle.x5_agents.specs.Unnoted.{IsUnnoted}
+use Rattle.x5_agents.proofs.Unnoted.{grown_unnoted}
 use Rattle.x5_ops.specs.declared.knowledge.Specific.{Specific}
 use Rattle.x5_ops.specs.declared.knowledge.Nssr.{Nssr}
 use Rattle.x5_ops.specs.KnowledgeViews.{context_view, specific_view, nssr_view}
@@ -34,8 +37,8 @@ pub with_entries-requires-clause-kept : goal.with_entries-requires-clause-kept
 with_entries-requires-clause-kept c =
     others_kept (context_view c.args.context.now) c.in-Some.first.now c.in-Some.rest.now c.requires (begins c)
 
-pub returns : goal.returns
-returns c =
+pub returns-clause-held : goal.returns-clause-held
+returns-clause-held c =
     IfOk-weaker c.with_entries.result (Grown c.in_ok-held.held c.in-Some.rest.now)
     (λ held. held_view held ≡ described_context (map specific_view c.args.specific.now) (context_view c.args.context.now))
     (λ now g. held_whole (context_view c.args.context.now) c.in-Some.first.now c.in-Some.rest.now
@@ -45,4 +48,14 @@ returns c =
     ∙ c.in_ok-subordinate.ensures)
     (ap (λ (ns : List Nssr). map nssr_view ns) (c.in_ok-held.ensures.nssrs
     ∙ each_same c.args.context.now.nssr c.in_ok-clone.field-0 c.in_ok-clone.ensures.cases)) g)
+    c.with_entries.ensures
+
+pub returns-clause-unnoted : goal.returns-clause-unnoted
+returns-clause-unnoted c =
+    IfOk-weaker c.with_entries.result (Grown c.in_ok-held.held c.in-Some.rest.now) IsUnnoted
+    (λ now g. grown_unnoted c.in_ok-held.held now c.in-Some.rest.now g
+    (record {
+      base = ap (λ (l : Log). l.base) c.in_ok-held.ensures.log ∙ c.new-log.ensures.base;
+      changes = ap (λ (l : Log). l.changes) c.in_ok-held.ensures.log ∙ c.new-log.ensures.changes;
+    }))
     c.with_entries.ensures

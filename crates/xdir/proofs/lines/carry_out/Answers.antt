@@ -21,13 +21,13 @@ returns-in_ok-lose-in-Lose-clause-carried c = λ p stands suits.
 
 pub returns-in_default-clause-carried : goal.returns-in_default-clause-carried
 returns-in_default-clause-carried c = λ p stands suits.
-    passed p (length c.args.network.now.names) c.args.command.now c.args.network.now c.requires.taken
+    passed p (length c.args.network.now.names) c.args.command.now c.pass-in_default.new.self c.requires.taken
     c.in_default.not-Ask c.in_default.not-Outage c.in_default.not-Refresh c.in_default.not-Lose (c.pass-in_default.ensures.stands p stands)
 
 pub returns-in-Refresh-clause-carried : goal.returns-in-Refresh-clause-carried
 returns-in-Refresh-clause-carried c = λ p stands suits.
     let other : Suits p.described (Updates c.in-Refresh.id c.in-Refresh.push c.in-Refresh.total) =
     subst (λ (line : Line). Suits p.described (run_view line)) c.in-Refresh.is suits in
-    subst (λ (line : Line). IsCourse p (run_view line) c.args.network.now c.unrefreshed.result) (sym c.in-Refresh.is)
-    (unrefreshed_course p c.in-Refresh.id c.in-Refresh.push c.in-Refresh.total c.args.network.now c.unrefreshed.result c.unrefreshed.ensures other
+    subst (λ (line : Line). IsCourse p (run_view line) c.pass.new.self c.unrefreshed.result) (sym c.in-Refresh.is)
+    (unrefreshed_course p c.in-Refresh.id c.in-Refresh.push c.in-Refresh.total c.pass.new.self c.unrefreshed.result c.unrefreshed.ensures other
     (c.pass.ensures.stands p stands))

@@ -60,7 +60,7 @@ returns-in_default g c =
     record {
       prints = prints_next c.print_command.result f (run_view x) (map run_view (take i xs)) (i + 1) net later old mid new before after far (λ past stands. c.print_command.ensures.block past stands suits);
       writes = writes_stopped f (map run_view xs) (map run_view (take i xs)) (run_view x) (map run_view (drop (i + 1) xs)) (around run_view xs i x within is)
-          (askable_at net f.world far.is_text.past far.is_text.stands x taken) suits
+          (askable_at net f.world far.is_text.past far.is_text.stands x taken)
           c.print_command.result net later old mid new (g.K.Sink.fault_count c.args.out.now) before after c.in_default.not-Done c.loop-place.invariant.rising far
           (subst (λ (n : ℕ). WritesNext c.print_command.result f (n + 1) (run_view x) net later mid new before after) (sym (so_many run_view xs i x within is)) (λ past stands. c.print_command.ensures.block past stands suits));
     }
@@ -85,7 +85,7 @@ loop-place-preserved g c =
     let suits = suits_at f.world xs i x within is c.requires.suits in
     record {
       so_far = subst (λ (commands : List Command). IsSoFar f commands later old new) (sym (first_more run_view xs i x within is))
-          (so_far_more f (map run_view (take i xs)) (run_view x) net later old mid new before after (askable_at net f.world far.is_text.past far.is_text.stands x taken) suits far
+          (so_far_more f (map run_view (take i xs)) (run_view x) net later old mid new before after (askable_at net f.world far.is_text.past far.is_text.stands x taken) far
           (subst (λ (n : ℕ). WritesNext Done f (n + 1) (run_view x) net later mid new before after) (sym (so_many run_view xs i x within is)) (λ past stands. c.in-Done.ensures.block past stands suits)));
       names = c.in-Done.ensures.names refl ∙ c.loop-place.invariant.names;
       room = c.in-Done.ensures.room_after refl;

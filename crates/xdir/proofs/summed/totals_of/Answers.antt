@@ -46,7 +46,7 @@ loop-command-preserved c =
           let fits = suits_at f.world lines i line within c.command-item.is suits in
           subst (λ (commands : List Command). IsCounted f commands later new) (sym (first_more run_view lines i line within c.command-item.is))
           (counted_more f (map run_view (take i lines)) net later old new far (run_view line)
-          (askable_at net f.world far.past far.stands line taken) fits (λ past s. c.in_ok-count_command.ensures.adds (point f.world past) s fits));
+          (askable_at net f.world far.past far.stands line taken) (λ past s. c.in_ok-count_command.ensures.adds (point f.world past) s fits));
       names = c.in_ok-count_command.ensures.names ∙ c.loop-command.invariant.names;
       room = c.in_ok-count_command.ensures.room_after i c.loop-command.invariant.room;
     }

@@ -13,8 +13,15 @@ use Rattle.x5_world.specs.State.{Net, StandsAt}
 use Rattle.x5_world.specs.Sent.{line_view}
 use Rattle.x5_world.specs.declared.journal.Sent.{Sent}
 use Rattle.x5_world.proofs.Standing.{most_of}
-use Rattle.x5_world.proofs.Worlds.{answered, is_after}
+use Rattle.x5_world.proofs.Worlds.{answered, few_lines, is_after}
 use Rattle.x5_world.proofs.world.World.ask.Goals as goal
+
+pub count-requires-clause-lines : goal.count-requires-clause-lines
+count-requires-clause-lines c =
+    let e = ap (λ (n : Net). n.line) c.in_ok-told.ensures.held.rest in
+    let was = ap (λ (n : Net). n.line) c.replace-before.ensures.value in
+    let few = few_lines c.args.self.now c.requires.room in
+    omega (arith, e, was, few)
 
 pub returns-clause-answered : goal.returns-clause-answered
 returns-clause-answered c =
@@ -35,7 +42,7 @@ returns-clause-answered c =
     named (c.in_ok-journal.ensures.accepted ∙ c.deref-2.ensures.value) in
     let count : c.len-messages.result ≡ length sent = (omega (arith, c.len-messages.ensures)) in
     let mid : Net = c.in_ok-told.told.world in
-    let after : Net = record mid { sent = mid.sent + c.len-messages.result } in
+    let after : Net = record mid { sent = mid.sent + c.len-messages.result; line = mid.line + 1 } in
     λ p s. subst (λ (n : Net). IsAnswered c.args.self.now n p c.args.first (request_view c.args.request.now)
     c.in_ok-told.told.reply c.in_ok-journal.journal) (sym c.count.ensures)
     (subst (λ (n : Net). IsAnswered n after p c.args.first (request_view c.args.request.now) c.in_ok-told.told.reply
@@ -45,6 +52,7 @@ returns-clause-answered c =
     c.in_ok-told.ensures.asked (c.in_ok-most.ensures.is ∙ ap most_of (sym was)) printed called
     (is_after old mid mid (request_view c.args.request.now) c.in_ok-told.told.accepted.items c.len-messages.result
     (length sent) c.in_ok-told.ensures.held refl count)
+    (subst (λ (n : Net). c.args.first < length n.names) (sym was) c.requires.there) c.requires.short
     (subst (λ (n : Net). StandsAt n p) (sym was) s)))
 
 pub returns-clause-named : goal.returns-clause-named

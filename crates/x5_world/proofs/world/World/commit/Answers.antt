@@ -1,11 +1,12 @@
--- The agent holds what it accepted, and it's a network as before; without memory it's the same.
-use Rattle.std.proofs.Common.{◌≡◌, ℕ, ◌<◌, length, map, ap, ◌∙◌, arith, slice_get, Some}
+-- The agent holds what it accepted and has noted it, and it's a network as before; without memory it's the same.
+use Rattle.std.proofs.Common.{◌≡◌, ℕ, ◌<◌, ◌+◌, length, map, ap, ◌∙◌, arith, slice_get, Some}
 use Rattle.std.proofs.lemmas.List.{length-map}
-use Rattle.x5_holdings.specs.State.{holdings_view}
+use Rattle.x5_holdings.specs.State.{State, holdings_view}
 use Rattle.x5_ops.specs.RequestViews.{request_view}
+use Rattle.x5_world.specs.LogViews.{logs_view}
 use Rattle.x5_world.specs.State.{Net}
-use Rattle.x5_world.proofs.Changing.{stays_net, is_committed, is_as_it_was}
-use Rattle.x5_world.proofs.Holders.{at_place}
+use Rattle.x5_world.proofs.Changing.{stays_net, is_committed, is_as_it_was, like}
+use Rattle.x5_world.proofs.Holders.{got_place}
 use Rattle.x5_world.proofs.world.World.commit.Goals as goal
 
 pub invariant_of-self : goal.invariant_of-self
@@ -18,50 +19,65 @@ invariant_of-self c =
     let n : Net = record {
       names = c.self.inside.names;
       agents = map holdings_view c.self.inside.agents.items;
+      logs = map logs_view c.self.inside.agents.items;
       network = c.self.inside.links;
       sent = c.self.inside.sent;
       contexts = c.self.inside.contexts;
       pairs = c.self.inside.pairs;
+      agreements = c.self.inside.agreements;
+      acked = c.self.inside.acked.items;
+      line = c.self.inside.line;
     } in
-    stays_net c.commit.result n c.self.inside.agents.items c.agent.inside.0 (request_view c.args.message.now.request)
-    c.index_mut.result.now c.commit.new.state c.self.invariant there
-    (at_place holdings_view c.self.inside.agents.items c.agent.inside.0 c.index_mut.result.now few c.index_mut.ensures.value)
-    c.commit.ensures.ok c.commit.ensures.err
+    stays_net n c.self.inside.agents.items c.agent.inside.0 c.index_mut.result.now
+    (got_place c.self.inside.agents.items c.agent.inside.0 c.index_mut.result.now few c.index_mut.ensures.value)
+    c.commit.result (request_view c.args.message.now.request) c.set_moment.new.self c.commit.new.state c.self.invariant there
+    (like c.set_moment.ensures) c.commit.ensures.ok c.commit.ensures.err
 
 pub returns-clause-committed : goal.returns-clause-committed
 returns-clause-committed c =
     let at : c.agent.inside.0 ≡ c.args.agent = c.agent.view_is in
     let names = ap (λ (n : Net). length n.names) c.self.view_is in
+    let there : c.agent.inside.0 < length c.self.inside.names = omega (arith, at, names, c.requires.there) in
     let few : c.agent.inside.0 < length c.self.inside.agents.items =
-    (omega (arith, at, names, c.requires.there, c.self.invariant.count, length-map c.self.inside.agents.items holdings_view)) in
+    (omega (arith, there, c.self.invariant.count, length-map c.self.inside.agents.items holdings_view)) in
     let n : Net = record {
       names = c.self.inside.names;
       agents = map holdings_view c.self.inside.agents.items;
+      logs = map logs_view c.self.inside.agents.items;
       network = c.self.inside.links;
       sent = c.self.inside.sent;
       contexts = c.self.inside.contexts;
       pairs = c.self.inside.pairs;
+      agreements = c.self.inside.agreements;
+      acked = c.self.inside.acked.items;
+      line = c.self.inside.line;
     } in
-    is_committed c.commit.result c.args.self.now n c.self.inside.agents.items c.agent.inside.0 c.args.agent
-    (request_view c.args.message.now.request) c.index_mut.result.now c.commit.new.state c.self.view_is at
-    (at_place holdings_view c.self.inside.agents.items c.agent.inside.0 c.index_mut.result.now few c.index_mut.ensures.value)
-    c.commit.ensures.ok
+    is_committed n c.self.inside.agents.items c.agent.inside.0 c.index_mut.result.now
+    (got_place c.self.inside.agents.items c.agent.inside.0 c.index_mut.result.now few c.index_mut.ensures.value)
+    c.commit.result c.args.self.now c.args.agent (c.self.inside.line + 1) (request_view c.args.message.now.request)
+    c.set_moment.new.self c.commit.new.state c.self.view_is at (like c.set_moment.ensures)
+    (ap (λ (s : State). s.moment) c.set_moment.ensures)
+    (ap (λ (n : Net). n.line + 1) c.self.view_is) c.commit.ensures.ok
 
 pub returns-clause-err : goal.returns-clause-err
 returns-clause-err c =
     let at : c.agent.inside.0 ≡ c.args.agent = c.agent.view_is in
     let names = ap (λ (n : Net). length n.names) c.self.view_is in
+    let there : c.agent.inside.0 < length c.self.inside.names = omega (arith, at, names, c.requires.there) in
     let few : c.agent.inside.0 < length c.self.inside.agents.items =
-    (omega (arith, at, names, c.requires.there, c.self.invariant.count, length-map c.self.inside.agents.items holdings_view)) in
+    (omega (arith, there, c.self.invariant.count, length-map c.self.inside.agents.items holdings_view)) in
     let n : Net = record {
       names = c.self.inside.names;
       agents = map holdings_view c.self.inside.agents.items;
+      logs = map logs_view c.self.inside.agents.items;
       network = c.self.inside.links;
       sent = c.self.inside.sent;
       contexts = c.self.inside.contexts;
       pairs = c.self.inside.pairs;
+      agreements = c.self.inside.agreements;
+      acked = c.self.inside.acked.items;
+      line = c.self.inside.line;
     } in
-    is_as_it_was c.commit.result c.args.self.now n c.self.inside.agents.items c.agent.inside.0 c.index_mut.result.now
-    c.commit.new.state c.self.view_is
-    (at_place holdings_view c.self.inside.agents.items c.agent.inside.0 c.index_mut.result.now few c.index_mut.ensures.value)
-    c.commit.ensures.err
+    is_as_it_was n c.self.inside.agents.items c.agent.inside.0 c.index_mut.result.now
+    (got_place c.self.inside.agents.items c.agent.inside.0 c.index_mut.result.now few c.index_mut.ensures.value)
+    c.commit.result c.args.self.now c.set_moment.new.self c.commit.new.state c.self.view_is (like c.set_moment.ensures) c.commit.ensures.err

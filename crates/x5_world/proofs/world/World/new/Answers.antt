@@ -1,5 +1,7 @@
 -- What is made of a described world is the network of its first line.
-use Rattle.std.proofs.Common.{◌≤◌, List, sym, ap, subst, ◌∙◌}
+use Rattle.std.proofs.Common.{◌≤◌, List, None, map, sym, ap, subst, ◌∙◌}
+use Rattle.std.specs.List.{each_same}
+use Rattle.x5_model_tree.specs.World.{Agreement}
 use Rattle.x5_know.specs.WorldView.{world_view}
 use Rattle.x5_know.specs.declared.described.DescribedAgent.{DescribedAgent}
 use Rattle.x5_world.specs.Counts.{contexts_of, pairs_of_agents}
@@ -20,25 +22,34 @@ pub invariant_of-result : goal.invariant_of-result
 invariant_of-result c =
     net_begun (world_view c.args.described.now) _ c.requires.described
     (is_begun c.args.described.now c.in_ok-names.names c.in_ok-agents.agents.items c.in_ok-links.links
-    c.contexts-contexts.result c.pairs-pairs.result (c.in_ok-names.ensures ∙ c.requires.named)
-    c.in_ok-agents.ensures.count c.in_ok-agents.ensures.each c.in_ok-links.ensures
+    c.contexts-contexts.result c.pairs-pairs.result c.in_ok-clone.field-0 c.in_ok-none_of.field-0.items
+    (c.in_ok-names.ensures ∙ c.requires.named) c.in_ok-agents.ensures.count c.in_ok-agents.ensures.each
+    c.in_ok-agents.ensures.unnoted c.in_ok-links.ensures
     (c.contexts-contexts.ensures ∙ ap contexts_of c.as_slice.ensures)
-    (c.pairs-pairs.ensures ∙ ap pairs_of_agents c.as_slice-2.ensures))
+    (c.pairs-pairs.ensures ∙ ap pairs_of_agents c.as_slice-2.ensures)
+    (each_same c.args.described.now.agreements c.in_ok-clone.field-0 c.in_ok-clone.ensures.cases)
+    (c.in_ok-none_of.ensures ∙ ap (λ (gs : List Agreement). map (λ g. None) gs) c.as_slice-3.ensures))
 
 pub returns-clause-stands : goal.returns-clause-stands
 returns-clause-stands c =
     stands_begun (world_view c.args.described.now) _ c.requires.described
     (is_begun c.args.described.now c.in_ok-names.names c.in_ok-agents.agents.items c.in_ok-links.links
-    c.contexts-contexts.result c.pairs-pairs.result (c.in_ok-names.ensures ∙ c.requires.named)
-    c.in_ok-agents.ensures.count c.in_ok-agents.ensures.each c.in_ok-links.ensures
+    c.contexts-contexts.result c.pairs-pairs.result c.in_ok-clone.field-0 c.in_ok-none_of.field-0.items
+    (c.in_ok-names.ensures ∙ c.requires.named) c.in_ok-agents.ensures.count c.in_ok-agents.ensures.each
+    c.in_ok-agents.ensures.unnoted c.in_ok-links.ensures
     (c.contexts-contexts.ensures ∙ ap contexts_of c.as_slice.ensures)
-    (c.pairs-pairs.ensures ∙ ap pairs_of_agents c.as_slice-2.ensures))
+    (c.pairs-pairs.ensures ∙ ap pairs_of_agents c.as_slice-2.ensures)
+    (each_same c.args.described.now.agreements c.in_ok-clone.field-0 c.in_ok-clone.ensures.cases)
+    (c.in_ok-none_of.ensures ∙ ap (λ (gs : List Agreement). map (λ g. None) gs) c.as_slice-3.ensures))
 
 pub returns-clause-room : goal.returns-clause-room
 returns-clause-room c =
     room_begun (world_view c.args.described.now) _ c.requires.described
     (is_begun c.args.described.now c.in_ok-names.names c.in_ok-agents.agents.items c.in_ok-links.links
-    c.contexts-contexts.result c.pairs-pairs.result (c.in_ok-names.ensures ∙ c.requires.named)
-    c.in_ok-agents.ensures.count c.in_ok-agents.ensures.each c.in_ok-links.ensures
+    c.contexts-contexts.result c.pairs-pairs.result c.in_ok-clone.field-0 c.in_ok-none_of.field-0.items
+    (c.in_ok-names.ensures ∙ c.requires.named) c.in_ok-agents.ensures.count c.in_ok-agents.ensures.each
+    c.in_ok-agents.ensures.unnoted c.in_ok-links.ensures
     (c.contexts-contexts.ensures ∙ ap contexts_of c.as_slice.ensures)
-    (c.pairs-pairs.ensures ∙ ap pairs_of_agents c.as_slice-2.ensures))
+    (c.pairs-pairs.ensures ∙ ap pairs_of_agents c.as_slice-2.ensures)
+    (each_same c.args.described.now.agreements c.in_ok-clone.field-0 c.in_ok-clone.ensures.cases)
+    (c.in_ok-none_of.ensures ∙ ap (λ (gs : List Agreement). map (λ g. None) gs) c.as_slice-3.ensures))

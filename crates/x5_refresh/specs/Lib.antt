@@ -1,0 +1,4 @@
+pub mod Course
+pub mod Outcomes
+pub mod Sent
+pub mod Joined
