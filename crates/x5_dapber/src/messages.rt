@@ -31,7 +31,7 @@ fn request_node<'a>(alloc: Global, id: u32, request: &'a Request) -> Result<Node
     ensures { IfOk result (λ n. node_view n ≡ requests.request_node id (request_view request.now)) }
 {
     let argument = argument_node(alloc, request)?;
-    let code = number(u32::from(request.body.operation()));
+    let code = number(u32::from(request.body.operation().code()));
     let invoke = three(alloc, number(id), code, argument)?;
     chosen(alloc, 1, invoke)
 }

@@ -10,8 +10,21 @@ use Rattle.x5_ops.specs.declared.journal.Fate.{Fate}
 use Rattle.x5_ops.specs.declared.journal.Fate.TheVariants.{Lost, NoReply, Sent}
 use Rattle.x5_ops.specs.declared.journal.Line.{Line}
 use Rattle.x5_ops.specs.declared.journal.Line.TheVariants.{Msg, Dis, Raw}
+use Rattle.x5_ops.specs.declared.journal.Operation.{Operation}
+use Rattle.x5_ops.specs.declared.journal.Operation.TheVariants.{Read, Compare, List, Search, AddEntry, RemoveEntry, ModifyEntry, ModifyDn}
 use Rattle.x5_ops.specs.declared.journal.Outage.{Outage}
 use Rattle.x5_ops.specs.declared.journal.Outage.TheVariants as outages
+
+-- operations by their codes (X.519, section 7)
+abbrev pub code_view : Operation → ℕ
+code_view Read = 1
+code_view Compare = 2
+code_view List = 4
+code_view Search = 5
+code_view AddEntry = 6
+code_view RemoveEntry = 7
+code_view ModifyEntry = 8
+code_view ModifyDn = 9
 
 abbrev pub fate_view : Fate → network.Fate
 fate_view Lost = network.Lost
@@ -24,7 +37,7 @@ printed_view names (Msg from to operation progress t target fate) =
     record {
       sender = option_map (agent_of names) from;
       receiver = agent_of names to;
-      operation = operation;
+      operation = code_view operation;
       progress = progress_view progress;
       depth = t;
       target = target;

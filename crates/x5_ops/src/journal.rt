@@ -1,7 +1,7 @@
 //! The messages of a request or a refresh, and what a script does to the network (X.518; X.525).
 
 ghost use Rattle.std.specs.Prelude.{◌≡◌};
-ghost use Rattle.x5_ops.specs.JournalViews.{fate_view};
+ghost use Rattle.x5_ops.specs.JournalViews.{fate_view, code_view};
 ghost use Rattle.x5_model_run.specs.Network as network;
 
 use crate::agents::{AgentId, AgentName, AgentNameList};
@@ -9,6 +9,45 @@ use crate::answers::Moment;
 use crate::lists::Listed;
 use crate::references::Progress;
 use x5_names::Name;
+
+/// An operation that a user requests (X.511, sections 9 to 11).
+#[derive(Clone, Copy, Debug, PartialEq, Eq)]
+pub enum Operation {
+    Read,
+    Compare,
+    List,
+    Search,
+    AddEntry,
+    RemoveEntry,
+    ModifyEntry,
+    ModifyDn,
+}
+
+impl Operation {
+    /// Its code in a message (X.519, section 7). No memory.
+    pub fn code(self) -> u8
+        ensures { result ≡ code_view self }
+    {
+        match self {
+            Operation::Read => 1,
+            Operation::Compare => 2,
+            Operation::List => 4,
+            Operation::Search => 5,
+            Operation::AddEntry => 6,
+            Operation::RemoveEntry => 7,
+            Operation::ModifyEntry => 8,
+            Operation::ModifyDn => 9,
+        }
+    }
+}
+
+/// An operation between a supplier and a consumer (X.525, section 11).
+#[derive(Clone, Copy, Debug, PartialEq, Eq)]
+pub enum ShadowOperation {
+    RequestShadowUpdate,
+    UpdateShadow,
+    CoordinateShadowUpdate,
+}
 
 /// What became of a message: it didn't arrive; it arrived, and its reply didn't; both arrived.
 #[derive(Clone, Copy, Debug, PartialEq, Eq)]
@@ -47,7 +86,7 @@ pub enum Line {
     Msg {
         from: Option<AgentName>,
         to: AgentName,
-        operation: u8,
+        operation: Operation,
         progress: Progress,
         t: u32,
         target: Name,
@@ -56,7 +95,7 @@ pub enum Line {
     Dis {
         from: AgentName,
         to: AgentName,
-        operation: u8,
+        operation: ShadowOperation,
         agreement: u32,
         fate: Fate,
     },

@@ -21,7 +21,9 @@ pub use answers::{
 };
 pub use changes::{ChangeFault, added_entry, change};
 pub use entries::{doubled, drop_value, has_rdn, put_value, with_rdn, with_values, without_rdn};
-pub use journal::{Fate, Journal, Line, LineList, Outage, Refreshed, Replanted};
+pub use journal::{
+    Fate, Journal, Line, LineList, Operation, Outage, Refreshed, Replanted, ShadowOperation,
+};
 pub use knowledge::{
     Access, AgentSpec, AgentSpecs, Content, ContextSpec, ContextSpecList, Cross, CrossList, Named,
     NamedList, Nssr, NssrList, Refs, Specific, SpecificList, Step, StepList, Supplier,

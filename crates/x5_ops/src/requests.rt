@@ -1,10 +1,12 @@
 //! What a user asks (X.511).
 
 ghost use Rattle.std.specs.Prelude.{◌≡◌, IfOk};
+ghost use Rattle.x5_ops.specs.JournalViews.{code_view};
 ghost use Rattle.x5_ops.specs.RequestViews.{body_view, request_view, name_of};
 ghost use Rattle.x5_model_run.specs.Journal.{operation_of};
 ghost use Rattle.x5_model_tree.specs.Ask.{is_update};
 
+use crate::journal::Operation;
 use crate::lists::Listed;
 use std::alloc::{AllocError, Global};
 use x5_match::{Filter, copied};
@@ -109,19 +111,19 @@ pub struct Request {
 }
 
 impl Body {
-    /// The operation's code (X.519, section 7). No memory.
-    pub fn operation(&self) -> u8
-        ensures { result ≡ operation_of (body_view self.now) }
+    /// The operation that it asks for. No memory.
+    pub fn operation(&self) -> Operation
+        ensures { code_view result ≡ operation_of (body_view self.now) }
     {
         match self {
-            Body::Read { .. } => 1,
-            Body::Compare { .. } => 2,
-            Body::List { .. } => 4,
-            Body::Search { .. } => 5,
-            Body::Add { .. } => 6,
-            Body::Remove { .. } => 7,
-            Body::Modify { .. } => 8,
-            Body::ModifyDn { .. } => 9,
+            Body::Read { .. } => Operation::Read,
+            Body::Compare { .. } => Operation::Compare,
+            Body::List { .. } => Operation::List,
+            Body::Search { .. } => Operation::Search,
+            Body::Add { .. } => Operation::AddEntry,
+            Body::Remove { .. } => Operation::RemoveEntry,
+            Body::Modify { .. } => Operation::ModifyEntry,
+            Body::ModifyDn { .. } => Operation::ModifyDn,
         }
     }
 

@@ -20,7 +20,7 @@ use Rattle.x5_model_output.specs.Output.{Names}
 use Rattle.x5_model_output.specs.Plain.{plain_info, plain_sub, plain_answer_lines, plain_reply_lines}
 use Rattle.x5_ops.specs.AgentNames.{agent_of}
 use Rattle.x5_ops.specs.AnswerViews.{shown_view, info_view, sub_view, source_view, outcome_view, answer_view, error_view, reply_view}
-use Rattle.x5_ops.specs.JournalViews.{fate_view, printed_view, messages_view}
+use Rattle.x5_ops.specs.JournalViews.{fate_view, code_view, printed_view, messages_view}
 use Rattle.x5_ops.specs.ReferenceViews.{progress_view, kind_view, access_view, reference_view, item_view}
 use Rattle.x5_ops.specs.declared.journal.Line.{Line}
 use Rattle.x5_ops.specs.declared.journal.Line.TheVariants.{Msg, Dis, Raw}
@@ -67,8 +67,8 @@ module _ (names : List (List ℕ)) (start : Start) where
   message_is (Msg from to operation progress t target fate) h =
       let w = both_true (in_option true (is_known names) from) (is_known names to) h in
       append-nil _
-      ∙ (λ i. concat (codes "msg " ∷ sender_is from w.0 i ∷ codes " " ∷ agent_is to w.1 i ∷ codes " " ∷ print.operation_word operation ∷ codes " " ∷ print.progress_text (progress_view progress) ∷ codes " t=" ∷ decimal t ∷ codes " " ∷ text_of_name target ∷ codes " " ∷ print.fate_word (fate_view fate) ∷ codes "\n" ∷ []))
-      ∙ concat-append (codes "msg " ∷ spelled.sender_text from ∷ codes " " ∷ to ∷ codes " " ∷ print.operation_word operation ∷ codes " " ∷ print.progress_text (progress_view progress) ∷ []) (codes " t=" ∷ decimal t ∷ codes " " ∷ text_of_name target ∷ codes " " ∷ print.fate_word (fate_view fate) ∷ codes "\n" ∷ [])
+      ∙ (λ i. concat (codes "msg " ∷ sender_is from w.0 i ∷ codes " " ∷ agent_is to w.1 i ∷ codes " " ∷ print.operation_word (code_view operation) ∷ codes " " ∷ print.progress_text (progress_view progress) ∷ codes " t=" ∷ decimal t ∷ codes " " ∷ text_of_name target ∷ codes " " ∷ print.fate_word (fate_view fate) ∷ codes "\n" ∷ []))
+      ∙ concat-append (codes "msg " ∷ spelled.sender_text from ∷ codes " " ∷ to ∷ codes " " ∷ print.operation_word (code_view operation) ∷ codes " " ∷ print.progress_text (progress_view progress) ∷ []) (codes " t=" ∷ decimal t ∷ codes " " ∷ text_of_name target ∷ codes " " ∷ print.fate_word (fate_view fate) ∷ codes "\n" ∷ [])
   message_is (Dis from to operation agreement fate) h = refl
   message_is (Raw to dsp count fate) h = refl
 

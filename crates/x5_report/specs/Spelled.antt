@@ -19,7 +19,7 @@ use Rattle.x5_syntax.specs.TypeView.{type_view}
 use Rattle.x5_syntax.specs.ValueView.{value_view}
 use Rattle.x5_syntax.specs.declared.values.Value.{Value}
 use Rattle.x5_ops.specs.AnswerViews.{sub_view}
-use Rattle.x5_ops.specs.JournalViews.{fate_view}
+use Rattle.x5_ops.specs.JournalViews.{fate_view, code_view}
 use Rattle.x5_ops.specs.ReferenceViews.{progress_view, kind_view}
 use Rattle.x5_ops.specs.declared.journal.Line.{Line}
 use Rattle.x5_ops.specs.declared.journal.Line.TheVariants.{Msg, Dis, Raw}
@@ -41,7 +41,7 @@ use Rattle.x5_ops.specs.declared.answers.DirError.TheVariants as errors
 use Rattle.x5_ops.specs.declared.answers.Reply.{Reply}
 use Rattle.x5_ops.specs.declared.answers.Reply.TheVariants.{Done, Failed, Refer}
 use Rattle.x5_know.specs.Moments.{Start, moment_text}
-use Rattle.x5_report.specs.Views.{shadow_word}
+use Rattle.x5_report.specs.Views.{operation_view}
 
 -- ---- messages
 
@@ -59,7 +59,7 @@ printed_message names p =
 -- a message of a request; other lines aren't some
 abbrev pub message_text : Line → Text
 message_text (Msg from to operation progress t target fate) =
-    concat (codes "msg " ∷ sender_text from ∷ codes " " ∷ to ∷ codes " " ∷ print.operation_word operation ∷ codes " "
+    concat (codes "msg " ∷ sender_text from ∷ codes " " ∷ to ∷ codes " " ∷ print.operation_word (code_view operation) ∷ codes " "
     ∷ print.progress_text (progress_view progress) ∷ [])
     ++ concat (codes " t=" ∷ decimal t ∷ codes " " ∷ text_of_name target ∷ codes " " ∷ print.fate_word (fate_view fate)
     ∷ codes "\n" ∷ [])
@@ -70,7 +70,7 @@ message_text (Raw to dsp count fate) = []
 abbrev pub shadow_text : Line → Text
 shadow_text (Msg from to operation progress t target fate) = []
 shadow_text (Dis from to operation agreement fate) =
-    concat (codes "dis " ∷ from ∷ codes " " ∷ to ∷ codes " " ∷ shadow_word operation ∷ codes " " ∷ decimal agreement
+    concat (codes "dis " ∷ from ∷ codes " " ∷ to ∷ codes " " ∷ print.shadow_operation (operation_view operation) ∷ codes " " ∷ decimal agreement
     ∷ codes " " ∷ print.fate_word (fate_view fate) ∷ codes "\n" ∷ [])
 shadow_text (Raw to dsp count fate) = []
 

@@ -4,17 +4,18 @@ use Rattle.std.specs.Prelude.{ℕ, Bool, true, false, ◌&&◌, ◌==◌, if◌t
 use Rattle.std.specs.List.{list_any, list_all, flat_map}
 use Rattle.std.specs.declared.option.Option.{Option}
 use Rattle.x5_model.specs.Words.{in_option, same_octets}
-use Rattle.x5_model.specs.Values.{Text}
 use Rattle.x5_model_run.specs.Refresh as refresh
 use Rattle.x5_model_run.specs.Refresh.{ShadowOperation, RequestShadowUpdate, UpdateShadow, CoordinateShadowUpdate}
 use Rattle.x5_model_run.specs.Refresh.{ShadowLine, RefreshOutcome}
-use Rattle.x5_model_output.specs.Output.{Names, shadow_operation}
+use Rattle.x5_model_output.specs.Output.{Names}
 use Rattle.x5_ops.specs.AgentNames.{agent_of}
 use Rattle.x5_ops.specs.JournalViews.{fate_view}
 use Rattle.x5_ops.specs.declared.journal.Line.{Line}
 use Rattle.x5_ops.specs.declared.journal.Line.TheVariants.{Msg, Dis, Raw}
 use Rattle.x5_ops.specs.declared.journal.Journal.{Journal}
 use Rattle.x5_ops.specs.declared.journal.Refreshed.{Refreshed}
+use Rattle.x5_ops.specs.declared.journal.ShadowOperation.{ShadowOperation as CodeOperation}
+use Rattle.x5_ops.specs.declared.journal.ShadowOperation.TheVariants as shadows
 use Rattle.x5_ops.specs.declared.journal.Refreshed.TheVariants as refreshes
 use Rattle.x5_ops.specs.declared.references.Reference.{Reference}
 use Rattle.x5_ops.specs.declared.references.TraceItem.{TraceItem}
@@ -30,12 +31,10 @@ use Rattle.x5_know.specs.Moments.{Start, moment_text}
 
 -- ---- refreshes
 
--- operations by their codes (X.519, section 9)
-abbrev pub operation_view : ℕ → ShadowOperation
-operation_view n = if n == 1 then RequestShadowUpdate else (if n == 2 then UpdateShadow else CoordinateShadowUpdate)
-
-abbrev pub shadow_word : ℕ → Text
-shadow_word n = shadow_operation (operation_view n)
+abbrev pub operation_view : CodeOperation → ShadowOperation
+operation_view shadows.RequestShadowUpdate = RequestShadowUpdate
+operation_view shadows.UpdateShadow = UpdateShadow
+operation_view shadows.CoordinateShadowUpdate = CoordinateShadowUpdate
 
 -- the line, where it's a message of a refresh
 abbrev pub shadow_view : List (List ℕ) → Line → List ShadowLine

@@ -2,37 +2,36 @@
 
 ghost use Rattle.std.specs.Prelude.{◌≡◌, codes, not};
 ghost use Rattle.x5_model_output.specs.Output as print;
-ghost use Rattle.x5_ops.specs.JournalViews.{fate_view};
+ghost use Rattle.x5_ops.specs.JournalViews.{fate_view, code_view};
 ghost use Rattle.x5_ops.specs.ReferenceViews.{kind_view};
-ghost use Rattle.x5_report.specs.Views.{shadow_word};
+ghost use Rattle.x5_report.specs.Views.{operation_view};
 
-use x5_ops::{Fate, RefType};
+use x5_ops::{Fate, Operation, RefType, ShadowOperation};
 
 /// The operation's word in a script.
-pub(crate) fn operation_word(operation: u8) -> &'static str
-    ensures { result.now ≡ print.operation_word operation }
+pub(crate) fn operation_word(operation: Operation) -> &'static str
+    ensures { result.now ≡ print.operation_word (code_view operation) }
 {
     match operation {
-        1 => "read",
-        2 => "compare",
-        4 => "list",
-        5 => "search",
-        6 => "add",
-        7 => "remove",
-        8 => "modify",
-        9 => "move",
-        _ => "",
+        Operation::Read => "read",
+        Operation::Compare => "compare",
+        Operation::List => "list",
+        Operation::Search => "search",
+        Operation::AddEntry => "add",
+        Operation::RemoveEntry => "remove",
+        Operation::ModifyEntry => "modify",
+        Operation::ModifyDn => "move",
     }
 }
 
 /// The operation of a refresh.
-pub(crate) fn shadow_operation(operation: u8) -> &'static str
-    ensures { result.now ≡ shadow_word operation }
+pub(crate) fn shadow_operation(operation: ShadowOperation) -> &'static str
+    ensures { result.now ≡ print.shadow_operation (operation_view operation) }
 {
     match operation {
-        1 => "requestShadowUpdate",
-        2 => "updateShadow",
-        _ => "coordinateShadowUpdate",
+        ShadowOperation::RequestShadowUpdate => "requestShadowUpdate",
+        ShadowOperation::UpdateShadow => "updateShadow",
+        ShadowOperation::CoordinateShadowUpdate => "coordinateShadowUpdate",
     }
 }
 

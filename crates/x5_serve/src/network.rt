@@ -17,7 +17,9 @@ use std::alloc::Global;
 use x5_know::AgentNames;
 use x5_memory::NoMemory;
 use x5_names::Name;
-use x5_ops::{AgentId, AgentName, Answer, Chained, DirError, Reference, ReferenceList, Reply};
+use x5_ops::{
+    AgentId, AgentName, Answer, Chained, DirError, Operation, Reference, ReferenceList, Reply,
+};
 
 /// What becomes of a message that is sent: it doesn't reach its receiver; none is left, so it isn't sent; it reaches its receiver,
 /// whose reply will be lost; or it does, and the reply will too. Where it reaches its receiver it's as that one has it.
@@ -132,7 +134,12 @@ pub trait Network {
         ensures carried { IfOk result (λ carried. IsCarriedBy (scene self.old) (most self.old) (names self.old) (journal self.old) (journal self.new) (Some from) to (chained_view (names self.old) message.now) carried) };
 
     /// Carries back the reply to a message with this operation: the sender has just what was replied. Replies aren't noted.
-    fn carry_back(&self, alloc: Global, operation: u8, reply: &Reply) -> Result<Reply, NoMemory>
+    fn carry_back(
+        &self,
+        alloc: Global,
+        operation: Operation,
+        reply: &Reply,
+    ) -> Result<Reply, NoMemory>
         ensures { IfOk result (λ back. reply_view (names self.now) back ≡ reply_view (names self.now) reply.now) };
 
     /// No two agents have one name.

@@ -6,7 +6,7 @@ use x5_know::Start;
 use x5_ops::{
     AccessList, AccessPoint, AgentName, Answer, EntryInfo, EntryList, Fate, Journal, Line, Listed,
     Moment, Name, Outcome, Progress, Rdn, RdnList, RefType, Reference, ReferenceList, Refreshed,
-    Reply, Source, SourceList,
+    Reply, ShadowOperation, Source, SourceList,
 };
 use x5_report::{LineOutcome, Totals, block, summary};
 use x5_syntax::Text;
@@ -256,7 +256,7 @@ fn asked(alloc: Global) -> Result<Line, Fail> {
     Ok(Line::Dis {
         from,
         to,
-        operation: 1,
+        operation: ShadowOperation::RequestShadowUpdate,
         agreement: 1,
         fate: Fate::Sent,
     })

@@ -221,9 +221,9 @@ after_request old new p first r j reply accepted s there short asked same q = re
       (fun_ext (λ g. sym (request_acked p r (reverse j.accepted) (length j.lines) g.number)));
   line = next_line new.line old.line (length p.past) q.line s.line;
   happened = λ consistent. (
-        did_happen p (Asks first r) (Replies j reply) (right old p first r j reply s there short asked consistent),
-        s.happened consistent,
-      );
+    did_happen p (Asks first r) (Replies j reply) (right old p first r j reply s there short asked consistent),
+    s.happened consistent,
+  );
   logs = λ consistent a. logs_after old new p r s consistent accepted q.notes j.accepted (length j.lines)
       (right old p first r j reply s there short asked consistent).accepts.one same a;
 }

@@ -24,7 +24,9 @@ use std::marker::PhantomData;
 use x5_holdings::Holdings;
 use x5_know::AgentNames;
 use x5_memory::NoMemory;
-use x5_ops::{AgentId, AgentName, Chained, ChangeFault, Fate, Progress, Reference, Reply};
+use x5_ops::{
+    AgentId, AgentName, Chained, ChangeFault, Fate, Operation, Progress, Reference, Reply,
+};
 use x5_serve::{Carried, Found, Network, Verdict};
 
 /// A user's request in the network of all agents, with the messages that were sent for it so far and the agents that accepted its
@@ -194,7 +196,12 @@ impl<'a, B: Begun> Network for Exchange<'a, B> {
         self.send(alloc, Some(from), to, message)
     }
 
-    fn carry_back(&self, alloc: Global, operation: u8, reply: &Reply) -> Result<Reply, NoMemory> {
+    fn carry_back(
+        &self,
+        alloc: Global,
+        operation: Operation,
+        reply: &Reply,
+    ) -> Result<Reply, NoMemory> {
         let _ = alloc;
         let _ = operation;
         copies::reply(reply)
