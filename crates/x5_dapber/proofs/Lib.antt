@@ -1,10 +1,18 @@
-mod AttributeParts
-mod Decoding
+pub mod AttributeParts
+pub mod Clockless
+pub mod Decoding
+mod FilterLevels
 mod FilterMembers
 mod FilterRows
-mod Fitting
+pub mod Fitting
 mod Invokes
-mod Members
-mod Octets
-mod ReadIsSayable
+mod Levels
+pub mod Members
+pub mod Octets
+pub mod ReadIsSayable
+mod RequestRooms
+mod RequestsSpelled
+pub mod Rooms
 mod Selections
+pub mod Tables
+pub mod Tags

@@ -79,7 +79,7 @@ part_fits (Many ns) f = tt
 -- ---- members
 
 -- what has members of a type has members that are so
-many_of : (form : named.Named) (P : Node → Type 0) → ((n : Node) → Fits table (table form) n → P n) → (n : Node)
+pub many_of : (form : named.Named) (P : Node → Type 0) → ((n : Node) → Fits table (table form) n → P n) → (n : Node)
     → IsMade table (Members form) n → All P (nodes.parts n)
 many_of form P of n m =
     subst (λ (x : Node). All P (nodes.parts x)) (sym m.is_many)
@@ -111,17 +111,17 @@ assertion_fits n f =
 -- ---- one of several
 
 -- of alternatives with tags of their own a value has one, with an element of its type
-record IsChoice (types : List Alternative) (n : Node) : Type 0 where
-  tag : ℕ
-  inner : Node
-  chosen_is : n ≡ Chosen tag inner
-  found : Alternative
-  found_is_so : find (is_marked tag) types ≡ Some found
-  form : named.Named
-  explicit : found.content ≡ Explicit form
-  fits_inner : Fits table (table form) inner
+pub record IsChoice (types : List Alternative) (n : Node) : Type 0 where
+  pub tag : ℕ
+  pub inner : Node
+  pub chosen_is : n ≡ Chosen tag inner
+  pub found : Alternative
+  pub found_is_so : find (is_marked tag) types ≡ Some found
+  pub form : named.Named
+  pub explicit : found.content ≡ Explicit form
+  pub fits_inner : Fits table (table form) inner
 
-choice_in : (types : List Alternative) (n : Node) → Rattle.std.specs.List.list_all (λ a. a.marked) types ≡ true
+pub choice_in : (types : List Alternative) (n : Node) → Rattle.std.specs.List.list_all (λ a. a.marked) types ≡ true
     → Rattle.std.specs.List.list_all (λ a. is_explicit a.content) types ≡ true → Fits table types n → IsChoice types n
 choice_in types n marked all (whole a octets free held unmarked writes settles) =
     let m : a.marked ≡ true = found_is (λ x. x.marked) (can_hold n) types a marked held in
@@ -134,7 +134,7 @@ choice_in types _ marked all (chosen {n} a tag form found c f settles) =
 choice_in types _ marked all (chosen_made {ns} a tag found inside settles) =
     absurd (no_explicit table a.content ns (found_is (λ x. is_explicit x.content) (is_marked tag) types a all found) inside)
 
-inner_fits : (types : List Alternative) (n : Node) (c : IsChoice types n) (form : named.Named) (a : Alternative)
+pub inner_fits : (types : List Alternative) (n : Node) (c : IsChoice types n) (form : named.Named) (a : Alternative)
     → a.content ≡ Explicit form → (let o : Option Alternative = Some a in o) ≡ Some c.found → Fits table (table form) c.inner
 inner_fits types n c form a e s = as_form table a c.found form c.form c.inner e s c.explicit c.fits_inner
 
@@ -212,7 +212,7 @@ has_filters k of n f =
     subst HasFilters (sym m.is_many) (filters_of k of m.members (members_in table (named.Filter k) m.members m.within))
 
 -- the types of a filter below which those of a filter of so many levels may stand
-abbrev filter_types : ℕ → List Alternative
+abbrev pub filter_types : ℕ → List Alternative
 filter_types k =
     choice 0 (Explicit named.Item) ∷ choice 1 (Explicit (named.Filters k)) ∷ choice 2 (Explicit (named.Filters k))
     ∷ choice 3 (Explicit (named.Filter k)) ∷ []
@@ -234,11 +234,11 @@ above k l types of n f =
     of_choice (filter_types k) IsFilter n c (filter_by k of n c)
 
 -- where no level is left no content is right
-abbrev is_never : forms.Content → Bool
+abbrev pub is_never : forms.Content → Bool
 is_never Never = true
 is_never c = false
 
-never_within : (c : forms.Content) (ns : Nodes) → is_never c ≡ true → FitsIn table c ns → ⊥
+pub never_within : (c : forms.Content) (ns : Nodes) → is_never c ≡ true → FitsIn table c ns → ⊥
 never_within Never ns e f = elim f [ ]
 never_within (forms.Primitive leaf) ns e f = absurd (cc e)
 never_within (forms.Joined leaf) ns e f = absurd (cc e)
@@ -248,7 +248,7 @@ never_within (Sequence cs) ns e f = absurd (cc e)
 never_within (Set cs) ns e f = absurd (cc e)
 never_within (Members form) ns e f = absurd (cc e)
 
-never_explicit : (c : forms.Content) (form : named.Named) → is_never c ≡ true → c ≡ Explicit form → ⊥
+pub never_explicit : (c : forms.Content) (form : named.Named) → is_never c ≡ true → c ≡ Explicit form → ⊥
 never_explicit c form e is = absurd (cc (sym (ap is_never is) ∙ e))
 
 no_filter : (n : Node) → Fits table (table (named.Filter 0)) n → IsFilter n
@@ -308,7 +308,7 @@ selection_fits n f =
 abbrev anything : Node → Type 0
 anything n = Unit {0}
 
-no_count : IsCount Vacant
+pub no_count : IsCount Vacant
 no_count k e = absurd (cc e)
 
 controls_fit : (n : Node) → Fits table (table named.Controls) n → AreControls n
@@ -414,7 +414,7 @@ rename_fits n f =
 
 -- ---- messages
 
-abbrev codes : ℤ → Option named.Named
+abbrev pub codes : ℤ → Option named.Named
 codes = layouts.named_by (layouts.operation_codes named.Argument)
 
 code_first : (x form : named.Named) (k m limit : ℕ) (b : Bool) (o : Option named.Named) → (k == m) ≡ b
@@ -423,7 +423,7 @@ code_first x form k m limit true o h e low later = (let same : k ≡ m = eqb-tru
 code_first x form k m limit false o h e low later = later e
 
 -- the code is one of those that there are
-code_below : (rows : List (ℕ × named.Named)) (m limit : ℕ) (form : named.Named)
+pub code_below : (rows : List (ℕ × named.Named)) (m limit : ℕ) (form : named.Named)
     → Rattle.std.specs.List.list_all (λ r. nat_lt r.0 limit) rows ≡ true → layouts.named_by rows (pos m) ≡ Some form → m < limit
 code_below [] m limit form h e = absurd (cc e)
 code_below (r ∷ rows) m limit form h e =
@@ -431,7 +431,7 @@ code_below (r ∷ rows) m limit form h e =
     code_first r.1 form r.0 m limit (r.0 == m) (layouts.named_by rows (pos m)) refl e (leb-true (suc r.0) limit w.0)
     (λ f. code_below rows m limit form w.1 f)
 
-abbrev number_or_zero : ℤ → ℕ
+abbrev pub number_or_zero : ℤ → ℕ
 number_or_zero k = in_option 0 (λ m. m) (number_in (Number k))
 
 argument_fits : (k : ℤ) (form : named.Named) (n : Node) → codes k ≡ Some form → Fits table (table form) n
@@ -466,17 +466,17 @@ argument_fits (pos (suc (suc (suc (suc (suc (suc (suc (suc (suc zero)))))))))) f
 argument_fits (pos (suc (suc (suc (suc (suc (suc (suc (suc (suc (suc m))))))))))) form n e f =
     absurd (omega (arith, code_below (layouts.operation_codes named.Argument) (suc (suc (suc (suc (suc (suc (suc (suc (suc (suc m)))))))))) 10 form refl e))
 
-record IsInvoke (ns : Nodes) : Type 0 where
-  id : Node
-  operation : ℤ
-  argument : Node
-  split : ns ≡ More id (More (Number operation) (More argument Nil))
-  id_is : IsCount id
-  form : named.Named
-  names : codes operation ≡ Some form
-  fits_argument : Fits table (table form) argument
+pub record IsInvoke (ns : Nodes) : Type 0 where
+  pub id : Node
+  pub operation : ℤ
+  pub argument : Node
+  pub split : ns ≡ More id (More (Number operation) (More argument Nil))
+  pub id_is : IsCount id
+  pub form : named.Named
+  pub names : codes operation ≡ Some form
+  pub fits_argument : Fits table (table form) argument
 
-invoke_in : (ns : Nodes) → FitsSequence table (layouts.id ∷ code named.AnyNumber codes ∷ []) ns → IsInvoke ns
+pub invoke_in : (ns : Nodes) → FitsSequence table (layouts.id ∷ code named.AnyNumber codes ∷ []) ns → IsInvoke ns
 invoke_in _ (left_out d e f g) = absurd (cc e)
 invoke_in _ (given nd f required (left_out d e g h)) = absurd (cc e)
 invoke_in _ (given nd f required (given nd' f' (named k form is names) (left_out d e g h))) = absurd (cc e)
@@ -492,11 +492,11 @@ invoke_in _ (given {n = i} nd f required (given {n = c} nd' f' (named k form is 
       fits_argument = f'';
     }
 
-abbrev is_sequence : forms.Content → Bool
+abbrev pub is_sequence : forms.Content → Bool
 is_sequence (Sequence cs) = true
 is_sequence c = false
 
-sequence_explicit : (c : forms.Content) (form : named.Named) → is_sequence c ≡ true → c ≡ Explicit form → ⊥
+pub sequence_explicit : (c : forms.Content) (form : named.Named) → is_sequence c ≡ true → c ≡ Explicit form → ⊥
 sequence_explicit c form e is = absurd (cc (sym (ap is_sequence is) ∙ e))
 
 pub request_fits : (n : Node) → Fits table (table named.DapRequest) n → IsRequest n

@@ -1,5 +1,5 @@
-//! Messages of users as octets (DAP: X.511, X.519). So far requests are written and read: each part as a value of its type,
-//! and the whole by the one writer and the one reader over the table of types (X.690).
+//! Requests of users as octets (DAP: X.511, X.519), written and read: each part as a value of its type, and the whole by the one writer
+//! and the one reader over the table of types (X.690). The parts that answers have, too, are public.
 #![tactic(auto)]
 
 mod arguments;
@@ -7,13 +7,14 @@ mod attributes;
 mod fault;
 mod filters;
 mod messages;
-mod names;
-mod parts;
+pub mod names;
+pub mod parts;
 mod read_arguments;
 mod read_attributes;
 mod read_filters;
-mod read_values;
-mod values;
+pub mod read_parts;
+pub mod read_values;
+pub mod values;
 
 pub use crate::fault::WireFault;
 pub use crate::messages::{decode_request, encode_request};

@@ -9,6 +9,7 @@ ghost use Rattle.x5_model_typed.specs.Named as named;
 ghost use Rattle.x5_model_typed.specs.Nodes as nodes;
 ghost use Rattle.x5_model_typed.specs.Typed.{Spells};
 ghost use Rattle.x5_model_typed.specs.Written.{canonical_octets};
+ghost use Rattle.x5_model_typed_laws.specs.Fits.{Fits};
 ghost use Rattle.x5_ops.specs.RequestViews.{request_view};
 ghost use Rattle.x5_typed.specs.Comes.{ComesTo};
 ghost use Rattle.x5_types.specs.FormView.{table};
@@ -39,10 +40,14 @@ fn request_node<'a>(alloc: Global, id: u32, request: &'a Request) -> Result<Node
 /// The canonical octets of a user's message with the id and the request (X.519, section 7; X.690, section 10).
 ///
 /// # Errors
-/// `Misfit` exactly where there are none, since a part of the request passes a limit of messages, as a name of more than
-/// 16 RDNs, a text of more than 1,024 octets or a filter of more than 16 levels does. Or that memory ran out.
+/// `Misfit` exactly where there are none, since a part of the request passes a limit of messages, as a text of more than
+/// 1,024 octets or a filter of more than 16 levels does. Or that memory ran out.
 pub fn encode_request(alloc: Global, id: u32, request: &Request) -> Result<Octets, WriteFault>
-    ensures { IsWritten (canonical_octets table named.DapRequest (requests.request_node id (request_view request.now))) result }
+    ensures written { IsWritten (canonical_octets table named.DapRequest (requests.request_node id (request_view request.now))) result }
+    // They spell the request that they are written of, where it is a value of the type by all rules: so an attribute has values, and parts
+    // of substrings stand in their places. Then they are read back, by `back` below.
+    ensures spelled { Fits table (table named.DapRequest) (requests.request_node id (request_view request.now))
+        → IfOk result (λ octets. Spells table named.DapRequest octets (requests.request_node id (request_view request.now))) }
 {
     let node = request_node(alloc, id, request)?;
     Ok(Octets::new(write(alloc, Named::DapRequest, &node)?))

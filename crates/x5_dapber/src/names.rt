@@ -20,7 +20,7 @@ fn known_node<'a>(alloc: Global, kind: TypeId) -> Result<Node<'a>, NoMemory>
 }
 
 /// An attribute type, by its object identifier.
-pub(crate) fn type_node<'a>(alloc: Global, kind: &TypeRef) -> Result<Node<'a>, NoMemory>
+pub fn type_node<'a>(alloc: Global, kind: &TypeRef) -> Result<Node<'a>, NoMemory>
     ensures { IfOk result (λ n. node_view n ≡ terms.type_node (type_view kind.now)) }
 {
     match kind {
@@ -65,7 +65,7 @@ fn pair_node<'a>(alloc: Global, pair: &'a Pair) -> Result<Node<'a>, NoMemory>
 }
 
 /// An RDN: a SET OF its pairs.
-pub(crate) fn rdn_node<'a>(alloc: Global, rdn: &'a Rdn) -> Result<Node<'a>, NoMemory>
+pub fn rdn_node<'a>(alloc: Global, rdn: &'a Rdn) -> Result<Node<'a>, NoMemory>
     ensures { IfOk result (λ n. node_view n ≡ terms.rdn_node rdn.now) }
 {
     let mut pairs = Vec::new(alloc);
@@ -76,7 +76,7 @@ pub(crate) fn rdn_node<'a>(alloc: Global, rdn: &'a Rdn) -> Result<Node<'a>, NoMe
 }
 
 /// A name: a SEQUENCE OF its RDNs from the root.
-pub(crate) fn name_node<'a>(alloc: Global, name: &'a Name) -> Result<Node<'a>, NoMemory>
+pub fn name_node<'a>(alloc: Global, name: &'a Name) -> Result<Node<'a>, NoMemory>
     ensures { IfOk result (λ n. node_view n ≡ terms.name_node name.now) }
 {
     let mut rdns = Vec::new(alloc);

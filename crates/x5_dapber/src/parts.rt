@@ -9,13 +9,15 @@ use x5_memory::NoMemory;
 use x5_syntax::Text;
 use x5_types::{Characters, Node};
 
-pub(crate) fn many<'a>(parts: Vec<Node<'a>>) -> Node<'a>
+/// The value whose parts these are.
+pub fn many<'a>(parts: Vec<Node<'a>>) -> Node<'a>
     ensures { node_view result ≡ node_of (map node_view parts.entry.items) }
 {
     Node::Many(parts)
 }
 
-pub(crate) fn one<'a>(alloc: Global, a: Node<'a>) -> Result<Node<'a>, NoMemory>
+/// The value of one part.
+pub fn one<'a>(alloc: Global, a: Node<'a>) -> Result<Node<'a>, NoMemory>
     ensures { IfOk result (λ n. node_view n ≡ node_of (node_view a.entry ∷ [])) }
 {
     let mut parts = Vec::new(alloc);
@@ -23,7 +25,8 @@ pub(crate) fn one<'a>(alloc: Global, a: Node<'a>) -> Result<Node<'a>, NoMemory>
     Ok(many(parts))
 }
 
-pub(crate) fn two<'a>(alloc: Global, a: Node<'a>, b: Node<'a>) -> Result<Node<'a>, NoMemory>
+/// The value of two parts.
+pub fn two<'a>(alloc: Global, a: Node<'a>, b: Node<'a>) -> Result<Node<'a>, NoMemory>
     ensures { IfOk result (λ n. node_view n ≡ node_of (node_view a.entry ∷ node_view b.entry ∷ [])) }
 {
     let mut parts = Vec::new(alloc);
@@ -32,12 +35,8 @@ pub(crate) fn two<'a>(alloc: Global, a: Node<'a>, b: Node<'a>) -> Result<Node<'a
     Ok(many(parts))
 }
 
-pub(crate) fn three<'a>(
-    alloc: Global,
-    a: Node<'a>,
-    b: Node<'a>,
-    c: Node<'a>,
-) -> Result<Node<'a>, NoMemory>
+/// The value of three parts.
+pub fn three<'a>(alloc: Global, a: Node<'a>, b: Node<'a>, c: Node<'a>) -> Result<Node<'a>, NoMemory>
     ensures { IfOk result (λ n. node_view n ≡ node_of (node_view a.entry ∷ node_view b.entry ∷ node_view c.entry ∷ [])) }
 {
     let mut parts = Vec::new(alloc);
@@ -47,7 +46,8 @@ pub(crate) fn three<'a>(
     Ok(many(parts))
 }
 
-pub(crate) fn four<'a>(
+/// The value of four parts.
+pub fn four<'a>(
     alloc: Global,
     a: Node<'a>,
     b: Node<'a>,
@@ -66,13 +66,14 @@ pub(crate) fn four<'a>(
 }
 
 /// One of several, by its context tag.
-pub(crate) fn chosen<'a>(alloc: Global, tag: u32, node: Node<'a>) -> Result<Node<'a>, NoMemory>
+pub fn chosen<'a>(alloc: Global, tag: u32, node: Node<'a>) -> Result<Node<'a>, NoMemory>
     ensures { IfOk result (λ n. node_view n ≡ nodes.Chosen tag (node_view node.entry)) }
 {
     Ok(Node::Chosen(tag, Box::new(alloc, node)?))
 }
 
-pub(crate) fn number<'a>(number: u32) -> Node<'a>
+/// A number.
+pub fn number<'a>(number: u32) -> Node<'a>
     ensures { node_view result ≡ nodes.whole number }
 {
     Node::Number(i64::from(number))

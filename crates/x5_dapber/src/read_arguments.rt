@@ -1,7 +1,6 @@
 //! Requests and their arguments (X.511, sections 7 and 9 to 11) that values of types of messages say.
 ghost use Rattle.std.specs.Prelude.{◌≡◌, IfOk, All, map};
 ghost use Rattle.x5_dapber.specs.Sayable as sayable;
-ghost use Rattle.x5_model.specs.Words.{in_option};
 ghost use Rattle.x5_model_messages.specs.Requests as requests;
 ghost use Rattle.x5_model_messages.specs.Terms as terms;
 ghost use Rattle.x5_model_typed.specs.Nodes as nodes;
@@ -11,55 +10,13 @@ ghost use Rattle.x5_types.specs.NodeView.{node_view};
 
 use crate::read_attributes::{attributes_in, changes_in};
 use crate::read_filters::filter_in;
+use crate::read_parts::{code_in, count_in, flag_in, is_vacant, rdn_of};
 use crate::read_values::{asserted_in, type_in};
 use std::alloc::Global;
 use x5_memory::NoMemory;
-use x5_names::{Name, Rdn};
 use x5_ops::{Body, Controls, Request, Selection, Subset, TypeList};
-use x5_rules::{name_of, rdn_in};
+use x5_rules::name_of;
 use x5_types::Node;
-
-/// The number that the node says, if it says one that isn't negative.
-fn count_in(node: &Node<'_>) -> Option<u32>
-    requires { sayable.IsCount (node_view node.now) }
-    ensures { result ≡ terms.number_in (node_view node.now) }
-{
-    match node {
-        Node::Number(number) => u32::try_from(*number).ok(),
-        _ => None,
-    }
-}
-
-/// The number that the node says, or else 0.
-fn code_in(node: &Node<'_>) -> u32
-    requires { sayable.IsCount (node_view node.now) }
-    ensures { result ≡ in_option 0 (λ k. k) (terms.number_in (node_view node.now)) }
-{
-    count_in(node).unwrap_or(0)
-}
-
-fn flag_in(node: &Node<'_>) -> bool
-    ensures { result ≡ terms.flag_in (node_view node.now) }
-{
-    match node {
-        Node::Flag(flag) => *flag,
-        _ => false,
-    }
-}
-
-fn is_vacant(node: &Node<'_>) -> bool
-    ensures { result ≡ nodes.is_vacant (node_view node.now) }
-{
-    matches!(node, Node::Vacant)
-}
-
-/// The RDN that the node says.
-fn rdn_of(alloc: Global, node: &Node<'_>) -> Result<Rdn, NoMemory>
-    ensures { IfOk result (λ rdn. rdn ≡ terms.rdn_of (node_view node.now)) }
-{
-    let value = rdn_in(alloc, node)?;
-    Rdn::from_value(alloc, &value)
-}
 
 /// The service controls that the node says.
 fn controls_in(node: &Node<'_>) -> Controls

@@ -28,7 +28,7 @@ fn oid_of(alloc: Global, arcs: &[u32]) -> Result<Oid, NoMemory>
 }
 
 /// The attribute type that the node says.
-pub(crate) fn type_in(alloc: Global, node: &Node<'_>) -> Result<TypeRef, NoMemory>
+pub fn type_in(alloc: Global, node: &Node<'_>) -> Result<TypeRef, NoMemory>
     requires { IsType (node_view node.now) }
     ensures { IfOk result (λ t. type_view t ≡ terms.type_in (node_view node.now)) }
 {
@@ -55,7 +55,7 @@ pub(crate) fn value_in(alloc: Global, node: &Node<'_>) -> Result<Value, NoMemory
 }
 
 /// The values that the nodes say.
-pub(crate) fn values_in(alloc: Global, nodes: &[Node<'_>]) -> Result<Vec<Value>, NoMemory>
+pub fn values_in(alloc: Global, nodes: &[Node<'_>]) -> Result<Vec<Value>, NoMemory>
     requires { All (λ n. IsValue (node_view n)) nodes.now }
     ensures { IfOk result (λ vs. map value_view vs.items ≡ map rules.value_in (map node_view nodes.now)) }
 {

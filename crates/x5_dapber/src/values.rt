@@ -26,7 +26,7 @@ pub(crate) fn value_node<'a>(alloc: Global, value: &'a Value) -> Result<Node<'a>
 }
 
 /// Values: a SET OF them.
-pub(crate) fn values_node<'a>(alloc: Global, values: &'a [Value]) -> Result<Node<'a>, NoMemory>
+pub fn values_node<'a>(alloc: Global, values: &'a [Value]) -> Result<Node<'a>, NoMemory>
     ensures { IfOk result (λ n. node_view n ≡ terms.node_of (map (λ v. terms.value_node (value_view v)) values.now)) }
 {
     let mut nodes = Vec::new(alloc);

@@ -1,0 +1,6 @@
+mod ReferenceParts
+mod RepliesBack
+mod ReplyIsSayable
+mod Sequences
+mod ShownParts
+mod Six
