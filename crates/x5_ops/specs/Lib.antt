@@ -4,5 +4,6 @@ pub mod ReferenceViews
 pub mod AnswerViews
 pub mod KnowledgeViews
 pub mod JournalViews
+pub mod RefreshViews
 pub mod RefusalView
 pub mod ChangeView

@@ -7,7 +7,8 @@ ghost use Rattle.x5_model_run.specs.Refresh.{Problem, same_moment};
 ghost use Rattle.x5_ops.specs.JournalViews.{fate_view};
 ghost use Rattle.x5_refresh.specs.Course.{finished, missing, stopped, taken, unsent};
 ghost use Rattle.x5_refresh.specs.Joined.{is_of_supplier};
-ghost use Rattle.x5_refresh.specs.Outcomes.{outcome_view, start_view};
+ghost use Rattle.x5_ops.specs.RefreshViews.{refreshed_view};
+ghost use Rattle.x5_refresh.specs.Outcomes.{start_view};
 
 use x5_ops::{Fate, Moment, Refreshed};
 
@@ -99,7 +100,7 @@ pub fn begins(
 
 /// A refresh that the consumer took. No memory.
 fn done(total: bool, stamp: Moment, count: u64) -> Refreshed
-    ensures { (heard : Bool) (number : ℕ) → outcome_view heard number result ≡ taken total number stamp count heard }
+    ensures { (heard : Bool) (number : ℕ) → refreshed_view heard number result ≡ taken total number stamp count heard }
 {
     if total {
         return Refreshed::Total(stamp, count);
@@ -113,7 +114,7 @@ fn done(total: bool, stamp: Moment, count: u64) -> Refreshed
 /// What became of a refresh of so many entries or steps, by what became of its last message: where that is lost, nothing was
 /// taken; the supplier knows that it was taken where the reply came too (X.525, section 11.3). No memory.
 pub fn ended(total: bool, stamp: Moment, count: u64, last: Fate) -> Refreshed
-    ensures { (number : ℕ) → outcome_view (is_sent (fate_view last)) number result ≡ finished total number stamp count (fate_view last) }
+    ensures { (number : ℕ) → refreshed_view (is_sent (fate_view last)) number result ≡ finished total number stamp count (fate_view last) }
 {
     match last {
         Fate::Lost => Refreshed::Lost,

@@ -17,7 +17,8 @@ use Rattle.x5_know.specs.Moments.{Start, moment_text}
 use Rattle.x5_report.specs.Spelled as spelled
 use Rattle.x5_report.specs.Blocks.{block_text, block_known, outcome_known, IsBlockText}
 use Rattle.x5_model_tree.specs.World.{names_of_agents}
-use Rattle.x5_report.specs.Views.{names_with, journal_known, problem_view, refreshed_view}
+use Rattle.x5_report.specs.Views.{names_with, journal_known}
+use Rattle.x5_ops.specs.RefreshViews.{problem_view, refreshed_view}
 use Rattle.x5_report.specs.declared.report.LineOutcome.{LineOutcome}
 use Rattle.x5_report.specs.declared.report.LineOutcome.TheVariants.{Set, Answered, Plain, Refreshed as Became, NotConsistent}
 use Rattle.x5_report.proofs.Naming.{journal_is, shadows_are, reply_is, plain_reply_is}

@@ -41,7 +41,8 @@ use Rattle.x5_ops.specs.declared.answers.Reply.{Reply}
 use Rattle.x5_ops.specs.declared.answers.Reply.TheVariants.{Done, Failed, Refer}
 use Rattle.x5_know.specs.Moments.{Start}
 use Rattle.x5_report.specs.Spelled as spelled
-use Rattle.x5_report.specs.Views.{names_with, is_known, line_known, journal_known, reference_known, item_known, source_known, sources_known, answer_known, error_known, reply_known, shadow_view, shadows_view, operation_view}
+use Rattle.x5_report.specs.Views.{names_with, is_known, line_known, journal_known, reference_known, item_known, source_known, sources_known, answer_known, error_known, reply_known}
+use Rattle.x5_ops.specs.RefreshViews.{shadow_view, shadows_view, operation_view}
 use Rattle.x5_report.proofs.Mapped.{flat_map_same, sorted_map, of_sorted}
 
 -- the name at the place that a name stands for

@@ -14,7 +14,8 @@ use Rattle.x5_ops.specs.JournalViews.{messages_view}
 use Rattle.x5_ops.specs.declared.journal.Journal.{Journal}
 use Rattle.x5_know.specs.Moments.{Start}
 use Rattle.x5_report.specs.Spelled as spelled
-use Rattle.x5_report.specs.Views.{journal_known, reply_known, shadows_view, refreshed_view}
+use Rattle.x5_report.specs.Views.{journal_known, reply_known}
+use Rattle.x5_ops.specs.RefreshViews.{shadows_view, refreshed_view}
 use Rattle.x5_report.specs.declared.report.LineOutcome.{LineOutcome}
 use Rattle.x5_report.specs.declared.report.LineOutcome.TheVariants.{Set, Answered, Plain, Refreshed, NotConsistent}
 

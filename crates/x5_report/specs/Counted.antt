@@ -7,7 +7,7 @@ use Rattle.x5_model_output.specs.Summary.{Counts, no_counts, request_counts, ref
 use Rattle.x5_ops.specs.AnswerViews.{reply_view}
 use Rattle.x5_ops.specs.declared.journal.Journal.{Journal}
 use Rattle.x5_report.specs.Blocks.{IsJournal}
-use Rattle.x5_report.specs.Views.{refreshed_view}
+use Rattle.x5_ops.specs.RefreshViews.{refreshed_view}
 use Rattle.x5_report.specs.declared.totals.Totals.{Totals}
 use Rattle.x5_report.specs.declared.report.LineOutcome.{LineOutcome}
 use Rattle.x5_report.specs.declared.report.LineOutcome.TheVariants.{Set, Answered, Plain, Refreshed, NotConsistent}

@@ -41,7 +41,7 @@ use Rattle.x5_ops.specs.declared.answers.DirError.TheVariants as errors
 use Rattle.x5_ops.specs.declared.answers.Reply.{Reply}
 use Rattle.x5_ops.specs.declared.answers.Reply.TheVariants.{Done, Failed, Refer}
 use Rattle.x5_know.specs.Moments.{Start, moment_text}
-use Rattle.x5_report.specs.Views.{operation_view}
+use Rattle.x5_ops.specs.RefreshViews.{operation_view}
 
 -- ---- messages
 

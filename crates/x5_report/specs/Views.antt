@@ -1,22 +1,12 @@
--- What the messages of a refresh and what became of it stand for, given the names of the world's agents; who is named;
--- and the names and moments that the definitions print with.
-use Rattle.std.specs.Prelude.{ℕ, Bool, true, false, ◌&&◌, ◌==◌, if◌then◌else◌, List, [], ◌∷◌, slice_get}
-use Rattle.std.specs.List.{list_any, list_all, flat_map}
+-- Who is named in journals and replies, and the names and moments that the definitions print with.
+use Rattle.std.specs.Prelude.{ℕ, Bool, true, ◌&&◌, List, [], slice_get}
+use Rattle.std.specs.List.{list_any, list_all}
 use Rattle.std.specs.declared.option.Option.{Option}
 use Rattle.x5_model.specs.Words.{in_option, same_octets}
-use Rattle.x5_model_run.specs.Refresh as refresh
-use Rattle.x5_model_run.specs.Refresh.{ShadowOperation, RequestShadowUpdate, UpdateShadow, CoordinateShadowUpdate}
-use Rattle.x5_model_run.specs.Refresh.{ShadowLine, RefreshOutcome}
 use Rattle.x5_model_output.specs.Output.{Names}
-use Rattle.x5_ops.specs.AgentNames.{agent_of}
-use Rattle.x5_ops.specs.JournalViews.{fate_view}
 use Rattle.x5_ops.specs.declared.journal.Line.{Line}
 use Rattle.x5_ops.specs.declared.journal.Line.TheVariants.{Msg, Dis, Raw}
 use Rattle.x5_ops.specs.declared.journal.Journal.{Journal}
-use Rattle.x5_ops.specs.declared.journal.Refreshed.{Refreshed}
-use Rattle.x5_ops.specs.declared.journal.ShadowOperation.{ShadowOperation as CodeOperation}
-use Rattle.x5_ops.specs.declared.journal.ShadowOperation.TheVariants as shadows
-use Rattle.x5_ops.specs.declared.journal.Refreshed.TheVariants as refreshes
 use Rattle.x5_ops.specs.declared.references.Reference.{Reference}
 use Rattle.x5_ops.specs.declared.references.TraceItem.{TraceItem}
 use Rattle.x5_ops.specs.declared.answers.Source.{Source}
@@ -28,44 +18,6 @@ use Rattle.x5_ops.specs.declared.answers.DirError.TheVariants as errors
 use Rattle.x5_ops.specs.declared.answers.Reply.{Reply}
 use Rattle.x5_ops.specs.declared.answers.Reply.TheVariants.{Done, Failed, Refer}
 use Rattle.x5_know.specs.Moments.{Start, moment_text}
-
--- ---- refreshes
-
-abbrev pub operation_view : CodeOperation → ShadowOperation
-operation_view shadows.RequestShadowUpdate = RequestShadowUpdate
-operation_view shadows.UpdateShadow = UpdateShadow
-operation_view shadows.CoordinateShadowUpdate = CoordinateShadowUpdate
-
--- the line, where it's a message of a refresh
-abbrev pub shadow_view : List (List ℕ) → Line → List ShadowLine
-shadow_view names (Msg from to operation progress t target fate) = []
-shadow_view names (Dis from to operation agreement fate) =
-    record {
-      sender = agent_of names from;
-      receiver = agent_of names to;
-      operation = operation_view operation;
-      agreement = agreement;
-      fate = fate_view fate;
-    } ∷ []
-shadow_view names (Raw to dsp count fate) = []
-
-abbrev pub shadows_view : List (List ℕ) → List Line → List ShadowLine
-shadows_view names lines = flat_map (shadow_view names) lines
-
--- missedPrevious (X.525, section 12.2) tells the moments that the two have
-abbrev pub problem_view : ℕ → Option ℕ → Option ℕ → RefreshOutcome
-problem_view n held given = if n == 5 then refresh.Missed held given else refresh.Problem n
-
--- what became of the refresh of an agreement; `heard` where the supplier knows that it was taken
-abbrev pub refreshed_view : Bool → ℕ → Refreshed → RefreshOutcome
-refreshed_view heard number (refreshes.Total m n) =
-    refresh.Done (record { agreement = number; total = true; stamp = m; count = n; acknowledged = heard })
-refreshed_view heard number (refreshes.Incremental m n) =
-    refresh.Done (record { agreement = number; total = false; stamp = m; count = n; acknowledged = heard })
-refreshed_view heard number (refreshes.Nothing m) =
-    refresh.Done (record { agreement = number; total = false; stamp = m; count = 0; acknowledged = heard })
-refreshed_view heard number refreshes.Lost = refresh.Unheard
-refreshed_view heard number (refreshes.Failed problem held given) = problem_view problem held given
 
 -- ---- names and moments
 

@@ -7,7 +7,7 @@ ghost use Rattle.x5_model_run.specs.Run.{Block};
 ghost use Rattle.x5_model_output.specs.Summary as sums;
 ghost use Rattle.x5_ops.specs.AnswerViews.{answer_view, reply_view};
 ghost use Rattle.x5_report.specs.Counted.{totals_view, told_counts, IsOf};
-ghost use Rattle.x5_report.specs.Views.{refreshed_view};
+ghost use Rattle.x5_ops.specs.RefreshViews.{refreshed_view};
 
 use crate::report::LineOutcome;
 use std::alloc::{AllocError, Global};

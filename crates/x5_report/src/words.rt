@@ -4,7 +4,7 @@ ghost use Rattle.std.specs.Prelude.{◌≡◌, codes, not};
 ghost use Rattle.x5_model_output.specs.Output as print;
 ghost use Rattle.x5_ops.specs.JournalViews.{fate_view, code_view};
 ghost use Rattle.x5_ops.specs.ReferenceViews.{kind_view};
-ghost use Rattle.x5_report.specs.Views.{operation_view};
+ghost use Rattle.x5_ops.specs.RefreshViews.{operation_view};
 
 use x5_ops::{Fate, Operation, RefType, ShadowOperation};
 

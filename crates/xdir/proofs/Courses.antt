@@ -25,7 +25,8 @@ use Rattle.x5_ops.specs.declared.journal.Line.{Line as Message}
 use Rattle.x5_ops.specs.declared.journal.Line.TheVariants.{Msg, Dis, Raw}
 use Rattle.x5_ops.specs.declared.journal.Journal.{Journal}
 use Rattle.x5_port.specs.Outside.{with_octets}
-use Rattle.x5_report.specs.Views.{is_known, line_known, journal_known, reply_known, shadows_view}
+use Rattle.x5_report.specs.Views.{is_known, line_known, journal_known, reply_known}
+use Rattle.x5_ops.specs.RefreshViews.{shadows_view}
 use Rattle.x5_report.specs.Blocks.{block_known, IsJournal}
 use Rattle.x5_report.specs.Blocks as report
 use Rattle.x5_report.specs.declared.report.LineOutcome.{LineOutcome}
