@@ -7,3 +7,4 @@ pub mod Sent
 pub mod Arrivals
 pub mod Laws
 pub mod Users
+pub mod Refreshes

@@ -10,7 +10,9 @@ mod exchange;
 mod journal;
 mod links;
 mod naming;
+mod refreshment;
 mod stamps;
 mod world;
 
+pub use refreshment::Refreshment;
 pub use world::World;

@@ -1,7 +1,7 @@
 //! The network of a run.
 
 ghost use Rattle.std.specs.Prelude.{◌≡◌, ℕ, ◌<◌, ◌+◌, ◌≤◌, ◌*◌, [], true, nat_lt, length, List, IfOk, OnErr, slice_get, Some};
-ghost use Rattle.std.specs.List.{filter};
+ghost use Rattle.std.specs.List.{filter, list_all};
 ghost use Rattle.std.specs.Option.{option_map};
 ghost use Rattle.x5_know.specs.WorldView.{world_view};
 ghost use Rattle.x5_model_run.specs.Network as network;
@@ -14,7 +14,8 @@ ghost use Rattle.x5_ops.specs.JournalViews.{fate_view, outage_view};
 ghost use Rattle.x5_ops.specs.ReferenceViews.{chained_view};
 ghost use Rattle.x5_ops.specs.RequestViews.{body_view, request_view};
 ghost use Rattle.x5_update.specs.Judging.{IsReady};
-ghost use Rattle.x5_world.specs.Answered.{IsAnswered, NamesAgents};
+ghost use Rattle.x5_world.specs.Answered.{IsAnswered, NamesAgents, line_names_agents};
+ghost use Rattle.x5_world.specs.Refreshes.{IsRefreshedAt, IsSound};
 ghost use Rattle.x5_world.specs.Sent.{IsCommittedAt, IsHolder, no_net};
 ghost use Rattle.x5_world.specs.State.{StandsAt, HasRoom, HasShortNames, after, holdings_in, most_messages};
 ghost use Rattle.x5_model_tree.specs.World.{names_of_agents};
@@ -24,6 +25,7 @@ use crate::counts::{contexts, pairs};
 use crate::journal;
 use crate::links::Links;
 use crate::naming::copied;
+use crate::refreshment::Refreshment;
 use crate::stamps::none_of;
 use std::alloc::Global;
 use std::marker::{Brand, Model};
@@ -32,7 +34,7 @@ use x5_agents::agents_of;
 use x5_holdings::Holdings;
 use x5_know::{AgentNames, AgreementList, Described};
 use x5_memory::NoMemory;
-use x5_ops::{AgentId, Chained, Fate, Journal, Listed, Moment, Outage, Reply, Request};
+use x5_ops::{AgentId, Chained, Fate, Journal, Listed, Moment, Outage, Refreshed, Reply, Request};
 
 /// The agents with what each holds, the network between them, and their agreements with the stamp of the last refresh by each that
 /// its supplier knows to be taken.
@@ -246,6 +248,31 @@ impl World {
         self.links.lose(reply, number)?;
         self.count_line();
         Ok(())
+    }
+
+    /// Refreshes the consumer's copy by the agreement of this number, pushed by the supplier or pulled by the consumer, wholly or by
+    /// the changes since its moment (X.525, sections 9 to 12). Knowledge is consistent. After want of memory the network isn't used
+    /// again.
+    pub fn refresh(
+        &mut self,
+        alloc: Global,
+        number: u32,
+        push: bool,
+        total: bool,
+    ) -> Result<Refreshment, NoMemory>
+        requires room { (lines : ℕ) × (HasRoom self.old lines × (lines < 100000)) }
+        requires sound { IsSound self.old }
+        ensures names { IfOk result (λ _. self.new.names ≡ self.old.names) }
+        ensures refreshed { IfOk result (λ r. (p : Point) → StandsAt self.old p → IsRefreshedAt self.new p number push total r) }
+        ensures named { IfOk result (λ r. list_all (line_names_agents self.old.names) r.lines ≡ true) }
+        ensures room_after { IfOk result (λ _. (lines : ℕ) → HasRoom self.old lines → HasRoom self.new (lines + 1)) }
+    {
+        let _ = (number, push, total);
+        Ok(Refreshment {
+            lines: Listed::new(alloc),
+            became: Refreshed::Lost,
+            heard: false,
+        })
     }
 
     /// A comment: nothing happens, and the next line finds the network as it is. No memory.
