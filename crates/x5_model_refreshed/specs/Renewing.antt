@@ -12,7 +12,7 @@ use Rattle.x5_model_run.specs.Holdings.{Copy, held_at, copy_at}
 use Rattle.x5_model_run.specs.History.{Refreshed, Point, knowledge_at, copy_as_of, copy_by, agreements_of, holdings_at}
 use Rattle.x5_model_run.specs.Refresh.{consumed_by}
 use Rattle.x5_model_refreshed.specs.Refreshed.{after_refresh}
-use Rattle.x5_model_refreshed.specs.Replaying.{IsLed, IsBrought}
+use Rattle.x5_model_refreshed.specs.Replaying.{IsLed}
 
 -- ---- where contexts and copies are
 
@@ -50,21 +50,19 @@ renewed p g m = record { held = copy_as_of p g (Some m); stamp = Some m; supplie
 -- 5. The copy by the agreement is as of the stamp, told by the line before,
 abbrev pub CopyIsRenewed : Type 0
 CopyIsRenewed =
-    (p : Point) (f : Refreshed) (sent : ℕ) (g : Agreement) → IsLed p → IsBrought p f
-    → In g (knowledge_at p).agreements → g.number ≡ f.agreement
+    (p : Point) (f : Refreshed) (sent : ℕ) (g : Agreement) → g.number ≡ f.agreement
     → copy_by (after_refresh p f sent) g ≡ renewed p g f.stamp
 
 -- 6. and the copies by other agreements are what they were.
 abbrev pub OtherCopiesStay : Type 0
 OtherCopiesStay =
-    (p : Point) (f : Refreshed) (sent : ℕ) (g : Agreement) → IsLed p
-    → In g (knowledge_at p).agreements → g.number ≢ f.agreement
+    (p : Point) (f : Refreshed) (sent : ℕ) (g : Agreement) → g.number ≢ f.agreement
     → copy_by (after_refresh p f sent) g ≡ copy_by p g
 
 -- 7. So the consumer holds what it held, but for the copy at its place,
 abbrev pub ConsumerIsRenewed : Type 0
 ConsumerIsRenewed =
-    (p : Point) (f : Refreshed) (sent : ℕ) (g : Agreement) (place : ℕ) (c : Copy) → IsLed p → IsBrought p f
+    (p : Point) (f : Refreshed) (sent : ℕ) (g : Agreement) (place : ℕ) (c : Copy) → IsLed p
     → In g (knowledge_at p).agreements → g.number ≡ f.agreement
     → slice_get (holdings_at p g.consumer).copies place ≡ Some c → key_of c.held.prefix ≡ key_of g.context
     → holdings_at (after_refresh p f sent) g.consumer
@@ -75,6 +73,6 @@ ConsumerIsRenewed =
 -- 8. and every other agent just what it held.
 abbrev pub OthersHoldOn : Type 0
 OthersHoldOn =
-    (p : Point) (f : Refreshed) (sent : ℕ) (g : Agreement) (a : ℕ) → IsLed p → IsBrought p f
+    (p : Point) (f : Refreshed) (sent : ℕ) (g : Agreement) (a : ℕ) → IsLed p
     → In g (knowledge_at p).agreements → g.number ≡ f.agreement → a ≢ g.consumer
     → holdings_at (after_refresh p f sent) a ≡ holdings_at p a
