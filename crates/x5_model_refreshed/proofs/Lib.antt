@@ -24,3 +24,4 @@ pub mod Placing
 pub mod Renewal
 pub mod Acked
 pub mod Sources
+pub mod Lying

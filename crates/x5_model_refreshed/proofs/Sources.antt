@@ -66,20 +66,18 @@ supplied_is_held p g led =
 all_held : (before : List Key) (cs : List Context) → Once (map (λ (c : Context). key_of c.prefix) cs) → ((c : Context) → In c cs → In (key_of c.prefix) before → ⊥)
     → held_contexts before cs ≡ cs
 all_held before [] once apart = refl
-all_held before (x ∷ cs) once apart = go (has same_key before (key_of x.prefix)) refl
+all_held before (x ∷ cs) once apart =
+    go (has same_key before (key_of x.prefix)) refl
+    (all_held (key_of x.prefix ∷ before) cs once.1
+    (λ c i j. elim (in_first (key_of c.prefix) (key_of x.prefix) before j) [
+      | inl s ↦ once.0 (subst (λ (y : Key). In y (map (λ (d : Context). key_of d.prefix) cs)) s (in_map (λ (d : Context). key_of d.prefix) c cs i))
+      | inr l ↦ apart c (there i) l
+    ]))
   where
-    rest : held_contexts (key_of x.prefix ∷ before) cs ≡ cs
-    rest =
-        all_held (key_of x.prefix ∷ before) cs once.1
-        (λ c i j. elim (in_first (key_of c.prefix) (key_of x.prefix) before j) [
-          | inl s ↦ once.0 (subst (λ (y : Key). In y (map (λ (d : Context). key_of d.prefix) cs)) s (in_map (λ (d : Context). key_of d.prefix) c cs i))
-          | inr l ↦ apart c (there i) l
-        ])
-
-    go : (b : Bool) → has same_key before (key_of x.prefix) ≡ b
+    go : (b : Bool) → has same_key before (key_of x.prefix) ≡ b → held_contexts (key_of x.prefix ∷ before) cs ≡ cs
         → (if b then held_contexts before cs else (x ∷ held_contexts (key_of x.prefix ∷ before) cs)) ≡ x ∷ cs
-    go true e = absurd (apart x here (of_has same_key key_decides (key_of x.prefix) before e))
-    go false e = ap (λ (ys : List Context). x ∷ ys) rest
+    go true e f = absurd (apart x here (of_has same_key key_decides (key_of x.prefix) before e))
+    go false e f = ap (λ (ys : List Context). x ∷ ys) f
 
 -- an agent's contexts are apart where all are
 abbrev pins_in : List (ℕ × Agent) → List Key
