@@ -1,13 +1,11 @@
 -- What suppliers know to be taken, after a refresh: the newest one counts where it was acknowledged.
-use Rattle.std.proofs.Common.{◌≡◌, ℕ, ◌==◌, ◌&&◌, Bool, true, false, cond, if◌then◌else◌, inl, inr, List, [], ◌∷◌, ◌++◌, map, refl, sym, ap, subst, ◌∙◌, Option, Some, None, slice_get}
+use Rattle.std.proofs.Common.{◌≡◌, ℕ, ◌==◌, ◌&&◌, Bool, true, false, cond, if◌then◌else◌, ◌++◌, map, refl, sym, ap, ◌∙◌, Option, Some}
 use Rattle.std.specs.Prelude.{slice_set}
 use Rattle.std.specs.List.{find}
 use Rattle.x5_model.specs.Words.{when}
-use Rattle.x5_model.specs.Members.{In}
-use Rattle.x5_model.proofs.Lists.{true_or_false}
 use Rattle.x5_model.proofs.Decide.{nat_same_decides, once_decides}
 use Rattle.x5_model_tree.specs.World.{Agreement}
-use Rattle.x5_model_run.specs.History.{Refreshed, Point, refreshes_of, stamp_of, acked}
+use Rattle.x5_model_run.specs.History.{Refreshed, refreshes_of, stamp_of, acked}
 use Rattle.x5_model_refreshed.specs.Refreshed.{after_refresh}
 use Rattle.x5_model_refreshed.specs.Acknowledging.{StampIsAcked, AckedAtPlace}
 use Rattle.x5_model_refreshed.proofs.Finding.{changed_at}

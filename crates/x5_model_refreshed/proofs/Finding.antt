@@ -1,10 +1,10 @@
 -- What is found in a list that is mapped or of which only some are kept; and a mapped list that changes at one place.
-use Rattle.std.proofs.Common.{◌≡◌, ℕ, zero, suc, Bool, true, false, cond, ◌&&◌, inl, inr, List, [], ◌∷◌, ◌++◌, map, refl, sym, ap, subst, ◌∙◌, Option, Some, None, slice_get}
+use Rattle.std.proofs.Common.{◌≡◌, ℕ, zero, suc, Bool, true, false, cond, ◌&&◌, List, [], ◌∷◌, ◌++◌, map, refl, sym, ap, subst, ◌∙◌, Option, Some, None, slice_get}
 use Rattle.std.specs.Prelude.{slice_set}
 use Rattle.std.specs.List.{filter, find}
 use Rattle.std.specs.Option.{option_map}
 use Rattle.x5_model.specs.Members.{In, Once, here, there}
-use Rattle.x5_model.proofs.Lists.{in_first, in_left, in_right, in_map, of_find, not_found}
+use Rattle.x5_model.proofs.Lists.{in_left, in_map, of_find, not_found}
 
 pub map_alike : {A B : Type 0} (f g : A → B) (xs : List A) → ((x : A) → In x xs → f x ≡ g x) → map f xs ≡ map g xs
 map_alike f g [] h = refl

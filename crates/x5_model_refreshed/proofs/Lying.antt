@@ -1,24 +1,24 @@
 -- Where pins lie doesn't change: at every moment the entry above a pin is in the same context, since knowledge is coherent at every
 -- line. So the references and NSSRs that go with a copy are the same at every moment.
-use Rattle.std.proofs.Common.{◌≡◌, ℕ, suc, ◌+◌, ◌-◌, ◌<◌, ◌==◌, Bool, true, false, not, ◌&&◌, inl, inr, List, [], ◌∷◌, ◌++◌, length, map, drop, refl, sym, ap, subst, ◌∙◌, arith, Option, Some, None}
-use Rattle.std.specs.List.{filter, find}
+use Rattle.std.proofs.Common.{◌≡◌, ℕ, ◌+◌, ◌-◌, ◌<◌, ◌==◌, Bool, not, ◌&&◌, inl, inr, List, [], ◌++◌, length, map, drop, refl, sym, ap, subst, ◌∙◌, arith, Option, Some, None}
+use Rattle.std.specs.List.{filter}
 use Rattle.x5_model.specs.Words.{in_option}
 use Rattle.x5_model.specs.Members.{In}
-use Rattle.x5_model.specs.Keys.{Key, same_key, parent}
+use Rattle.x5_model.specs.Keys.{Key, parent}
 use Rattle.x5_model.specs.Values.{Name, key_of}
 use Rattle.x5_model.specs.Entries.{Named}
 use Rattle.x5_model.proofs.Prefixes.{parent_length}
-use Rattle.x5_model.proofs.Lists.{in_map, of_map, of_find}
-use Rattle.x5_model_tree.specs.World.{Specific, Agent, Agreement, World}
+use Rattle.x5_model.proofs.Lists.{in_map, of_map}
+use Rattle.x5_model_tree.specs.World.{Specific, Agent, World}
 use Rattle.x5_model_tree.specs.Tree.{Tree, key_at, keys_of, is_there, part}
-use Rattle.x5_model_tree.specs.Masters.{Mastered, pin_of, numbered, agent_at, mastered, masters}
-use Rattle.x5_model_tree.specs.Conditions.{Masters, Conditions}
+use Rattle.x5_model_tree.specs.Masters.{Mastered, pin_of, agent_at, mastered, masters}
+use Rattle.x5_model_tree.specs.Conditions.{Masters}
 use Rattle.x5_model_tree.specs.Consistent.{IsConsistent}
 use Rattle.x5_model_tree.specs.Described.{IsDescribed}
 use Rattle.x5_model_tree.proofs.Exact.{conditions_hold}
 use Rattle.x5_model_tree.proofs.Longest.{IsLongest}
 use Rattle.x5_model_run.specs.Holdings.{Held}
-use Rattle.x5_model_run.specs.History.{Refreshed, Did, Point, tree_by, tree_of_moment, knowledge_at, as_of, references_below, sent_references, mastered_at, copy_as_of, copy_by, world_at}
+use Rattle.x5_model_run.specs.History.{Did, tree_by, tree_of_moment, sent_references, mastered_at, copy_as_of, copy_by, world_at}
 use Rattle.x5_model_theory.specs.Knowledge.{Knowledge, Area, IsEntry}
 use Rattle.x5_model_theory.specs.Described.{area_of, knowledge_of}
 use Rattle.x5_model_theory.specs.Coherent.{Coherent}
@@ -33,8 +33,7 @@ use Rattle.x5_model_updates.proofs.Trees.{tree_filled, of_part, entry_in_area, l
 use Rattle.x5_model_updates.proofs.Divided.{one_pin}
 use Rattle.x5_model_refreshed.specs.Steps.{replay}
 use Rattle.x5_model_refreshed.specs.Logs.{log_at, steps_later}
-use Rattle.x5_model_refreshed.specs.Replaying.{AllHappen, IsLed}
-use Rattle.x5_model_refreshed.specs.Renewing.{renewed}
+use Rattle.x5_model_refreshed.specs.Replaying.{AllHappen}
 use Rattle.x5_model_refreshed.specs.Supplying.{ReferencesStay, CopyAdvances}
 use Rattle.x5_model_refreshed.proofs.Refreshed.{copy_with}
 use Rattle.x5_model_refreshed.proofs.Copied.{earlier}

@@ -1,9 +1,8 @@
 -- Where an agent has its contexts and copies, over consistent knowledge: of two of one prefix the first counts, and there are no
 -- two.
-use Rattle.std.proofs.Common.{◌≡◌, ℕ, zero, suc, ◌<◌, ◌==◌, ◌&&◌, Bool, true, false, cond, if◌then◌else◌, nat_lt, inl, inr, List, [], ◌∷◌, ◌++◌, length, map, refl, sym, ap, subst, ◌∙◌, arith, Option, Some, None, slice_get}
-use Rattle.std.specs.List.{filter, find, flat_map}
+use Rattle.std.proofs.Common.{◌≡◌, ℕ, zero, suc, ◌<◌, ◌==◌, ◌&&◌, Bool, true, false, cond, if◌then◌else◌, nat_lt, inl, inr, List, [], ◌∷◌, length, map, refl, sym, ap, subst, ◌∙◌, arith, Option, Some, None, slice_get}
+use Rattle.std.specs.List.{filter, find}
 use Rattle.std.specs.Option.{is_some, option_map}
-use Rattle.std.proofs.lemmas.List.{map-append}
 use Rattle.x5_model.specs.Words.{has, in_option}
 use Rattle.x5_model.specs.Members.{In, Once, here, there}
 use Rattle.x5_model.specs.Keys.{Key, same_key}
@@ -12,22 +11,21 @@ use Rattle.x5_model.proofs.KeyLaws.{key_decides}
 use Rattle.x5_model.proofs.Lists.{both_true, true_or_false, in_first, in_map, in_flat, has_in, of_has, of_all, of_filter, of_find, not_found, once_map}
 use Rattle.x5_model.proofs.Decide.{nat_same_decides, less_decides, once_decides}
 use Rattle.x5_model_tree.specs.World.{Context, Agent, Agreement, World}
-use Rattle.x5_model_tree.specs.Masters.{Mastered, pin_of, numbered, agent_at, mastered, masters, is_consumer, held_contexts}
+use Rattle.x5_model_tree.specs.Masters.{numbered, agent_at, mastered, masters, is_consumer, held_contexts}
 use Rattle.x5_model_tree.specs.Described.{is_number, is_entry_name, is_agreement}
 use Rattle.x5_model_tree.specs.Conditions.{Masters, AgreementSupplies, Conditions}
 use Rattle.x5_model_tree.proofs.Exact.{conditions_hold, masters_decides}
 use Rattle.x5_model_tree.proofs.Gives.{owner_of}
-use Rattle.x5_model_run.specs.Holdings.{Held, Copy, Holdings, held_at, copy_at}
+use Rattle.x5_model_run.specs.Holdings.{Held, Copy, held_at, copy_at}
 use Rattle.x5_model_run.specs.History.{Point, knowledge_at, tree_at, own_context, copy_by, first_agreements, agreements_of, agent_holdings, no_holdings, holdings_at}
 use Rattle.x5_model_run.specs.Refresh.{consumed_by}
 use Rattle.x5_model_theory.proofs.Places.{at_agent}
 use Rattle.x5_model_theory.proofs.Views.{at_place}
 use Rattle.x5_model_theory.proofs.Holding.{of_place, copy_key}
-use Rattle.x5_model_theory.proofs.Cohering.{map_map}
 use Rattle.x5_model_updates.specs.Standing.{StandsWhole}
 use Rattle.x5_model_refreshed.specs.Replaying.{IsLed}
 use Rattle.x5_model_refreshed.specs.Renewing.{OwnAreMastered, CopiesAreConsumed, ConsumersHaveCopies, CopiesHavePlaces}
-use Rattle.x5_model_refreshed.proofs.Finding.{find_map, find_alike, find_kept, get_in, get_map, once_left, once_right}
+use Rattle.x5_model_refreshed.proofs.Finding.{find_map, find_alike, find_kept, get_in, get_map}
 use Rattle.x5_model_refreshed.proofs.Leading.{stands}
 use Rattle.x5_model_refreshed.proofs.Supplying.{some_agreement}
 use Rattle.x5_model_refreshed.proofs.Bringing.{by_it}

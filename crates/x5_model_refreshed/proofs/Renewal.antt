@@ -1,5 +1,5 @@
 -- What agents hold after a refresh: the tree of each moment stays, so only the copy whose stamp changes does.
-use Rattle.std.proofs.Common.{◌≡◌, ◌≢◌, ℕ, suc, ◌-◌, ◌≤◌, ◌<◌, ◌==◌, Bool, true, false, nat_lt, inl, inr, List, [], ◌∷◌, length, map, drop, refl, sym, ap, subst, ◌∙◌, arith, Option, Some, None, slice_get}
+use Rattle.std.proofs.Common.{◌≡◌, ◌≢◌, ℕ, ◌-◌, ◌≤◌, ◌<◌, ◌==◌, nat_lt, inl, inr, List, [], ◌∷◌, length, map, drop, refl, sym, ap, subst, ◌∙◌, arith, Option, Some, None, slice_get}
 use Rattle.std.specs.Prelude.{slice_set}
 use Rattle.std.specs.List.{filter}
 use Rattle.x5_model.specs.Words.{in_option}
@@ -16,7 +16,7 @@ use Rattle.x5_model_refreshed.specs.Refreshed.{after_refresh}
 use Rattle.x5_model_refreshed.specs.Replaying.{IsLed}
 use Rattle.x5_model_refreshed.specs.Renewing.{renewed, CopyIsRenewed, OtherCopiesStay, ConsumerIsRenewed, OthersHoldOn}
 use Rattle.x5_model_refreshed.proofs.Listing.{not_less}
-use Rattle.x5_model_refreshed.proofs.Leading.{tree_before, tree_now}
+use Rattle.x5_model_refreshed.proofs.Leading.{tree_before}
 use Rattle.x5_model_refreshed.proofs.Refreshed.{copy_with, copy_is_stamped, other_stamps_stay}
 use Rattle.x5_model_refreshed.proofs.Finding.{map_alike, changed_at}
 use Rattle.x5_model_refreshed.proofs.Placing.{of_consumer, context_key, once_agreements, one_number, place_of}

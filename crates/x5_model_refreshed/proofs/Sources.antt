@@ -1,50 +1,30 @@
 -- What a copy becomes by a refresh, from what its supplier holds. Its references and NSSRs are the same at every moment: the entry
 -- above a pin stays where it is, since knowledge is coherent at every line.
-use Rattle.std.proofs.Common.{◌≡◌, ℕ, suc, ◌+◌, ◌-◌, ◌<◌, ◌==◌, Bool, true, false, not, ◌&&◌, if◌then◌else◌, inl, inr, List, [], ◌∷◌, ◌++◌, length, map, drop, refl, sym, ap, subst, ◌∙◌, arith, Option, Some, None}
-use Rattle.std.specs.List.{filter, find, flat_map}
-use Rattle.std.specs.Option.{is_some, option_map}
+use Rattle.std.proofs.Common.{◌≡◌, ℕ, ◌+◌, ◌-◌, ◌==◌, Bool, true, false, if◌then◌else◌, inl, inr, List, [], ◌∷◌, ◌++◌, length, map, drop, refl, sym, ap, subst, ◌∙◌, arith, Option, Some, None}
+use Rattle.std.specs.List.{flat_map}
+use Rattle.std.specs.Option.{option_map}
 use Rattle.std.proofs.lemmas.List.{map-append}
 use Rattle.x5_model.specs.Words.{has, in_option}
 use Rattle.x5_model.specs.Members.{In, Once, here, there}
-use Rattle.x5_model.specs.Keys.{Key, same_key, parent}
-use Rattle.x5_model.specs.Values.{Name, key_of}
+use Rattle.x5_model.specs.Keys.{Key, same_key}
+use Rattle.x5_model.specs.Values.{key_of}
 use Rattle.x5_model.specs.Entries.{Named}
 use Rattle.x5_model.proofs.KeyLaws.{key_decides}
-use Rattle.x5_model.proofs.Prefixes.{parent_length}
-use Rattle.x5_model.proofs.Lists.{both_true, true_or_false, in_first, in_map, of_map, of_has, of_find, once_map}
-use Rattle.x5_model_tree.specs.World.{Specific, Context, Agent, Agreement, World}
-use Rattle.x5_model_tree.specs.Tree.{Tree, key_at, keys_of, is_there, part}
-use Rattle.x5_model_tree.specs.Masters.{Mastered, pin_of, numbered, agent_at, mastered, masters, pins, is_consumer, held_contexts}
-use Rattle.x5_model_tree.proofs.Longest.{IsLongest}
+use Rattle.x5_model.proofs.Lists.{both_true, in_first, in_map, of_has, of_find, once_map}
+use Rattle.x5_model_tree.specs.World.{Context, Agent, Agreement, World}
+use Rattle.x5_model_tree.specs.Tree.{part}
+use Rattle.x5_model_tree.specs.Masters.{Mastered, pin_of, numbered, agent_at, mastered, is_consumer, held_contexts}
 use Rattle.x5_model_run.specs.Holdings.{Held, Copy, held_at, copy_at}
-use Rattle.x5_model_run.specs.History.{Refreshed, Did, Point, moment_of, tree_by, tree_at, tree_of_moment, knowledge_at, as_of, references_below, own_context, sent_references, mastered_at, copy_as_of, copy_by, agent_holdings, no_holdings, holdings_at, world_at}
-use Rattle.x5_model_run.specs.Refresh.{consumed_by, supplied}
-use Rattle.x5_model_theory.specs.Knowledge.{Knowledge, Area, IsEntry}
-use Rattle.x5_model_theory.specs.Described.{area_of, knowledge_of}
-use Rattle.x5_model_theory.specs.Coherent.{Coherent}
-use Rattle.x5_model_theory.specs.Changing.{holding, with_entries}
+use Rattle.x5_model_run.specs.History.{Point, moment_of, tree_by, tree_at, tree_of_moment, knowledge_at, as_of, references_below, own_context, sent_references, mastered_at, copy_as_of, copy_by, agent_holdings, no_holdings, holdings_at}
+use Rattle.x5_model_run.specs.Refresh.{consumed_by}
 use Rattle.x5_model_theory.proofs.Places.{at_agent}
-use Rattle.x5_model_theory.proofs.Views.{there_decides}
 use Rattle.x5_model_theory.proofs.Holding.{of_place, own_is}
 use Rattle.x5_model_theory.proofs.Cohering.{map_map}
-use Rattle.x5_model_updates.specs.Standing.{IsTreeOf, StandsWhole}
-use Rattle.x5_model_updates.specs.Keeping.{keys_in}
-use Rattle.x5_model_updates.proofs.Lookups.{agree}
-use Rattle.x5_model_updates.proofs.Moments.{with_tree, world_is, knowledge_now}
-use Rattle.x5_model_updates.proofs.Trees.{tree_filled, of_part, entry_in_area, longest_own}
-use Rattle.x5_model_updates.proofs.Divided.{one_pin}
-use Rattle.x5_model_refreshed.specs.Steps.{replay}
-use Rattle.x5_model_refreshed.specs.Logs.{log_at, steps_later}
-use Rattle.x5_model_refreshed.specs.Replaying.{AllHappen, IsLed}
-use Rattle.x5_model_refreshed.specs.Renewing.{renewed}
-use Rattle.x5_model_refreshed.specs.Supplying.{SuppliedIsHeld, IsFromMaster, MasterSupplies, ConsumerSupplies, ReferencesStay, CopyAdvances}
+use Rattle.x5_model_refreshed.specs.Replaying.{IsLed}
+use Rattle.x5_model_refreshed.specs.Supplying.{SuppliedIsHeld, IsFromMaster, MasterSupplies, ConsumerSupplies}
 use Rattle.x5_model_refreshed.proofs.Refreshed.{copy_with, spelled}
-use Rattle.x5_model_refreshed.proofs.Copied.{earlier}
-use Rattle.x5_model_refreshed.proofs.Leading.{at_line, knowledge_stays, stands, pins_stay, tree_now}
-use Rattle.x5_model_refreshed.proofs.Bringing.{refresh_replays}
-use Rattle.x5_model_refreshed.proofs.Finding.{filter_alike, find_only, once_left, once_right}
+use Rattle.x5_model_refreshed.proofs.Finding.{find_only, once_left, once_right}
 use Rattle.x5_model_refreshed.proofs.Placing.{is_placed, conditions, own_so, copies_so}
-use Rattle.x5_model_refreshed.proofs.Renewal.{copy_is_renewed}
 
 -- ---- the moment that is supplied
 
