@@ -13,3 +13,4 @@ pub mod Changing
 pub mod Worlds
 pub mod Beginning
 pub mod Unstamped
+pub mod Later

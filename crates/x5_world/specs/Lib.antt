@@ -8,3 +8,4 @@ pub mod Arrivals
 pub mod Laws
 pub mod Users
 pub mod Refreshes
+pub mod Renewed
