@@ -13,4 +13,3 @@ pub mod Changing
 pub mod Worlds
 pub mod Beginning
 pub mod Unstamped
-pub mod Later

@@ -8,4 +8,3 @@ pub mod Arrivals
 pub mod Laws
 pub mod Users
 pub mod Refreshes
-pub mod Renewed

@@ -11,10 +11,8 @@ mod journal;
 mod links;
 mod naming;
 mod refreshment;
-mod renewal;
 mod stamps;
 mod world;
 
 pub use refreshment::Refreshment;
-pub use renewal::taking;
 pub use world::World;
