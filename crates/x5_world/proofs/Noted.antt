@@ -42,8 +42,8 @@ step_told c (RemoveEntry name) (steps.Add e) w = absurd w
 step_told c (RemoveEntry name) (steps.Modify e) w = absurd w
 step_told c (RemoveEntry name) (steps.Rename n e) w = absurd w
 step_told c (ModifyEntry name changes) (steps.Modify e) w =
-    ap (in_option None (λ (old : Named). modify_step old (modified (last_rdn name) changes old.entry))) w.2.0
-    ∙ ap (modify_step w.0) w.2.1.0 ∙ ap (λ (x : Named). Some (Modify x)) (sym w.2.1.1)
+    ap (in_option None (λ (old : Named). modify_step old (modified (last_rdn name) changes old.entry))) w.2
+    ∙ ap (modify_step w.0) w.3 ∙ ap (λ (x : Named). Some (Modify x)) (sym w.4)
 step_told c (ModifyEntry name changes) (steps.Add e) w = absurd w
 step_told c (ModifyEntry name changes) (steps.Remove n) w = absurd w
 step_told c (ModifyEntry name changes) (steps.Rename n e) w = absurd w
@@ -52,7 +52,7 @@ step_told c (ModifyDn name rdn drops) (steps.Rename n e) w =
       name = name_after name rdn old;
       entry = renamed (last_rdn name) rdn drops old.entry;
     }))) w.1
-    ∙ (λ i. Some (Rename (sym w.2.0 i) (sym w.2.1 i)))
+    ∙ (λ i. Some (Rename (sym w.2 i) (sym w.3 i)))
 step_told c (ModifyDn name rdn drops) (steps.Add e) w = absurd w
 step_told c (ModifyDn name rdn drops) (steps.Remove n) w = absurd w
 step_told c (ModifyDn name rdn drops) (steps.Modify e) w = absurd w
