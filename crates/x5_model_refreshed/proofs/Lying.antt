@@ -142,9 +142,9 @@ module _ (w : World) (described : IsDescribed w) (consistent : IsConsistent w) (
         ap (filter (λ (r : Specific). not (masters w c.master (key_of r.pin))))
         (filter_alike (below (entries n)) (below (entries m)) a.subordinate
         (λ r i.
-            let right = ((conditions_hold w consistent).references (c.master, a) (of_place w c.master a e)).0 r i in
-            let named : Masters w r.access.master (key_of r.pin) = right.0 in
-            subst (λ (x : Key). is_there (entries n) (parent x) ≡ is_there (entries m) (parent x)) named.2.1 (above_so m n q named.0 named.1)))
+        let right = ((conditions_hold w consistent).references (c.master, a) (of_place w c.master a e)).0 r i in
+        let named : Masters w r.access.master (key_of r.pin) = right.0 in
+        subst (λ (x : Key). is_there (entries n) (parent x) ≡ is_there (entries m) (parent x)) named.2.1 (above_so m n q named.0 named.1)))
 
     pub sent_so : sent_references w c (entries n) ≡ sent_references w c (entries m)
     sent_so =

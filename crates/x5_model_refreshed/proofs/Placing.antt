@@ -211,9 +211,9 @@ module _ (p : Point) (led : IsLed p) where
       found b e None q =
           none (masters k a pin) refl
           (λ t.
-              let v = mastered_there a pin t in
-              let same : v.0 ≡ b = same_agent v.0 b (sym v.1 ∙ e) in
-              not_both (of_pin pin v.2.0) (not_found (of_pin pin) v.2.0 b.contexts q (subst (λ (x : Agent). In v.2.0 x.contexts) same v.2.1)) ((key_decides (key_of v.2.0.prefix) pin).1 v.2.2))
+          let v = mastered_there a pin t in
+          let same : v.0 ≡ b = same_agent v.0 b (sym v.1 ∙ e) in
+          not_both (of_pin pin v.2.0) (not_found (of_pin pin) v.2.0 b.contexts q (subst (λ (x : Agent). In v.2.0 x.contexts) same v.2.1)) ((key_decides (key_of v.2.0.prefix) pin).1 v.2.2))
       found b e (Some c) q =
           let v = of_find (of_pin pin) c b.contexts q in
           (masters_decides k a pin).1 (at_agent a c, is_placed a b c e v.0, (refl, (key_decides (key_of c.prefix) pin).0 v.1))

@@ -87,8 +87,8 @@ module _ (p : Point) (f : Refreshed) (sent : ℕ) where
         go : (o : Option Agent) → slice_get (in_option (no_holdings g.consumer) (agent_holdings p g.consumer) o).copies place ≡ Some c
             → in_option (no_holdings g.consumer) (agent_holdings next g.consumer) o
             ≡ record (in_option (no_holdings g.consumer) (agent_holdings p g.consumer) o) {
-                copies = slice_set (in_option (no_holdings g.consumer) (agent_holdings p g.consumer) o).copies place (renewed p g f.stamp);
-              }
+              copies = slice_set (in_option (no_holdings g.consumer) (agent_holdings p g.consumer) o).copies place (renewed p g f.stamp);
+            }
         go None q = cc
         go (Some b) q = ap (with_copies b g.consumer) copies
 

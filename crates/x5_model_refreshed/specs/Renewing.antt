@@ -67,8 +67,8 @@ ConsumerIsRenewed =
     → slice_get (holdings_at p g.consumer).copies place ≡ Some c → key_of c.held.prefix ≡ key_of g.context
     → holdings_at (after_refresh p f sent) g.consumer
     ≡ record (holdings_at p g.consumer) {
-        copies = slice_set (holdings_at p g.consumer).copies place (renewed p g f.stamp);
-      }
+      copies = slice_set (holdings_at p g.consumer).copies place (renewed p g f.stamp);
+    }
 
 -- 8. and every other agent just what it held.
 abbrev pub OthersHoldOn : Type 0

@@ -66,9 +66,9 @@ CopyAdvances =
     (p : Point) (f : Refreshed) (g : Agreement) (m : ℕ) → IsLed p → IsBrought p f → f.total ≡ false
     → In g (knowledge_at p).agreements → g.number ≡ f.agreement → as_of p g.number ≡ Some m
     → renewed p g f.stamp ≡ record {
-        held = record (copy_by p g).held {
-          entries = replay (steps_later m (log_at p g.supplier (key_of g.context))) (copy_by p g).held.entries;
-        };
-        stamp = Some f.stamp;
-        supplier = g.supplier;
-      }
+      held = record (copy_by p g).held {
+        entries = replay (steps_later m (log_at p g.supplier (key_of g.context))) (copy_by p g).held.entries;
+      };
+      stamp = Some f.stamp;
+      supplier = g.supplier;
+    }
