@@ -68,9 +68,6 @@ uncommitted s t own room = record {
   copies = ap (λ (x : State). x.copies) room.new_is;
 }
 
-pub still_uncommitted : (s : State) → IsUncommitted s s
-still_uncommitted s = record { holdings = refl; bases = refl; changes = refl; copies = refl }
-
 module _ (s : State) (r : Request) (key : Key) (own : ℕ) (id : NodeId) (is : IsSeat s r key own id) where
   -- the target isn't the root
   pub full : 0 < length key
