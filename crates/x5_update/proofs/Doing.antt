@@ -1,5 +1,5 @@
 -- Once its plan is carried out the agent holds what is committed of an update.
-use Rattle.std.proofs.Common.{◌≡◌, ℕ, zero, suc, ◌<◌, ◌≤◌, ◌∷◌, ◌++◌, [], List, map, length, refl, sym, ap, subst, ◌∙◌, arith, Some, Result, Ok, Err, slice_set, if◌then◌else◌}
+use Rattle.std.proofs.Common.{◌≡◌, ℕ, zero, suc, ◌<◌, ◌≤◌, ◌∷◌, ◌++◌, [], List, map, length, sym, ap, subst, ◌∙◌, arith, Some, Result, Ok, Err, slice_set, if◌then◌else◌}
 use Rattle.std.specs.Prelude.{OnErr, slice_get, nat_lt}
 use Rattle.x5_model.specs.Words.{first_of, in_option}
 use Rattle.x5_model.specs.Keys.{Key}
