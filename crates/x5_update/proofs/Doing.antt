@@ -1,5 +1,5 @@
 -- Once its plan is carried out the agent holds what is committed of an update.
-use Rattle.std.proofs.Common.{◌≡◌, ℕ, zero, suc, ◌<◌, ◌≤◌, ◌∷◌, ◌++◌, [], List, map, length, refl, sym, ap, subst, ◌∙◌, arith, Some, Result, Ok, Err, slice_set, if◌then◌else◌}
+use Rattle.std.proofs.Common.{◌≡◌, ℕ, zero, suc, ◌<◌, ◌≤◌, ◌∷◌, ◌++◌, [], List, map, length, sym, ap, subst, ◌∙◌, arith, Some, Result, Ok, Err, slice_set, if◌then◌else◌}
 use Rattle.std.specs.Prelude.{OnErr, slice_get, nat_lt}
 use Rattle.x5_model.specs.Words.{first_of, in_option}
 use Rattle.x5_model.specs.Keys.{Key}
@@ -67,9 +67,6 @@ uncommitted s t own room = record {
       ∙ set_same (λ (c : Kept). c.log.changes) s.own own room.before room.after room.was room.changed.changes;
   copies = ap (λ (x : State). x.copies) room.new_is;
 }
-
-pub still_uncommitted : (s : State) → IsUncommitted s s
-still_uncommitted s = record { holdings = refl; bases = refl; changes = refl; copies = refl }
 
 module _ (s : State) (r : Request) (key : Key) (own : ℕ) (id : NodeId) (is : IsSeat s r key own id) where
   -- the target isn't the root

@@ -9,7 +9,7 @@ use Rattle.x5_holdings.specs.Placed.{IsOwnChanged}
 use Rattle.x5_holdings.specs.State.{State, holdings_view}
 use Rattle.x5_holdings.proofs.Holding.{some_within}
 use Rattle.x5_update.specs.Seats.{IsSeat}
-use Rattle.x5_update.proofs.Doing.{committed_so, on_err, ready_so, room_so, roomy, still_uncommitted, uncommitted}
+use Rattle.x5_update.proofs.Doing.{committed_so, on_err, ready_so, room_so, roomy, uncommitted}
 use Rattle.x5_update.proofs.Placing.{target_of_due}
 use Rattle.x5_update.proofs.Probing.{target_is}
 use Rattle.x5_update.proofs.committing.commit.Goals as goal
@@ -22,9 +22,6 @@ pub passed-requires-clause-seat : goal.passed-requires-clause-seat
 passed-requires-clause-seat c =
     subst (λ (k : Key). IsSeat c.args.state.now (request_view c.args.message.now.request) k c.place_of-place.result.own c.place_of-place.result.node)
     (sym (target_is (chained_view c.requires.0 c.args.message.now) c.requires.1.due.fit)) c.place_of-place.ensures
-
-pub returns-in_err-passed-clause-err : goal.returns-in_err-passed-clause-err
-returns-in_err-passed-clause-err c = on_err c.from_residual-in_err-passed.result (still_uncommitted c.args.state.now)
 
 pub make_room-requires : goal.make_room-requires
 make_room-requires c =
