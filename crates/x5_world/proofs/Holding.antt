@@ -29,7 +29,7 @@ use Rattle.x5_serve.specs.declared.network.Found.{Found}
 use Rattle.x5_serve.specs.declared.network.Verdict.TheVariants.{Passed}
 use Rattle.x5_update.specs.Judging as judging
 use Rattle.x5_model_refreshed.specs.Steps.{step_of}
-use Rattle.x5_world.specs.Logs.{AreNoted, Logs, NotedWhere, no_logs}
+use Rattle.x5_world.specs.Logs.{AreNoted, Logs, no_logs}
 use Rattle.x5_world.specs.State.{Net, HasShortNames, holdings_in, logs_in}
 use Rattle.x5_world.specs.Sent.{IsChanged, IsCommittedAt, IsUnderWay, held_since, journal_of, line_view, scene_of}
 use Rattle.x5_world.specs.declared.journal.Sent.{Sent}
@@ -199,34 +199,41 @@ module _ (n now new : Net) (r q : Request) (accepted : List ℕ) (me : ℕ) (c :
   ]
 
   -- and has noted it, where all others have the logs that they had
-  abbrev Notes : Bool → ℕ → Logs → Type 0
-  Notes b a new_logs = NotedWhere b (n.line + 1) r (holdings_in n a) (logs_in n a) new_logs
+  abbrev AreNotedBy : ℕ → Logs → Type 0
+  AreNotedBy a new_logs = AreNoted (n.line + 1) r (holdings_in n a) (logs_in n a) new_logs
 
-  notes_at_me : Notes (has ◌==◌ (accepted ++ me ∷ []) me) me (logs_in new me)
-  notes_at_me =
-      let same : logs_in now me ≡ logs_in n me = subst (λ (b : Bool). Notes b me (logs_in now me)) fresh (c.notes me) in
+  it_has : has ◌==◌ (accepted ++ me ∷ []) me ≡ true
+  it_has = more me ∙ ap (λ (b : Bool). has ◌==◌ accepted me || b) (itself me) ∙ or_true (has ◌==◌ accepted me)
+
+  others_have : (a : ℕ) → (me == a) ≡ false → has ◌==◌ (accepted ++ me ∷ []) a ≡ has ◌==◌ accepted a
+  others_have a f = more a ∙ ap (λ (b : Bool). has ◌==◌ accepted a || b) f ∙ or_none (has ◌==◌ accepted a)
+
+  noted_at_me : AreNotedBy me (logs_in new me)
+  noted_at_me =
+      let same : logs_in now me ≡ logs_in n me = c.others me fresh in
       let line : now.line ≡ n.line = ap (λ (x : Net). x.line) c.rest in
-      let noted : AreNoted (n.line + 1) r (holdings_in n me) (logs_in n me) (logs_in new me) =
       noted_alike (n.line + 1) r q (holdings_in n me) (logs_in n me) (logs_in new me) alike
       (subst (λ (k : ℕ). AreNoted (k + 1) q (holdings_in n me) (logs_in n me) (logs_in new me)) line
       (subst (λ (h : Holdings). AreNoted (now.line + 1) q h (logs_in n me) (logs_in new me)) before
-      (subst (λ (l : Logs). AreNoted (now.line + 1) q (holdings_in now me) l (logs_in new me)) same is.noted))) in
-      subst (λ (b : Bool). Notes b me (logs_in new me))
-      (sym (more me ∙ ap (λ (b : Bool). has ◌==◌ accepted me || b) (itself me) ∙ or_true (has ◌==◌ accepted me))) noted
+      (subst (λ (l : Logs). AreNoted (now.line + 1) q (holdings_in now me) l (logs_in new me)) same is.noted)))
 
-  notes_at_other : (a : ℕ) → (me == a) ≡ false → Notes (has ◌==◌ (accepted ++ me ∷ []) a) a (logs_in new a)
-  notes_at_other a f =
-      let same : logs_in new a ≡ logs_in now a =
+  logs_at_other : (a : ℕ) → (me == a) ≡ false → logs_in new a ≡ logs_in now a
+  logs_at_other a f =
       ap (λ (ls : List Logs). in_option no_logs (λ (l : Logs). l) (slice_get ls a)) is.logs
-      ∙ ap (in_option no_logs (λ (l : Logs). l)) (set_there now.logs me a (logs_in new me) (apart me a f)) in
-      subst (λ (b : Bool). Notes b a (logs_in new a))
-      (sym (more a ∙ ap (λ (b : Bool). has ◌==◌ accepted a || b) f ∙ or_none (has ◌==◌ accepted a)))
-      (subst (λ (l : Logs). Notes (has ◌==◌ accepted a) a l) (sym same) (c.notes a))
+      ∙ ap (in_option no_logs (λ (l : Logs). l)) (set_there now.logs me a (logs_in new me) (apart me a f))
 
-  notes_at_each : (a : ℕ) → Notes (has ◌==◌ (accepted ++ me ∷ []) a) a (logs_in new a)
-  notes_at_each a = elim (same_or_not me a) [
-    | inl e ↦ subst (λ (b : ℕ). Notes (has ◌==◌ (accepted ++ me ∷ []) b) b (logs_in new b)) e notes_at_me
-    | inr f ↦ notes_at_other a f
+  noted_at_each : (a : ℕ) → has ◌==◌ (accepted ++ me ∷ []) a ≡ true → ∥ AreNotedBy a (logs_in new a) ∥₁
+  noted_at_each a h = elim (same_or_not me a) [
+    | inl e ↦ subst (λ (b : ℕ). ∥ AreNotedBy b (logs_in new b) ∥₁) e ∣ noted_at_me ∣₁
+    | inr f ↦
+        subst (λ (l : Logs). ∥ AreNotedBy a l ∥₁) (sym (logs_at_other a f)) (c.notes a (sym (others_have a f) ∙ h))
+  ]
+
+  logs_at_each : (a : ℕ) → has ◌==◌ (accepted ++ me ∷ []) a ≡ false → logs_in new a ≡ logs_in n a
+  logs_at_each a h = elim (same_or_not me a) [
+    | inl e ↦
+        absurd (false_true (sym h ∙ subst (λ (b : ℕ). has ◌==◌ (accepted ++ me ∷ []) b ≡ true) e it_has))
+    | inr f ↦ logs_at_other a f ∙ c.others a (sym (others_have a f) ∙ h)
   ]
 
   pub one_more_changed : IsChanged n new r (accepted ++ me ∷ [])
@@ -236,7 +243,8 @@ module _ (n now new : Net) (r q : Request) (accepted : List ℕ) (me : ℕ) (c :
     kept = ap length is.logs ∙ as_many now.logs me (logs_in new me) ∙ c.kept;
     holds = λ a. ap (λ (hs : List Holdings). in_option (no_holdings a) (λ (h : Holdings). h) (slice_get hs a)) is.agents
         ∙ at_each a;
-    notes = notes_at_each;
+    notes = noted_at_each;
+    others = logs_at_each;
   }
 
 -- ---- names of 16 RDNs at most

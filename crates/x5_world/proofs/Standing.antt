@@ -30,7 +30,7 @@ use Rattle.x5_model_settled.proofs.Settled.{lines_are_right}
 use Rattle.x5_model_refreshed.specs.Growing.{IsQuiet}
 use Rattle.x5_model_refreshed.proofs.Running.{did_happen}
 use Rattle.x5_model_settled.proofs.Stamped.{stamped_after}
-use Rattle.x5_world.specs.Logs.{Logs, NotedWhere}
+use Rattle.x5_world.specs.Logs.{AreNoted, Logs}
 use Rattle.x5_world.specs.State.{Net, StandsAt, HasShortNames, after, holdings_in, logs_in}
 use Rattle.x5_world.specs.Sent.{held_since, scene_of}
 use Rattle.x5_world.proofs.Keeping.{logs_stay}
@@ -171,8 +171,9 @@ pub record IsAfter (old new : Net) (r : Request) (accepted : List ℕ) (count : 
   pub agreements : new.agreements ≡ old.agreements
   pub acked : new.acked ≡ old.acked
   pub line : new.line ≡ old.line + 1
-  pub notes : (a : ℕ)
-      → NotedWhere (has ◌==◌ accepted a) (old.line + 1) r (holdings_in old a) (logs_in old a) (logs_in new a)
+  pub notes : (a : ℕ) → has ◌==◌ accepted a ≡ true
+      → ∥ AreNoted (old.line + 1) r (holdings_in old a) (logs_in old a) (logs_in new a) ∥₁
+  pub others : (a : ℕ) → has ◌==◌ accepted a ≡ false → logs_in new a ≡ logs_in old a
 
 at_agent : (agents : List Agent) (a : ℕ) → a < length agents → (x : Agent) × (slice_get agents a ≡ Some x)
 at_agent [] a l = absurd (omega (arith, l))
@@ -224,6 +225,6 @@ after_request old new p first r j reply accepted s there short asked same q = re
     did_happen p (Asks first r) (Replies j reply) (right old p first r j reply s there short asked consistent),
     s.happened consistent,
   );
-  logs = λ consistent a. logs_after old new p r s consistent accepted q.notes j.accepted (length j.lines)
+  logs = λ consistent a. logs_after old new p r s consistent accepted q.notes q.others j.accepted (length j.lines)
       (right old p first r j reply s there short asked consistent).accepts.one same a;
 }

@@ -1,6 +1,6 @@
 -- A user's request from its first message to its reply is one of the three of the relation: the message is lost, the reply
 -- is lost, or he has the reply.
-use Rattle.std.proofs.Common.{◌≡◌, ℕ, ◌+◌, ◌<◌, ◌≤◌, true, List, [], length, refl, sym, ap, subst, ◌∙◌, arith, None}
+use Rattle.std.proofs.Common.{◌≡◌, ℕ, ◌+◌, ◌<◌, ◌≤◌, true, false, List, [], length, refl, sym, ap, subst, ◌∙◌, arith, None}
 use Rattle.x5_model.specs.References.{Chained}
 use Rattle.x5_model.specs.Requests.{Request}
 use Rattle.x5_model.specs.Answers.{Reply}
@@ -16,6 +16,9 @@ use Rattle.x5_model_run.specs.Holdings.{Holdings}
 use Rattle.x5_world.specs.State.{Net, HasShortNames, holdings_in, logs_in}
 use Rattle.x5_world.specs.Sent.{IsChanged, IsNet, IsUnderWay}
 
+nobody_yet : false ≡ true → ⊥
+nobody_yet e = cc
+
 -- before its first message
 pub begun : (n now : Net) (first most : ℕ) (r : Request) (m : Chained) → now ≡ n → m ≡ opening r → IsNet n
     → first < length n.names → HasShortNames r.body → n.sent + most ≤ 18446744073709551615
@@ -29,7 +32,8 @@ begun n now first most r m same e net there short room =
         count = ap (λ (x : Net). length x.agents) same;
         kept = ap (λ (x : Net). length x.logs) same;
         holds = λ a. ap (λ (x : Net). holdings_in x a) same;
-        notes = λ a. ap (λ (x : Net). logs_in x a) same;
+        notes = λ a h. absurd (nobody_yet h);
+        others = λ a h. ap (λ (x : Net). logs_in x a) same;
       };
       there = there;
       short = short;

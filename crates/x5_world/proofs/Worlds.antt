@@ -19,7 +19,7 @@ use Rattle.x5_ops.specs.declared.answers.Reply.{Reply}
 use Rattle.x5_ops.specs.declared.journal.Journal.{Journal}
 use Rattle.x5_world.specs.Answered.{IsAnswered}
 use Rattle.x5_model.specs.Words.{has}
-use Rattle.x5_world.specs.Logs.{Logs, NotedWhere}
+use Rattle.x5_world.specs.Logs.{AreNoted, Logs}
 use Rattle.x5_world.specs.State.{Net, StandsAt, HasRoom, HasShortNames, holdings_in, logs_in}
 use Rattle.x5_world.specs.Sent.{IsChanged, line_view, journal_of, scene_of}
 use Rattle.x5_world.specs.declared.journal.Sent.{Sent}
@@ -93,8 +93,9 @@ is_after old mid inside r accepted count many changed same e = record {
   agreements = ap (λ (n : Net). n.agreements) (same ∙ changed.rest);
   acked = ap (λ (n : Net). n.acked) (same ∙ changed.rest);
   line = ap (λ (n : Net). n.line + 1) (same ∙ changed.rest);
-  notes = λ a. subst (λ (l : Logs). NotedWhere (has ◌==◌ accepted a) (old.line + 1) r (holdings_in old a) (logs_in old a) l)
-      (sym (ap (λ (n : Net). logs_in n a) same)) (changed.notes a);
+  notes = λ a h. subst (λ (l : Logs). ∥ AreNoted (old.line + 1) r (holdings_in old a) (logs_in old a) l ∥₁)
+      (sym (ap (λ (n : Net). logs_in n a) same)) (changed.notes a h);
+  others = λ a h. ap (λ (n : Net). logs_in n a) same ∙ changed.others a h;
 }
 
 pub answered : (old new : Net) (p : Point) (first most : ℕ) (r : Request) (lines : List Sent) (accepted : List ℕ)
@@ -130,5 +131,6 @@ answered old new p first most r lines accepted reply journal asked limit printed
             acked = q.acked;
             line = q.line;
             notes = q.notes;
+            others = q.others;
           });
     }

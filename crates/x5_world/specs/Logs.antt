@@ -1,7 +1,7 @@
 -- What agents keep of the changes of the contexts that they hold, as steps with their moments (X.525, section 9:
 -- incremental refreshes bring the changes since the last update): at a line of a run over consistent knowledge, and once
 -- an update was accepted.
-use Rattle.std.specs.Prelude.{◌≡◌, ℕ, ◌-◌, Bool, true, false, nat_lt, if◌then◌else◌, List, [], ◌∷◌, ◌++◌, length, map}
+use Rattle.std.specs.Prelude.{◌≡◌, ℕ, ◌-◌, nat_lt, if◌then◌else◌, List, [], ◌∷◌, ◌++◌, length, map}
 use Rattle.std.specs.Prelude.{drop, slice_get, slice_set}
 use Rattle.std.specs.Option.{option_map}
 use Rattle.std.specs.declared.option.Option.{Option}
@@ -69,8 +69,3 @@ pub record AreNoted (moment : ℕ) (r : Request) (h : Holdings) (old new : Logs)
   pub kept : slice_get old.own place ≡ Some notes
   pub told : step_of context.entries r.body ≡ Some step
   pub new_is : new ≡ record old { own = slice_set old.own place (noting (moment, step) notes) }
-
--- and one that accepted none has the logs that it had
-abbrev pub NotedWhere : Bool → ℕ → Request → Holdings → Logs → Logs → Type 0
-NotedWhere true moment r h old new = AreNoted moment r h old new
-NotedWhere false moment r h old new = new ≡ old

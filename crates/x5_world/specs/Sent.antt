@@ -15,7 +15,7 @@ use Rattle.x5_model_known.specs.Holding.{holdings_name}
 use Rattle.x5_model_known.specs.Counted.{holdings_counted}
 use Rattle.x5_ops.specs.JournalViews.{fate_view}
 use Rattle.x5_ops.specs.ReferenceViews.{chained_view}
-use Rattle.x5_world.specs.Logs.{AreNoted, NotedWhere}
+use Rattle.x5_world.specs.Logs.{AreNoted}
 use Rattle.x5_world.specs.State.{Net, HasShortNames, holdings_in, logs_in}
 use Rattle.x5_world.specs.declared.journal.Sent.{Sent}
 
@@ -87,14 +87,16 @@ is_counted names l =
 abbrev pub held_since : List ℕ → Request → ℕ → Holdings → Holdings
 held_since accepted r a h = if has ◌==◌ accepted a then committed r h else h
 
--- the network once these accepted the update at the line: nothing but what they hold, and note of it, has changed
+-- The network once these accepted the update at the line: nothing but what they hold, and note of it, has changed. That it
+-- is noted is a fact of which there is one proof, as it's kept beside the network.
 pub record IsChanged (old new : Net) (r : Request) (accepted : List ℕ) : Type 0 where
   pub rest : new ≡ record old { agents = new.agents; logs = new.logs }
   pub count : length new.agents ≡ length old.agents
   pub kept : length new.logs ≡ length old.logs
   pub holds : (a : ℕ) → holdings_in new a ≡ held_since accepted r a (holdings_in old a)
-  pub notes : (a : ℕ)
-      → NotedWhere (has ◌==◌ accepted a) (old.line + 1) r (holdings_in old a) (logs_in old a) (logs_in new a)
+  pub notes : (a : ℕ) → has ◌==◌ accepted a ≡ true
+      → ∥ AreNoted (old.line + 1) r (holdings_in old a) (logs_in old a) (logs_in new a) ∥₁
+  pub others : (a : ℕ) → has ◌==◌ accepted a ≡ false → logs_in new a ≡ logs_in old a
 
 -- this agent accepted the update at the line: it holds the change, and has noted it
 pub record IsCommittedAt (agent : ℕ) (r : Request) (old new : Net) : Type 0 where
