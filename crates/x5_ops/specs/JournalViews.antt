@@ -11,20 +11,20 @@ use Rattle.x5_ops.specs.declared.journal.Fate.TheVariants.{Lost, NoReply, Sent}
 use Rattle.x5_ops.specs.declared.journal.Line.{Line}
 use Rattle.x5_ops.specs.declared.journal.Line.TheVariants.{Msg, Dis, Raw}
 use Rattle.x5_ops.specs.declared.journal.Operation.{Operation}
-use Rattle.x5_ops.specs.declared.journal.Operation.TheVariants.{Read, Compare, List, Search, AddEntry, RemoveEntry, ModifyEntry, ModifyDn}
+use Rattle.x5_ops.specs.declared.journal.Operation.TheVariants as operations
 use Rattle.x5_ops.specs.declared.journal.Outage.{Outage}
 use Rattle.x5_ops.specs.declared.journal.Outage.TheVariants as outages
 
 -- operations by their codes (X.519, section 7)
 abbrev pub code_view : Operation → ℕ
-code_view Read = 1
-code_view Compare = 2
-code_view List = 4
-code_view Search = 5
-code_view AddEntry = 6
-code_view RemoveEntry = 7
-code_view ModifyEntry = 8
-code_view ModifyDn = 9
+code_view operations.Read = 1
+code_view operations.Compare = 2
+code_view operations.List = 4
+code_view operations.Search = 5
+code_view operations.AddEntry = 6
+code_view operations.RemoveEntry = 7
+code_view operations.ModifyEntry = 8
+code_view operations.ModifyDn = 9
 
 abbrev pub fate_view : Fate → network.Fate
 fate_view Lost = network.Lost
