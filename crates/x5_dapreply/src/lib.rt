@@ -8,7 +8,7 @@ mod read_replies;
 mod references;
 mod replies;
 
-pub use crate::messages::{decode_reply, encode_reply};
+pub use crate::messages::{decode_answer, encode_answer};
 pub use x5_dapber::WireFault;
 pub use x5_memory::NoMemory;
 pub use x5_typed::BerFault;

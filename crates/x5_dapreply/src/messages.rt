@@ -10,6 +10,7 @@ ghost use Rattle.x5_model_typed.specs.Nodes as nodes;
 ghost use Rattle.x5_model_typed.specs.Typed.{Spells};
 ghost use Rattle.x5_model_typed.specs.Written.{canonical_octets};
 ghost use Rattle.x5_typed.specs.Comes.{ComesTo};
+ghost use Rattle.x5_ops.specs.JournalViews.{code_view};
 ghost use Rattle.x5_types.specs.FormView.{table};
 ghost use Rattle.x5_types.specs.NodeView.{node_view};
 
@@ -18,7 +19,7 @@ use crate::replies::reply_node;
 use std::alloc::Global;
 use x5_dapber::WireFault;
 use x5_memory::NoMemory;
-use x5_ops::Reply;
+use x5_ops::{Operation, Reply};
 use x5_syntax::Octets;
 use x5_typed::read;
 use x5_types::Named;
@@ -27,21 +28,21 @@ use x5_writer::{WriteFault, write};
 /// The code of a referral to a user (X.511, section 12.6).
 const REFERRAL: u32 = 4;
 
-/// The canonical octets of what is answered to a user: a result of the operation with the code, an error or a referral, with
+/// The canonical octets of what is answered to a user: a result of this operation, an error or a referral, with
 /// the id of the request (X.519, section 7; X.690, section 10).
 ///
 /// # Errors
 /// `Misfit` exactly where there are none: the answer isn't one of that operation, or a part of it passes a limit of messages. Or
 /// that memory ran out.
-pub fn encode_reply(
+pub fn encode_answer(
     alloc: Global,
     id: u32,
-    operation: u8,
+    operation: Operation,
     reply: &Reply,
 ) -> Result<Octets, WriteFault>
-    ensures { IsWritten (canonical_octets table named.DapAnswer (replies.reply_node replies.to_user id (told_reply operation reply.now))) result }
+    ensures { IsWritten (canonical_octets table named.DapAnswer (replies.reply_node replies.to_user id (told_reply (code_view operation) reply.now))) result }
 {
-    let node = reply_node(alloc, REFERRAL, id, operation, reply)?;
+    let node = reply_node(alloc, REFERRAL, id, operation.code(), reply)?;
     Ok(Octets::new(write(alloc, Named::DapAnswer, &node)?))
 }
 
@@ -51,7 +52,7 @@ pub fn encode_reply(
 /// # Errors
 /// The first breach in the order of reading, with its place: the whole first reading, whatever the type, before the
 /// second. `Unrecognised` exactly where that is the code of an operation or error that users don't have. Or that memory ran out.
-pub fn decode_reply(alloc: Global, octets: &[u8]) -> Result<(u32, Reply), WireFault>
+pub fn decode_answer(alloc: Global, octets: &[u8]) -> Result<(u32, Reply), WireFault>
     // What the value says, or the breach, that reading comes to; and it comes to exactly one.
     ensures decodes { (e : Result nodes.Node judged.Breach) → ComesTo named.DapAnswer octets.now e
         → Decodes (λ p. (p.0, heard p.1)) heard_in e result }

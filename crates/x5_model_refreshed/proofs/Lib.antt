@@ -17,3 +17,5 @@ pub mod Redoing
 pub mod Resuming
 pub mod Copied
 pub mod Growing
+pub mod Blocks
+pub mod Lengths

@@ -50,7 +50,7 @@ module _ (p : Point) (first : ℕ) (r : Request) (lines : List Line) where
 
 -- ---- a refresh
 
-abbrev Fits : Point → RefreshOutcome → Type 0
+abbrev pub Fits : Point → RefreshOutcome → Type 0
 Fits p (Done f) = IsBrought p f
 Fits p Unheard = ⊤
 Fits p (Problem k) = ⊤
@@ -146,7 +146,7 @@ module _ (p : Point) where
           (λ t. same_is (acked p g.number) (as_of p g.number) (not_false (same_moment (acked p g.number) (as_of p g.number))
           (never_not total (not (same_moment (acked p g.number) (as_of p g.number))) s t))))))))
 
-  block_fits : (number : ℕ) (pushes total : Bool) → Fits p (refresh_block p number pushes total).outcome
+  pub block_fits : (number : ℕ) (pushes total : Bool) → Fits p (refresh_block p number pushes total).outcome
   block_fits number pushes total =
       either_fits (is_some (first_breach p.described)) (ended [] NotConsistent) _ (λ e. tt)
       (λ e. by (find (λ (g : Agreement). g.number == number) (knowledge_at p).agreements) refl)

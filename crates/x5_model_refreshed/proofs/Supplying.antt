@@ -66,7 +66,7 @@ module _ (w : World) (described : IsDescribed w) (before : List Did) (h : AllHap
   p = at_line w before
 
   -- the agreement of the number is one
-  one_agreement : (g : Agreement) → In g w.agreements → f.agreement ≡ g.number → is.agreement ≡ g
+  pub one_agreement : (g : Agreement) → In g w.agreements → f.agreement ≡ g.number → is.agreement ≡ g
   one_agreement g i e =
       let v = of_find (λ (x : Agreement). x.number == f.agreement) is.agreement w.agreements
       (ap (λ (k : World). find (λ (x : Agreement). x.number == f.agreement) k.agreements) (sym (knowledge_stays w before h)) ∙ is.found) in
@@ -130,7 +130,7 @@ module _ (w : World) (before : List Did) (h : AllHappen w before) (a : ℕ) (pin
   not_master : masters (knowledge_by w before) a pin ≡ false
   not_master = ap (λ (k : World). masters k a pin) (knowledge_stays w before h) ∙ other
 
-  refreshed : (f : Refreshed) → log_after w before (logs_by w before) (Refreshes f) a pin
+  pub refreshed : (f : Refreshed) → log_after w before (logs_by w before) (Refreshes f) a pin
       ≡ (if f.agreement == g.number then brought f (last g) own (logs_by w before g.supplier pin) else own)
   refreshed f =
       ap (λ (k : World). new_if f (masters k a pin) (consumed_by k a pin)) (knowledge_stays w before h)

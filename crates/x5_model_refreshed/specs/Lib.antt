@@ -5,3 +5,8 @@ pub mod Replaying
 pub mod Refreshed
 pub mod Doable
 pub mod Growing
+pub mod Bringing
+pub mod Renewing
+pub mod Supplying
+pub mod Lengthening
+pub mod Acknowledging

@@ -4,6 +4,11 @@
 ghost use Rattle.x5_model_refreshed.specs.Refreshed.{CopyIsStamped, OtherStampsStay, MasterIsCopied, CopyIsCopied, AllElseStays};
 ghost use Rattle.x5_model_refreshed.specs.Growing.{QuietLogsStay, UpdateIsNoted, NoOtherNotes, KeptGrows};
 ghost use Rattle.x5_model_refreshed.specs.Noting.{StepIsUpdate};
+ghost use Rattle.x5_model_refreshed.specs.Bringing.{BlockBrings, OthersDoNothing, BlocksLead};
+ghost use Rattle.x5_model_refreshed.specs.Renewing.{OwnAreMastered, CopiesAreConsumed, ConsumersHaveCopies, CopiesHavePlaces, CopyIsRenewed, OtherCopiesStay, ConsumerIsRenewed, OthersHoldOn};
+ghost use Rattle.x5_model_refreshed.specs.Supplying.{SuppliedIsHeld, MasterSupplies, ConsumerSupplies, ReferencesStay, CopyAdvances};
+ghost use Rattle.x5_model_refreshed.specs.Lengthening.{TotalBeginsLog, StepsLengthenLog, OtherLogsStay, KeptGrowsOn};
+ghost use Rattle.x5_model_refreshed.specs.Acknowledging.{StampIsAcked, AckedAtPlace, NoneAcked, ElseAsBefore};
 ghost use Rattle.x5_model_refreshed.specs.Replaying.{LogCounts, MasterReplays, ConsumerReplays, RefreshReplays, LastAreLater, RunsLead};
 ghost use Rattle.x5_model_refreshed.specs.Doable.{PartsAreWhole, CopiesAreWhole, StepCanBeDone, MasterCanReplay, ConsumerCanReplay, RefreshCanReplay};
 ghost use Rattle.x5_model_run.specs.Right.{AnswersRight};
@@ -49,4 +54,51 @@ pub fn logging()
     ensures noted { UpdateIsNoted }
     ensures others { NoOtherNotes }
     ensures kept { KeptGrows }
+{}
+
+/// A refresh line's block brings a refresh by the agreement of its number, or nothing; either way the next line is one of such a run.
+pub fn outcomes()
+    ensures brings { BlockBrings }
+    ensures nothing { OthersDoNothing }
+    ensures leads { BlocksLead }
+{}
+
+/// What agents hold after a refresh is what they held, but for the consumer's copy by the agreement, which is as of the stamp
+/// (X.525, section 7).
+pub fn renewed_copies()
+    ensures own { OwnAreMastered }
+    ensures copies { CopiesAreConsumed }
+    ensures have { ConsumersHaveCopies }
+    ensures places { CopiesHavePlaces }
+    ensures copy { CopyIsRenewed }
+    ensures stay { OtherCopiesStay }
+    ensures consumer { ConsumerIsRenewed }
+    ensures others { OthersHoldOn }
+{}
+
+/// What a copy becomes by a refresh is told by what its supplier holds: of a master its context, of a consumer its own copy; and
+/// after an incremental refresh what the steps make of the copy's entries (X.525, sections 7 and 9).
+pub fn supplied_copies()
+    ensures supplied { SuppliedIsHeld }
+    ensures master { MasterSupplies }
+    ensures consumer { ConsumerSupplies }
+    ensures references { ReferencesStay }
+    ensures advances { CopyAdvances }
+{}
+
+/// After a total refresh the consumer's log begins anew; after an incremental one it has the steps more, noted one after another;
+/// and all other logs are as they were (X.525, section 9).
+pub fn longer_logs()
+    ensures total { TotalBeginsLog }
+    ensures steps { StepsLengthenLog }
+    ensures others { OtherLogsStay }
+    ensures kept { KeptGrowsOn }
+{}
+
+/// The supplier knows of a refresh to be taken where it was acknowledged; and the network, the tree and knowledge are as they were.
+pub fn acknowledgements()
+    ensures acked { StampIsAcked }
+    ensures place { AckedAtPlace }
+    ensures none { NoneAcked }
+    ensures rest { ElseAsBefore }
 {}

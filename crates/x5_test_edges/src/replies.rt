@@ -1,8 +1,8 @@
 //! Answers to users as octets, by hand: a result of each kind, each error and a referral are read as what they are, and written back.
 use std::alloc::Global;
 use std::test::Fail;
-use x5_dapreply::{decode_reply, encode_reply};
-use x5_ops::{Answer, DirError, Reply};
+use x5_dapreply::{decode_answer, encode_answer};
+use x5_ops::{Answer, DirError, Operation, Reply};
 
 /// The result of a read: /C=NL with its country, from the root's context at agent A.
 const ENTRY: [u8; 55] = [
@@ -84,25 +84,30 @@ fn kind(reply: &Reply) -> &'static str {
 }
 
 /// Whether the octets are read as such a reply to request 5, which is written as them again.
-fn comes_back(alloc: Global, octets: &[u8], operation: u8, wanted: &str) -> Result<bool, Fail> {
-    let (id, reply) = decode_reply(alloc, octets)?;
-    let written = encode_reply(alloc, id, operation, &reply)?;
+fn comes_back(
+    alloc: Global,
+    octets: &[u8],
+    operation: Operation,
+    wanted: &str,
+) -> Result<bool, Fail> {
+    let (id, reply) = decode_answer(alloc, octets)?;
+    let written = encode_answer(alloc, id, operation, &reply)?;
     Ok(id == 5 && kind(&reply) == wanted && written.as_slice() == octets)
 }
 
 #[test]
 fn replies_come_back(rt: HostRuntime) -> Result<(), Fail> {
     for (octets, operation, wanted) in [
-        (ENTRY.as_slice(), 1, "entry"),
-        (MATCH.as_slice(), 2, "match"),
-        (LISTED.as_slice(), 4, "listed"),
-        (FOUND.as_slice(), 5, "found"),
-        (CHANGED.as_slice(), 7, "changed"),
-        (NAME.as_slice(), 1, "name"),
-        (ATTRIBUTE.as_slice(), 1, "attribute"),
-        (UPDATE.as_slice(), 8, "update"),
-        (SERVICE.as_slice(), 1, "service"),
-        (REFERRAL.as_slice(), 1, "referral"),
+        (ENTRY.as_slice(), Operation::Read, "entry"),
+        (MATCH.as_slice(), Operation::Compare, "match"),
+        (LISTED.as_slice(), Operation::List, "listed"),
+        (FOUND.as_slice(), Operation::Search, "found"),
+        (CHANGED.as_slice(), Operation::RemoveEntry, "changed"),
+        (NAME.as_slice(), Operation::Read, "name"),
+        (ATTRIBUTE.as_slice(), Operation::Read, "attribute"),
+        (UPDATE.as_slice(), Operation::ModifyEntry, "update"),
+        (SERVICE.as_slice(), Operation::Read, "service"),
+        (REFERRAL.as_slice(), Operation::Read, "referral"),
     ] {
         assert!(rt; comes_back(rt.alloc(), octets, operation, wanted)?);
     }

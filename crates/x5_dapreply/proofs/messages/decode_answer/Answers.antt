@@ -14,7 +14,7 @@ use Rattle.x5_dapreply.specs.ReplyViews.{heard, heard_in, unnumbered}
 use Rattle.x5_dapreply.specs.Told.{IsTold}
 use Rattle.x5_dapreply.proofs.RepliesBack.{replies_back}
 use Rattle.x5_dapreply.proofs.ReplyIsSayable.{reply_fits}
-use Rattle.x5_dapreply.proofs.messages.decode_reply.Goals as goal
+use Rattle.x5_dapreply.proofs.messages.decode_answer.Goals as goal
 
 abbrev seen : ℕ × Reply → ℕ × replies.Reply
 seen p = (p.0, heard p.1)
