@@ -16,7 +16,7 @@ use Rattle.x5_model_refreshed.proofs.Refreshed.{entries_are}
 use Rattle.x5_model_refreshed.proofs.Wholes.{parts_are_whole}
 
 -- what the lines did that were before an earlier one
-earlier : (w : World) (n : ℕ) (past : List Did) → AllHappen w past → AllHappen w (drop n past)
+pub earlier : (w : World) (n : ℕ) (past : List Did) → AllHappen w past → AllHappen w (drop n past)
 earlier w zero past h = h
 earlier w (suc n) [] h = tt
 earlier w (suc n) (d ∷ past) h = earlier w n past h.1

@@ -1,6 +1,5 @@
 -- How logs grow by a refresh: the consumer's by what it brings, and no other; and what is kept once several changes are noted.
-use Rattle.std.specs.List.{find}
-use Rattle.std.proofs.Common.{◌≡◌, ◌≢◌, ℕ, zero, suc, ◌==◌, Bool, true, false, if◌then◌else◌, ◌⊎◌, inl, inr, List, [], ◌∷◌, ◌++◌, length, map, replicate, reverse, refl, sym, ap, subst, ◌∙◌, Option, Some, None}
+use Rattle.std.proofs.Common.{◌≡◌, ◌≢◌, ℕ, zero, suc, ◌==◌, Bool, true, false, if◌then◌else◌, ◌⊎◌, inl, inr, List, [], ◌∷◌, ◌++◌, length, replicate, reverse, refl, sym, ap, subst, ◌∙◌, Option, Some, None}
 use Rattle.std.proofs.lemmas.List.{map-append}
 use Rattle.std.proofs.lemmas.Grind.{reverse_onto}
 use Rattle.x5_model.specs.Words.{in_option, when}
@@ -17,14 +16,14 @@ use Rattle.x5_model_tree.proofs.Exact.{conditions_hold}
 use Rattle.x5_model_run.specs.History.{Refreshed, Did, Refreshes, Point, knowledge_at, refreshes_of, as_of}
 use Rattle.x5_model_run.specs.Refresh.{Changes, updates_in, steps_since, consumed_by, changes_at, base_of}
 use Rattle.x5_model_refreshed.specs.Steps.{Step}
-use Rattle.x5_model_refreshed.specs.Logs.{Log, moments_of, steps_later, stamped, brought, log_at, logs_by}
+use Rattle.x5_model_refreshed.specs.Logs.{Log, moments_of, steps_later, stamped, brought, log_at}
 use Rattle.x5_model_refreshed.specs.Refreshed.{after_refresh}
 use Rattle.x5_model_refreshed.specs.Replaying.{AllHappen, IsLed, IsBrought, last_256}
 use Rattle.x5_model_refreshed.specs.Growing.{IsLogOf}
-use Rattle.x5_model_refreshed.specs.Lengthening.{kept_more, base_more, kept_noting, base_noting, IsLogBegun, IsLogLonger, TotalBeginsLog, StepsLengthenLog, OtherLogsStay, IsKeptNoting, KeptGrowsOn}
+use Rattle.x5_model_refreshed.specs.Lengthening.{kept_more, kept_noting, base_noting, IsLogBegun, IsLogLonger, TotalBeginsLog, StepsLengthenLog, OtherLogsStay, IsKeptNoting, KeptGrowsOn}
 use Rattle.x5_model_refreshed.proofs.Listing.{nothing_more}
 use Rattle.x5_model_refreshed.proofs.Stamping.{as_many, since_if}
-use Rattle.x5_model_refreshed.proofs.Leading.{at_line, knowledge_stays}
+use Rattle.x5_model_refreshed.proofs.Leading.{knowledge_stays}
 use Rattle.x5_model_refreshed.proofs.Supplying.{changes_consumer, one_agreement, refreshed, Since, since}
 use Rattle.x5_model_refreshed.proofs.Bringing.{not_master, by_it, some_number}
 use Rattle.x5_model_refreshed.proofs.Replayed.{log_counts}

@@ -19,3 +19,9 @@ pub mod Copied
 pub mod Growing
 pub mod Blocks
 pub mod Lengths
+pub mod Finding
+pub mod Placing
+pub mod Renewal
+pub mod Acked
+pub mod Sources
+pub mod Lying

@@ -48,12 +48,12 @@ earlier d past n h = (let e : suc (length past) - n ≡ suc (length past - n) = 
 -- ---- copies
 
 -- a copy with these entries, by knowledge
-abbrev copy_with : World → Name → Key → List Named → Held
+abbrev pub copy_with : World → Name → Key → List Named → Held
 copy_with w prefix key entries =
     in_option (record { prefix = prefix; entries = entries; subordinate = []; nssrs = [] })
     (λ c. record { prefix = prefix; entries = entries; subordinate = sent_references w c entries; nssrs = c.context.nssrs }) (mastered_at w key)
 
-spelled : (w : World) (before after : Name) (key : Key) (entries : List Named) (x : Option Mastered)
+pub spelled : (w : World) (before after : Name) (key : Key) (entries : List Named) (x : Option Mastered)
     → in_option {Y = Held} (record { prefix = after; entries = entries; subordinate = []; nssrs = [] })
     (λ (c : Mastered). record { prefix = after; entries = entries; subordinate = sent_references w c entries; nssrs = c.context.nssrs }) x
     ≡ record (in_option {Y = Held} (record { prefix = before; entries = entries; subordinate = []; nssrs = [] })

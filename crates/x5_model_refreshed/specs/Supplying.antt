@@ -1,5 +1,5 @@
 -- What a copy becomes by a refresh, from what its supplier holds (X.525, section 7: shadowed information; section 9).
-use Rattle.std.specs.Prelude.{◌≡◌, ℕ, true, false, if◌then◌else◌, map}
+use Rattle.std.specs.Prelude.{◌≡◌, ℕ, false, if◌then◌else◌, map}
 use Rattle.std.specs.declared.option.Option.TheVariants.{None, Some}
 use Rattle.x5_model.specs.Words.{in_option}
 use Rattle.x5_model.specs.Members.{In}
