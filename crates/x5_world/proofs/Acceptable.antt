@@ -21,12 +21,11 @@ use Rattle.x5_model_run.specs.History.{Did, Point, Refreshed, as_of, copy_as_of,
 use Rattle.x5_model_run.specs.Refresh.{Changes, RefreshOutcome, Unheard, Problem, Missed, base_of, changes_at, consumed_by, later_than, same_moment}
 use Rattle.x5_model_run.specs.Refresh as refresh
 use Rattle.x5_model_refreshed.specs.Doable.{AreWhole, CanReplay}
-use Rattle.x5_model_refreshed.specs.Renewing.{ConsumersHaveCopies}
-use Rattle.x5_model_refreshed.specs.Supplying.{ConsumerSupplies, MasterSupplies, SuppliedIsHeld}
 use Rattle.x5_model_refreshed.specs.Steps.{Step}
 use Rattle.x5_model_refreshed.specs.Logs.{Log, log_at, steps_later}
 use Rattle.x5_model_refreshed.specs.Replaying.{IsBrought, IsLed, last_256}
 use Rattle.x5_model_refreshed.proofs.Copied.{copies_are_whole}
+use Rattle.x5_model_refreshed.proofs.Placing.{consumers_have_copies}
 use Rattle.x5_model_refreshed.proofs.Replayed.{last_are_later}
 use Rattle.x5_model_refreshed.proofs.Resuming.{refresh_can_replay}
 use Rattle.x5_model_refreshed.proofs.Wholes.{parts_are_whole}
@@ -51,7 +50,7 @@ use Rattle.x5_world.proofs.Suppliers.{copy_entries, is_supplier, supplied_noted}
 
 -- ---- what an answer was made of
 
-ok_is : {A : Type 0} {x y : A} → Ok {T = A} {E = ℕ} x ≡ Ok y → x ≡ y
+pub ok_is : {A : Type 0} {x y : A} → Ok {T = A} {E = ℕ} x ≡ Ok y → x ≡ y
 ok_is {A} {x} e = ap by e
   where
     by : Result A ℕ → A
@@ -77,6 +76,46 @@ of_brought make (Ok x) b e = (x, refl, ok_is e)
 of_brought make (Err k) b e = absurd (never e)
   where
     never : Err {T = Brought} {E = ℕ} k ≡ Ok b → ⊥
+    never z = cc
+
+content_in : Content → Brought → Content
+content_in other (Total content) = content
+content_in other (Steps given) = other
+
+steps_in : List CodeStep → Brought → List CodeStep
+steps_in other (Total content) = other
+steps_in other (Steps given) = given
+
+total_only : (r : Result Content ℕ) (content : Content) → brought_by Total r ≡ Ok (Total content) → r ≡ Ok content
+total_only r content e =
+    let w = of_brought Total r (Total content) e in w.1.0 ∙ ap (λ (b : Brought). Ok (content_in content b)) w.1.1
+
+steps_only : (r : Result (List CodeStep) ℕ) (given : List CodeStep) → brought_by Steps r ≡ Ok (Steps given) → r ≡ Ok given
+steps_only r given e =
+    let w = of_brought Steps r (Steps given) e in w.1.0 ∙ ap (λ (b : Brought). Ok (steps_in given b)) w.1.1
+
+is_total : Brought → Bool
+is_total (Total content) = true
+is_total (Steps given) = false
+
+pub no_steps : (s : State) (pin : Key) (last : Option ℕ) (m : ℕ) (given : List CodeStep)
+    → supply_of s pin true last ≡ Ok (m, Steps given) → ⊥
+no_steps s pin last m given e =
+    let parts = of_stamped (supply.stamp_of s pin) (brought_by Total (total_of s pin)) m (Steps given) e in
+    let w = of_brought Total (total_of s pin) (Steps given) parts.1 in
+    never (ap is_total w.1.1)
+  where
+    never : true ≡ false → ⊥
+    never z = cc
+
+pub no_total : (s : State) (pin : Key) (last : Option ℕ) (m : ℕ) (content : Content)
+    → supply_of s pin false last ≡ Ok (m, Total content) → ⊥
+no_total s pin last m content e =
+    let parts = of_stamped (supply.stamp_of s pin) (brought_by Steps (supply.since_of s pin last)) m (Total content) e in
+    let w = of_brought Steps (supply.since_of s pin last) (Total content) parts.1 in
+    never (ap is_total w.1.1)
+  where
+    never : false ≡ true → ⊥
     never z = cc
 
 -- a total refresh has the entries of what is supplied
@@ -254,8 +293,7 @@ no_problem false total k own acked first e f = by (is_unheard first) f
 
 -- ---- what is sent can be taken
 
-module _ (held : SuppliedIsHeld) (of_master : MasterSupplies) (of_consumer : ConsumerSupplies) (have : ConsumersHaveCopies)
-    (p : Point) (g : Agreement) (s : State) (led : IsLed p) (holds : holdings_view s ≡ holdings_at p g.supplier)
+module _ (p : Point) (g : Agreement) (s : State) (led : IsLed p) (holds : holdings_view s ≡ holdings_at p g.supplier)
     (logs : logs_view s ≡ logs_at p g.supplier) (moment : s.moment ≡ moment_of p)
     (there : In g (knowledge_at p).agreements)
     (found : find (λ (a : Agreement). a.number == g.number) (knowledge_at p).agreements ≡ Some g) where
@@ -263,7 +301,7 @@ module _ (held : SuppliedIsHeld) (of_master : MasterSupplies) (of_consumer : Con
   pin = key_of g.context
 
   supplier : IsSupplier p g s
-  supplier = is_supplier held of_master of_consumer p g s led holds logs moment
+  supplier = is_supplier p g s led holds logs moment
 
   total_acceptable : (last : Option ℕ) (m : ℕ) (b : Brought) → supply_of s pin true last ≡ Ok (m, b)
       → CanAccept (holdings_at p g.consumer) pin b
@@ -274,18 +312,39 @@ module _ (held : SuppliedIsHeld) (of_master : MasterSupplies) (of_consumer : Con
       let at : refresh.supplied p g ≡ Some m = sym supplier.stamp ∙ parts.0 in
       let entries : part (tree_of_moment p m) pin ≡ made.0.entries = sym (from.1.1 ∙ supplier.entries from.0 m from.1.0 at) in
       subst (CanAccept (holdings_at p g.consumer) pin) made.1.1
-      (ap (λ (o : Option Copy). is_some o) (have p g led there), subst (AreWhole pin) entries (whole_at p g m led at))
+      (ap (λ (o : Option Copy). is_some o) (consumers_have_copies p g led there), subst (AreWhole pin) entries (whole_at p g m led at))
 
-  steps_acceptable : (last : Option ℕ) (m : ℕ) (b : Brought) → last ≡ as_of p g.number → supply_of s pin false last ≡ Ok (m, b)
-      → CanAccept (holdings_at p g.consumer) pin b
-  steps_acceptable last m b peer e =
-      let parts = of_stamped (supply.stamp_of s pin) (brought_by Steps (supply.since_of s pin last)) m b e in
-      let made = of_brought Steps (supply.since_of s pin last) b parts.1 in
-      let x = steps_from s pin last made.0 made.1.0 in
+  -- the steps that are sent are the supplier's later ones, from the moment of the consumer's copy
+  pub record AreSince (m : ℕ) (given : List CodeStep) : Type 0 where
+    pub from : ℕ
+    pub last : as_of p g.number ≡ Some from
+    pub known : nat_lt from (base_of (changes_at p g.supplier pin)) ≡ false
+    pub stamp : refresh.supplied p g ≡ Some m
+    pub steps : steps_later from (log_at p g.supplier pin) ≡ steps_view given
+
+  pub steps_since : (last : Option ℕ) (m : ℕ) (given : List CodeStep) → last ≡ as_of p g.number
+      → supply_of s pin false last ≡ Ok (m, Steps given) → AreSince m given
+  steps_since last m given peer e =
+      let parts = of_stamped (supply.stamp_of s pin) (brought_by Steps (supply.since_of s pin last)) m (Steps given) e in
+      let x = steps_from s pin last given (steps_only (supply.since_of s pin last) given parts.1) in
       let log = supplier.log x.kept x.supplied_is in
-      let at : as_of p g.number ≡ Some x.from = sym peer ∙ x.last_is in
       let known : nat_lt x.from (base_of (changes_at p g.supplier pin)) ≡ false =
       ap (λ (k : ℕ). nat_lt x.from k) (sym log.base) ∙ x.known in
+      let kept : map logged_view x.kept.log.changes ≡ last_256 (log_at p g.supplier pin) =
+      ap (λ (n : Notes). n.changes) (supplied_noted p g.supplier s holds logs pin x.kept x.supplied_is) in
+      record {
+        from = x.from;
+        last = sym peer ∙ x.last_is;
+        known = known;
+        stamp = sym supplier.stamp ∙ parts.0;
+        steps = sym (ap (map step_view) (sym x.steps) ∙ steps_seen x.from x.kept.log.changes ∙ ap (steps_later x.from) kept
+            ∙ last_are_later p g.supplier x.from pin led known);
+      }
+
+  steps_acceptable : (last : Option ℕ) (m : ℕ) (given : List CodeStep) → last ≡ as_of p g.number
+      → supply_of s pin false last ≡ Ok (m, Steps given) → CanAccept (holdings_at p g.consumer) pin (Steps given)
+  steps_acceptable last m given peer e =
+      let x = steps_since last m given peer e in
       let f : Refreshed = record {
         agreement = g.number;
         total = false;
@@ -296,24 +355,32 @@ module _ (held : SuppliedIsHeld) (of_master : MasterSupplies) (of_consumer : Con
       let brought : IsBrought p f = record {
         agreement = g;
         found = found;
-        stamp = sym supplier.stamp ∙ parts.0;
-        since = λ z. record { from = x.from; last = at; known = known; count = refl };
+        stamp = x.stamp;
+        since = λ z. record { from = x.from; last = x.last; known = x.known; count = refl };
       } in
-      let kept : map logged_view x.kept.log.changes ≡ last_256 (log_at p g.supplier pin) =
-      ap (λ (n : Notes). n.changes) (supplied_noted p g.supplier s holds logs pin x.kept x.supplied_is) in
-      let steps : steps_later x.from (log_at p g.supplier pin) ≡ steps_view made.0 =
-      sym (ap (map step_view) (sym x.steps) ∙ steps_seen x.from x.kept.log.changes ∙ ap (steps_later x.from) kept
-      ∙ last_are_later p g.supplier x.from pin led known) in
-      subst (CanAccept (holdings_at p g.consumer) pin) made.1.1
-      (record {
+      record {
         copy = copy_by p g;
-        there = have p g led there;
-        refreshed = ap is_some at;
-        doable = subst (CanReplay pin (copy_by p g).held.entries) steps
-            (refresh_can_replay p f g x.from led brought refl there refl at);
-      })
+        there = consumers_have_copies p g led there;
+        refreshed = ap is_some x.last;
+        doable = subst (CanReplay pin (copy_by p g).held.entries) x.steps
+            (refresh_can_replay p f g x.from led brought refl there refl x.last);
+      }
 
+  -- a total refresh is stamped with the supplier's moment, and has all that it supplies
+  pub record IsWhole (m : ℕ) (content : Content) : Type 0 where
+    pub stamp : refresh.supplied p g ≡ Some m
+    pub content_is : total_of s pin ≡ Ok content
+
+  pub whole_sent : (last : Option ℕ) (m : ℕ) (content : Content) → supply_of s pin true last ≡ Ok (m, Total content)
+      → IsWhole m content
+  whole_sent last m content e =
+      let parts = of_stamped (supply.stamp_of s pin) (brought_by Total (total_of s pin)) m (Total content) e in
+      record { stamp = sym supplier.stamp ∙ parts.0; content_is = total_only (total_of s pin) content parts.1 }
+
+  -- what is sent is of the kind that was asked for
   pub can_accept : (total : Bool) (last : Option ℕ) (m : ℕ) (b : Brought) → (total ≡ false → last ≡ as_of p g.number)
       → supply_of s pin total last ≡ Ok (m, b) → CanAccept (holdings_at p g.consumer) pin b
-  can_accept true last m b peer e = total_acceptable last m b e
-  can_accept false last m b peer e = steps_acceptable last m b (peer refl) e
+  can_accept true last m (Total content) peer e = total_acceptable last m (Total content) e
+  can_accept true last m (Steps given) peer e = absurd (no_steps s pin last m given e)
+  can_accept false last m (Total content) peer e = absurd (no_total s pin last m content e)
+  can_accept false last m (Steps given) peer e = steps_acceptable last m given (peer refl) e

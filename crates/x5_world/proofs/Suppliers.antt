@@ -23,10 +23,10 @@ use Rattle.x5_model_run.specs.Refresh as refresh
 use Rattle.x5_model_refreshed.specs.Steps.{Step}
 use Rattle.x5_model_refreshed.specs.Logs.{Log, log_at, moments_of}
 use Rattle.x5_model_refreshed.specs.Replaying.{IsLed, last_256}
-use Rattle.x5_model_refreshed.specs.Supplying.{ConsumerSupplies, MasterSupplies, SuppliedIsHeld}
 use Rattle.x5_model_refreshed.proofs.Lasting.{Down}
 use Rattle.x5_model_refreshed.proofs.Refreshed.{entries_are}
 use Rattle.x5_model_refreshed.proofs.Replayed.{changes_down, log_counts}
+use Rattle.x5_model_refreshed.proofs.Sources.{supplied_is_held, master_supplies, consumer_supplies}
 use Rattle.x5_dse.specs.Linked.{entries_of}
 use Rattle.x5_holdings.specs.Logs as holdings
 use Rattle.x5_holdings.specs.State.{CopyKept, Kept, State, copy_view, held_view, holdings_view, stamp_of as stamp_in}
@@ -246,22 +246,21 @@ log_so p a pin l led e = record {
 
 -- ---- what the supplier has
 
-module _ (held : SuppliedIsHeld) (of_master : MasterSupplies) (of_consumer : ConsumerSupplies)
-    (p : Point) (g : Agreement) (s : State) (led : IsLed p) (holds : holdings_view s ≡ holdings_at p g.supplier)
+module _ (p : Point) (g : Agreement) (s : State) (led : IsLed p) (holds : holdings_view s ≡ holdings_at p g.supplier)
     (logs : logs_view s ≡ logs_at p g.supplier) (moment : s.moment ≡ moment_of p) where
   abbrev pin : Key
   pin = key_of g.context
 
-  held_is : held_at (holdings_at p g.supplier).own pin ≡ option_map held_view (mastered_of s pin)
+  pub held_is : held_at (holdings_at p g.supplier).own pin ≡ option_map held_view (mastered_of s pin)
   held_is = ap (λ (h : Holdings). held_at h.own pin) (sym holds) ∙ found_held s.own pin
 
-  copied_is : copy_at (holdings_at p g.supplier) pin ≡ option_map copy_view (copy_of s pin)
+  pub copied_is : copy_at (holdings_at p g.supplier) pin ≡ option_map copy_view (copy_of s pin)
   copied_is = ap (λ (h : Holdings). copy_at h pin) (sym holds) ∙ found_copy s.copies pin
 
-  stamp_is : stamp_of s pin ≡ refresh.supplied p g
+  pub stamp_is : stamp_of s pin ≡ refresh.supplied p g
   stamp_is =
       by (mastered_of s pin) (copy_of s pin)
-      ∙ sym (held p g led ∙ (λ i. if is_some (held_is i) then Some (moment_of p) else in_option None (λ (c : Copy). c.stamp) (copied_is i)))
+      ∙ sym (supplied_is_held p g led ∙ (λ i. if is_some (held_is i) then Some (moment_of p) else in_option None (λ (c : Copy). c.stamp) (copied_is i)))
     where
       stamps : (o : Option (Kept × ℕ)) → option_map (λ (r : Kept × ℕ). r.1) o ≡ stamp_in o
       stamps None = refl
@@ -288,7 +287,7 @@ module _ (held : SuppliedIsHeld) (of_master : MasterSupplies) (of_consumer : Con
           never z = cc
       from d f (Some x) r q t =
           let is : d.refreshed ≡ Some (c, m) = r ∙ (λ i. Some (some_is q i, some_is t i)) in
-          let copied = of_consumer p g (copy_view d) m led (copied_is ∙ ap (option_map copy_view) f) (ap stamp_in is) in
+          let copied = consumer_supplies p g (copy_view d) m led (copied_is ∙ ap (option_map copy_view) f) (ap stamp_in is) in
           sym (ap (λ (h : Held). h.entries) copied ∙ ap (λ (z : Option (Kept × ℕ)). brought z) is) ∙ copy_entries p g m
         where
           brought : Option (Kept × ℕ) → List Named
@@ -301,7 +300,7 @@ module _ (held : SuppliedIsHeld) (of_master : MasterSupplies) (of_consumer : Con
       by (Some k) f d z q t =
           let is : k ≡ c = some_is q in
           let now : moment_of p ≡ m = sym moment ∙ some_is t in
-          let mastered = of_master p g (held_view k) led (held_is ∙ ap (option_map held_view) f) in
+          let mastered = master_supplies p g (held_view k) led (held_is ∙ ap (option_map held_view) f) in
           sym (ap (λ (y : Kept). entries_of y.nodes.nodes) (sym is))
           ∙ sym (ap (λ (h : Held). h.entries) mastered.copy) ∙ copy_entries p g (moment_of p)
           ∙ ap (λ (n : ℕ). part (tree_of_moment p n) pin) now
