@@ -18,7 +18,7 @@ use Rattle.x5_model_tree.specs.Consistent.{IsConsistent}
 use Rattle.x5_model_run.specs.Network.{Fate, is_unheard}
 use Rattle.x5_model_run.specs.Holdings.{Copy, Held, Holdings, copy_at}
 use Rattle.x5_model_run.specs.History.{Did, Point, Refreshed, as_of, copy_as_of, copy_by, holdings_at, knowledge_at, moment_of, tree_at, tree_by, tree_of_moment}
-use Rattle.x5_model_run.specs.Refresh.{Changes, RefreshOutcome, Unheard, Problem, Missed, base_of, changes_at, consumed_by, later_than, same_moment}
+use Rattle.x5_model_run.specs.Refresh.{Changes, RefreshBlock, RefreshOutcome, ShadowLine, Done, Unheard, Problem, Missed, base_of, changes_at, consumed_by, later_than, same_moment}
 use Rattle.x5_model_run.specs.Refresh as refresh
 use Rattle.x5_model_refreshed.specs.Doable.{AreWhole, CanReplay}
 use Rattle.x5_model_refreshed.specs.Steps.{Step}
@@ -40,8 +40,9 @@ use Rattle.x5_consume.specs.Steps.{step_view, steps_view}
 use Rattle.x5_consume.specs.Taken.{CanTake}
 use Rattle.x5_refresh.specs.declared.brought.Brought.{Brought}
 use Rattle.x5_refresh.specs.declared.brought.Brought.TheVariants.{Total, Steps}
-use Rattle.x5_refresh.specs.Course.{missing, stopped, unsent}
+use Rattle.x5_refresh.specs.Course.{missing, stopped, unless_ended, unsent}
 use Rattle.x5_refresh.specs.Joined.{IsSupplier}
+use Rattle.x5_refresh.specs.Sent as sent
 use Rattle.x5_refresh.specs.Sent.{CanAccept, brought_by, stamped, supply_of}
 use Rattle.x5_world.specs.Logs.{Logs, Notes, logs_at}
 use Rattle.x5_world.specs.LogViews.{logged_view, logs_view}
@@ -275,6 +276,33 @@ goes_on_from true own acked first e = by (is_unheard first) e
         never z = cc
     by false q = same_moments acked own (none_missing (same_moment acked own) own acked q)
 
+-- as one did that was taken
+pub taken_from : (push total : Bool) (own acked : Option ℕ) (first : Fate) (lines : List ShadowLine) (rest : RefreshBlock)
+    (f : Refreshed)
+    → (unless_ended (unsent push None) [] (unless_ended (stopped push total None own acked first) lines rest)).outcome ≡ Done f
+    → total ≡ false → (if push then acked else own) ≡ own
+taken_from false total own acked first lines rest f e t = refl
+taken_from true true own acked first lines rest f e t = absurd (never t)
+  where
+    never : true ≡ false → ⊥
+    never z = cc
+taken_from true false own acked first lines rest f e t = by (is_unheard first) e
+  where
+    missed : (b : Bool) → same_moment acked own ≡ b
+        → (unless_ended (if not b then Some (Missed own acked) else None) lines rest).outcome ≡ Done f → acked ≡ own
+    missed true q z = same_moments acked own q
+    missed false q z = absurd (never z)
+      where
+        never : Missed own acked ≡ Done f → ⊥
+        never y = cc
+
+    by : (b : Bool) → (unless_ended (if b then Some Unheard else missing false own acked) lines rest).outcome ≡ Done f → acked ≡ own
+    by true q = absurd (never q)
+      where
+        never : Unheard ≡ Done f → ⊥
+        never z = cc
+    by false q = missed (same_moment acked own) refl q
+
 -- where it goes on there is no problem
 pub no_problem : (push total : Bool) (k : ℕ) (own acked : Option ℕ) (first : Fate) → unsent push (Some k) ≡ None
     → stopped push total (Some k) own acked first ≡ None → ⊥
@@ -366,7 +394,13 @@ module _ (p : Point) (g : Agreement) (s : State) (led : IsLed p) (holds : holdin
             (refresh_can_replay p f g x.from led brought refl there refl x.last);
       }
 
-  -- a total refresh is stamped with the supplier's moment, and has all that it supplies
+  -- what is sent is stamped with the supplier's moment
+  pub stamp_sent : (total : Bool) (last : Option ℕ) (m : ℕ) (b : Brought) → supply_of s pin total last ≡ Ok (m, b)
+      → refresh.supplied p g ≡ Some m
+  stamp_sent total last m b e =
+      sym supplier.stamp ∙ (of_stamped (supply.stamp_of s pin) (sent.brought_of s pin total last) m b e).0
+
+  -- a total refresh has all that it supplies
   pub record IsWhole (m : ℕ) (content : Content) : Type 0 where
     pub stamp : refresh.supplied p g ≡ Some m
     pub content_is : total_of s pin ≡ Ok content

@@ -20,7 +20,7 @@ use Rattle.x5_model_refreshed.specs.Replaying.{IsBrought, IsLed, last_256}
 use Rattle.x5_model_refreshed.proofs.Bringing.{not_master}
 use Rattle.x5_model_refreshed.proofs.Finding.{changed_at, map_alike}
 use Rattle.x5_model_refreshed.proofs.Lengths.{other_logs_stay}
-use Rattle.x5_model_refreshed.proofs.Placing.{at_agent, context_key, is_placed, of_consumer, once_agreements, one_number, place_of, supplies}
+use Rattle.x5_model_refreshed.proofs.Placing.{context_key, is_placed, of_consumer, once_agreements, one_number, place_of, supplies}
 use Rattle.x5_model_refreshed.proofs.Refreshed.{copy_is_stamped, other_stamps_stay}
 use Rattle.x5_world.specs.Logs.{Logs, Notes, agent_logs, logs_at, no_logs, notes_at}
 
@@ -55,7 +55,7 @@ module _ (p : Point) (f : Refreshed) (sent : ℕ) (g : Agreement) (led : IsLed p
   it_masters : (a : ℕ) (b : Agent) (c : Context) → agent_at k a ≡ Some b → In c (held_contexts [] b.contexts)
       → masters k a (key_of c.prefix) ≡ true
   it_masters a b c e i =
-      any_in (λ (m : Mastered). (m.master == a) && same_key (pin_of m) (key_of c.prefix)) (at_agent a c) (mastered k)
+      any_in (λ (m : Mastered). (m.master == a) && same_key (pin_of m) (key_of c.prefix)) (record { master = a; context = c }) (mastered k)
       (is_placed p led a b c e (of_held [] b.contexts c i))
       (and_true (a == a) (same_key (key_of c.prefix) (key_of c.prefix)) ((nat_same_decides a a).1 refl)
       ((key_decides (key_of c.prefix) (key_of c.prefix)).1 refl))

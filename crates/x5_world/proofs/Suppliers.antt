@@ -165,6 +165,10 @@ module _ (p : Point) (me : ℕ) (s : State) (holds : holdings_view s ≡ holding
       some_notes at.0 (notes_view c.log) (as_of p at.0.number) told
       ∙ ap (λ (n : Name). notes_at p me (key_of n)) (sym named)
 
+  pub copies_noted_at : (i : ℕ) (d : CopyKept) (c : Kept) (m : ℕ) → slice_get s.copies i ≡ Some d → d.refreshed ≡ Some (c, m)
+      → notes_view c.log ≡ notes_at p me (key_of d.prefix)
+  copies_noted_at i d c m e r = copies_noted (agent_at (knowledge_at p) me) refl i d c m e r
+
   -- what it has of a context that it masters, or of a copy that was refreshed
   pub supplied_noted : (pin : Key) (c : Kept) → supplied s pin ≡ Some c → notes_view c.log ≡ notes_at p me pin
   supplied_noted pin c e = by (mastered_of s pin) refl (copy_of s pin) refl e

@@ -81,8 +81,8 @@ CanBring n g (Refused problem) = ⊥
 pub record IsTakenAt (old : Net) (g : Agreement) (stamp : ℕ) (brought : Brought) (new : Net) : Type 0 where
   pub before : State
   pub after : State
-  pub holds : holdings_view before ≡ holdings_in old g.consumer
-  pub logs : logs_view before ≡ logs_in old g.consumer
+  pub holds : slice_get old.agents g.consumer ≡ Some (holdings_view before)
+  pub logs : slice_get old.logs g.consumer ≡ Some (logs_view before)
   pub taken : IsTaken before (key_of g.context) (IsRefreshed brought stamp) after
   pub new_is : new ≡ record old {
     agents = slice_set old.agents g.consumer (holdings_view after);
@@ -160,9 +160,9 @@ pub record IsDoneAt (old : Net) (place : ℕ) (push total : Bool) (r : Refreshme
   pub total_is : by.total ≡ total
   pub way : IsWay old by
   pub sent : Supplied
-  pub supplied : IsSupplied old by.agreement total (last_of by) sent
+  pub supplied : IsSupplied old by.agreement by.total (last_of by) sent
   pub block : block_of old.names by.agreement r ≡ whole_block old by sent
-  pub left : IsLeft old by.agreement place sent (refreshed_view r.heard by.agreement.number r.became) new
+  pub left : IsLeft old by.agreement by.place sent (refreshed_view r.heard by.agreement.number r.became) new
 
 -- by no agreement
 pub record IsInvalid (old : Net) (number : ℕ) (r : Refreshment) (new : Net) : Type 0 where
