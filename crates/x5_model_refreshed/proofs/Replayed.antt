@@ -1,13 +1,14 @@
 -- The laws of logs, at a line of a run.
-use Rattle.std.proofs.Common.{◌≡◌, inl, inr, reverse, sym, ap, subst, ◌∙◌}
+use Rattle.std.proofs.Common.{◌≡◌, ℕ, inl, inr, reverse, sym, ap, subst, ◌∙◌}
 use Rattle.x5_model.proofs.Lists.{true_or_false}
+use Rattle.x5_model.specs.Keys.{Key}
 use Rattle.x5_model_tree.specs.World.{World}
 use Rattle.x5_model_tree.specs.Masters.{masters, pins}
-use Rattle.x5_model_run.specs.History.{refreshes_of}
+use Rattle.x5_model_run.specs.History.{Point, refreshes_of}
 use Rattle.x5_model_run.specs.Refresh.{Changes, consumed_by, changes_at}
 use Rattle.x5_model_updates.proofs.Outcomes.{none_or_some}
 use Rattle.x5_model_refreshed.specs.Logs.{moments_of, log_at}
-use Rattle.x5_model_refreshed.specs.Replaying.{LogCounts, MasterReplays, ConsumerReplays, LastAreLater}
+use Rattle.x5_model_refreshed.specs.Replaying.{IsLed, LogCounts, MasterReplays, ConsumerReplays, LastAreLater}
 use Rattle.x5_model_refreshed.proofs.Leading.{knowledge_stays}
 use Rattle.x5_model_refreshed.proofs.Supplying.{changes_master, changes_consumer, changes_none, no_log}
 use Rattle.x5_model_refreshed.proofs.Mastering.{counted, replays}

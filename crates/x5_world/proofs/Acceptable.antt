@@ -1,6 +1,6 @@
 -- What a supplier sends can be taken by the agreement's consumer: a total refresh has a whole context, and the steps of an
 -- incremental one go on from the moment of the consumer's copy.
-use Rattle.std.proofs.Common.{◌≡◌, ℕ, zero, suc, ◌+◌, ◌-◌, ◌&&◌, ◌||◌, ◌==◌, Bool, true, false, not, cond, if◌then◌else◌, nat_lt, List, [], ◌∷◌, length, map, drop, slice_get, refl, sym, ap, subst, ◌∙◌, arith, Option, Some, None, Result, Ok, Err}
+use Rattle.std.proofs.Common.{◌≡◌, ℕ, zero, suc, ◌+◌, ◌-◌, ◌&&◌, ◌||◌, ◌==◌, inl, inr, Bool, true, false, not, cond, if◌then◌else◌, nat_lt, List, [], ◌∷◌, length, map, drop, slice_get, refl, sym, ap, subst, ◌∙◌, arith, Option, Some, None, Result, Ok, Err}
 use Rattle.std.specs.List.{filter, find}
 use Rattle.std.specs.Option.{is_some, option_map}
 use Rattle.x5_model.specs.Words.{distinct, has, in_option}
@@ -51,7 +51,10 @@ use Rattle.x5_world.proofs.Suppliers.{copy_entries, is_supplier, supplied_noted}
 
 -- ---- what an answer was made of
 
-pub ok_is : {A : Type 0} {x y : A} → Ok {T = A} {E = ℕ} x ≡ Ok y → x ≡ y
+abbrev pub told : {A : Type 0} → A → Result A ℕ
+told x = Ok x
+
+pub ok_is : {A : Type 0} {x y : A} → told x ≡ told y → x ≡ y
 ok_is {A} {x} e = ap by e
   where
     by : Result A ℕ → A
@@ -61,14 +64,14 @@ ok_is {A} {x} e = ap by e
 of_stamped : (o : Option ℕ) (r : Result Brought ℕ) (m : ℕ) (b : Brought) → stamped o r ≡ Ok (m, b) → (o ≡ Some m) × (r ≡ Ok b)
 of_stamped None r m b e = absurd (never e)
   where
-    never : Err {T = ℕ × Brought} {E = ℕ} refresh.inactive_agreement ≡ Ok (m, b) → ⊥
+    never : Err refresh.inactive_agreement ≡ Ok (m, b) → ⊥
     never z = cc
 of_stamped (Some x) (Ok y) m b e =
     let q : (x, y) ≡ (m, b) = ok_is e in
     (ap (λ (z : ℕ × Brought). Some z.0) q, ap (λ (z : ℕ × Brought). Ok z.1) q)
 of_stamped (Some x) (Err k) m b e = absurd (never e)
   where
-    never : Err {T = ℕ × Brought} {E = ℕ} k ≡ Ok (m, b) → ⊥
+    never : Err k ≡ Ok (m, b) → ⊥
     never z = cc
 
 of_brought : {A : Type 0} (make : A → Brought) (r : Result A ℕ) (b : Brought) → brought_by make r ≡ Ok b
@@ -76,7 +79,7 @@ of_brought : {A : Type 0} (make : A → Brought) (r : Result A ℕ) (b : Brought
 of_brought make (Ok x) b e = (x, refl, ok_is e)
 of_brought make (Err k) b e = absurd (never e)
   where
-    never : Err {T = Brought} {E = ℕ} k ≡ Ok b → ⊥
+    never : Err k ≡ Ok b → ⊥
     never z = cc
 
 content_in : Content → Brought → Content
@@ -89,11 +92,11 @@ steps_in other (Steps given) = given
 
 total_only : (r : Result Content ℕ) (content : Content) → brought_by Total r ≡ Ok (Total content) → r ≡ Ok content
 total_only r content e =
-    let w = of_brought Total r (Total content) e in w.1.0 ∙ ap (λ (b : Brought). Ok (content_in content b)) w.1.1
+    let w = of_brought Total r (Total content) e in w.1 ∙ ap (λ (b : Brought). Ok (content_in content b)) w.2
 
 steps_only : (r : Result (List CodeStep) ℕ) (given : List CodeStep) → brought_by Steps r ≡ Ok (Steps given) → r ≡ Ok given
 steps_only r given e =
-    let w = of_brought Steps r (Steps given) e in w.1.0 ∙ ap (λ (b : Brought). Ok (steps_in given b)) w.1.1
+    let w = of_brought Steps r (Steps given) e in w.1 ∙ ap (λ (b : Brought). Ok (steps_in given b)) w.2
 
 is_total : Brought → Bool
 is_total (Total content) = true
@@ -104,7 +107,7 @@ pub no_steps : (s : State) (pin : Key) (last : Option ℕ) (m : ℕ) (given : Li
 no_steps s pin last m given e =
     let parts = of_stamped (supply.stamp_of s pin) (brought_by Total (total_of s pin)) m (Steps given) e in
     let w = of_brought Total (total_of s pin) (Steps given) parts.1 in
-    never (ap is_total w.1.1)
+    never (ap is_total w.2)
   where
     never : true ≡ false → ⊥
     never z = cc
@@ -114,10 +117,16 @@ pub no_total : (s : State) (pin : Key) (last : Option ℕ) (m : ℕ) (content : 
 no_total s pin last m content e =
     let parts = of_stamped (supply.stamp_of s pin) (brought_by Steps (supply.since_of s pin last)) m (Total content) e in
     let w = of_brought Steps (supply.since_of s pin last) (Total content) parts.1 in
-    never (ap is_total w.1.1)
+    never (ap is_total w.2)
   where
     never : false ≡ true → ⊥
     never z = cc
+
+pub total_sent : (s : State) (pin : Key) (last : Option ℕ) (m : ℕ) (content : Content)
+    → supply_of s pin true last ≡ Ok (m, Total content) → total_of s pin ≡ Ok content
+total_sent s pin last m content e =
+    total_only (total_of s pin) content
+    (of_stamped (supply.stamp_of s pin) (brought_by Total (total_of s pin)) m (Total content) e).1
 
 -- a total refresh has the entries of what is supplied
 total_from : (s : State) (pin : Key) (content : Content) → total_of s pin ≡ Ok content
@@ -133,7 +142,7 @@ total_from s pin content e = by (mastered_of s pin) refl (brought_of s pin) refl
         (c, (λ i. or_else (f i) (g i)), ap (λ (x : Content). x.entries) (sym (ok_is q)))
     by None f None g q = absurd (never q)
       where
-        never : Err {T = Content} {E = ℕ} refresh.inactive_agreement ≡ Ok content → ⊥
+        never : Err refresh.inactive_agreement ≡ Ok content → ⊥
         never z = cc
 
 -- an incremental one has the later steps of its log
@@ -149,11 +158,11 @@ steps_from : (s : State) (pin : Key) (last : Option ℕ) (given : List CodeStep)
     → AreSteps s pin last given
 steps_from s pin last given e = by (supplied s pin) refl last refl e
   where
-    err : (k : ℕ) → Err {T = List CodeStep} {E = ℕ} k ≡ Ok given → ⊥
+    err : (k : ℕ) → Err k ≡ Ok given → ⊥
     err k z = cc
 
     at : (c : Kept) (m : ℕ) → supplied s pin ≡ Some c → last ≡ Some m → (b : Bool) → nat_lt m c.log.base ≡ b
-        → (if b then Err {T = List CodeStep} {E = ℕ} refresh.full_update_required else Ok (supply.steps_later c.log m)) ≡ Ok given
+        → (if b then Err refresh.full_update_required else Ok (supply.steps_later c.log m)) ≡ Ok given
         → AreSteps s pin last given
     at c m f g true t q = absurd (err refresh.full_update_required q)
     at c m f g false t q =
@@ -204,13 +213,14 @@ whole_at p g m led e = by (masters (knowledge_at p) g.supplier (key_of g.context
 steps_seen : (m : ℕ) (xs : List Logged)
     → map step_view (map (λ x. x.step) (filter (λ x. nat_lt m x.moment) xs)) ≡ steps_later m (map logged_view xs)
 steps_seen m [] = refl
-steps_seen m (x ∷ xs) = by (nat_lt m x.moment)
+steps_seen m (x ∷ xs) = by (nat_lt m x.moment) (steps_seen m xs)
   where
     by : (b : Bool)
+        → map step_view (map (λ (y : Logged). y.step) (filter (λ (y : Logged). nat_lt m y.moment) xs)) ≡ steps_later m (map logged_view xs)
         → map step_view (map (λ (y : Logged). y.step) (cond b (x ∷ filter (λ (y : Logged). nat_lt m y.moment) xs) (filter (λ (y : Logged). nat_lt m y.moment) xs)))
         ≡ map (λ (y : ℕ × Step). y.1) (cond b (logged_view x ∷ filter (λ (y : ℕ × Step). nat_lt m y.0) (map logged_view xs)) (filter (λ (y : ℕ × Step). nat_lt m y.0) (map logged_view xs)))
-    by true = ap (λ (zs : List Step). step_view x.step ∷ zs) (steps_seen m xs)
-    by false = steps_seen m xs
+    by true e = ap (λ (zs : List Step). step_view x.step ∷ zs) e
+    by false e = e
 
 -- ---- agreements
 
@@ -336,10 +346,10 @@ module _ (p : Point) (g : Agreement) (s : State) (led : IsLed p) (holds : holdin
   total_acceptable last m b e =
       let parts = of_stamped (supply.stamp_of s pin) (brought_by Total (total_of s pin)) m b e in
       let made = of_brought Total (total_of s pin) b parts.1 in
-      let from = total_from s pin made.0 made.1.0 in
+      let from = total_from s pin made.0 made.1 in
       let at : refresh.supplied p g ≡ Some m = sym supplier.stamp ∙ parts.0 in
-      let entries : part (tree_of_moment p m) pin ≡ made.0.entries = sym (from.1.1 ∙ supplier.entries from.0 m from.1.0 at) in
-      subst (CanAccept (holdings_at p g.consumer) pin) made.1.1
+      let entries : part (tree_of_moment p m) pin ≡ made.0.entries = sym (from.2 ∙ supplier.entries from.0 m from.1 at) in
+      subst (CanAccept (holdings_at p g.consumer) pin) made.2
       (ap (λ (o : Option Copy). is_some o) (consumers_have_copies p g led there), subst (AreWhole pin) entries (whole_at p g m led at))
 
   -- the steps that are sent are the supplier's later ones, from the moment of the consumer's copy

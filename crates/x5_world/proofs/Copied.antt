@@ -31,7 +31,8 @@ use Rattle.x5_holdings.specs.State.{CopyKept, Kept, State, copy_view, held_view,
 use Rattle.x5_supply.specs.Copying.{content_view}
 use Rattle.x5_supply.specs.Supplied.{content_of_copy, content_of_master, copy_of, mastered_of, of_master, or_else, or_inactive, total_of}
 use Rattle.x5_supply.specs.Supplied as supply
-use Rattle.x5_supply.proofs.Copying.{copy_sends, master_sends}
+use Rattle.x5_supply.proofs.Copying.{master_sends}
+use Rattle.x5_supply.proofs.Counting.{copy_sends}
 use Rattle.x5_consume.specs.Steps.{step_view, steps_view}
 use Rattle.x5_consume.specs.Taken.{AreDone, AreNoted, IsAdvanced, IsContent, IsReplaced}
 use Rattle.x5_world.specs.Logs.{Notes, logs_at}
@@ -68,7 +69,7 @@ module _ (p : Point) (g : Agreement) (s : State) (led : IsLed p) (holds : holdin
       → content_view g.context content ≡ copy_as_of p g (Some m)
   content_so content m e at = by (mastered_of s pin) refl (copy_of s pin) refl e (stamp_is p g s led holds logs moment ∙ at)
     where
-      inactive : Err {T = Content} {E = ℕ} refresh.inactive_agreement ≡ Ok content → ⊥
+      inactive : Err refresh.inactive_agreement ≡ Ok content → ⊥
       inactive z = cc
 
       from : (d : CopyKept) → copy_of s pin ≡ Some d → (o : Option (Kept × ℕ)) → d.refreshed ≡ o
@@ -191,8 +192,8 @@ pub noted_all : (m : ℕ) (given : List CodeStep) (old new : holdings.Log) → A
 noted_all m [] old new e = λ i. record { base = e.0 i; changes = map logged_view (e.1 i) }
 noted_all m (s ∷ more) old new e =
     let mid : holdings.Log = e.0 in
-    let one = noted_one old mid (record { moment = m; step = s }) e.1.0 in
-    noted_all m more mid new e.1.1
+    let one = noted_one old mid (record { moment = m; step = s }) e.1 in
+    noted_all m more mid new e.2
     ∙ ap (λ (n : Notes). record {
       base = base_noting n.base n.changes (stamped m (steps_view more));
       changes = kept_noting n.changes (stamped m (steps_view more));

@@ -54,7 +54,7 @@ courses_agree push total g f (Sent stamp brought) e =
     λ i. unless_ended (unsent push (e.0 i)) []
     (unless_ended (stopped push total (e.0 i) f.own f.acked f.first) (line_of g (opening push) f.first ∷ [])
     (ended (line_of g (opening push) f.first ∷ line_of g UpdateShadow f.last ∷ [])
-    (finished total g.number (in_option 0 (λ m. m) (e.1.0 i)) (sym e.1.1 i) f.last)))
+    (finished total g.number (in_option 0 (λ m. m) (e.1 i)) (sym e.2 i) f.last)))
 courses_agree push total g f (Refused k) e =
     let lines : List ShadowLine = line_of g (opening push) f.first ∷ [] in
     let more : RefreshBlock = ended (line_of g (opening push) f.first ∷ line_of g UpdateShadow f.last ∷ [])

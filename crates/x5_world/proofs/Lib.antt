@@ -20,3 +20,6 @@ pub mod Copied
 pub mod Longer
 pub mod Onward
 pub mod Concluding
+pub mod Knowing
+pub mod Stopping
+pub mod Agents

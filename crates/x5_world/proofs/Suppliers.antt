@@ -28,6 +28,7 @@ use Rattle.x5_model_refreshed.proofs.Refreshed.{entries_are}
 use Rattle.x5_model_refreshed.proofs.Replayed.{changes_down, log_counts}
 use Rattle.x5_model_refreshed.proofs.Sources.{supplied_is_held, master_supplies, consumer_supplies}
 use Rattle.x5_dse.specs.Linked.{entries_of}
+use Rattle.x5_holdings.specs.declared.log.Logged.{Logged}
 use Rattle.x5_holdings.specs.Logs as holdings
 use Rattle.x5_holdings.specs.State.{CopyKept, Kept, State, copy_view, held_view, holdings_view, stamp_of as stamp_in}
 use Rattle.x5_supply.specs.Copying.{IsLogOf, falls}
@@ -48,33 +49,39 @@ of_map_at f (x ∷ xs) (suc i) y e = of_map_at f xs i y e
 pub found_at : {A : Type 0} (test : A → Bool) (xs : List A) (x : A) → find test xs ≡ Some x
     → (i : ℕ) × (slice_get xs i ≡ Some x) × (test x ≡ true)
 found_at test [] x e = cc
-found_at {A} test (y ∷ ys) x e = by (test y) refl e
+found_at {A} test (y ∷ ys) x e = by (test y) refl e (found_at test ys x)
   where
     by : (b : Bool) → test y ≡ b → cond b (Some y) (find test ys) ≡ Some x
+        → (find test ys ≡ Some x → (i : ℕ) × (slice_get ys i ≡ Some x) × (test x ≡ true))
         → (i : ℕ) × (slice_get (y ∷ ys) i ≡ Some x) × (test x ≡ true)
-    by true t q = (zero, q, ap test (sym (some_is q)) ∙ t)
-    by false t q = (let r = found_at test ys x q in (suc r.0, r.1.0, r.1.1))
+    by true t q more = (zero, q, ap test (sym (some_is q)) ∙ t)
+    by false t q more = (let r = more q in (suc r.0, r.1, r.2))
 
 pub found_held : (xs : List Kept) (pin : Key)
     → held_at (map held_view xs) pin ≡ option_map held_view (find (λ c. same_key (key_of c.prefix) pin) xs)
 found_held [] pin = refl
-found_held (x ∷ xs) pin = by (same_key (key_of x.prefix) pin)
+found_held (x ∷ xs) pin = by (same_key (key_of x.prefix) pin) (found_held xs pin)
   where
-    by : (b : Bool) → cond b (Some (held_view x)) (held_at (map held_view xs) pin)
+    by : (b : Bool)
+        → held_at (map held_view xs) pin ≡ option_map held_view (find (λ c. same_key (key_of c.prefix) pin) xs)
+        → cond b (Some (held_view x)) (held_at (map held_view xs) pin)
         ≡ option_map held_view (cond b (Some x) (find (λ c. same_key (key_of c.prefix) pin) xs))
-    by true = refl
-    by false = found_held xs pin
+    by true e = refl
+    by false e = e
 
 pub found_copy : (xs : List CopyKept) (pin : Key)
     → find (λ (c : Copy). same_key (key_of c.held.prefix) pin) (map copy_view xs)
     ≡ option_map copy_view (find (λ c. same_key (key_of c.prefix) pin) xs)
 found_copy [] pin = refl
-found_copy (x ∷ xs) pin = by (same_key (key_of x.prefix) pin)
+found_copy (x ∷ xs) pin = by (same_key (key_of x.prefix) pin) (found_copy xs pin)
   where
-    by : (b : Bool) → cond b (Some (copy_view x)) (find (λ (c : Copy). same_key (key_of c.held.prefix) pin) (map copy_view xs))
+    by : (b : Bool)
+        → find (λ (c : Copy). same_key (key_of c.held.prefix) pin) (map copy_view xs)
+        ≡ option_map copy_view (find (λ c. same_key (key_of c.prefix) pin) xs)
+        → cond b (Some (copy_view x)) (find (λ (c : Copy). same_key (key_of c.held.prefix) pin) (map copy_view xs))
         ≡ option_map copy_view (cond b (Some x) (find (λ c. same_key (key_of c.prefix) pin) xs))
-    by true = refl
-    by false = found_copy xs pin
+    by true e = refl
+    by false e = e
 
 -- ---- copies
 
@@ -101,6 +108,9 @@ copy_entries p g m =
 
 -- ---- logs
 
+nothing_at : {A : Type 0} (i : ℕ) (x : A) → slice_get [] i ≡ Some x → ⊥
+nothing_at i x e = cc
+
 module _ (p : Point) (me : ℕ) (s : State) (holds : holdings_view s ≡ holdings_at p me) (logs : logs_view s ≡ logs_at p me) where
   -- an agent that holds something is one of the world
   own_noted : (o : Option Agent) → agent_at (knowledge_at p) me ≡ o → (i : ℕ) (c : Kept) → slice_get s.own i ≡ Some c
@@ -109,10 +119,7 @@ module _ (p : Point) (me : ℕ) (s : State) (holds : holdings_view s ≡ holding
       let nothing : map held_view s.own ≡ [] =
       ap (λ (h : Holdings). h.own) holds
       ∙ ap (λ (x : Option Agent). (in_option (no_holdings me) (agent_holdings p me) x).own) none in
-      absurd (never (sym (ap (λ (hs : List Held). slice_get hs i) nothing) ∙ map_at held_view s.own i c e))
-    where
-      never : slice_get {A = Held} [] i ≡ Some (held_view c) → ⊥
-      never q = cc
+      absurd (nothing_at i (held_view c) (sym (ap (λ (hs : List Held). slice_get hs i) nothing) ∙ map_at held_view s.own i c e))
   own_noted (Some a) some i c e =
       let cs : List Context = held_contexts [] a.contexts in
       let held : map held_view s.own ≡ map (own_context (tree_at p) a) cs =
@@ -122,9 +129,9 @@ module _ (p : Point) (me : ℕ) (s : State) (holds : holdings_view s ≡ holding
       ap (λ (l : Logs). l.own) logs ∙ ap (λ (x : Option Agent). (in_option no_logs (agent_logs p me) x).own) some in
       let at = of_map_at (own_context (tree_at p) a) cs i (held_view c)
       (ap (λ (hs : List Held). slice_get hs i) (sym held) ∙ map_at held_view s.own i c e) in
-      let named : c.prefix ≡ at.0.prefix = ap (λ (h : Held). h.prefix) at.1.1 in
+      let named : c.prefix ≡ at.0.prefix = ap (λ (h : Held). h.prefix) at.2 in
       some_is (sym (map_at own_notes s.own i c e) ∙ ap (λ (ns : List Notes). slice_get ns i) noted
-      ∙ map_at (λ (x : Context). notes_at p me (key_of x.prefix)) cs i at.0 at.1.0)
+      ∙ map_at (λ (x : Context). notes_at p me (key_of x.prefix)) cs i at.0 at.1)
       ∙ ap (λ (n : Name). notes_at p me (key_of n)) (sym named)
 
   -- the notes of a copy that has a stamp are its context's
@@ -142,10 +149,7 @@ module _ (p : Point) (me : ℕ) (s : State) (holds : holdings_view s ≡ holding
       let nothing : map copy_view s.copies ≡ [] =
       ap (λ (h : Holdings). h.copies) holds
       ∙ ap (λ (x : Option Agent). (in_option (no_holdings me) (agent_holdings p me) x).copies) none in
-      absurd (never (sym (ap (λ (hs : List Copy). slice_get hs i) nothing) ∙ map_at copy_view s.copies i d e))
-    where
-      never : slice_get {A = Copy} [] i ≡ Some (copy_view d) → ⊥
-      never q = cc
+      absurd (nothing_at i (copy_view d) (sym (ap (λ (hs : List Copy). slice_get hs i) nothing) ∙ map_at copy_view s.copies i d e))
   copies_noted (Some a) some i d c m e r =
       let gs : List Agreement = agreements_of (knowledge_at p) me in
       let held : map copy_view s.copies ≡ map (copy_by p) gs =
@@ -156,12 +160,12 @@ module _ (p : Point) (me : ℕ) (s : State) (holds : holdings_view s ≡ holding
       ap (λ (l : Logs). l.copies) logs ∙ ap (λ (x : Option Agent). (in_option no_logs (agent_logs p me) x).copies) some in
       let at = of_map_at (copy_by p) gs i (copy_view d)
       (ap (λ (hs : List Copy). slice_get hs i) (sym held) ∙ map_at copy_view s.copies i d e) in
-      let named : d.prefix ≡ at.0.context = ap (λ (x : Copy). x.held.prefix) at.1.1 ∙ copy_prefix p at.0 (as_of p at.0.number) in
+      let named : d.prefix ≡ at.0.context = ap (λ (x : Copy). x.held.prefix) at.2 ∙ copy_prefix p at.0 (as_of p at.0.number) in
       let told : Some (notes_view c.log)
       ≡ option_map (λ (stamp : ℕ). notes_at p me (key_of at.0.context)) (as_of p at.0.number) =
       ap (option_map (λ (x : Kept × ℕ). notes_view x.0.log)) (sym r)
       ∙ some_is (sym (map_at copy_notes s.copies i d e) ∙ ap (λ (ns : List (Option Notes)). slice_get ns i) noted
-      ∙ map_at (λ (g : Agreement). option_map (λ (stamp : ℕ). notes_at p me (key_of g.context)) (as_of p g.number)) gs i at.0 at.1.0) in
+      ∙ map_at (λ (g : Agreement). option_map (λ (stamp : ℕ). notes_at p me (key_of g.context)) (as_of p g.number)) gs i at.0 at.1) in
       some_notes at.0 (notes_view c.log) (as_of p at.0.number) told
       ∙ ap (λ (n : Name). notes_at p me (key_of n)) (sym named)
 
@@ -185,8 +189,8 @@ module _ (p : Point) (me : ℕ) (s : State) (holds : holdings_view s ≡ holding
       from d f (Some x) r q =
           let at = found_at (λ (y : CopyKept). same_key (key_of y.prefix) pin) s.copies d f in
           let is : x.0 ≡ c = some_is q in
-          copies_noted (agent_at (knowledge_at p) me) refl at.0 d c x.1 at.1.0 (r ∙ ap (λ (k : Kept). Some (k, x.1)) is)
-          ∙ ap (notes_at p me) (same d.prefix at.1.1)
+          copies_noted (agent_at (knowledge_at p) me) refl at.0 d c x.1 at.1 (r ∙ ap (λ (k : Kept). Some (k, x.1)) is)
+          ∙ ap (notes_at p me) (same d.prefix at.2)
 
       by : (o : Option Kept) → mastered_of s pin ≡ o → (d : Option CopyKept) → copy_of s pin ≡ d
           → or_else o (option_map (λ (r : Kept × ℕ). r.0) (in_option None (λ (x : CopyKept). x.refreshed) d)) ≡ Some c
@@ -194,8 +198,8 @@ module _ (p : Point) (me : ℕ) (s : State) (holds : holdings_view s ≡ holding
       by (Some k) f d z q =
           let at = found_at (λ (y : Kept). same_key (key_of y.prefix) pin) s.own k f in
           let is : k ≡ c = some_is q in
-          own_noted (agent_at (knowledge_at p) me) refl at.0 c (at.1.0 ∙ ap (λ (y : Kept). Some y) is)
-          ∙ ap (notes_at p me) (same c.prefix (ap (λ (y : Kept). same_key (key_of y.prefix) pin) (sym is) ∙ at.1.1))
+          own_noted (agent_at (knowledge_at p) me) refl at.0 c (at.1 ∙ ap (λ (y : Kept). Some y) is)
+          ∙ ap (notes_at p me) (same c.prefix (ap (λ (y : Kept). same_key (key_of y.prefix) pin) (sym is) ∙ at.2))
       by None f (Some d) z q = from d z d.refreshed refl q
       by None f None z q = absurd (never q)
         where
@@ -227,7 +231,7 @@ last_moments ms =
     drop_joined [] ys = refl
     drop_joined (x ∷ xs) ys = drop_joined xs ys
 
-logged_moments : (xs : List holdings.Logged) → map (λ x. x.moment) xs ≡ moments_of (map logged_view xs)
+logged_moments : (xs : List Logged) → map (λ x. x.moment) xs ≡ moments_of (map logged_view xs)
 logged_moments [] = refl
 logged_moments (x ∷ xs) = ap (λ (ms : List ℕ). x.moment ∷ ms) (logged_moments xs)
 
