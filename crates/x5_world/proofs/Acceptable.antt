@@ -67,7 +67,7 @@ of_stamped None r m b e = absurd (never e)
     never : Err refresh.inactive_agreement ≡ Ok (m, b) → ⊥
     never z = cc
 of_stamped (Some x) (Ok y) m b e =
-    let q : (x, y) ≡ (m, b) = ok_is e in
+    let q : ◌≡◌ {A = ℕ × Brought} (x, y) (m, b) = ok_is e in
     (ap (λ (z : ℕ × Brought). Some z.0) q, ap (λ (z : ℕ × Brought). Ok z.1) q)
 of_stamped (Some x) (Err k) m b e = absurd (never e)
   where
@@ -82,11 +82,11 @@ of_brought make (Err k) b e = absurd (never e)
     never : Err k ≡ Ok b → ⊥
     never z = cc
 
-content_in : Content → Brought → Content
+abbrev content_in : Content → Brought → Content
 content_in other (Total content) = content
 content_in other (Steps given) = other
 
-steps_in : List CodeStep → Brought → List CodeStep
+abbrev steps_in : List CodeStep → Brought → List CodeStep
 steps_in other (Total content) = other
 steps_in other (Steps given) = given
 
@@ -98,7 +98,7 @@ steps_only : (r : Result (List CodeStep) ℕ) (given : List CodeStep) → brough
 steps_only r given e =
     let w = of_brought Steps r (Steps given) e in w.1 ∙ ap (λ (b : Brought). Ok (steps_in given b)) w.2
 
-is_total : Brought → Bool
+abbrev is_total : Brought → Bool
 is_total (Total content) = true
 is_total (Steps given) = false
 
@@ -245,11 +245,11 @@ found_once (y ∷ ys) (suc i) g d e =
         got (z ∷ zs) (suc k) q = there (got zs k q)
 
     alone : has ◌==◌ (map (λ (a : Agreement). a.number) ys) y.number ≡ false
-    alone = (let h = (both_true (not (has ◌==◌ (map (λ (a : Agreement). a.number) ys) y.number)) (distinct ◌==◌ (map (λ (a : Agreement). a.number) ys)) d).0 in off h)
+    alone = (let h = (both_true (not (has ◌==◌ (map (λ (a : Agreement). a.number) ys) y.number)) (distinct ◌==◌ (map (λ (a : Agreement). a.number) ys)) d).0 in off (has ◌==◌ (map (λ (a : Agreement). a.number) ys) y.number) h)
       where
-        off : {b : Bool} → not b ≡ true → b ≡ false
-        off {true} q = cc
-        off {false} q = refl
+        off : (b : Bool) → not b ≡ true → b ≡ false
+        off true q = cc
+        off false q = refl
 
     other : (y.number == g.number) ≡ false
     other = elim (true_or_false (y.number == g.number)) [

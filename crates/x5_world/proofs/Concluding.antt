@@ -145,9 +145,9 @@ module _ (old mid new : Net) (p : Point) (number : ℕ) (r : Refreshment) (by : 
   outcome = ap (λ (b : RefreshBlock). b.outcome) block
 
   -- all its lines are messages of a refresh
-  module _ (all : length r.lines ≡ length (shadows_view old.names r.lines)) where
+  module _ (all : length (shadows_view old.names r.lines) ≡ length r.lines) where
     many : length r.lines ≡ k
-    many = all ∙ ap length lines
+    many = sym all ∙ ap length lines
 
     nothing : mid ≡ old → BringsNothing (refresh_block p number by.push by.total).outcome
         → StandsAt new (after_block p number by.push by.total)
@@ -202,6 +202,18 @@ module _ (old mid new : Net) (p : Point) (number : ℕ) (r : Refreshment) (by : 
       stands = stands (refresh_block p number by.push by.total).outcome refl
           (subst (λ (o : RefreshOutcome). IsLeft old by.agreement by.place sent o mid) outcome left);
     }
+
+pub is_done : (old mid new : Net) (p : Point) (number : ℕ) (push total : Bool) (r : Refreshment) → StandsAt old p
+    → IsConsistent p.described → IsDoneBy old number push total r mid → length (shadows_view old.names r.lines) ≡ length r.lines
+    → new ≡ record mid { sent = mid.sent + length r.lines; line = mid.line + 1 } → IsRefreshedAt new p number push total r
+is_done old mid new p number push total r s consistent d all e =
+    let by : Way = d.done.by in
+    let same : d.agreement ≡ by.agreement =
+    sym (some_is (sym d.done.way.there ∙ ap (slice_get old.agreements) d.done.place_is ∙ d.there)) in
+    subst (λ (b : Bool). IsRefreshedAt new p number b total r) d.done.push_is
+    (subst (λ (b : Bool). IsRefreshedAt new p number by.push b r) d.done.total_is
+    (is_refreshed old mid new p number r by d.done.sent s consistent d.done.way d.done.supplied
+    (d.found ∙ ap (λ (a : Agreement). Some a) same) d.done.block e all d.done.left))
 
 -- ---- by no agreement
 

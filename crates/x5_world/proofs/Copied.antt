@@ -133,7 +133,7 @@ module _ (p : Point) (g : Agreement) (d u : CopyKept) (same : copy_view d ≡ co
       → In g (knowledge_at p).agreements → g.number ≡ f.agreement → f.stamp ≡ m → as_of p g.number ≡ Some from
       → steps_later from (log_at p g.supplier (key_of g.context)) ≡ steps_view given → IsAdvanced given m d u
       → copy_view u ≡ renewed p g m
-  advanced_so given m from f led brought incremental there numbered stamp at steps a =
+  advanced_so given m from f led brought incremental mine numbered stamp at steps a =
       let seen : copy_view (record d { refreshed = Some (a.old, a.last) }) ≡ copy_by p g =
       ap (λ (o : Option (Kept × ℕ)). copy_view (record d { refreshed = o })) (sym a.was) ∙ same in
       ap copy_view a.after_is
@@ -152,7 +152,7 @@ module _ (p : Point) (g : Agreement) (d u : CopyKept) (same : copy_view d ≡ co
         stamp = Some (sym stamp i);
         supplier = (seen i).supplier;
       })
-      ∙ sym (copy_advances p f g from led brought incremental there numbered at)
+      ∙ sym (copy_advances p f g from led brought incremental mine numbered at)
       ∙ ap (renewed p g) stamp
 
 -- ---- and its log

@@ -38,6 +38,9 @@ use Rattle.x5_world.proofs.Courses.{some_is}
 module _ (test : ModelSpecific → Bool) (s : State) (c : Kept)
     (own : (d : Kept) → In d s.own → test (specific_view (reference_to s.me d.prefix)) ≡ true)
     (below : list_all test (map specific_view c.subordinate) ≡ true) where
+  abbrev not_mastered : Specific → Bool
+  not_mastered y = not (is_some (mastered_of s (key_of y.pin)))
+
   sent_one : (x : Specific) → In x (of_master s c) → test (specific_view x) ≡ true
   sent_one x i = elim (in_either x (supply.mastered_below s (entries_of c.nodes.nodes)) (others s c.subordinate) i) [
     | inl j ↦
@@ -51,9 +54,6 @@ module _ (test : ModelSpecific → Bool) (s : State) (c : Kept)
         ap (λ (y : Specific). test (specific_view y)) d.2
         ∙ of_all test (specific_view d.0) (map specific_view c.subordinate) below (in_map specific_view d.0 c.subordinate k.0)
   ]
-    where
-      abbrev not_mastered : Specific → Bool
-      not_mastered y = not (is_some (mastered_of s (key_of y.pin)))
 
   sent_all : list_all test (map specific_view (of_master s c)) ≡ true
   sent_all =

@@ -167,15 +167,15 @@ module _ (old : Net) (p : Point) (g : Agreement) (total : Bool) (last : Option �
         ap copy_notes a.after_is
         ∙ ap (λ (n : Notes). Some n) (noted_all m given a.old.log a.kept.log a.done.noted
         ∙ (λ i. record {
-          base = base_noting (was i).base (was i).changes (stamped_steps given x.steps i);
-          changes = kept_noting (was i).changes (stamped_steps given x.steps i);
+          base = base_noting (was i).base (was i).changes (stamped_steps x.from x.steps i);
+          changes = kept_noting (was i).changes (stamped_steps x.from x.steps i);
         })
         ∙ (λ i. record { base = sym longer.base i; changes = sym longer.kept i })),
       )
     where
-      stamped_steps : (given : List CodeStep) → {z : ℕ} → steps_later z (log_at p g.supplier pin) ≡ steps_view given
+      stamped_steps : (z : ℕ) → steps_later z (log_at p g.supplier pin) ≡ steps_view given
           → stamped m (steps_view given) ≡ stamped f.stamp (steps_later z (log_at p g.supplier pin))
-      stamped_steps given e = λ i. stamped (sym stamp i) (sym e i)
+      stamped_steps z e = λ i. stamped (sym stamp i) (sym e i)
 
   as_said : (t : Bool) → total ≡ t → (x : Brought) → supply_of state pin t last ≡ Ok (m, x) → (u : CopyKept)
       → IsRefreshed x m before u → IsAsSaid u

@@ -1,6 +1,7 @@
 -- A refresh step by step: where it ends nothing is left changed, and where it goes on what is sent can be taken.
 use Rattle.std.proofs.Common.{◌≡◌, ℕ, zero, suc, ◌+◌, ◌<◌, ◌==◌, Bool, true, false, not, cond, if◌then◌else◌, nat_lt, List, [], ◌∷◌, ◌++◌, length, slice_get, refl, sym, ap, subst, ◌∙◌, arith, Option, Some, None, Ok}
-use Rattle.std.specs.List.{find, position, position_or_len}
+use Rattle.std.specs.List.{find, list_all, position, position_or_len}
+use Rattle.x5_model.proofs.Lists.{and_true, both_true}
 use Rattle.std.specs.Option.{option_map}
 use Rattle.std.proofs.lemmas.Grind.{flat_map-append}
 use Rattle.x5_model.specs.Members.{In}
@@ -15,8 +16,9 @@ use Rattle.x5_ops.specs.declared.journal.Line.{Line}
 use Rattle.x5_ops.specs.RefreshViews.{shadow_view, shadows_view}
 use Rattle.x5_refresh.specs.Course.{answered, finished, missing, stopped, unless_ended, unsent}
 use Rattle.x5_refresh.specs.Sent.{CanAccept, count_in, supply_of}
+use Rattle.x5_world.specs.Answered.{line_names_agents}
 use Rattle.x5_world.specs.Refreshes.{IsSound}
-use Rattle.x5_world.specs.Refreshing.{CanBring, IsKnown, IsLeft, IsSupplied, IsWay, first_fate, last_of, problem_in, sent_view}
+use Rattle.x5_world.specs.Refreshing.{AreMessages, CanBring, IsKnown, IsLeft, IsSupplied, IsWay, first_fate, last_of, problem_in, sent_view}
 use Rattle.x5_world.specs.State.{Net, StandsAt, holdings_in}
 use Rattle.x5_world.specs.declared.refreshing.Supplied.{Supplied}
 use Rattle.x5_world.specs.declared.refreshing.Supplied.TheVariants.{Sent, Refused}
@@ -93,6 +95,40 @@ one_more names (l ∷ lines) line =
     joined [] ys zs = refl
     joined (x ∷ xs) ys zs = ap (λ (us : List ShadowLine). x ∷ us) (joined xs ys zs)
 
+pub no_messages : (names : List (List ℕ)) → AreMessages names 2 []
+no_messages names = record { few = omega arith; all = refl; named = refl }
+
+pub one_message : (names : List (List ℕ)) (line : Line) (x : ShadowLine) → shadow_view names line ≡ x ∷ []
+    → line_names_agents names line ≡ true → AreMessages names 1 (line ∷ [])
+one_message names line x e named = record {
+  few = omega arith;
+  all = ap (λ (ys : List ShadowLine). length (ys ++ [])) e;
+  named = and_true (line_names_agents names line) true named refl;
+}
+
+pub no_more : (names : List (List ℕ)) (lines : List Line) → AreMessages names 1 lines → AreMessages names 2 lines
+no_more names lines m = record { few = (let f = m.few in omega (arith, f)); all = m.all; named = m.named }
+
+joined_length : {A : Type 0} (xs : List A) (y : A) → length (xs ++ y ∷ []) ≡ suc (length xs)
+joined_length [] y = refl
+joined_length (x ∷ xs) y = ap suc (joined_length xs y)
+
+all_joined : (names : List (List ℕ)) (lines : List Line) (line : Line) → list_all (line_names_agents names) lines ≡ true
+    → line_names_agents names line ≡ true → list_all (line_names_agents names) (lines ++ line ∷ []) ≡ true
+all_joined names [] line e f = and_true (line_names_agents names line) true f refl
+all_joined names (l ∷ lines) line e f =
+    let w = both_true (line_names_agents names l) (list_all (line_names_agents names) lines) e in
+    and_true (line_names_agents names l) (list_all (line_names_agents names) (lines ++ line ∷ [])) w.0 (all_joined names lines line w.1 f)
+
+pub two_messages : (names : List (List ℕ)) (lines : List Line) (line : Line) (x : ShadowLine) → AreMessages names 1 lines
+    → shadow_view names line ≡ x ∷ [] → line_names_agents names line ≡ true → AreMessages names 2 (lines ++ line ∷ [])
+two_messages names lines line x m e named = record {
+  few = (let f = m.few in let k = joined_length lines line in omega (arith, f, k));
+  all = ap length (one_more names lines line ∙ ap (λ (ys : List ShadowLine). shadows_view names lines ++ ys) e)
+      ∙ joined_length (shadows_view names lines) x ∙ ap suc m.all ∙ sym (joined_length lines line);
+  named = all_joined names lines line m.named named;
+}
+
 -- how many were taken matters where it isn't lost
 pub finished_same : (total : Bool) (number stamp c d : ℕ) (last : Fate) → (is_lost last ≡ false → c ≡ d)
     → finished total number stamp c last ≡ finished total number stamp d last
@@ -134,6 +170,9 @@ can_bring n by (Sent stamp brought) sound way supplied known e f =
 abbrev of_number : ℕ → Agreement → Bool
 of_number number g = g.number == number
 
+abbrev places : ℕ → List Agreement → ℕ
+places number gs = position_or_len (of_number number) gs
+
 none_some : {A : Type 0} {x : A} → None ≡ Some x → ⊥
 none_some z = cc
 
@@ -147,33 +186,27 @@ place_finds [] number i e = absurd (none_some e)
 place_finds (y ∷ ys) number i e =
     by (of_number number y) (nat_lt (position_or_len (of_number number) ys) (length ys)) refl (place_finds ys number) e
   where
-    abbrev k : ℕ
-    k = position_or_len (of_number number) ys
-
-    by : (b c : Bool) → nat_lt k (length ys) ≡ c
+    by : (b c : Bool) → nat_lt (places number ys) (length ys) ≡ c
         → ((j : ℕ) → position (of_number number) ys ≡ Some j
         → (g : Agreement) × (find (of_number number) ys ≡ Some g) × (slice_get ys j ≡ Some g))
-        → cond (nat_lt (cond (not b) (suc k) zero) (suc (length ys))) (Some (cond (not b) (suc k) zero)) None ≡ Some i
+        → cond (nat_lt (cond (not b) (suc (places number ys)) zero) (suc (length ys))) (Some (cond (not b) (suc (places number ys)) zero)) None ≡ Some i
         → (g : Agreement) × (cond b (Some y) (find (of_number number) ys) ≡ Some g) × (slice_get (y ∷ ys) i ≡ Some g)
     by true c q more z = (y, refl, ap (slice_get (y ∷ ys)) (sym (some_is z)))
     by false true q more z =
-        let w = more k (ap (λ (d : Bool). cond d (Some k) None) q) in
-        let at : suc k ≡ i = some_is (sym (ap (λ (d : Bool). cond d (Some (suc k)) None) q) ∙ z) in
+        let w = more (places number ys) (ap (λ (d : Bool). cond d (Some (places number ys)) None) q) in
+        let at : suc (places number ys) ≡ i = some_is (sym (ap (λ (d : Bool). cond d (Some (suc (places number ys))) None) q) ∙ z) in
         (w.0, w.1, ap (slice_get (y ∷ ys)) (sym at) ∙ w.2)
-    by false false q more z = absurd (none_some (sym (ap (λ (d : Bool). cond d (Some (suc k)) None) q) ∙ z))
+    by false false q more z = absurd (none_some (sym (ap (λ (d : Bool). cond d (Some (suc (places number ys))) None) q) ∙ z))
 
 pub none_finds : (gs : List Agreement) (number : ℕ) → position (of_number number) gs ≡ None → find (of_number number) gs ≡ None
 none_finds [] number e = refl
 none_finds (y ∷ ys) number e =
     by (of_number number y) (nat_lt (position_or_len (of_number number) ys) (length ys)) refl (none_finds ys number) e
   where
-    abbrev k : ℕ
-    k = position_or_len (of_number number) ys
-
-    by : (b c : Bool) → nat_lt k (length ys) ≡ c
+    by : (b c : Bool) → nat_lt (places number ys) (length ys) ≡ c
         → (position (of_number number) ys ≡ None → find (of_number number) ys ≡ None)
-        → cond (nat_lt (cond (not b) (suc k) zero) (suc (length ys))) (Some (cond (not b) (suc k) zero)) None ≡ None
+        → cond (nat_lt (cond (not b) (suc (places number ys)) zero) (suc (length ys))) (Some (cond (not b) (suc (places number ys)) zero)) None ≡ None
         → cond b (Some y) (find (of_number number) ys) ≡ None
     by true c q more z = absurd (some_none z)
-    by false true q more z = absurd (some_none (sym (ap (λ (d : Bool). cond d (Some (suc k)) None) q) ∙ z))
-    by false false q more z = more (ap (λ (d : Bool). cond d (Some k) None) q)
+    by false true q more z = absurd (some_none (sym (ap (λ (d : Bool). cond d (Some (suc (places number ys))) None) q) ∙ z))
+    by false false q more z = more (ap (λ (d : Bool). cond d (Some (places number ys)) None) q)

@@ -30,7 +30,7 @@ use Rattle.x5_model_refreshed.proofs.Sources.{supplied_is_held, master_supplies,
 use Rattle.x5_dse.specs.Linked.{entries_of}
 use Rattle.x5_holdings.specs.declared.log.Logged.{Logged}
 use Rattle.x5_holdings.specs.Logs as holdings
-use Rattle.x5_holdings.specs.State.{CopyKept, Kept, State, copy_view, held_view, holdings_view, stamp_of as stamp_in}
+use Rattle.x5_holdings.specs.State.{CopyKept, Kept, State, brought_entries, copy_view, held_view, holdings_view, stamp_of as stamp_in}
 use Rattle.x5_supply.specs.Copying.{IsLogOf, falls}
 use Rattle.x5_supply.specs.Supplied.{copy_of, mastered_of, or_else, refreshed_of, stamp_of, supplied}
 use Rattle.x5_refresh.specs.Joined.{IsSupplier}
@@ -296,10 +296,7 @@ module _ (p : Point) (g : Agreement) (s : State) (led : IsLed p) (holds : holdin
       from d f (Some x) r q t =
           let is : d.refreshed ≡ Some (c, m) = r ∙ (λ i. Some (some_is q i, some_is t i)) in
           let copied = consumer_supplies p g (copy_view d) m led (copied_is ∙ ap (option_map copy_view) f) (ap stamp_in is) in
-          sym (ap (λ (h : Held). h.entries) copied ∙ ap (λ (z : Option (Kept × ℕ)). brought z) is) ∙ copy_entries p g m
-        where
-          brought : Option (Kept × ℕ) → List Named
-          brought z = (copy_view (record { prefix = d.prefix; supplier = d.supplier; refreshed = z })).held.entries
+          sym (ap (λ (h : Held). h.entries) copied ∙ ap (λ (z : Option (Kept × ℕ)). brought_entries z) is) ∙ copy_entries p g m
 
       by : (o : Option Kept) → mastered_of s pin ≡ o → (d : Option CopyKept) → copy_of s pin ≡ d
           → or_else o (option_map (λ (r : Kept × ℕ). r.0) (in_option None (λ (x : CopyKept). x.refreshed) d)) ≡ Some c
@@ -309,7 +306,7 @@ module _ (p : Point) (g : Agreement) (s : State) (led : IsLed p) (holds : holdin
           let is : k ≡ c = some_is q in
           let now : moment_of p ≡ m = sym moment ∙ some_is t in
           let mastered = master_supplies p g (held_view k) led (held_is ∙ ap (option_map held_view) f) in
-          sym (ap (λ (y : Kept). entries_of y.nodes.nodes) (sym is))
+          ap (λ (y : Kept). entries_of y.nodes.nodes) (sym is)
           ∙ sym (ap (λ (h : Held). h.entries) mastered.copy) ∙ copy_entries p g (moment_of p)
           ∙ ap (λ (n : ℕ). part (tree_of_moment p n) pin) now
       by None f (Some d) z q t = from d z d.refreshed refl q t

@@ -1,6 +1,6 @@
 -- A refresh by an agreement, by what the network has: what its supplier sends or tells, what is said of it, and how the
 -- network is then (X.525, sections 9 to 12).
-use Rattle.std.specs.Prelude.{◌≡◌, ℕ, ◌+◌, ◌&&◌, Bool, true, false, if◌then◌else◌, List, [], ◌∷◌, ◌++◌, length, map}
+use Rattle.std.specs.Prelude.{◌≡◌, ℕ, ◌+◌, ◌≤◌, ◌&&◌, Bool, true, false, if◌then◌else◌, List, [], ◌∷◌, ◌++◌, length, map}
 use Rattle.std.specs.Prelude.{slice_get, slice_set, ⊤, ◌⊎◌, ◌==◌}
 use Rattle.std.specs.List.{find, list_all}
 use Rattle.std.specs.declared.option.Option.{Option}
@@ -18,12 +18,14 @@ use Rattle.x5_model_known.specs.Holding.{references_name, nssrs_name}
 use Rattle.x5_model_known.specs.Counted.{references_counted, nssrs_counted}
 use Rattle.x5_ops.specs.KnowledgeViews.{specific_view, nssr_view}
 use Rattle.x5_ops.specs.RefreshViews.{shadows_view, refreshed_view}
+use Rattle.x5_ops.specs.declared.journal.Line.{Line}
 use Rattle.x5_holdings.specs.State.{State, holdings_view}
 use Rattle.x5_consume.specs.Taken.{IsTaken, stamp_at}
 use Rattle.x5_refresh.specs.declared.brought.Brought.{Brought}
 use Rattle.x5_refresh.specs.declared.brought.Brought.TheVariants.{Total, Steps}
 use Rattle.x5_refresh.specs.Sent.{CanAccept, IsRefreshed, count_in, supply_of}
 use Rattle.x5_refresh.specs.Course.{unsent, stopped, finished, opening, line_of, unless_ended}
+use Rattle.x5_world.specs.Answered.{line_names_agents}
 use Rattle.x5_world.specs.LogViews.{logs_view}
 use Rattle.x5_world.specs.State.{Net, holdings_in, logs_in}
 use Rattle.x5_world.specs.declared.refreshing.Supplied.{Supplied}
@@ -115,6 +117,12 @@ IsLeft old g place sent NotConsistent new = new ≡ old
 
 abbrev pub block_of : List (List ℕ) → Agreement → Refreshment → RefreshBlock
 block_of names g r = ended (shadows_view names r.lines) (refreshed_view r.heard g.number r.became)
+
+-- each line is a message of a refresh between agents, and they are no more than so many
+pub record AreMessages (names : List (List ℕ)) (most : ℕ) (lines : List Line) : Type 0 where
+  pub few : length lines ≤ most
+  pub all : length (shadows_view names lines) ≡ length lines
+  pub named : list_all (line_names_agents names) lines ≡ true
 
 -- what becomes of its first message, and of its last one
 abbrev pub first_fate : Net → Agreement → Bool → Fate

@@ -1,7 +1,6 @@
 //! A refresh by an agreement, message by message.
 
 ghost use Rattle.std.specs.Prelude.{◌≡◌, ◌∷◌, [], ◌<◌, ◌≤◌, ◌⊎◌, true, false, None, IfOk, length};
-ghost use Rattle.std.specs.List.{list_all};
 ghost use Rattle.x5_model.specs.Words.{distinct, same_octets};
 ghost use Rattle.x5_model_run.specs.Network.{is_lost, is_sent};
 ghost use Rattle.x5_ops.specs.JournalViews.{fate_view};
@@ -11,7 +10,7 @@ ghost use Rattle.x5_refresh.specs.Sent.{count_in};
 ghost use Rattle.x5_refresh.specs.Joined.{is_of_supplier};
 ghost use Rattle.x5_world.specs.Answered.{line_names_agents};
 ghost use Rattle.x5_world.specs.Refreshes.{IsSound};
-ghost use Rattle.x5_world.specs.Refreshing.{CanBring, IsDoneAt, IsDoneBy, IsInvalid, IsKnown, IsLeft, IsSupplied, IsWay, OnlyHeld};
+ghost use Rattle.x5_world.specs.Refreshing.{AreMessages, CanBring, IsDoneAt, IsDoneBy, IsInvalid, IsKnown, IsLeft, IsSupplied, IsWay, OnlyHeld};
 ghost use Rattle.x5_world.specs.Refreshing.{block_of, first_fate, last_block, last_fate, last_of, opened_block, problem_in};
 ghost use Rattle.x5_world.specs.declared.refreshing.Supplied.TheVariants.{Sent};
 
@@ -177,13 +176,11 @@ fn updated(
     requires sound { IsSound world.old }
     requires way { IsWay world.old by.now }
     requires can { CanBring world.old by.now.agreement supplied }
-    requires first { length lines ≡ 1 }
-    requires named { list_all (line_names_agents world.old.names) lines ≡ true }
+    requires first { AreMessages world.old.names 1 lines }
     ensures block { IfOk result (λ r. block_of world.old.names by.now.agreement r ≡ last_block by.now.agreement by.now.total supplied (shadows_view world.old.names lines) (last_fate world.old by.now.agreement)) }
     ensures left { IfOk result (λ r. IsLeft world.old by.now.agreement by.now.place supplied (refreshed_view r.heard by.now.agreement.number r.became) world.new) }
     ensures only { IfOk result (λ _. OnlyHeld world.old world.new) }
-    ensures few { IfOk result (λ r. length r.lines ≤ 2) }
-    ensures named_after { IfOk result (λ r. list_all (line_names_agents world.old.names) r.lines ≡ true) }
+    ensures messages { IfOk result (λ r. AreMessages world.old.names 2 r.lines) }
 {
     let Supplied::Sent(stamp, brought) = supplied else {
         unreachable!()
@@ -209,8 +206,7 @@ fn first_line(alloc: Global, world: &World, by: &Way, first: Fate) -> Result<Lin
     requires sound { IsSound world.now }
     requires way { IsWay world.now by.now }
     ensures view { IfOk result (λ lines. shadows_view world.now.names lines ≡ line_of by.now.agreement (opening by.now.push) (fate_view first) ∷ []) }
-    ensures one { IfOk result (λ lines. length lines ≡ 1) }
-    ensures named { IfOk result (λ lines. list_all (line_names_agents world.now.names) lines ≡ true) }
+    ensures messages { IfOk result (λ lines. AreMessages world.now.names 1 lines) }
 {
     let operation = first_operation(by.push);
     let mut lines = Listed::new(alloc);
@@ -235,8 +231,7 @@ fn opened(
     ensures block { IfOk result (λ r. block_of world.old.names by.now.agreement r ≡ opened_block world.old by.now supplied) }
     ensures left { IfOk result (λ r. IsLeft world.old by.now.agreement by.now.place supplied (refreshed_view r.heard by.now.agreement.number r.became) world.new) }
     ensures only { IfOk result (λ _. OnlyHeld world.old world.new) }
-    ensures few { IfOk result (λ r. length r.lines ≤ 2) }
-    ensures named { IfOk result (λ r. list_all (line_names_agents world.old.names) r.lines ≡ true) }
+    ensures messages { IfOk result (λ r. AreMessages world.old.names 2 r.lines) }
 {
     let first = fate_of_first(world, &by.agreement, by.push);
     let lines = first_line(alloc, world, by, first)?;
@@ -281,8 +276,7 @@ fn by_place(
     requires there { place < length world.old.agreements }
     ensures done { IfOk result (λ r. IsDoneAt world.old place push total r world.new) }
     ensures only { IfOk result (λ _. OnlyHeld world.old world.new) }
-    ensures few { IfOk result (λ r. length r.lines ≤ 2) }
-    ensures named { IfOk result (λ r. list_all (line_names_agents world.old.names) r.lines ≡ true) }
+    ensures messages { IfOk result (λ r. AreMessages world.old.names 2 r.lines) }
 {
     let by = way_of(world, place, push, total)?;
     let last = if push { by.acked } else { by.own };
@@ -305,8 +299,7 @@ pub(crate) fn refreshed(
     requires sound { IsSound world.old }
     ensures done { IfOk result (λ r. IsInvalid world.old number r world.new ⊎ IsDoneBy world.old number push total r world.new) }
     ensures only { IfOk result (λ _. OnlyHeld world.old world.new) }
-    ensures few { IfOk result (λ r. length r.lines ≤ 2) }
-    ensures named { IfOk result (λ r. list_all (line_names_agents world.old.names) r.lines ≡ true) }
+    ensures messages { IfOk result (λ r. AreMessages world.old.names 2 r.lines) }
 {
     match world.place_of(number) {
         None => Ok(stopped(
