@@ -10,7 +10,7 @@ use Rattle.x5_model.specs.Values.{key_of}
 use Rattle.x5_model.specs.Entries.{Named}
 use Rattle.x5_model.proofs.Decide.{nat_same_decides}
 use Rattle.x5_model.proofs.KeyLaws.{key_decides}
-use Rattle.x5_model.proofs.Lists.{any_in, both_true, in_map, of_find, true_or_false}
+use Rattle.x5_model.proofs.Lists.{both_true, has_in, in_map, of_find, true_or_false}
 use Rattle.x5_model_tree.specs.World.{Agreement, World}
 use Rattle.x5_model_tree.specs.Tree.{Tree, part}
 use Rattle.x5_model_tree.specs.Masters.{is_consumer, masters}
@@ -67,7 +67,9 @@ of_stamped None r m b e = absurd (never e)
     never : Err refresh.inactive_agreement ≡ Ok (m, b) → ⊥
     never z = cc
 of_stamped (Some x) (Ok y) m b e =
-    let q : ◌≡◌ {A = ℕ × Brought} (x, y) (m, b) = ok_is e in
+    let one : ℕ × Brought = (x, y) in
+    let two : ℕ × Brought = (m, b) in
+    let q : one ≡ two = ok_is e in
     (ap (λ (z : ℕ × Brought). Some z.0) q, ap (λ (z : ℕ × Brought). Ok z.1) q)
 of_stamped (Some x) (Err k) m b e = absurd (never e)
   where
@@ -253,7 +255,9 @@ found_once (y ∷ ys) (suc i) g d e =
 
     other : (y.number == g.number) ≡ false
     other = elim (true_or_false (y.number == g.number)) [
-      | inl t ↦ absurd (never (sym alone ∙ any_in (λ (n : ℕ). y.number == n) g.number (map (λ (a : Agreement). a.number) ys) (in_map (λ (a : Agreement). a.number) g ys there_is) t))
+      | inl t ↦ absurd (never (sym alone ∙ has_in ◌==◌ nat_same_decides y.number (map (λ (a : Agreement). a.number) ys)
+        (subst (λ (n : ℕ). In n (map (λ (a : Agreement). a.number) ys)) (sym ((nat_same_decides y.number g.number).0 t))
+        (in_map (λ (a : Agreement). a.number) g ys there_is))))
       | inr f ↦ f
     ]
       where

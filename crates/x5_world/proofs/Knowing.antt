@@ -70,19 +70,19 @@ references_seen (x ∷ xs) = ap (λ (ys : List ModelSpecific). specific_view x �
 
 -- what is so of all that is held
 module _ (names : List (List ℕ)) (a : ℕ) (h : Holdings) (x : IsHolder names a h) where
-  abbrev n : ℕ
-  n = length names
+  abbrev agents : ℕ
+  agents = length names
 
-  rest_name : (list_all (context_names n) h.own && (list_all (copy_names n) h.copies && (references_name n h.root && references_name n h.cross))) ≡ true
+  rest_name : (list_all (context_names agents) h.own && (list_all (copy_names agents) h.copies && (references_name agents h.root && references_name agents h.cross))) ≡ true
   rest_name =
-      (both_true (superior_names n h.superior)
-      (list_all (context_names n) h.own && (list_all (copy_names n) h.copies && (references_name n h.root && references_name n h.cross))) x.known).1
+      (both_true (superior_names agents h.superior)
+      (list_all (context_names agents) h.own && (list_all (copy_names agents) h.copies && (references_name agents h.root && references_name agents h.cross))) x.known).1
 
-  rest_own : (list_all (context_names n) h.own ≡ true) × ((list_all (copy_names n) h.copies && (references_name n h.root && references_name n h.cross)) ≡ true)
-  rest_own = both_true (list_all (context_names n) h.own) (list_all (copy_names n) h.copies && (references_name n h.root && references_name n h.cross)) rest_name
+  rest_own : (list_all (context_names agents) h.own ≡ true) × ((list_all (copy_names agents) h.copies && (references_name agents h.root && references_name agents h.cross)) ≡ true)
+  rest_own = both_true (list_all (context_names agents) h.own) (list_all (copy_names agents) h.copies && (references_name agents h.root && references_name agents h.cross)) rest_name
 
-  copies_name : list_all (copy_names n) h.copies ≡ true
-  copies_name = (both_true (list_all (copy_names n) h.copies) (references_name n h.root && references_name n h.cross) rest_own.1).0
+  copies_name : list_all (copy_names agents) h.copies ≡ true
+  copies_name = (both_true (list_all (copy_names agents) h.copies) (references_name agents h.root && references_name agents h.cross) rest_own.1).0
 
   rest_counted : (list_all context_counted h.own ≡ true) × ((list_all copy_counted h.copies && (references_counted h.root && references_counted h.cross)) ≡ true)
   rest_counted = both_true (list_all context_counted h.own) (list_all copy_counted h.copies && (references_counted h.root && references_counted h.cross)) x.counted
@@ -98,25 +98,25 @@ both : (n : ℕ) (ks : List ModelSpecific) (xs : List ModelNssr) → (references
 both n ks xs e f = and_true (references_name n ks && nssrs_name n xs) (references_counted ks && nssrs_counted xs) e f
 
 module _ (names : List (List ℕ)) (a : ℕ) (s : State) (there : a < length names) (x : IsHolder names a (holdings_view s)) where
-  abbrev n : ℕ
-  n = length names
+  abbrev many : ℕ
+  many = length names
 
   -- a master's content
-  master_known : (c : Kept) → In c s.own → both_known n (map specific_view (of_master s c)) (map nssr_view (map supply.nssr c.nssrs)) ≡ true
+  master_known : (c : Kept) → In c s.own → both_known many (map specific_view (of_master s c)) (map nssr_view (map supply.nssr c.nssrs)) ≡ true
   master_known c i =
-      let named = both_true (references_name n (map specific_view c.subordinate)) (nssrs_name n (map nssr_view c.nssrs))
-      (of_all (context_names n) (held_view c) (map held_view s.own) (rest_own names a (holdings_view s) x).0 (in_map held_view c s.own i)) in
+      let named = both_true (references_name many (map specific_view c.subordinate)) (nssrs_name many (map nssr_view c.nssrs))
+      (of_all (context_names many) (held_view c) (map held_view s.own) (rest_own names a (holdings_view s) x).0 (in_map held_view c s.own i)) in
       let counts = both_true (references_counted (map specific_view c.subordinate)) (nssrs_counted (map nssr_view c.nssrs))
       (counted_of c i).1 in
-      subst (λ (ys : List ModelNssr). both_known n (map specific_view (of_master s c)) ys ≡ true) (sym (nssrs_seen c.nssrs))
-      (both n (map specific_view (of_master s c)) (map nssr_view c.nssrs)
-      (and_true (references_name n (map specific_view (of_master s c))) (nssrs_name n (map nssr_view c.nssrs))
-      (sent_all (λ (k : ModelSpecific). access_names n k.access) s c (λ d j. and_true (nat_lt s.me n) true mine refl) named.0) named.1)
+      subst (λ (ys : List ModelNssr). both_known many (map specific_view (of_master s c)) ys ≡ true) (sym (nssrs_seen c.nssrs))
+      (both many (map specific_view (of_master s c)) (map nssr_view c.nssrs)
+      (and_true (references_name many (map specific_view (of_master s c))) (nssrs_name many (map nssr_view c.nssrs))
+      (sent_all (λ (k : ModelSpecific). access_names many k.access) s c (λ d j. and_true (nat_lt s.me many) true mine refl) named.0) named.1)
       (and_true (references_counted (map specific_view (of_master s c))) (nssrs_counted (map nssr_view c.nssrs))
       (sent_all (λ (k : ModelSpecific). is_counted k.pin) s c (λ d j. (counted_of d j).0) counts.0) counts.1))
     where
-      mine : nat_lt s.me n ≡ true
-      mine = ap (λ (k : ℕ). nat_lt k n) x.me ∙ (less_decides a n).1 there
+      mine : nat_lt s.me many ≡ true
+      mine = ap (λ (k : ℕ). nat_lt k many) x.me ∙ (less_decides a many).1 there
 
       counted_of : (d : Kept) → In d s.own
           → (is_counted d.prefix ≡ true) × ((references_counted (map specific_view d.subordinate) && nssrs_counted (map nssr_view d.nssrs)) ≡ true)
@@ -126,43 +126,43 @@ module _ (names : List (List ℕ)) (a : ℕ) (s : State) (there : a < length nam
 
   -- what came of a copy
   copy_known : (d : CopyKept) (c : Kept) (m : ℕ) → In d s.copies → d.refreshed ≡ Some (c, m)
-      → both_known n (map specific_view c.subordinate) (map nssr_view c.nssrs) ≡ true
+      → both_known many (map specific_view c.subordinate) (map nssr_view c.nssrs) ≡ true
   copy_known d c m i e =
       let seen : shadow_view d ≡ shadow_view (record d { refreshed = Some (c, m) }) = ap (λ (o : Option (Kept × ℕ)). shadow_view (record d { refreshed = o })) e in
-      let named = both_true (nat_lt d.supplier n) (context_names n (shadow_view d))
-      (of_all (copy_names n) (copy_view d) (map copy_view s.copies) (copies_name names a (holdings_view s) x) (in_map copy_view d s.copies i)) in
+      let named = both_true (nat_lt d.supplier many) (context_names many (shadow_view d))
+      (of_all (copy_names many) (copy_view d) (map copy_view s.copies) (copies_name names a (holdings_view s) x) (in_map copy_view d s.copies i)) in
       let counts = both_true (is_counted d.prefix) (references_counted (shadow_view d).subordinate && nssrs_counted (shadow_view d).nssrs)
       (of_all copy_counted (copy_view d) (map copy_view s.copies) (copies_counted names a (holdings_view s) x) (in_map copy_view d s.copies i)) in
-      both n (map specific_view c.subordinate) (map nssr_view c.nssrs)
-      (subst (λ (h : Held). context_names n h ≡ true) seen named.1)
+      both many (map specific_view c.subordinate) (map nssr_view c.nssrs)
+      (subst (λ (h : Held). context_names many h ≡ true) seen named.1)
       (subst (λ (h : Held). (references_counted h.subordinate && nssrs_counted h.nssrs) ≡ true) seen counts.1)
 
-  total_known : (pin : Key) (content : Content) → total_of s pin ≡ Ok content → is_known_in n (Total content) ≡ true
+  total_known : (pin : Key) (content : Content) → total_of s pin ≡ Ok content → is_known_in many (Total content) ≡ true
   total_known pin content e = by (mastered_of s pin) refl (copy_of s pin) refl e
     where
       inactive : or_inactive None ≡ Ok content → ⊥
       inactive z = cc
 
       from : (d : CopyKept) → copy_of s pin ≡ Some d → (o : Option (Kept × ℕ)) → d.refreshed ≡ o
-          → or_inactive (option_map content_of_copy (option_map (λ (r : Kept × ℕ). r.0) o)) ≡ Ok content → is_known_in n (Total content) ≡ true
+          → or_inactive (option_map content_of_copy (option_map (λ (r : Kept × ℕ). r.0) o)) ≡ Ok content → is_known_in many (Total content) ≡ true
       from d f None r q = absurd (inactive q)
       from d f (Some y) r q =
-          subst (λ (k : Content). is_known_in n (Total k) ≡ true) (ok_is q)
-          (subst (λ (ks : List ModelSpecific). both_known n ks (map nssr_view (map supply.nssr y.0.nssrs)) ≡ true) (sym (references_seen y.0.subordinate))
-          (subst (λ (xs : List ModelNssr). both_known n (map specific_view y.0.subordinate) xs ≡ true) (sym (nssrs_seen y.0.nssrs))
+          subst (λ (k : Content). is_known_in many (Total k) ≡ true) (ok_is q)
+          (subst (λ (ks : List ModelSpecific). both_known many ks (map nssr_view (map supply.nssr y.0.nssrs)) ≡ true) (sym (references_seen y.0.subordinate))
+          (subst (λ (xs : List ModelNssr). both_known many (map specific_view y.0.subordinate) xs ≡ true) (sym (nssrs_seen y.0.nssrs))
           (copy_known d y.0 y.1 (of_find (λ (z : CopyKept). same_key (key_of z.prefix) pin) d s.copies f).0 r)))
 
       by : (o : Option Kept) → mastered_of s pin ≡ o → (d : Option CopyKept) → copy_of s pin ≡ d
           → or_inactive (or_else (option_map (content_of_master s) o) (option_map content_of_copy (option_map (λ (r : Kept × ℕ). r.0) (in_option None (λ (z : CopyKept). z.refreshed) d)))) ≡ Ok content
-          → is_known_in n (Total content) ≡ true
+          → is_known_in many (Total content) ≡ true
       by (Some c) f d z q =
-          subst (λ (k : Content). is_known_in n (Total k) ≡ true) (ok_is q)
+          subst (λ (k : Content). is_known_in many (Total k) ≡ true) (ok_is q)
           (master_known c (of_find (λ (y : Kept). same_key (key_of y.prefix) pin) c s.own f).0)
       by None f (Some d) z q = from d z d.refreshed refl q
       by None f None z q = absurd (inactive q)
 
   pub sent_known : (pin : Key) (total : Bool) (last : Option ℕ) (m : ℕ) (b : Brought) → supply_of s pin total last ≡ Ok (m, b)
-      → is_known_in n b ≡ true
+      → is_known_in many b ≡ true
   sent_known pin total last m (Steps given) e = refl
   sent_known pin true last m (Total content) e = total_known pin content (total_sent s pin last m content e)
   sent_known pin false last m (Total content) e = absurd (no_total s pin last m content e)
@@ -193,15 +193,15 @@ map_at f (y ∷ ys) (suc i) x e = map_at f ys i x e
 module _ (names : List (List ℕ)) (a : ℕ) (s t : State) (pin : Key) (m : ℕ) (b : Brought)
     (x : IsHolder names a (holdings_view s)) (known : is_known_in (length names) b ≡ true)
     (taken : IsTaken s pin (IsRefreshed b m) t) where
-  abbrev n : ℕ
-  n = length names
+  abbrev size : ℕ
+  size = length names
 
   abbrev d : CopyKept
   d = taken.copied.before
 
-  was_named : copy_names n (copy_view d) ≡ true
+  was_named : copy_names size (copy_view d) ≡ true
   was_named =
-      got_all (copy_names n) (map copy_view s.copies) taken.place (copy_view d) (map_at copy_view s.copies taken.place d taken.copied.was)
+      got_all (copy_names size) (map copy_view s.copies) taken.place (copy_view d) (map_at copy_view s.copies taken.place d taken.copied.was)
       (copies_name names a (holdings_view s) x)
 
   was_counted : copy_counted (copy_view d) ≡ true
@@ -210,13 +210,13 @@ module _ (names : List (List ℕ)) (a : ℕ) (s t : State) (pin : Key) (m : ℕ)
       (copies_counted names a (holdings_view s) x)
 
   abbrev IsGood : CopyKept → Type 0
-  IsGood u = (copy_names n (copy_view u) ≡ true) × (copy_counted (copy_view u) ≡ true)
+  IsGood u = (copy_names size (copy_view u) ≡ true) × (copy_counted (copy_view u) ≡ true)
 
-  good : (c : Brought) → is_known_in n c ≡ true → (u : CopyKept) → IsRefreshed c m d u → IsGood u
+  good : (c : Brought) → is_known_in size c ≡ true → (u : CopyKept) → IsRefreshed c m d u → IsGood u
   good (Total content) k u r =
-      let w = both_true (references_name n (map specific_view content.specific) && nssrs_name n (map nssr_view content.nssr))
+      let w = both_true (references_name size (map specific_view content.specific) && nssrs_name size (map nssr_view content.nssr))
       (references_counted (map specific_view content.specific) && nssrs_counted (map nssr_view content.nssr)) k in
-      let supplier = (both_true (nat_lt d.supplier n) (context_names n (shadow_view d)) was_named).0 in
+      let supplier = (both_true (nat_lt d.supplier size) (context_names size (shadow_view d)) was_named).0 in
       let prefix = (both_true (is_counted d.prefix) (references_counted (shadow_view d).subordinate && nssrs_counted (shadow_view d).nssrs) was_counted).0 in
       let at : copy_view u ≡ record {
         held = record {
@@ -239,16 +239,16 @@ module _ (names : List (List ℕ)) (a : ℕ) (s t : State) (pin : Key) (m : ℕ)
         stamp = Some m;
         supplier = d.supplier;
       }) in (
-        ap (copy_names n) at
-        ∙ and_true (nat_lt d.supplier n) (references_name n (map specific_view content.specific) && nssrs_name n (map nssr_view content.nssr)) supplier w.0,
+        ap (copy_names size) at
+        ∙ and_true (nat_lt d.supplier size) (references_name size (map specific_view content.specific) && nssrs_name size (map nssr_view content.nssr)) supplier w.0,
         ap copy_counted at
         ∙ and_true (is_counted d.prefix) (references_counted (map specific_view content.specific) && nssrs_counted (map nssr_view content.nssr)) prefix w.1,
       )
   good (Steps given) k u r =
-      let same : (copy_names n (copy_view u) ≡ copy_names n (copy_view d)) × (copy_counted (copy_view u) ≡ copy_counted (copy_view d)) = (
-        ap (λ (v : CopyKept). copy_names n (copy_view v)) r.after_is
-        ∙ (λ i. nat_lt d.supplier n && (references_name n (map specific_view (r.done.subordinate i)) && nssrs_name n (map nssr_view (r.done.nssrs i))))
-        ∙ ap (λ (o : Option (Kept × ℕ)). copy_names n (copy_view (record d { refreshed = o }))) (sym r.was),
+      let same : (copy_names size (copy_view u) ≡ copy_names size (copy_view d)) × (copy_counted (copy_view u) ≡ copy_counted (copy_view d)) = (
+        ap (λ (v : CopyKept). copy_names size (copy_view v)) r.after_is
+        ∙ (λ i. nat_lt d.supplier size && (references_name size (map specific_view (r.done.subordinate i)) && nssrs_name size (map nssr_view (r.done.nssrs i))))
+        ∙ ap (λ (o : Option (Kept × ℕ)). copy_names size (copy_view (record d { refreshed = o }))) (sym r.was),
         ap (λ (v : CopyKept). copy_counted (copy_view v)) r.after_is
         ∙ (λ i. is_counted d.prefix && (references_counted (map specific_view (r.done.subordinate i)) && nssrs_counted (map nssr_view (r.done.nssrs i))))
         ∙ ap (λ (o : Option (Kept × ℕ)). copy_counted (copy_view (record d { refreshed = o }))) (sym r.was),
@@ -264,18 +264,18 @@ module _ (names : List (List ℕ)) (a : ℕ) (s t : State) (pin : Key) (m : ℕ)
       let at : holdings_view t ≡ record h { copies = cs } =
       ap holdings_view taken.copied.new_is
       ∙ ap (λ (ys : List Copy). record h { copies = ys }) (map-set copy_view s.copies taken.place taken.copied.after) in
-      let names_rest = both_true (list_all (copy_names n) h.copies) (references_name n h.root && references_name n h.cross) (rest_own names a h x).1 in
+      let names_rest = both_true (list_all (copy_names size) h.copies) (references_name size h.root && references_name size h.cross) (rest_own names a h x).1 in
       let counts_rest = both_true (list_all copy_counted h.copies) (references_counted h.root && references_counted h.cross) (rest_counted names a h x).1 in
       subst (IsHolder names a) (sym at) (record {
         me = x.me;
-        known = and_true (superior_names n h.superior)
-            (list_all (context_names n) h.own && (list_all (copy_names n) cs && (references_name n h.root && references_name n h.cross)))
-            (both_true (superior_names n h.superior)
-            (list_all (context_names n) h.own && (list_all (copy_names n) h.copies && (references_name n h.root && references_name n h.cross))) x.known).0
-            (and_true (list_all (context_names n) h.own) (list_all (copy_names n) cs && (references_name n h.root && references_name n h.cross))
+        known = and_true (superior_names size h.superior)
+            (list_all (context_names size) h.own && (list_all (copy_names size) cs && (references_name size h.root && references_name size h.cross)))
+            (both_true (superior_names size h.superior)
+            (list_all (context_names size) h.own && (list_all (copy_names size) h.copies && (references_name size h.root && references_name size h.cross))) x.known).0
+            (and_true (list_all (context_names size) h.own) (list_all (copy_names size) cs && (references_name size h.root && references_name size h.cross))
             (rest_own names a h x).0
-            (and_true (list_all (copy_names n) cs) (references_name n h.root && references_name n h.cross)
-            (set_all (copy_names n) h.copies taken.place (copy_view taken.copied.after) names_rest.0 is_good.0) names_rest.1));
+            (and_true (list_all (copy_names size) cs) (references_name size h.root && references_name size h.cross)
+            (set_all (copy_names size) h.copies taken.place (copy_view taken.copied.after) names_rest.0 is_good.0) names_rest.1));
         counted = and_true (list_all context_counted h.own) (list_all copy_counted cs && (references_counted h.root && references_counted h.cross))
             (rest_counted names a h x).0
             (and_true (list_all copy_counted cs) (references_counted h.root && references_counted h.cross)

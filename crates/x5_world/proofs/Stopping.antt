@@ -1,7 +1,9 @@
 -- A refresh step by step: where it ends nothing is left changed, and where it goes on what is sent can be taken.
-use Rattle.std.proofs.Common.{◌≡◌, ℕ, zero, suc, ◌+◌, ◌<◌, ◌==◌, Bool, true, false, not, cond, if◌then◌else◌, nat_lt, List, [], ◌∷◌, ◌++◌, length, slice_get, refl, sym, ap, subst, ◌∙◌, arith, Option, Some, None, Ok}
+use Rattle.std.proofs.Common.{◌≡◌, ℕ, zero, suc, ◌+◌, ◌<◌, ◌==◌, ◌≤◌, inl, inr, Bool, true, false, not, cond, if◌then◌else◌, nat_lt, List, [], ◌∷◌, ◌++◌, length, slice_get, refl, sym, ap, subst, ◌∙◌, arith, Option, Some, None, Ok}
 use Rattle.std.specs.List.{find, list_all, position, position_or_len}
-use Rattle.x5_model.proofs.Lists.{and_true, both_true}
+use Rattle.x5_model.proofs.Decide.{less_decides}
+use Rattle.x5_model.proofs.Lists.{and_true, both_true, true_or_false}
+use Rattle.x5_model_refreshed.proofs.Listing.{less_false, not_less}
 use Rattle.std.specs.Option.{option_map}
 use Rattle.std.proofs.lemmas.Grind.{flat_map-append}
 use Rattle.x5_model.specs.Members.{In}
@@ -179,6 +181,12 @@ none_some z = cc
 some_none : {A : Type 0} {x : A} → Some x ≡ None → ⊥
 some_none z = cc
 
+one_less : (a b : ℕ) → nat_lt (suc a) (suc b) ≡ nat_lt a b
+one_less a b = elim (true_or_false (nat_lt a b)) [
+  | inl t ↦ (less_decides (suc a) (suc b)).1 (let l = (less_decides a b).0 t in omega (arith, l)) ∙ sym t
+  | inr f ↦ less_false (suc a) (suc b) (let l = not_less a b f in omega (arith, l)) ∙ sym f
+]
+
 -- the first of a number is at its place
 pub place_finds : (gs : List Agreement) (number i : ℕ) → position (of_number number) gs ≡ Some i
     → (g : Agreement) × (find (of_number number) gs ≡ Some g) × (slice_get gs i ≡ Some g)
@@ -194,9 +202,9 @@ place_finds (y ∷ ys) number i e =
     by true c q more z = (y, refl, ap (slice_get (y ∷ ys)) (sym (some_is z)))
     by false true q more z =
         let w = more (places number ys) (ap (λ (d : Bool). cond d (Some (places number ys)) None) q) in
-        let at : suc (places number ys) ≡ i = some_is (sym (ap (λ (d : Bool). cond d (Some (suc (places number ys))) None) q) ∙ z) in
+        let at : suc (places number ys) ≡ i = some_is (sym (ap (λ (d : Bool). cond d (Some (suc (places number ys))) None) (one_less (places number ys) (length ys) ∙ q)) ∙ z) in
         (w.0, w.1, ap (slice_get (y ∷ ys)) (sym at) ∙ w.2)
-    by false false q more z = absurd (none_some (sym (ap (λ (d : Bool). cond d (Some (suc (places number ys))) None) q) ∙ z))
+    by false false q more z = absurd (none_some (sym (ap (λ (d : Bool). cond d (Some (suc (places number ys))) None) (one_less (places number ys) (length ys) ∙ q)) ∙ z))
 
 pub none_finds : (gs : List Agreement) (number : ℕ) → position (of_number number) gs ≡ None → find (of_number number) gs ≡ None
 none_finds [] number e = refl
@@ -208,5 +216,5 @@ none_finds (y ∷ ys) number e =
         → cond (nat_lt (cond (not b) (suc (places number ys)) zero) (suc (length ys))) (Some (cond (not b) (suc (places number ys)) zero)) None ≡ None
         → cond b (Some y) (find (of_number number) ys) ≡ None
     by true c q more z = absurd (some_none z)
-    by false true q more z = absurd (some_none (sym (ap (λ (d : Bool). cond d (Some (suc (places number ys))) None) q) ∙ z))
+    by false true q more z = absurd (some_none (sym (ap (λ (d : Bool). cond d (Some (suc (places number ys))) None) (one_less (places number ys) (length ys) ∙ q)) ∙ z))
     by false false q more z = more (ap (λ (d : Bool). cond d (Some (places number ys)) None) q)
