@@ -61,20 +61,17 @@ ok_is {A} {x} e = ap by e
     by (Ok z) = z
     by (Err k) = x
 
+err_told : {A : Type 0} {k : ℕ} {x : A} → Err k ≡ told x → ⊥
+err_told z = cc
+
 of_stamped : (o : Option ℕ) (r : Result Brought ℕ) (m : ℕ) (b : Brought) → stamped o r ≡ Ok (m, b) → (o ≡ Some m) × (r ≡ Ok b)
-of_stamped None r m b e = absurd (never e)
-  where
-    never : Err refresh.inactive_agreement ≡ Ok (m, b) → ⊥
-    never z = cc
+of_stamped None r m b e = absurd (err_told e)
 of_stamped (Some x) (Ok y) m b e =
     let one : ℕ × Brought = (x, y) in
     let two : ℕ × Brought = (m, b) in
     let q : one ≡ two = ok_is e in
-    (ap (λ (z : ℕ × Brought). Some z.0) q, ap (λ (z : ℕ × Brought). Ok z.1) q)
-of_stamped (Some x) (Err k) m b e = absurd (never e)
-  where
-    never : Err k ≡ Ok (m, b) → ⊥
-    never z = cc
+    (ap (λ (z : ℕ × Brought). Some z.0) q, ap (λ (z : ℕ × Brought). told z.1) q)
+of_stamped (Some x) (Err k) m b e = absurd (err_told e)
 
 of_brought : {A : Type 0} (make : A → Brought) (r : Result A ℕ) (b : Brought) → brought_by make r ≡ Ok b
     → (x : A) × (r ≡ Ok x) × (make x ≡ b)

@@ -187,6 +187,12 @@ one_less a b = elim (true_or_false (nat_lt a b)) [
   | inr f ↦ less_false (suc a) (suc b) (let l = not_less a b f in omega (arith, l)) ∙ sym f
 ]
 
+counted : (k n : ℕ) → cond (nat_lt (suc k) (suc n)) (Some (suc k)) None ≡ cond (nat_lt (1 + k) (suc n)) (Some (1 + k)) None
+counted k n = (let e : suc k ≡ 1 + k = omega arith in ap (λ (m : ℕ). cond (nat_lt m (suc n)) (Some m) None) e)
+
+none_less : (n : ℕ) → nat_lt zero (suc n) ≡ true
+none_less n = (less_decides zero (suc n)).1 (omega arith)
+
 -- the first of a number is at its place
 pub place_finds : (gs : List Agreement) (number i : ℕ) → position (of_number number) gs ≡ Some i
     → (g : Agreement) × (find (of_number number) gs ≡ Some g) × (slice_get gs i ≡ Some g)
@@ -197,14 +203,16 @@ place_finds (y ∷ ys) number i e =
     by : (b c : Bool) → nat_lt (places number ys) (length ys) ≡ c
         → ((j : ℕ) → position (of_number number) ys ≡ Some j
         → (g : Agreement) × (find (of_number number) ys ≡ Some g) × (slice_get ys j ≡ Some g))
-        → cond (nat_lt (cond (not b) (suc (places number ys)) zero) (suc (length ys))) (Some (cond (not b) (suc (places number ys)) zero)) None ≡ Some i
+        → cond (nat_lt (cond (not b) (1 + places number ys) 0) (suc (length ys))) (Some (cond (not b) (1 + places number ys) 0)) None ≡ Some i
         → (g : Agreement) × (cond b (Some y) (find (of_number number) ys) ≡ Some g) × (slice_get (y ∷ ys) i ≡ Some g)
-    by true c q more z = (y, refl, ap (slice_get (y ∷ ys)) (sym (some_is z)))
+    by true c q more z =
+        let at : zero ≡ i = some_is (sym (ap (λ (d : Bool). cond d (Some zero) None) (none_less (length ys))) ∙ z) in
+        (y, refl, ap (slice_get (y ∷ ys)) (sym at))
     by false true q more z =
         let w = more (places number ys) (ap (λ (d : Bool). cond d (Some (places number ys)) None) q) in
-        let at : suc (places number ys) ≡ i = some_is (sym (ap (λ (d : Bool). cond d (Some (suc (places number ys))) None) (one_less (places number ys) (length ys) ∙ q)) ∙ z) in
+        let at : suc (places number ys) ≡ i = some_is (sym (ap (λ (d : Bool). cond d (Some (suc (places number ys))) None) (one_less (places number ys) (length ys) ∙ q)) ∙ counted (places number ys) (length ys) ∙ z) in
         (w.0, w.1, ap (slice_get (y ∷ ys)) (sym at) ∙ w.2)
-    by false false q more z = absurd (none_some (sym (ap (λ (d : Bool). cond d (Some (suc (places number ys))) None) (one_less (places number ys) (length ys) ∙ q)) ∙ z))
+    by false false q more z = absurd (none_some (sym (ap (λ (d : Bool). cond d (Some (suc (places number ys))) None) (one_less (places number ys) (length ys) ∙ q)) ∙ counted (places number ys) (length ys) ∙ z))
 
 pub none_finds : (gs : List Agreement) (number : ℕ) → position (of_number number) gs ≡ None → find (of_number number) gs ≡ None
 none_finds [] number e = refl
@@ -213,8 +221,9 @@ none_finds (y ∷ ys) number e =
   where
     by : (b c : Bool) → nat_lt (places number ys) (length ys) ≡ c
         → (position (of_number number) ys ≡ None → find (of_number number) ys ≡ None)
-        → cond (nat_lt (cond (not b) (suc (places number ys)) zero) (suc (length ys))) (Some (cond (not b) (suc (places number ys)) zero)) None ≡ None
+        → cond (nat_lt (cond (not b) (1 + places number ys) 0) (suc (length ys))) (Some (cond (not b) (1 + places number ys) 0)) None ≡ None
         → cond b (Some y) (find (of_number number) ys) ≡ None
-    by true c q more z = absurd (some_none z)
-    by false true q more z = absurd (some_none (sym (ap (λ (d : Bool). cond d (Some (suc (places number ys))) None) (one_less (places number ys) (length ys) ∙ q)) ∙ z))
+    by true c q more z =
+        absurd (some_none (sym (ap (λ (d : Bool). cond d (Some zero) None) (none_less (length ys))) ∙ z))
+    by false true q more z = absurd (some_none (sym (ap (λ (d : Bool). cond d (Some (suc (places number ys))) None) (one_less (places number ys) (length ys) ∙ q)) ∙ counted (places number ys) (length ys) ∙ z))
     by false false q more z = more (ap (λ (d : Bool). cond d (Some (places number ys)) None) q)

@@ -263,6 +263,17 @@ fn way_of(world: &World, place: usize, push: bool, total: bool) -> Result<Way, N
     })
 }
 
+/// The moment from which the supplier goes on: in a pull the consumer tells its own, in a push it's the last that was acknowledged
+/// (X.525, section 11.2). No memory.
+fn last_moment(by: &Way) -> Option<Moment>
+    ensures { result ≡ last_of by.now }
+{
+    if by.push {
+        return by.acked;
+    }
+    by.own
+}
+
 /// A refresh by the agreement of this place.
 fn by_place(
     alloc: Global,
@@ -279,8 +290,7 @@ fn by_place(
     ensures messages { IfOk result (λ r. AreMessages world.old.names 2 r.lines) }
 {
     let by = way_of(world, place, push, total)?;
-    let last = if push { by.acked } else { by.own };
-    let supplied = world.supply(alloc, &by.agreement, total, last)?;
+    let supplied = world.supply(alloc, &by.agreement, total, last_moment(&by))?;
     match opens(push, problem_of(&supplied)) {
         Start::Ended(became) => Ok(stopped(Listed::new(alloc), became)),
         Start::GoesOn => opened(alloc, world, &by, supplied),
