@@ -6,11 +6,12 @@ use Rattle.std.specs.declared.option.Option.TheVariants.{None, Some}
 use Rattle.std.specs.declared.result.Result.{Result}
 use Rattle.std.specs.declared.result.Result.TheVariants.{Ok, Err}
 use Rattle.x5_model.specs.Keys.{Key}
-use Rattle.x5_model_run.specs.Holdings.{copy_at}
+use Rattle.x5_model_run.specs.Holdings.{Holdings, copy_at}
 use Rattle.x5_model_run.specs.Refresh.{inactive_agreement}
-use Rattle.x5_holdings.specs.State.{CopyKept, State, holdings_view}
+use Rattle.x5_holdings.specs.State.{CopyKept, State}
 use Rattle.x5_supply.specs.Supplied.{stamp_of, total_of, since_of}
-use Rattle.x5_consume.specs.Taken.{AreWhole, CanTake, IsReplaced, IsAdvanced}
+use Rattle.x5_model_refreshed.specs.Doable.{AreWhole}
+use Rattle.x5_consume.specs.Taken.{CanTake, IsReplaced, IsAdvanced}
 use Rattle.x5_refresh.specs.declared.brought.Brought.{Brought}
 use Rattle.x5_refresh.specs.declared.brought.Brought.TheVariants.{Total, Steps}
 
@@ -42,10 +43,9 @@ supply_of s pin total last = stamped (stamp_of s pin) (brought_of s pin total la
 -- ---- at the consumer
 
 -- it has a copy of the context; a total refresh has a whole context, and the steps of an incremental one can be done
-abbrev pub CanAccept : State → Key → Brought → Type 0
-CanAccept s pin (Total content) =
-    (is_some (copy_at (holdings_view s) pin) ≡ true) × AreWhole pin content.entries
-CanAccept s pin (Steps steps) = CanTake (holdings_view s) pin steps
+abbrev pub CanAccept : Holdings → Key → Brought → Type 0
+CanAccept h pin (Total content) = (is_some (copy_at h pin) ≡ true) × AreWhole pin content.entries
+CanAccept h pin (Steps steps) = CanTake h pin steps
 
 -- its copy is replaced, or goes on
 abbrev pub IsRefreshed : Brought → ℕ → CopyKept → CopyKept → Type 0

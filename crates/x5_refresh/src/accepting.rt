@@ -5,7 +5,8 @@ ghost use Rattle.std.specs.Option.{is_some};
 ghost use Rattle.x5_model.specs.Values.{key_of};
 ghost use Rattle.x5_model_run.specs.Holdings.{copy_at};
 ghost use Rattle.x5_holdings.specs.State.{holdings_view};
-ghost use Rattle.x5_consume.specs.Taken.{AreWhole, CanTake, IsAdvanced, IsReplaced, IsTaken};
+ghost use Rattle.x5_model_refreshed.specs.Doable.{AreWhole};
+ghost use Rattle.x5_consume.specs.Taken.{CanTake, IsAdvanced, IsReplaced, IsTaken};
 ghost use Rattle.x5_refresh.specs.Sent.{CanAccept, IsRefreshed, count_in};
 
 use crate::brought::Brought;
@@ -63,7 +64,7 @@ pub fn accept(
     stamp: Moment,
     brought: Brought,
 ) -> Result<u64, NoMemory>
-    requires { CanAccept consumer.old (key_of context.now) brought }
+    requires { CanAccept (holdings_view consumer.old) (key_of context.now) brought }
     ensures ok { OnOk result (IsTaken consumer.old (key_of context.now) (IsRefreshed brought stamp) consumer.new) }
     ensures counted { IfOk result (λ count. count ≡ count_in brought) }
     ensures err { OnErr result (holdings_view consumer.new ≡ holdings_view consumer.old) }

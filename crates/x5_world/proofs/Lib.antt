@@ -13,3 +13,13 @@ pub mod Changing
 pub mod Worlds
 pub mod Beginning
 pub mod Unstamped
+pub mod Courses
+pub mod Suppliers
+pub mod Acceptable
+pub mod Copied
+pub mod Longer
+pub mod Onward
+pub mod Concluding
+pub mod Knowing
+pub mod Stopping
+pub mod Agents

@@ -7,4 +7,5 @@ pub mod Sent
 pub mod Arrivals
 pub mod Laws
 pub mod Users
+pub mod Refreshing
 pub mod Refreshes

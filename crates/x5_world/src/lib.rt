@@ -10,6 +10,7 @@ mod exchange;
 mod journal;
 mod links;
 mod naming;
+mod refreshing;
 mod refreshment;
 mod stamps;
 mod world;

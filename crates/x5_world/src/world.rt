@@ -1,14 +1,18 @@
 //! The network of a run.
 
-ghost use Rattle.std.specs.Prelude.{◌≡◌, ℕ, ◌<◌, ◌+◌, ◌≤◌, ◌*◌, [], true, nat_lt, length, List, IfOk, OnErr, slice_get, Some};
-ghost use Rattle.std.specs.List.{filter, list_all};
+ghost use Rattle.std.specs.Prelude.{◌≡◌, ℕ, ◌<◌, ◌+◌, ◌≤◌, ◌*◌, ◌==◌, [], true, nat_lt, length, List, IfOk, OnErr, slice_get, Some};
+ghost use Rattle.std.specs.List.{filter, list_all, position};
 ghost use Rattle.std.specs.Option.{option_map};
 ghost use Rattle.x5_know.specs.WorldView.{world_view};
 ghost use Rattle.x5_model_run.specs.Network as network;
 ghost use Rattle.x5_model_run.specs.History.{Point};
 ghost use Rattle.x5_model_run.specs.Run.{Changes, Drops, Blank, Set, Silent, did_by};
 ghost use Rattle.x5_model_run.specs.Stage.{once_each};
+ghost use Rattle.x5_model.specs.Values.{key_of};
+ghost use Rattle.x5_model_tree.specs.Consistent.{IsConsistent};
 ghost use Rattle.x5_model_tree.specs.Described.{IsDescribed};
+ghost use Rattle.x5_refresh.specs.Joined.{is_of_supplier};
+ghost use Rattle.x5_refresh.specs.Sent.{CanAccept, count_in};
 ghost use Rattle.x5_holdings.specs.State.{holdings_view};
 ghost use Rattle.x5_ops.specs.JournalViews.{fate_view, outage_view};
 ghost use Rattle.x5_ops.specs.ReferenceViews.{chained_view};
@@ -16,6 +20,7 @@ ghost use Rattle.x5_ops.specs.RequestViews.{body_view, request_view};
 ghost use Rattle.x5_update.specs.Judging.{IsReady};
 ghost use Rattle.x5_world.specs.Answered.{IsAnswered, NamesAgents, line_names_agents};
 ghost use Rattle.x5_world.specs.Refreshes.{IsRefreshedAt, IsSound};
+ghost use Rattle.x5_world.specs.Refreshing.{IsKnown, IsSupplied, IsTakenAt, acknowledging, is_known_in, problem_in};
 ghost use Rattle.x5_world.specs.Sent.{IsCommittedAt, IsHolder, no_net};
 ghost use Rattle.x5_world.specs.State.{StandsAt, HasRoom, HasShortNames, after, holdings_in, most_messages};
 ghost use Rattle.x5_model_tree.specs.World.{names_of_agents};
@@ -25,6 +30,7 @@ use crate::counts::{contexts, pairs};
 use crate::journal;
 use crate::links::Links;
 use crate::naming::copied;
+use crate::refreshing::{Supplied, refreshed};
 use crate::refreshment::Refreshment;
 use crate::stamps::none_of;
 use std::alloc::Global;
@@ -32,9 +38,11 @@ use std::marker::{Brand, Model};
 use std::mem::replace;
 use x5_agents::agents_of;
 use x5_holdings::Holdings;
-use x5_know::{AgentNames, AgreementList, Described};
+use x5_know::{AgentNames, Agreement, AgreementList, Described};
 use x5_memory::NoMemory;
-use x5_ops::{AgentId, Chained, Fate, Journal, Listed, Moment, Outage, Refreshed, Reply, Request};
+use x5_ops::{AgentId, Chained, Fate, Journal, Listed, Moment, Outage, Reply, Request};
+use x5_refresh::Brought;
+use x5_supply::SupplyFault;
 
 /// The agents with what each holds, the network between them, and their agreements with the stamp of the last refresh by each that
 /// its supplier knows to be taken.
@@ -165,6 +173,85 @@ impl World {
         x5_update::commit(alloc, held, message)
     }
 
+    /// The place of the agreement of this number; the first of several. No memory.
+    pub(crate) fn place_of(&self, number: u32) -> Option<usize>
+        ensures { result ≡ position (λ g. g.number == number) self.now.agreements }
+    {
+        self.agreements
+            .as_slice()
+            .iter()
+            .position(|agreement| agreement.id == number)
+    }
+
+    /// The agreement of this place.
+    pub(crate) fn agreement(&self, place: usize) -> Result<Agreement, NoMemory>
+        requires { place < length self.now.agreements }
+        ensures { IfOk result (λ g. slice_get self.now.agreements place ≡ Some g) }
+    {
+        Ok(self.agreements.as_slice()[place].clone()?)
+    }
+
+    /// The stamp of the last refresh by the agreement of this place that its supplier knows to be taken. No memory.
+    pub(crate) fn acked(&self, place: usize) -> Option<Moment>
+        requires { place < length self.now.acked }
+        ensures { slice_get self.now.acked place ≡ Some result }
+    {
+        self.acked[place]
+    }
+
+    /// What the agreement's supplier sends at this line, from the moment that it goes on from, or its problem (X.525, section 11.2).
+    pub(crate) fn supply(
+        &mut self,
+        alloc: Global,
+        agreement: &Agreement,
+        total: bool,
+        last: Option<Moment>,
+    ) -> Result<Supplied, NoMemory>
+        requires { agreement.now.supplier < length self.old.names }
+        ensures same { self.new ≡ self.old }
+        ensures supplied { IfOk result (λ sent. IsSupplied self.old agreement.now total last sent) }
+        ensures known { IfOk result (λ sent. IsKnown (length self.old.names) sent) }
+        ensures told { IfOk result (λ sent. is_of_supplier (problem_in sent) ≡ true) }
+    {
+        let moment = Moment(self.line + 1);
+        let held = &mut self.agents[agreement.supplier.0 as usize];
+        held.set_moment(moment);
+        match x5_refresh::supply(alloc, held, &agreement.context, total, last) {
+            Ok((stamp, brought)) => Ok(Supplied::Sent(stamp, brought)),
+            Err(SupplyFault::Shadow(problem)) => Ok(Supplied::Refused(problem)),
+            Err(SupplyFault::NoMemory) => Err(NoMemory),
+        }
+    }
+
+    /// The agreement's consumer takes what was brought, at this line; it can be taken, and names agents. How many entries or steps it
+    /// is. After want of memory the network isn't used again.
+    pub(crate) fn accept(
+        &mut self,
+        alloc: Global,
+        agreement: &Agreement,
+        stamp: Moment,
+        brought: Brought,
+    ) -> Result<u64, NoMemory>
+        requires there { agreement.now.consumer < length self.old.names }
+        requires can { CanAccept (holdings_in self.old agreement.now.consumer) (key_of agreement.now.context) brought }
+        requires known { is_known_in (length self.old.names) brought ≡ true }
+        ensures taken { IfOk result (λ _. IsTakenAt self.old agreement.now stamp brought self.new) }
+        ensures counted { IfOk result (λ count. count ≡ count_in brought) }
+    {
+        let moment = Moment(self.line + 1);
+        let held = &mut self.agents[agreement.consumer.0 as usize];
+        held.set_moment(moment);
+        x5_refresh::accept(alloc, held, &agreement.context, stamp, brought)
+    }
+
+    /// The supplier of the agreement of this place knows that a refresh with the stamp was taken. No memory.
+    pub(crate) fn acknowledge(&mut self, place: usize, stamp: Moment)
+        requires { place < length self.old.acked }
+        ensures { self.new ≡ acknowledging true place stamp self.old }
+    {
+        self.acked[place] = Some(stamp);
+    }
+
     /// One line more was done. No memory.
     fn count_line(&mut self)
         requires { self.old.line < 100000 }
@@ -263,16 +350,13 @@ impl World {
         requires room { (lines : ℕ) × (HasRoom self.old lines × (lines < 100000)) }
         requires sound { IsSound self.old }
         ensures names { IfOk result (λ _. self.new.names ≡ self.old.names) }
-        ensures refreshed { IfOk result (λ r. (p : Point) → StandsAt self.old p → IsRefreshedAt self.new p number push total r) }
+        ensures refreshed { IfOk result (λ r. (p : Point) → StandsAt self.old p → IsConsistent p.described → IsRefreshedAt self.new p number push total r) }
         ensures named { IfOk result (λ r. list_all (line_names_agents self.old.names) r.lines ≡ true) }
         ensures room_after { IfOk result (λ _. (lines : ℕ) → HasRoom self.old lines → HasRoom self.new (lines + 1)) }
     {
-        let _ = (number, push, total);
-        Ok(Refreshment {
-            lines: Listed::new(alloc),
-            became: Refreshed::Lost,
-            heard: false,
-        })
+        let done = refreshed(alloc, self, number, push, total)?;
+        self.count(done.lines.len());
+        Ok(done)
     }
 
     /// A comment: nothing happens, and the next line finds the network as it is. No memory.

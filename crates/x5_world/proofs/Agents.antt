@@ -1,0 +1,133 @@
+-- One agent of the network sends what is supplied, or takes it: nothing else of the network changes.
+use Rattle.std.proofs.Common.{◌≡◌, ℕ, zero, suc, ◌+◌, ◌<◌, ◌⊎◌, inl, inr, Bool, true, List, [], ◌∷◌, length, map, slice_get, slice_set, refl, sym, ap, subst, ◌∙◌, Option, Some, None, Result, Ok, Err, OnOk, OnErr}
+use Rattle.std.proofs.lemmas.List.{length-map, length-set, map-set}
+use Rattle.x5_model.specs.Words.{in_option}
+use Rattle.x5_model.specs.Keys.{Key}
+use Rattle.x5_model.specs.Values.{key_of}
+use Rattle.x5_model_tree.specs.World.{Agreement}
+use Rattle.x5_model_run.specs.Holdings.{Holdings}
+use Rattle.x5_model_run.specs.History.{no_holdings}
+use Rattle.x5_holdings.specs.State.{State, holdings_view}
+use Rattle.x5_consume.specs.Taken.{IsTaken}
+use Rattle.x5_refresh.specs.declared.brought.Brought.{Brought}
+use Rattle.x5_refresh.specs.Sent.{IsRefreshed, supply_of}
+use Rattle.x5_world.specs.Logs.{Logs, no_logs}
+use Rattle.x5_world.specs.LogViews.{logs_view}
+use Rattle.x5_world.specs.State.{Net, holdings_in, logs_in}
+use Rattle.x5_world.specs.Sent.{IsHolder, IsNet}
+use Rattle.x5_world.specs.Refreshing.{IsKnown, IsSupplied, IsTakenAt, is_known_in, sent_view}
+use Rattle.x5_world.specs.declared.refreshing.Supplied.{Supplied}
+use Rattle.x5_world.specs.declared.refreshing.Supplied.TheVariants.{Sent, Refused}
+use Rattle.x5_world.proofs.Changing.{IsLike, of_states}
+use Rattle.x5_world.proofs.Courses.{map_at, some_is}
+use Rattle.x5_world.proofs.Knowing.{sent_known, taken_holder}
+
+set_same : {A : Type 0} (xs : List A) (i : ℕ) (x : A) → slice_get xs i ≡ Some x → slice_set xs i x ≡ xs
+set_same [] i x e = cc
+set_same {A} (y ∷ ys) zero x e = ap (λ (z : A). z ∷ ys) (sym (some_is e))
+set_same {A} (y ∷ ys) (suc i) x e = ap (λ (zs : List A). y ∷ zs) (set_same ys i x e)
+
+set_has : (hs : List Holdings) (i a : ℕ) (y h : Holdings) → slice_get (slice_set hs i y) a ≡ Some h
+    → ((a ≡ i) × (h ≡ y)) ⊎ (slice_get hs a ≡ Some h)
+set_has [] i a y h e = inr e
+set_has (x ∷ xs) zero zero y h e = inl (refl, sym (some_is e))
+set_has (x ∷ xs) zero (suc a) y h e = inr e
+set_has (x ∷ xs) (suc i) zero y h e = inr e
+set_has (x ∷ xs) (suc i) (suc a) y h e = elim (set_has xs i a y h e) [
+  | inl z ↦ inl (ap suc z.0, z.1)
+  | inr z ↦ inr z
+]
+
+module _ (n : Net) (items : List State) (i : ℕ) (s : State) (at : slice_get items i ≡ Some s) where
+  abbrev old : Net
+  old = of_states n items
+
+  abbrev with_state : State → Net
+  with_state t = of_states n (slice_set items i t)
+
+  held_is : holdings_in old i ≡ holdings_view s
+  held_is = ap (in_option (no_holdings i) (λ (x : Holdings). x)) (map_at holdings_view items i s at)
+
+  logs_are : logs_in old i ≡ logs_view s
+  logs_are = ap (in_option no_logs (λ (x : Logs). x)) (map_at logs_view items i s at)
+
+  holder_of : IsNet old → IsHolder n.names i (holdings_view s)
+  holder_of net = net.each i (holdings_view s) (map_at holdings_view items i s at)
+
+  net_with : (t : State) → IsNet old → IsHolder n.names i (holdings_view t) → IsNet (with_state t)
+  net_with t net holder = record {
+    apart = net.apart;
+    few = net.few;
+    count = length-map (slice_set items i t) holdings_view ∙ length-set items i t ∙ sym (length-map items holdings_view) ∙ net.count;
+    logs = length-map (slice_set items i t) logs_view ∙ length-set items i t ∙ sym (length-map items logs_view) ∙ net.logs;
+    each = λ a h e. elim (set_has (map holdings_view items) i a (holdings_view t) h
+        (sym (ap (λ (hs : List Holdings). slice_get hs a) (map-set holdings_view items i t)) ∙ e)) [
+          | inl z ↦ subst (λ (k : ℕ). IsHolder n.names k h) (sym z.0) (subst (IsHolder n.names i) (sym z.1) holder)
+          | inr z ↦ net.each a h z
+        ];
+    contexts = net.contexts;
+    pairs = net.pairs;
+    lines = net.lines;
+  }
+
+  -- an agent that is like it leaves the network as it was
+  pub same_with : (t : State) → IsLike s t → with_state t ≡ old
+  same_with t e =
+      let hs : map holdings_view (slice_set items i t) ≡ map holdings_view items =
+      map-set holdings_view items i t ∙ ap (λ (h : Holdings). slice_set (map holdings_view items) i h) e.0
+      ∙ set_same (map holdings_view items) i (holdings_view s) (map_at holdings_view items i s at) in
+      let ls : map logs_view (slice_set items i t) ≡ map logs_view items =
+      map-set logs_view items i t ∙ ap (λ (l : Logs). slice_set (map logs_view items) i l) e.1
+      ∙ set_same (map logs_view items) i (logs_view s) (map_at logs_view items i s at) in
+      λ j. record n { agents = hs j; logs = ls j }
+
+  pub net_same : (t : State) → IsNet old → IsLike s t → IsNet (with_state t)
+  net_same t net e = subst IsNet (sym (same_with t e)) net
+
+  -- what it sends
+  pub is_supplied : (g : Agreement) (total : Bool) (last : Option ℕ) (sent : Supplied) (u : State) (now : Net) → now ≡ old
+      → g.supplier ≡ i → IsLike s u → u.moment ≡ n.line + 1 → supply_of u (key_of g.context) total last ≡ sent_view sent
+      → IsSupplied now g total last sent
+  is_supplied g total last sent u now same place like moment e =
+      subst (λ (x : Net). IsSupplied x g total last sent) (sym same) (record {
+        state = u;
+        holds = like.0 ∙ sym held_is ∙ ap (holdings_in old) (sym place);
+        logs = like.1 ∙ sym logs_are ∙ ap (logs_in old) (sym place);
+        moment = moment;
+        sent_is = e;
+      })
+
+  pub is_known : (pin : Key) (total : Bool) (last : Option ℕ) (stamp : ℕ) (brought : Brought) (u : State) → IsNet old
+      → i < length n.names → IsLike s u → supply_of u pin total last ≡ Ok (stamp, brought)
+      → is_known_in (length n.names) brought ≡ true
+  is_known pin total last stamp brought u net there like e =
+      sent_known n.names i u there (subst (IsHolder n.names i) (sym like.0) (holder_of net)) pin total last stamp brought e
+
+  -- what it takes
+  pub taken_net : {T E : Type 0} (result : Result T E) (pin : Key) (stamp : ℕ) (brought : Brought) (u t : State) → IsNet old
+      → IsLike s u → is_known_in (length n.names) brought ≡ true
+      → OnOk result (IsTaken u pin (IsRefreshed brought stamp) t) → OnErr result (holdings_view t ≡ holdings_view u)
+      → IsNet (with_state t)
+  taken_net (Ok x) pin stamp brought u t net like known taken same =
+      net_with t net (taken_holder n.names i u t pin stamp brought (subst (IsHolder n.names i) (sym like.0) (holder_of net)) known taken)
+  taken_net (Err x) pin stamp brought u t net like known taken same =
+      net_with t net (subst (IsHolder n.names i) (sym (same ∙ like.0)) (holder_of net))
+
+  pub is_taken : {T E : Type 0} (result : Result T E) (g : Agreement) (stamp : ℕ) (brought : Brought) (u t : State) (now : Net)
+      → old ≡ now → g.consumer ≡ i → IsLike s u → OnOk result (IsTaken u (key_of g.context) (IsRefreshed brought stamp) t)
+      → OnOk result (IsTakenAt now g stamp brought (with_state t))
+  is_taken (Err x) g stamp brought u t now same place like taken = tt
+  is_taken (Ok x) g stamp brought u t now same place like taken =
+      subst (λ (z : Net). IsTakenAt z g stamp brought (with_state t)) same (record {
+        before = u;
+        after = t;
+        holds = ap (slice_get (map holdings_view items)) place ∙ map_at holdings_view items i s at ∙ ap (λ (h : Holdings). Some h) (sym like.0);
+        logs = ap (slice_get (map logs_view items)) place ∙ map_at logs_view items i s at ∙ ap (λ (l : Logs). Some l) (sym like.1);
+        taken = taken;
+        new_is =
+            (λ j. record n { agents = map-set holdings_view items i t j; logs = map-set logs_view items i t j })
+            ∙ ap (λ (k : ℕ). record n {
+              agents = slice_set (map holdings_view items) k (holdings_view t);
+              logs = slice_set (map logs_view items) k (logs_view t);
+            }) (sym place);
+      })
