@@ -28,8 +28,8 @@ invariant_of-self c =
       acked = c.self.inside.acked.items;
       line = c.self.inside.line;
     } in
-    stays_net n c.self.inside.agents.items c.agent.inside.0 c.index_mut.result.now
-    (got_place c.self.inside.agents.items c.agent.inside.0 c.index_mut.result.now few c.index_mut.ensures.value)
+    stays_net n c.self.inside.agents.items c.agent.inside.0 c.index_mut-held.result.now
+    (got_place c.self.inside.agents.items c.agent.inside.0 c.index_mut-held.result.now few c.index_mut-held.ensures.value)
     c.commit.result (request_view c.args.message.now.request) c.set_moment.new.self c.commit.new.state c.self.invariant there
     (like c.set_moment.ensures) c.commit.ensures.ok c.commit.ensures.err
 
@@ -52,8 +52,8 @@ returns-clause-committed c =
       acked = c.self.inside.acked.items;
       line = c.self.inside.line;
     } in
-    is_committed n c.self.inside.agents.items c.agent.inside.0 c.index_mut.result.now
-    (got_place c.self.inside.agents.items c.agent.inside.0 c.index_mut.result.now few c.index_mut.ensures.value)
+    is_committed n c.self.inside.agents.items c.agent.inside.0 c.index_mut-held.result.now
+    (got_place c.self.inside.agents.items c.agent.inside.0 c.index_mut-held.result.now few c.index_mut-held.ensures.value)
     c.commit.result c.args.self.now c.args.agent (c.self.inside.line + 1) (request_view c.args.message.now.request)
     c.set_moment.new.self c.commit.new.state c.self.view_is at (like c.set_moment.ensures)
     (ap (λ (s : State). s.moment) c.set_moment.ensures)
@@ -78,6 +78,6 @@ returns-clause-err c =
       acked = c.self.inside.acked.items;
       line = c.self.inside.line;
     } in
-    is_as_it_was n c.self.inside.agents.items c.agent.inside.0 c.index_mut.result.now
-    (got_place c.self.inside.agents.items c.agent.inside.0 c.index_mut.result.now few c.index_mut.ensures.value)
+    is_as_it_was n c.self.inside.agents.items c.agent.inside.0 c.index_mut-held.result.now
+    (got_place c.self.inside.agents.items c.agent.inside.0 c.index_mut-held.result.now few c.index_mut-held.ensures.value)
     c.commit.result c.args.self.now c.set_moment.new.self c.commit.new.state c.self.view_is (like c.set_moment.ensures) c.commit.ensures.err
