@@ -141,8 +141,8 @@ refreshed r number = record {
 refreshing_known : (names : List (List ℕ)) (r : Refreshment) (number : ℕ) → list_all (line_names_agents names) r.lines ≡ true
     → block_known names (refreshed r number).journal (refreshed r number).outcome ≡ true
 refreshing_known names r number n =
-    let lines : list_all (line_known names) r.lines ≡ true = lines_are names r.lines n in
-    rw lines
+    let all : list_all (line_known names) r.lines ≡ true = lines_are names r.lines n in
+    rw all
 
 pub refreshed_course : (p : Point) (number : ℕ) (pushes total : Bool) (old new : Net) (r : Refreshment) → StandsAt old p
     → IsRefreshedAt new p number pushes total r → list_all (line_names_agents old.names) r.lines ≡ true
