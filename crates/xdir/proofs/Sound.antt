@@ -27,7 +27,7 @@ other_is_broken w other = by (first_breach w) refl
 -- what is told of knowledge, at a line of a run over it
 pub is_sound : (w : World) (told : Bool) → (IsTrue told ↔ IsConsistent w) → (past : List Did) (net : Net) → StandsAt net (point w past)
     → IsTrue told → IsSound net
-is_sound w told is past net stands yes = record { point = point w past; stands = stands; consistent = is.0 yes }
+is_sound w told is past net stands sure = record { point = point w past; stands = stands; consistent = is.0 sure }
 
 -- ---- its line
 

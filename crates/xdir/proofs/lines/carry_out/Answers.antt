@@ -20,10 +20,10 @@ returns-in_ok-lose-in-Lose-clause-carried c = λ p stands told.
 
 pub returns-in_default-clause-carried : goal.returns-in_default-clause-carried
 returns-in_default-clause-carried c = λ p stands told.
-    passed p (length c.args.network.now.names) c.args.command.now c.pass-in_default.new.self c.requires.taken
-    c.in_default.not-Ask c.in_default.not-Outage c.in_default.not-Refresh c.in_default.not-Lose (c.pass-in_default.ensures.stands p stands)
+    passed p (length c.args.network.now.names) c.args.command.now c.pass.new.self c.requires.taken
+    c.in_default.not-Ask c.in_default.not-Outage c.in_default.not-Refresh c.in_default.not-Lose (c.pass.ensures.stands p stands)
 
 pub returns-in_ok-refresh-in-Refresh-clause-carried : goal.returns-in_ok-refresh-in-Refresh-clause-carried
 returns-in_ok-refresh-in-Refresh-clause-carried c = λ p stands told.
-    subst (λ (line : Line). IsCourse p (run_view line) c.refresh.new.network c.in_ok-refresh-in-Refresh.result) (sym c.in-Refresh.is)
+    subst (λ (line : Line). IsCourse p (run_view line) c.refresh.new.network c.in_ok-refresh-in-Refresh.field-0) (sym c.in-Refresh.is)
     (c.in_ok-refresh-in-Refresh.ensures.course p stands told)
