@@ -39,12 +39,12 @@ comment_adds p command net counts gives blocks before =
     record { block = Silent; gives = gives; counted = before ∙ ap capped_counts (silent_adds_none blocks) }
 
 -- what came of a command is counted as its block
-told_of : (names : List (List ℕ)) (j : Journal) (o : LineOutcome) (b : Block) → IsTold names j o b → IsOf names j o b
-told_of names j Set b t = t
-told_of names j (Answered reply) b t = t
-told_of names j (Plain reply) b t = absurd t
-told_of names j (Refreshed number f heard) b t = absurd t
-told_of names j NotConsistent b t = (refresh.ended [] refresh.NotConsistent, refl, t.1)
+told_of : (names : List (List ℕ)) (command : Command) (j : Journal) (o : LineOutcome) (b : Block) → IsTold names command j o b → IsOf names j o b
+told_of names command j Set b t = t
+told_of names command j (Answered reply) b t = t
+told_of names command j (Plain reply) b t = absurd t
+told_of names command j (Refreshed number f heard) b t = (t.refreshing, t.outcome, t.is)
+told_of names command j NotConsistent b t = (refresh.ended [] refresh.NotConsistent, refl, t.1)
 
 pub course_adds : (p : Point) (command : Command) (net : Net) (c : Course) (old new : Counts) → IsCourse p command net c
     → ((b : Block) (blocks : List Block) → IsOf (names_of_agents p.described) c.journal c.outcome b → old ≡ capped_counts (counts_of blocks)
@@ -53,7 +53,7 @@ pub course_adds : (p : Point) (command : Command) (net : Net) (c : Course) (old 
 course_adds p command net c old new course counts blocks before = record {
   block = course.block;
   gives = course.gives;
-  counted = counts course.block blocks (told_of (names_of_agents p.described) c.journal c.outcome course.block course.told) before;
+  counted = counts course.block blocks (told_of (names_of_agents p.described) command c.journal c.outcome course.block course.told) before;
 }
 
 pub counted_more : (f : File) (commands : List Command) (net later : Net) (old new : Counts) → IsCounted f commands net old → (c : Command)

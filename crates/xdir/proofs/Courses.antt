@@ -30,8 +30,11 @@ use Rattle.x5_ops.specs.RefreshViews.{shadows_view}
 use Rattle.x5_report.specs.Blocks.{block_known, IsJournal}
 use Rattle.x5_report.specs.Blocks as report
 use Rattle.x5_report.specs.declared.report.LineOutcome.{LineOutcome}
-use Rattle.x5_report.specs.declared.report.LineOutcome.TheVariants.{Set, Answered, Plain, Refreshed, NotConsistent}
+use Rattle.x5_report.specs.declared.report.LineOutcome.TheVariants.{Set, Answered, Plain, NotConsistent}
+use Rattle.x5_report.specs.declared.report.LineOutcome.TheVariants as outcomes
 use Rattle.x5_world.specs.Answered.{IsAnswered, NamesAgents, is_agent, line_names_agents}
+use Rattle.x5_world.specs.Refreshes.{IsRefreshedAt}
+use Rattle.x5_world.specs.declared.refreshment.Refreshment.{Refreshment}
 use Rattle.x5_world.specs.State.{Net, StandsAt, after}
 use Rattle.x5_model_tree.specs.World.{names_of_agents}
 use Rattle.xdir.specs.Blocks.{Gives, IsTold, IsCourse, IsCarriedOut, IsTextOf, IsBlockText, WritesCourse, WritesBlock}
@@ -56,7 +59,7 @@ module _ (names : List (List ℕ)) where
       and_true (is_known names from) (is_known names to) (named names from b.0) (named names to b.1)
   line_is (Raw to dsp count fate) e = named names to e
 
-  lines_are : (ls : List Message) → list_all (line_names_agents names) ls ≡ true → list_all (line_known names) ls ≡ true
+  pub lines_are : (ls : List Message) → list_all (line_names_agents names) ls ≡ true → list_all (line_known names) ls ≡ true
   lines_are [] e = refl
   lines_are (l ∷ more) e =
       let b = both_true (line_names_agents names l) (list_all (line_names_agents names) more) e in
@@ -85,12 +88,12 @@ pub course_of : (old new : Net) (p : Point) (to : ℕ) (r : Request) (reply : Re
     → IsAnswered old new p to r reply journal → NamesAgents old.names reply journal
     → IsCourse p (Asks to r) new (answered journal reply)
 course_of old new p to r reply journal stands a n =
-    let told : IsTold old.names journal (Answered reply) (model.Replies a.whole (reply_view old.names reply)) =
+    let told : IsTold old.names (Asks to r) journal (Answered reply) (model.Replies a.whole (reply_view old.names reply)) =
     (a.whole, (a.lines, a.accepted), refl) in
     record {
       block = model.Replies a.whole (reply_view old.names reply);
       gives = record { is = a.asked; stands = a.stands };
-      told = subst (λ (ns : List (List ℕ)). IsTold ns journal (Answered reply) (model.Replies a.whole (reply_view old.names reply))) stands.names told;
+      told = subst (λ (ns : List (List ℕ)). IsTold ns (Asks to r) journal (Answered reply) (model.Replies a.whole (reply_view old.names reply))) stands.names told;
       known = subst (λ (ns : List (List ℕ)). block_known ns journal (Answered reply) ≡ true) stands.names (answer_known old.names reply journal n);
     }
 
@@ -127,6 +130,37 @@ unrefreshed_course p number pushes total net c e other stands =
       known = refl;
     })
 
+-- ---- what came of a refresh over consistent knowledge
+
+abbrev refreshed : Refreshment → ℕ → Course
+refreshed r number = record {
+  journal = record { lines = r.lines; accepted = [] };
+  outcome = outcomes.Refreshed number r.became r.heard;
+}
+
+refreshing_known : (names : List (List ℕ)) (r : Refreshment) (number : ℕ) → list_all (line_names_agents names) r.lines ≡ true
+    → block_known names (refreshed r number).journal (refreshed r number).outcome ≡ true
+refreshing_known names r number n =
+    let all : list_all (line_known names) r.lines ≡ true = lines_are names r.lines n in
+    rw all
+
+pub refreshed_course : (p : Point) (number : ℕ) (pushes total : Bool) (old new : Net) (r : Refreshment) → StandsAt old p
+    → IsRefreshedAt new p number pushes total r → list_all (line_names_agents old.names) r.lines ≡ true
+    → IsCourse p (Updates number pushes total) new (refreshed r number)
+refreshed_course p number pushes total old new r stands is n = record {
+  block = model.Refreshing (refresh.refresh_block p number pushes total);
+  gives = record { is = refl; stands = is.stands };
+  told = record {
+    refreshing = refresh.refresh_block p number pushes total;
+    agreement = refl;
+    lines = is.lines;
+    outcome = is.outcome;
+    is = refl;
+  };
+  known = refreshing_known (names_of_agents p.described) r number
+      (subst (λ (names : List (List ℕ)). list_all (line_names_agents names) r.lines ≡ true) stands.names n);
+}
+
 -- ---- what was carried out
 
 pub carried : (p : Point) (command : Command) (net : Net) (o : Option Course) (c : Course) → o ≡ Some c → IsCarriedOut p command net o
@@ -157,7 +191,7 @@ pub is_text_of : (f : File) (line : ℕ) (c : Course) (text : List ℕ)
     → IsTextOf f line c text
 is_text_of f line c text prints = record { prints = λ command b told known. by c.journal c.outcome command b told (prints known) }
   where
-    by : (j : Journal) (o : LineOutcome) (command : Command) (b : Block) → IsTold (names_of_agents f.world) j o b
+    by : (j : Journal) (o : LineOutcome) (command : Command) (b : Block) → IsTold (names_of_agents f.world) command j o b
         → report.IsBlockText (names_of f.world (moment_text f.start)) (names_of_agents f.world) line j o text
         → text ≡ print.block_text (names_of f.world (moment_text f.start)) line command b
     by j Set command b told is =
@@ -166,7 +200,9 @@ is_text_of f line c text prints = record { prints = λ command b told known. by 
         is command told.0 told.1
         ∙ ap (λ (x : Block). print.block_text (names_of f.world (moment_text f.start)) line command x) (sym told.2)
     by j (Plain reply) command b told is = absurd told
-    by j (Refreshed number g heard) command b told is = absurd told
+    by j (outcomes.Refreshed number g heard) command b told is =
+        is command told.refreshing told.agreement told.lines told.outcome
+        ∙ ap (λ (x : Block). print.block_text (names_of f.world (moment_text f.start)) line command x) (sym told.is)
     by j NotConsistent command b told is =
         is command (refresh.ended [] refresh.NotConsistent) (sym (ap (λ (ls : List Message). shadows_view (names_of_agents f.world) ls) told.0)) refl
         ∙ ap (λ (x : Block). print.block_text (names_of f.world (moment_text f.start)) line command x) (sym told.1)

@@ -37,7 +37,7 @@ module _ (f : File) (asked : List Asked) (commands : List Command) (are : asked 
   first_asked : (text : List ℕ) → IsFirstOutput f commands text → IsFirstAskedOutput f asked text
   first_asked text p = record { commands = commands; are = are; first = p }
 
-  pub nothing : (text : List ℕ) → ⊥ → IsNotYet f.world asked text
+  pub nothing : (text : List ℕ) → ⊥ → IsNotYet asked text
   nothing text p = absurd p
 
   pub runs_asked : (status : Status) (old new : Option (List ℕ)) (before after : ℕ) → WritesRun status f commands old new before after
@@ -56,7 +56,7 @@ module _ (f : File) (octets : List ℕ) (asked : List Asked) (asks : AsksFor f.w
   first_script : (text : List ℕ) → IsFirstAskedOutput f asked text → IsFirstScriptOutput f octets text
   first_script text p = record { commands = p.commands; asked = as_commands p.commands p.are; first = p.first }
 
-  pub other_line : (text : List ℕ) → IsNotYet f.world asked text → RefusesScript f.world octets text
+  pub other_line : (text : List ℕ) → IsNotYet asked text → RefusesScript f.world octets text
   other_line text p = not_yet asked p.before asks p.first p.is_line
 
   pub runs_script : (status : Status) (old new : Option (List ℕ)) (before after : ℕ) → WritesAsked status f asked old new before after

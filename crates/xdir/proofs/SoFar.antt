@@ -25,7 +25,7 @@ use Rattle.xdir.specs.Checked.{knowledge_text}
 use Rattle.xdir.specs.Outcomes.{Wrote}
 use Rattle.xdir.specs.Run.{IsOutput}
 use Rattle.xdir.specs.Steps.{IsFirstOutput, Prints, WritesRun}
-use Rattle.xdir.specs.Taken.{IsTaken, Suits, point, run_view}
+use Rattle.xdir.specs.Taken.{IsTaken, point, run_view}
 use Rattle.xdir.proofs.Ends.{rose_later, took_after}
 use Rattle.xdir.proofs.Sound.{knowledge_is}
 
@@ -118,11 +118,6 @@ pub taken_at : (agents : ℕ) (commands : List Asked) (i : ℕ) (c : Asked) → 
     → All (IsTaken agents) commands → IsTaken agents c
 taken_at agents commands i c within is all =
     subst (λ (x : Asked). IsTaken agents x) (sym is) (All-get_or (IsTaken agents) commands i c within all)
-
-pub suits_at : (w : World) (commands : List Asked) (i : ℕ) (c : Asked) → i < length commands → c ≡ get_or commands i c
-    → All (λ (x : Asked). Suits w (run_view x)) commands → Suits w (run_view c)
-suits_at w commands i c within is all =
-    subst (λ (x : Asked). Suits w (run_view x)) (sym is) (All-get_or (λ (x : Asked). Suits w (run_view x)) commands i c within all)
 
 -- so many agents has the world of the network
 pub as_many_agents : (net : Net) (w : World) (past : List Did) → StandsAt net (point w past) → length net.names ≡ length (names_of_agents w)

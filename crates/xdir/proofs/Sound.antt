@@ -1,21 +1,21 @@
 -- Whether knowledge is consistent, and the line on it, in which no moment stands.
-use Rattle.std.proofs.Common.{◌≡◌, ◌↔◌, ℕ, Bool, true, false, List, [], ◌∷◌, codes, Option, Some, None, is_some, is_none, IsTrue, refl, sym, ap, ap₂, ◌∙◌}
+use Rattle.std.proofs.Common.{◌≡◌, ◌↔◌, ℕ, Bool, true, List, [], ◌∷◌, codes, Option, Some, None, is_some, IsTrue, refl, ap, ap₂}
 use Rattle.std.specs.Fmt.{decimal}
 use Rattle.std.specs.List.{concat}
 use Rattle.x5_know.specs.Moments.{moment_text}
 use Rattle.x5_model.specs.Values.{Text}
 use Rattle.x5_model_output.specs.Output.{knowledge_line, names_of, printed_text}
-use Rattle.x5_model_tree.proofs.FirstBreach.{consistent_has_none, none_is_consistent}
+use Rattle.x5_model_tree.proofs.FirstBreach.{none_is_consistent}
 use Rattle.x5_model_tree.specs.Consistent.{Inconsistency, Printed, NamePrinted, AgentPrinted, AgreementPrinted, first_breach, IsConsistent}
 use Rattle.x5_model_tree.specs.World.{World}
+use Rattle.x5_model_run.specs.History.{Did}
 use Rattle.x5_model_world.specs.WorldFile.{File}
+use Rattle.x5_world.specs.Refreshes.{IsSound}
+use Rattle.x5_world.specs.State.{Net, StandsAt}
 use Rattle.xdir.specs.Checked.{knowledge_text}
-use Rattle.xdir.specs.Run.{is_sound}
+use Rattle.xdir.specs.Taken.{point}
 
 -- ---- whether it is
-
-pub consistent_is_sound : (w : World) → IsConsistent w → is_sound w ≡ true
-consistent_is_sound w consistent = ap (λ (o : Option Inconsistency). is_none o) (consistent_has_none w consistent)
 
 pub other_is_broken : (w : World) → (IsConsistent w → ⊥) → is_some (first_breach w) ≡ true
 other_is_broken w other = by (first_breach w) refl
@@ -24,14 +24,10 @@ other_is_broken w other = by (first_breach w) refl
     by None e = absurd (other (none_is_consistent w e))
     by (Some b) e = ap (λ (o : Option Inconsistency). is_some o) e
 
--- what is exactly true of consistent knowledge
-pub told_sound : (w : World) (b : Bool) → (IsTrue b ↔ IsConsistent w) → b ≡ is_sound w
-told_sound w b told = by (first_breach w) b refl refl
-  where
-    by : (o : Option Inconsistency) (t : Bool) → first_breach w ≡ o → b ≡ t → b ≡ is_sound w
-    by None t e q = told.1 (none_is_consistent w e) ∙ sym (ap (λ (o : Option Inconsistency). is_none o) e)
-    by (Some breach) false e q = q ∙ sym (ap (λ (o : Option Inconsistency). is_none o) e)
-    by (Some breach) true e q = let none : first_breach w ≡ None = consistent_has_none w (told.0 q) in cc
+-- what is told of knowledge, at a line of a run over it
+pub is_sound : (w : World) (told : Bool) → (IsTrue told ↔ IsConsistent w) → (past : List Did) (net : Net) → StandsAt net (point w past)
+    → IsTrue told → IsSound net
+is_sound w told is past net stands sure = record { point = point w past; stands = stands; consistent = is.0 sure }
 
 -- ---- its line
 

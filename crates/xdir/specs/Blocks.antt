@@ -1,8 +1,8 @@
 -- What comes of one command of a run, by what agents do with a request (X.518, sections 17 to 21), and what is written
 -- of it.
-use Rattle.std.specs.Prelude.{◌≡◌, ℕ, true, List, [], Option, None, Some}
+use Rattle.std.specs.Prelude.{◌≡◌, ℕ, Bool, true, List, [], Option, None, Some}
 use Rattle.x5_know.specs.Moments.{moment_text}
-use Rattle.x5_model_output.specs.Output.{names_of, block_text}
+use Rattle.x5_model_output.specs.Output.{names_of, number_of, block_text}
 use Rattle.x5_model_run.specs.History.{Did, Point}
 use Rattle.x5_model_run.specs.Run as model
 use Rattle.x5_model_run.specs.Run.{Command, Block, Silent, did_by}
@@ -11,11 +11,14 @@ use Rattle.x5_model_run.specs.Refresh as refresh
 use Rattle.x5_model_settled.specs.Held.{BySteps}
 use Rattle.x5_model_world.specs.WorldFile.{File}
 use Rattle.x5_ops.specs.AnswerViews.{reply_view}
+use Rattle.x5_ops.specs.RefreshViews.{shadows_view, refreshed_view}
 use Rattle.x5_ops.specs.declared.journal.Journal.{Journal}
+use Rattle.x5_ops.specs.declared.journal.Refreshed.{Refreshed}
 use Rattle.x5_port.specs.Outside.{Rose}
 use Rattle.x5_report.specs.Blocks.{block_known, IsJournal}
 use Rattle.x5_report.specs.declared.report.LineOutcome.{LineOutcome}
-use Rattle.x5_report.specs.declared.report.LineOutcome.TheVariants.{Set, Answered, Plain, Refreshed, NotConsistent}
+use Rattle.x5_report.specs.declared.report.LineOutcome.TheVariants.{Set, Answered, Plain, NotConsistent}
+use Rattle.x5_report.specs.declared.report.LineOutcome.TheVariants as outcomes
 use Rattle.x5_world.specs.State.{Net, StandsAt, after}
 use Rattle.x5_model_tree.specs.World.{names_of_agents}
 use Rattle.xdir.specs.Outcomes.{Wrote, Broke}
@@ -30,20 +33,31 @@ pub record Gives (p : Point) (command : Command) (net : Net) (block : Block) : T
   pub is : model.IsBlock BySteps p command block
   pub stands : StandsAt net (after (did_by command block) p)
 
--- the outcome and its messages stand for the block of a run
-abbrev pub IsTold : List (List ℕ) → Journal → LineOutcome → Block → Type 0
-IsTold names j Set b = b ≡ model.Set
-IsTold names j (Answered reply) b =
+-- they stand for the block of a refresh by the agreement that the command names: the same messages are printed, and the
+-- same became of it (X.525, sections 11 and 12)
+pub record IsRefresh (names : List (List ℕ)) (command : Command) (j : Journal) (number : ℕ) (f : Refreshed) (heard : Bool)
+    (b : Block) : Type 0 where
+  pub refreshing : refresh.RefreshBlock
+  pub agreement : number_of command ≡ number
+  pub lines : refreshing.lines ≡ shadows_view names j.lines
+  pub outcome : refreshing.outcome ≡ refreshed_view heard number f
+  pub is : b ≡ model.Refreshing refreshing
+
+-- the outcome and its messages stand for the block of a run's command
+abbrev pub IsTold : List (List ℕ) → Command → Journal → LineOutcome → Block → Type 0
+IsTold names command j Set b = b ≡ model.Set
+IsTold names command j (Answered reply) b =
     (m : messages.Journal) × IsJournal names j m × (b ≡ model.Replies m (reply_view names reply))
-IsTold names j (Plain reply) b = ⊥
-IsTold names j (Refreshed number f heard) b = ⊥
-IsTold names j NotConsistent b = (j.lines ≡ []) × (b ≡ model.Refreshing (refresh.ended [] refresh.NotConsistent))
+IsTold names command j (Plain reply) b = ⊥
+IsTold names command j (outcomes.Refreshed number f heard) b = IsRefresh names command j number f heard b
+IsTold names command j NotConsistent b =
+    (j.lines ≡ []) × (b ≡ model.Refreshing (refresh.ended [] refresh.NotConsistent))
 
 -- what came of a command: of a comment nothing is told
 pub record IsCourse (p : Point) (command : Command) (net : Net) (c : Course) : Type 0 where
   pub block : Block
   pub gives : Gives p command net block
-  pub told : IsTold (names_of_agents p.described) c.journal c.outcome block
+  pub told : IsTold (names_of_agents p.described) command c.journal c.outcome block
   pub known : block_known (names_of_agents p.described) c.journal c.outcome ≡ true
 
 abbrev pub IsCarriedOut : Point → Command → Net → Option Course → Type 0
@@ -52,7 +66,7 @@ IsCarriedOut p command net (Some c) = IsCourse p command net c
 
 -- The text is what is printed of what came of a command in this line: the block of it in a run.
 pub record IsTextOf (f : File) (line : ℕ) (c : Course) (text : List ℕ) : Type 0 where
-  pub prints : (command : Command) (block : Block) → IsTold (names_of_agents f.world) c.journal c.outcome block
+  pub prints : (command : Command) (block : Block) → IsTold (names_of_agents f.world) command c.journal c.outcome block
       → block_known (names_of_agents f.world) c.journal c.outcome ≡ true
       → text ≡ block_text (names_of f.world (moment_text f.start)) line command block
 

@@ -1,17 +1,15 @@
 -- What `run WORLD SCRIPT` reads and writes, by how it ends. The headline is `Runs`.
 use Rattle.std.specs.Prelude.{◌≡◌, ℕ, ◌+◌, ◌⊎◌, Bool, true, false, List, [], ◌++◌, length, map, Option, Some, Ok}
 use Rattle.std.specs.Prelude.{Err, ⊤}
-use Rattle.std.specs.Option.{is_none}
 use Rattle.std.specs.List.{position}
 use Rattle.x5_know.specs.Moments.{moment_text}
 use Rattle.x5_model_output.specs.Output.{PrintsRun}
-use Rattle.x5_model_run.specs.Run.{Command, Blank, Asks, Changes, Drops, Updates}
+use Rattle.x5_model_run.specs.Run.{Command}
 use Rattle.x5_model_script.specs.Lines.{Asked, Delivers}
 use Rattle.x5_model_script.specs.Lines as lines
 use Rattle.x5_model_script.specs.Script.{script_of}
 use Rattle.x5_model_script.specs.Words.{Fault}
 use Rattle.x5_model_settled.specs.Held.{Performed}
-use Rattle.x5_model_tree.specs.Consistent.{first_breach}
 use Rattle.x5_model_tree.specs.World.{World, names_of_agents}
 use Rattle.x5_model_world.specs.Reading.{Breach}
 use Rattle.x5_model_world.specs.WorldFile.{File, Describes, IsNoJson}
@@ -32,19 +30,10 @@ lost_in w = length w.network.lost_replies
 abbrev pub AsksFor : World → List ℕ → List Asked → Type 0
 AsksFor w script asked = script_of (names_of_agents w) (lost_in w) script ≡ Ok asked
 
--- whether knowledge is consistent: no condition fails
-abbrev pub is_sound : World → Bool
-is_sound w = is_none (first_breach w)
-
--- A comment, a request, an outage or a loss is for every run. Over consistent knowledge no run refreshes a copy so far,
--- over other knowledge each refresh has its line; octets are for no run so far.
-abbrev pub is_other : Bool → Asked → Bool
-is_other sound (lines.Runs Blank) = false
-is_other sound (lines.Runs (Asks to r)) = false
-is_other sound (lines.Runs (Changes outage)) = false
-is_other sound (lines.Runs (Drops reply number)) = false
-is_other sound (lines.Runs (Updates number pushes total)) = sound
-is_other sound (Delivers dsp to octets) = true
+-- A comment, a request, an outage, a loss or a refresh is for every run. Octets are for no run so far.
+abbrev pub is_other : Asked → Bool
+is_other (lines.Runs command) = false
+is_other (Delivers dsp to octets) = true
 
 -- The text is the output of a run of these commands over the world of this file: the line on knowledge, and for each
 -- command one block, in order: what agents do with it, by what they hold, at the point that the blocks before it lead
@@ -88,7 +77,7 @@ pub data RefusesScript (w : World) (script text : List ℕ) : Type 0 where
   faulty_line : (number : ℕ) (fault : Fault) → script_of (names_of_agents w) (lost_in w) script ≡ Err (number, fault)
       → text ≡ refused_line_text number fault → RefusesScript w script text
   not_yet : (asked : List Asked) (before : ℕ) → AsksFor w script asked
-      → position (is_other (is_sound w)) asked ≡ Some before
+      → position is_other asked ≡ Some before
       → text ≡ not_yet_text (before + 1) → RefusesScript w script text
 
 -- over the world that the file describes

@@ -4,12 +4,11 @@ use Rattle.std.specs.List.{position}
 use Rattle.x5_model_run.specs.Run.{Command}
 use Rattle.x5_model_script.specs.Lines.{Asked}
 use Rattle.x5_model_script.specs.Lines as lines
-use Rattle.x5_model_tree.specs.World.{World}
 use Rattle.x5_model_world.specs.WorldFile.{File}
 use Rattle.x5_port.specs.Outside as outside
 use Rattle.x5_port.specs.Outside.{IsContent, IsLonger, Rose, with_octets, TookPrefix}
 use Rattle.xdir.specs.Outcomes.{most_octets, Wrote, Broke, Ends, IsReadable}
-use Rattle.xdir.specs.Run.{AsksFor, is_other, is_sound, IsOutput, RefusesScript}
+use Rattle.xdir.specs.Run.{AsksFor, is_other, IsOutput, RefusesScript}
 use Rattle.xdir.specs.Text.{not_yet_text}
 use Rattle.xdir.specs.declared.top.Status.{Status}
 use Rattle.xdir.specs.declared.top.Status.TheVariants.{Done, Refused, Usage, ReadFault, WriteFault, NoMemory}
@@ -60,15 +59,15 @@ pub record IsFirstAskedOutput (f : File) (asked : List Asked) (text : List ℕ) 
   pub are : asked ≡ map lines.Runs commands
   pub first : IsFirstOutput f commands text
 
-pub record IsNotYet (w : World) (asked : List Asked) (text : List ℕ) : Type 0 where
+pub record IsNotYet (asked : List Asked) (text : List ℕ) : Type 0 where
   pub before : ℕ
-  pub first : position (is_other (is_sound w)) asked ≡ Some before
+  pub first : position is_other asked ≡ Some before
   pub is_line : text ≡ not_yet_text (before + 1)
 
 -- what a run of what is asked for writes
 abbrev pub WritesAsked : Status → File → List Asked → Option (List ℕ) → Option (List ℕ) → ℕ → ℕ → Type 0
 WritesAsked status f asked old new before after =
-    Ends (IsAskedOutput f asked) (IsFirstAskedOutput f asked) (IsNotYet f.world asked) status old new before after
+    Ends (IsAskedOutput f asked) (IsFirstAskedOutput f asked) (IsNotYet asked) status old new before after
 
 -- the output of the script's commands over this world, and of the first of them
 pub record IsScriptOutput (f : File) (script text : List ℕ) : Type 0 where

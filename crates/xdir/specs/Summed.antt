@@ -65,7 +65,7 @@ pub record IsAskedSummary (f : File) (asked : List Asked) (text : List ℕ) : Ty
 
 abbrev pub SumsAsked : Status → File → List Asked → Option (List ℕ) → Option (List ℕ) → ℕ → ℕ → Type 0
 SumsAsked status f asked old new before after =
-    EndsAtOnce (IsAskedSummary f asked) (IsNotYet f.world asked) status old new before after
+    EndsAtOnce (IsAskedSummary f asked) (IsNotYet asked) status old new before after
 
 -- of the script's commands over this world
 pub record IsScriptSummary (f : File) (script text : List ℕ) : Type 0 where

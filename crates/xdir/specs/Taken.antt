@@ -6,7 +6,6 @@ use Rattle.x5_model_run.specs.History.{Did, Point}
 use Rattle.x5_model_run.specs.Run as run
 use Rattle.x5_model_script.specs.Lines.{Asked, Delivers}
 use Rattle.x5_model_script.specs.Lines as lines
-use Rattle.x5_model_tree.specs.Consistent.{IsConsistent}
 use Rattle.x5_model_tree.specs.World.{World}
 use Rattle.x5_ops.specs.RequestViews.{body_view}
 use Rattle.x5_script.specs.Views.{command_view}
@@ -35,11 +34,6 @@ run_view c = command_of (command_view c)
 abbrev pub AsksShortNames : run.Command → Type 0
 AsksShortNames (run.Asks to r) = HasShortNames r.body
 AsksShortNames other = ⊤
-
--- over consistent knowledge no run refreshes a copy so far
-abbrev pub Suits : World → run.Command → Type 0
-Suits w (run.Updates number pushes total) = IsConsistent w → ⊥
-Suits w other = ⊤
 
 -- a comment, a request to an agent of so many, an outage, a loss or a refresh
 abbrev pub IsTaken : ℕ → Command → Type 0

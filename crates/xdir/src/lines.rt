@@ -1,12 +1,14 @@
 //! What the lines of a script do to the network, and what comes of them.
-ghost use Rattle.std.specs.Prelude.{◌≡◌, ℕ, ◌<◌, ◌+◌, [], IfOk, length};
+ghost use Rattle.std.specs.Prelude.{◌≡◌, ◌↔◌, ℕ, ◌<◌, ◌+◌, [], IfOk, IsTrue, length};
 ghost use Rattle.x5_model_run.specs.History.{Point};
-ghost use Rattle.x5_model_run.specs.Run.{Asks};
+ghost use Rattle.x5_model_run.specs.Run.{Asks, Updates};
+ghost use Rattle.x5_model_tree.specs.Consistent.{IsConsistent};
 ghost use Rattle.x5_ops.specs.RequestViews.{body_view, request_view};
 ghost use Rattle.x5_report.specs.declared.report.LineOutcome.TheVariants.{NotConsistent, Set};
+ghost use Rattle.x5_world.specs.Refreshes.{IsSound};
 ghost use Rattle.x5_world.specs.State.{HasRoom, HasShortNames, StandsAt};
 ghost use Rattle.xdir.specs.Blocks.{IsCarriedOut, IsCourse};
-ghost use Rattle.xdir.specs.Taken.{IsTaken, Suits, run_view};
+ghost use Rattle.xdir.specs.Taken.{IsTaken, run_view};
 
 use std::alloc::Global;
 use x5_memory::NoMemory;
@@ -20,7 +22,7 @@ use x5_world::World;
 pub struct Course {
     /// The messages, and who accepted an update.
     pub journal: Journal,
-    /// The reply, that the network changed, or that no copy is refreshed.
+    /// The reply, that the network changed, or what became of a refresh.
     pub outcome: LineOutcome,
 }
 
@@ -71,16 +73,48 @@ fn ask(
     })
 }
 
-/// Does what a line asks for, and tells what came of it; of a comment there is nothing to tell. A refresh may stand only where
-/// knowledge isn't consistent. After want of memory the network isn't used again.
+/// What comes of a refresh by the agreement of this number: where knowledge is consistent its messages and what became of it, else
+/// that no copy is refreshed.
+fn refresh(
+    alloc: Global,
+    network: &mut World,
+    is_consistent: bool,
+    number: u32,
+    push: bool,
+    total: bool,
+) -> Result<Course, NoMemory>
+    requires room { (lines : ℕ) × (HasRoom network.old lines × (lines < 100000)) }
+    requires sound { IsTrue is_consistent → IsSound network.old }
+    ensures course { IfOk result (λ course. (p : Point) → StandsAt network.old p → (IsTrue is_consistent ↔ IsConsistent p.described) → IsCourse p (Updates number push total) network.new course) }
+    ensures names { IfOk result (λ _. network.new.names ≡ network.old.names) }
+    ensures room_after { IfOk result (λ _. (lines : ℕ) → HasRoom network.old lines → HasRoom network.new (lines + 1)) }
+{
+    if !is_consistent {
+        network.pass();
+        return Ok(unrefreshed(alloc));
+    }
+    let told = network.refresh(alloc, number, push, total)?;
+    Ok(Course {
+        journal: Journal {
+            lines: told.lines,
+            accepted: Listed::new(alloc),
+        },
+        outcome: LineOutcome::Refreshed(number, told.became, told.heard),
+    })
+}
+
+/// Does what a line asks for, and tells what came of it; of a comment there is nothing to tell. Whether knowledge is consistent is
+/// told before the first line. After want of memory the network isn't used again.
 pub fn carry_out(
     alloc: Global,
     network: &mut World,
+    is_consistent: bool,
     command: &Command,
 ) -> Result<Option<Course>, NoMemory>
     requires taken { IsTaken (length network.old.names) command.now }
     requires room { (lines : ℕ) × (HasRoom network.old lines × (lines < 100000)) }
-    ensures carried { IfOk result (λ course. (p : Point) → StandsAt network.old p → Suits p.described (run_view command.now) → IsCarriedOut p (run_view command.now) network.new course) }
+    requires sound { IsTrue is_consistent → IsSound network.old }
+    ensures carried { IfOk result (λ course. (p : Point) → StandsAt network.old p → (IsTrue is_consistent ↔ IsConsistent p.described) → IsCarriedOut p (run_view command.now) network.new course) }
     ensures names { IfOk result (λ _. network.new.names ≡ network.old.names) }
     ensures room_after { IfOk result (λ _. (lines : ℕ) → HasRoom network.old lines → HasRoom network.new (lines + 1)) }
 {
@@ -94,10 +128,14 @@ pub fn carry_out(
             network.lose(*reply, *k)?;
             Ok(Some(changed(alloc)))
         }
-        Command::Refresh { .. } => {
-            network.pass();
-            Ok(Some(unrefreshed(alloc)))
-        }
+        Command::Refresh { id, push, total } => Ok(Some(refresh(
+            alloc,
+            network,
+            is_consistent,
+            *id,
+            *push,
+            *total,
+        )?)),
         _ => {
             network.pass();
             Ok(None)

@@ -1,20 +1,22 @@
 //! A run of a script's commands: the line on knowledge, and a block for each command.
-ghost use Rattle.std.specs.Prelude.{◌≡◌, ℕ, ◌<◌, ◌≤◌, ◌+◌, List, All, length, map};
+ghost use Rattle.std.specs.Prelude.{◌≡◌, ◌↔◌, ℕ, ◌<◌, ◌≤◌, ◌+◌, List, All, IsTrue, length, map, string_bytes};
 ghost use Rattle.std.specs.List.{position};
 ghost use Rattle.x5_know.specs.WorldView.{world_view};
 ghost use Rattle.x5_load.specs.Views.{file_view};
 ghost use Rattle.x5_model_run.specs.History.{Did};
 ghost use Rattle.x5_model_script.specs.Named.{AreNamed};
+ghost use Rattle.x5_model_tree.specs.Consistent.{IsConsistent};
 ghost use Rattle.x5_script.specs.Views.{command_view};
+ghost use Rattle.x5_world.specs.Refreshes.{IsSound};
 ghost use Rattle.x5_world.specs.State.{HasRoom, StandsAt};
 ghost use Rattle.xdir.specs.Blocks.{WritesBlock, WritesCourse};
 ghost use Rattle.xdir.specs.Checked.{knowledge_text};
 ghost use Rattle.xdir.specs.Run.{is_other};
 ghost use Rattle.xdir.specs.Steps.{Prints, WritesAsked, WritesRun};
 ghost use Rattle.xdir.specs.Summed.{SumsAsked, SumsRun};
-ghost use Rattle.xdir.specs.Taken.{AsksShortNames, IsBegun, IsTaken, Suits, command_of, point, run_view};
+ghost use Rattle.xdir.specs.Taken.{AsksShortNames, IsBegun, IsTaken, command_of, point, run_view};
 
-use crate::check::line_of;
+use crate::check::{Told, line_of};
 use crate::lines::{Course, carry_out};
 use crate::refusals::refuse_other;
 use crate::summed::print_summary;
@@ -40,24 +42,21 @@ pub enum Printed {
     Summary,
 }
 
-/// Whether a line asks for what no run does so far, over knowledge that is consistent or isn't. No memory.
-fn is_other_line(is_consistent: bool, command: &Command) -> bool
-    ensures { result ≡ is_other is_consistent (command_view command.now) }
+/// Whether a line asks for what no run does so far: it hands octets to an agent. No memory.
+fn is_other_line(command: &Command) -> bool
+    ensures { result ≡ is_other (command_view command.now) }
 {
     match command {
-        Command::Refresh { .. } => is_consistent,
         Command::Deliver { .. } => true,
         _ => false,
     }
 }
 
-/// How many lines stand before the first that asks for what no run does so far, over knowledge that is consistent or isn't.
-fn first_other(is_consistent: bool, commands: &[Command]) -> Option<usize>
-    ensures { result ≡ position (λ c. is_other is_consistent (command_view c)) commands.now }
+/// How many lines stand before the first that asks for what no run does so far.
+fn first_other(commands: &[Command]) -> Option<usize>
+    ensures { result ≡ position (λ c. is_other (command_view c)) commands.now }
 {
-    commands
-        .iter()
-        .position(|command| is_other_line(is_consistent, command))
+    commands.iter().position(|command| is_other_line(command))
 }
 
 /// Runs what a script's lines ask for, or prints the line of the first that asks for what no run does so far.
@@ -81,42 +80,34 @@ pub fn run_commands<K: Sink>(
         Ok(told) => told,
         Err(NoMemory) => return Status::NoMemory,
     };
-    match first_other(told.is_consistent, commands) {
+    match first_other(commands) {
         Some(before) => refuse_other(alloc, before, out),
-        None => run_taken(
-            alloc,
-            printed,
-            described,
-            network,
-            told.line.as_str(),
-            commands,
-            out,
-        ),
+        None => run_taken(alloc, printed, described, network, &told, commands, out),
     }
 }
 
-/// Runs commands that are all taken, behind this line on knowledge.
+/// Runs commands that are all taken, behind what is told of knowledge.
 fn run_taken<K: Sink>(
     alloc: Global,
     printed: Printed,
     described: &Described,
     network: &mut World,
-    knowledge: &str,
+    told: &Told,
     commands: &[Command],
     out: &mut K,
 ) -> Status
     requires begun { IsBegun described.now network.old }
-    requires knowledge { knowledge.now ≡ knowledge_text (world_view described.now) }
+    requires knowledge { string_bytes told.now.line ≡ knowledge_text (world_view described.now) }
+    requires consistent { IsTrue told.now.is_consistent ↔ IsConsistent (world_view described.now) }
     requires few { length commands.now ≤ 100000 }
     requires taken { All (IsTaken (length network.old.names)) commands.now }
-    requires suits { All (λ c. Suits (world_view described.now) (run_view c)) commands.now }
     ensures prints { Prints result }
     ensures writes { printed ≡ Printed.Blocks → WritesRun result (file_view described.now) (map run_view commands.now) (K.octets out.old) (K.octets out.new) (K.fault_count out.old) (K.fault_count out.new) }
     ensures sums { printed ≡ Printed.Summary → SumsRun result (file_view described.now) (map run_view commands.now) (K.octets out.old) (K.octets out.new) (K.fault_count out.old) (K.fault_count out.new) }
 {
     match printed {
-        Printed::Blocks => print_run(alloc, described, network, knowledge, commands, out),
-        Printed::Summary => print_summary(alloc, described, network, knowledge, commands, out),
+        Printed::Blocks => print_run(alloc, described, network, told, commands, out),
+        Printed::Summary => print_summary(alloc, described, network, told, commands, out),
     }
 }
 
@@ -125,24 +116,24 @@ fn print_run<K: Sink>(
     alloc: Global,
     described: &Described,
     network: &mut World,
-    knowledge: &str,
+    told: &Told,
     commands: &[Command],
     out: &mut K,
 ) -> Status
     requires begun { IsBegun described.now network.old }
-    requires knowledge { knowledge.now ≡ knowledge_text (world_view described.now) }
+    requires knowledge { string_bytes told.now.line ≡ knowledge_text (world_view described.now) }
+    requires consistent { IsTrue told.now.is_consistent ↔ IsConsistent (world_view described.now) }
     requires few { length commands.now ≤ 100000 }
     requires taken { All (IsTaken (length network.old.names)) commands.now }
-    requires suits { All (λ c. Suits (world_view described.now) (run_view c)) commands.now }
     ensures prints { Prints result }
     ensures writes { WritesRun result (file_view described.now) (map run_view commands.now) (K.octets out.old) (K.octets out.new) (K.fault_count out.old) (K.fault_count out.new) }
 {
-    match put_all(out, knowledge.as_bytes()) {
+    match put_all(out, told.line.as_bytes()) {
         Ok(()) => {}
         Err(Failed) => return Status::WriteFault,
     }
     for (place, command) in commands.iter().enumerate() {
-        match print_command(alloc, described, network, place, command, out) {
+        match print_command(alloc, described, network, told.is_consistent, place, command, out) {
             Status::Done => {}
             stopped => return stopped,
         }
@@ -155,6 +146,7 @@ fn print_command<K: Sink>(
     alloc: Global,
     described: &Described,
     network: &mut World,
+    is_consistent: bool,
     before: usize,
     command: &Command,
     out: &mut K,
@@ -162,12 +154,13 @@ fn print_command<K: Sink>(
     requires taken { IsTaken (length network.old.names) command.now }
     requires few { before < 100000 }
     requires room { HasRoom network.old before }
+    requires sound { IsTrue is_consistent → IsSound network.old }
     ensures rising { K.fault_count out.old ≤ K.fault_count out.new }
     ensures names { result ≡ Status.Done → network.new.names ≡ network.old.names }
     ensures room_after { result ≡ Status.Done → HasRoom network.new (before + 1) }
-    ensures block { (past : List Did) → StandsAt network.old (point (world_view described.now) past) → Suits (world_view described.now) (run_view command.now) → WritesBlock result (file_view described.now) past (before + 1) (run_view command.now) network.new (K.octets out.old) (K.octets out.new) (K.fault_count out.old) (K.fault_count out.new) }
+    ensures block { (past : List Did) → StandsAt network.old (point (world_view described.now) past) → (IsTrue is_consistent ↔ IsConsistent (world_view described.now)) → WritesBlock result (file_view described.now) past (before + 1) (run_view command.now) network.new (K.octets out.old) (K.octets out.new) (K.fault_count out.old) (K.fault_count out.new) }
 {
-    match carry_out(alloc, network, command) {
+    match carry_out(alloc, network, is_consistent, command) {
         Ok(Some(course)) => print_course(alloc, described, before, &course, out),
         Ok(None) => Status::Done,
         Err(NoMemory) => Status::NoMemory,

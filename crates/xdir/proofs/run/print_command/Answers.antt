@@ -18,20 +18,20 @@ pub returns-in-Ok-None-clause-names : goal.returns-in-Ok-None-clause-names
 returns-in-Ok-None-clause-names g c = λ done. c.in-Ok-None.ensures.names
 
 pub returns-in-Ok-Some-clause-block : goal.returns-in-Ok-Some-clause-block
-returns-in-Ok-Some-clause-block g c = λ past stands suits.
+returns-in-Ok-Some-clause-block g c = λ past stands told.
     let p = point (world_view c.args.described.now) past in
     let command = run_view c.args.command.now in
     let net = c.carry_out.new.network in
     writes_course (file_view c.args.described.now) past (c.args.before + 1) command net c.in-Ok-Some.course
-    (carried p command net c.in-Ok-Some.field-0 c.in-Ok-Some.course c.in-Ok-Some.field-0-is (c.in-Ok-Some.ensures.carried p stands suits))
+    (carried p command net c.in-Ok-Some.field-0 c.in-Ok-Some.course c.in-Ok-Some.field-0-is (c.in-Ok-Some.ensures.carried p stands told))
     c.print_course.result (g.K.Sink.octets c.args.out.now) (g.K.Sink.octets c.print_course.new.out)
     (g.K.Sink.fault_count c.args.out.now) (g.K.Sink.fault_count c.print_course.new.out) c.print_course.ensures.line
 
 pub returns-in-Ok-None-clause-block : goal.returns-in-Ok-None-clause-block
-returns-in-Ok-None-clause-block g c = λ past stands suits.
+returns-in-Ok-None-clause-block g c = λ past stands told.
     let p = point (world_view c.args.described.now) past in
     let command = run_view c.args.command.now in
     let net = c.carry_out.new.network in
     writes_nothing (file_view c.args.described.now) past (c.args.before + 1) command net
     (g.K.Sink.octets c.args.out.now) (g.K.Sink.fault_count c.args.out.now) (g.K.Sink.fault_count c.args.out.now)
-    (silent p command net c.in-Ok-None.field-0 c.in-Ok-None.field-0-is (c.in-Ok-None.ensures.carried p stands suits))
+    (silent p command net c.in-Ok-None.field-0 c.in-Ok-None.field-0-is (c.in-Ok-None.ensures.carried p stands told))

@@ -1,12 +1,14 @@
 use Rattle.std.proofs.Common.{◌+◌, ◌∙◌, [], List, ℕ, length, map, take, drop, refl, sym, subst, inl, arith}
 use Rattle.std.proofs.lemmas.List.{take_all}
+use Rattle.x5_know.specs.WorldView.{world_view}
 use Rattle.x5_load.specs.Views.{file_view}
 use Rattle.x5_model_run.specs.Run.{Command}
 use Rattle.x5_script.specs.declared.command.Command.{Command as Asked}
 use Rattle.xdir.specs.declared.top.Status.TheVariants.{Done}
 use Rattle.xdir.specs.Taken.{IsTaken, run_view}
 use Rattle.xdir.proofs.Mapped.{first_more, around, so_many}
-use Rattle.xdir.proofs.SoFar.{IsSoFar, WritesNext, of_nothing, first_output, so_far_more, writes_stopped, writes_all, prints_next, taken_at, suits_at, askable_at}
+use Rattle.xdir.proofs.SoFar.{IsSoFar, WritesNext, of_nothing, first_output, so_far_more, writes_stopped, writes_all, prints_next, taken_at, askable_at}
+use Rattle.xdir.proofs.Sound.{is_sound}
 use Rattle.xdir.proofs.run.print_run.Goals as goal
 
 pub returns-in-Err-clause-writes : goal.returns-in-Err-clause-writes
@@ -39,6 +41,11 @@ print_command-requires-clause-taken g c =
     subst (λ (names : List (List ℕ)). IsTaken (length names) x) (sym c.loop-place.invariant.names)
     (taken_at (length c.args.network.now.names) c.args.commands.now i x c.loop-place-test.true c.index-commands-place.is c.requires.taken)
 
+pub print_command-requires-clause-sound : goal.print_command-requires-clause-sound
+print_command-requires-clause-sound g c =
+    let far = c.loop-place.invariant.so_far.is_text in
+    is_sound (world_view c.args.described.now) c.args.told.now.is_consistent c.requires.consistent far.past c.loop-place.network far.stands
+
 pub returns-in_default : goal.returns-in_default
 returns-in_default g c =
     let xs = c.args.commands.now in
@@ -56,13 +63,12 @@ returns-in_default g c =
     let after = g.K.Sink.fault_count c.print_command.new.out in
     let far = c.loop-place.invariant.so_far in
     let taken = subst (λ (names : List (List ℕ)). IsTaken (length names) x) (sym c.loop-place.invariant.names) (taken_at (length c.args.network.now.names) xs i x within is c.requires.taken) in
-    let suits = suits_at f.world xs i x within is c.requires.suits in
     record {
-      prints = prints_next c.print_command.result f (run_view x) (map run_view (take i xs)) (i + 1) net later old mid new before after far (λ past stands. c.print_command.ensures.block past stands suits);
+      prints = prints_next c.print_command.result f (run_view x) (map run_view (take i xs)) (i + 1) net later old mid new before after far (λ past stands. c.print_command.ensures.block past stands c.requires.consistent);
       writes = writes_stopped f (map run_view xs) (map run_view (take i xs)) (run_view x) (map run_view (drop (i + 1) xs)) (around run_view xs i x within is)
           (askable_at net f.world far.is_text.past far.is_text.stands x taken)
           c.print_command.result net later old mid new (g.K.Sink.fault_count c.args.out.now) before after c.in_default.not-Done c.loop-place.invariant.rising far
-          (subst (λ (n : ℕ). WritesNext c.print_command.result f (n + 1) (run_view x) net later mid new before after) (sym (so_many run_view xs i x within is)) (λ past stands. c.print_command.ensures.block past stands suits));
+          (subst (λ (n : ℕ). WritesNext c.print_command.result f (n + 1) (run_view x) net later mid new before after) (sym (so_many run_view xs i x within is)) (λ past stands. c.print_command.ensures.block past stands c.requires.consistent));
     }
 
 pub loop-place-preserved : goal.loop-place-preserved
@@ -82,11 +88,10 @@ loop-place-preserved g c =
     let after = g.K.Sink.fault_count c.print_command.new.out in
     let far = c.loop-place.invariant.so_far in
     let taken = subst (λ (names : List (List ℕ)). IsTaken (length names) x) (sym c.loop-place.invariant.names) (taken_at (length c.args.network.now.names) xs i x within is c.requires.taken) in
-    let suits = suits_at f.world xs i x within is c.requires.suits in
     record {
       so_far = subst (λ (commands : List Command). IsSoFar f commands later old new) (sym (first_more run_view xs i x within is))
           (so_far_more f (map run_view (take i xs)) (run_view x) net later old mid new before after (askable_at net f.world far.is_text.past far.is_text.stands x taken) far
-          (subst (λ (n : ℕ). WritesNext Done f (n + 1) (run_view x) net later mid new before after) (sym (so_many run_view xs i x within is)) (λ past stands. c.in-Done.ensures.block past stands suits)));
+          (subst (λ (n : ℕ). WritesNext Done f (n + 1) (run_view x) net later mid new before after) (sym (so_many run_view xs i x within is)) (λ past stands. c.in-Done.ensures.block past stands c.requires.consistent)));
       names = c.in-Done.ensures.names refl ∙ c.loop-place.invariant.names;
       room = c.in-Done.ensures.room_after refl;
       rising = omega arith;

@@ -10,6 +10,9 @@ returns-in-Ok-put_all-clause-sums g c =
     record {
       text = c.as_bytes.result.now;
       is = subst (IsSummary f (map run_view c.args.commands.now)) (sym c.as_bytes.ensures.value)
-          (c.in-Ok.ensures f c.requires.begun.stands c.requires.knowledge c.requires.suits);
+          (c.in-Ok.ensures f c.requires.begun.stands c.requires.knowledge c.requires.consistent);
       whole = c.in-Ok-put_all.ensures.all;
     }
+
+pub summary_of-requires-clause-begun : goal.summary_of-requires-clause-begun
+summary_of-requires-clause-begun g c = (file_view c.args.described.now, (c.requires.begun.stands, c.requires.consistent))

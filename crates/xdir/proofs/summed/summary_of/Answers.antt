@@ -1,4 +1,4 @@
-use Rattle.std.proofs.Common.{map, string_bytes}
+use Rattle.std.proofs.Common.{◌∙◌, map, string_bytes}
 use Rattle.x5_report.specs.Counted.{totals_view}
 use Rattle.xdir.specs.Taken.{run_view}
 use Rattle.xdir.proofs.Counts.{if_ok_more, is_summary}
@@ -6,6 +6,6 @@ use Rattle.xdir.proofs.summed.summary_of.Goals as goal
 
 pub returns : goal.returns
 returns c =
-    if_ok_more c.text_of.result (λ text is f stands knowledge suits.
-    is_summary f (map run_view c.args.commands.now) c.totals_of.new.network (totals_view c.in_ok-totals.totals) (c.in_ok-totals.ensures f stands suits) c.args.knowledge.now (string_bytes text) knowledge is)
+    if_ok_more c.text_of.result (λ text is f stands knowledge told.
+    is_summary f (map run_view c.args.commands.now) c.totals_of.new.network (totals_view c.in_ok-totals.totals) (c.in_ok-totals.ensures f stands told) c.as_str.result.now (string_bytes text) (c.as_str.ensures ∙ knowledge) is)
     c.text_of.ensures

@@ -7,12 +7,13 @@ use Rattle.xdir.specs.Counted.{IsCounted}
 use Rattle.xdir.specs.Taken.{IsTaken, point, run_view}
 use Rattle.xdir.proofs.Counts.{none_counted, counted_more}
 use Rattle.xdir.proofs.Mapped.{first_more}
-use Rattle.xdir.proofs.SoFar.{askable_at, suits_at, taken_at}
+use Rattle.xdir.proofs.SoFar.{askable_at, taken_at}
+use Rattle.xdir.proofs.Sound.{is_sound}
 use Rattle.xdir.proofs.summed.totals_of.Goals as goal
 
 pub loop-command-init : goal.loop-command-init
 loop-command-init c = record {
-  counted = λ f stands suits. none_counted f c.args.network.now (totals_view c.new-totals.result) stands c.new-totals.ensures;
+  counted = λ f stands told. none_counted f c.args.network.now (totals_view c.new-totals.result) stands c.new-totals.ensures;
   names = refl;
   room = c.requires.room;
 }
@@ -28,6 +29,12 @@ count_command-requires-clause-room c =
     let within = c.loop-command-test.true in
     (c.loop-command.command-index, (c.loop-command.invariant.room, omega (arith, few, within)))
 
+pub count_command-requires-clause-sound : goal.count_command-requires-clause-sound
+count_command-requires-clause-sound c =
+    let begun = c.requires.begun in
+    let far = c.loop-command.invariant.counted begun.0 begun.1 begun.2 in
+    is_sound begun.0.world c.args.is_consistent begun.2 far.past c.loop-command.network far.stands
+
 pub loop-command-preserved : goal.loop-command-preserved
 loop-command-preserved c =
     let lines = c.args.commands.now in
@@ -41,17 +48,16 @@ loop-command-preserved c =
     let taken = subst (λ (names : List (List ℕ)). IsTaken (length names) line) (sym c.loop-command.invariant.names)
     (taken_at (length c.args.network.now.names) lines i line within c.command-item.is c.requires.taken) in
     record {
-      counted = λ f stands suits.
-          let far : IsCounted f (map run_view (take i lines)) net old = c.loop-command.invariant.counted f stands suits in
-          let fits = suits_at f.world lines i line within c.command-item.is suits in
+      counted = λ f stands told.
+          let far : IsCounted f (map run_view (take i lines)) net old = c.loop-command.invariant.counted f stands told in
           subst (λ (commands : List Command). IsCounted f commands later new) (sym (first_more run_view lines i line within c.command-item.is))
           (counted_more f (map run_view (take i lines)) net later old new far (run_view line)
-          (askable_at net f.world far.past far.stands line taken) (λ past s. c.in_ok-count_command.ensures.adds (point f.world past) s fits));
+          (askable_at net f.world far.past far.stands line taken) (λ past s. c.in_ok-count_command.ensures.adds (point f.world past) s told));
       names = c.in_ok-count_command.ensures.names ∙ c.loop-command.invariant.names;
       room = c.in_ok-count_command.ensures.room_after i c.loop-command.invariant.room;
     }
 
 pub returns : goal.returns
-returns c = λ f stands suits.
+returns c = λ f stands told.
     subst (λ (lines : List Asked). IsCounted f (map run_view lines) c.loop-command.network (totals_view c.loop-command.totals))
-    (take_all c.loop-command.command-index c.args.commands.now c.loop-command-test.false) (c.loop-command.invariant.counted f stands suits)
+    (take_all c.loop-command.command-index c.args.commands.now c.loop-command-test.false) (c.loop-command.invariant.counted f stands told)
