@@ -1,28 +1,26 @@
 -- What a supplier sends can be taken by the agreement's consumer: a total refresh has a whole context, and the steps of an
 -- incremental one go on from the moment of the consumer's copy.
-use Rattle.std.proofs.Common.{◌≡◌, ℕ, zero, suc, ◌+◌, ◌-◌, ◌&&◌, ◌||◌, ◌==◌, inl, inr, Bool, true, false, not, cond, if◌then◌else◌, nat_lt, List, [], ◌∷◌, length, map, drop, slice_get, refl, sym, ap, subst, ◌∙◌, arith, Option, Some, None, Result, Ok, Err}
+use Rattle.std.proofs.Common.{◌≡◌, ℕ, zero, suc, ◌+◌, ◌-◌, ◌==◌, inl, inr, Bool, true, false, not, cond, if◌then◌else◌, nat_lt, List, [], ◌∷◌, length, map, drop, slice_get, refl, sym, ap, subst, ◌∙◌, arith, Option, Some, None, Result, Ok, Err}
 use Rattle.std.specs.List.{filter, find}
 use Rattle.std.specs.Option.{is_some, option_map}
 use Rattle.x5_model.specs.Words.{distinct, has, in_option}
 use Rattle.x5_model.specs.Members.{In, here, there}
 use Rattle.x5_model.specs.Keys.{Key, same_key}
 use Rattle.x5_model.specs.Values.{key_of}
-use Rattle.x5_model.specs.Entries.{Named}
 use Rattle.x5_model.proofs.Decide.{nat_same_decides}
 use Rattle.x5_model.proofs.KeyLaws.{key_decides}
 use Rattle.x5_model.proofs.Lists.{both_true, has_in, in_map, of_find, true_or_false}
-use Rattle.x5_model_tree.specs.World.{Agreement, World}
+use Rattle.x5_model_tree.specs.World.{Agreement}
 use Rattle.x5_model_tree.specs.Tree.{Tree, part}
 use Rattle.x5_model_tree.specs.Masters.{is_consumer, masters}
-use Rattle.x5_model_tree.specs.Consistent.{IsConsistent}
 use Rattle.x5_model_run.specs.Network.{Fate, is_unheard}
-use Rattle.x5_model_run.specs.Holdings.{Copy, Held, Holdings, copy_at}
+use Rattle.x5_model_run.specs.Holdings.{Copy}
 use Rattle.x5_model_run.specs.History.{Did, Point, Refreshed, as_of, copy_as_of, copy_by, holdings_at, knowledge_at, moment_of, tree_at, tree_by, tree_of_moment}
 use Rattle.x5_model_run.specs.Refresh.{Changes, RefreshBlock, RefreshOutcome, ShadowLine, Done, Unheard, Problem, Missed, base_of, changes_at, consumed_by, later_than, same_moment}
 use Rattle.x5_model_run.specs.Refresh as refresh
 use Rattle.x5_model_refreshed.specs.Doable.{AreWhole, CanReplay}
 use Rattle.x5_model_refreshed.specs.Steps.{Step}
-use Rattle.x5_model_refreshed.specs.Logs.{Log, log_at, steps_later}
+use Rattle.x5_model_refreshed.specs.Logs.{log_at, steps_later}
 use Rattle.x5_model_refreshed.specs.Replaying.{IsBrought, IsLed, last_256}
 use Rattle.x5_model_refreshed.proofs.Copied.{copies_are_whole}
 use Rattle.x5_model_refreshed.proofs.Placing.{consumers_have_copies}
@@ -37,14 +35,13 @@ use Rattle.x5_holdings.specs.State.{Kept, State, holdings_view}
 use Rattle.x5_supply.specs.Supplied.{brought_of, content_of_copy, content_of_master, mastered_of, or_else, or_inactive, since_from, steps_after, supplied, total_of}
 use Rattle.x5_supply.specs.Supplied as supply
 use Rattle.x5_consume.specs.Steps.{step_view, steps_view}
-use Rattle.x5_consume.specs.Taken.{CanTake}
 use Rattle.x5_refresh.specs.declared.brought.Brought.{Brought}
 use Rattle.x5_refresh.specs.declared.brought.Brought.TheVariants.{Total, Steps}
 use Rattle.x5_refresh.specs.Course.{missing, stopped, unless_ended, unsent}
 use Rattle.x5_refresh.specs.Joined.{IsSupplier}
 use Rattle.x5_refresh.specs.Sent as sent
 use Rattle.x5_refresh.specs.Sent.{CanAccept, brought_by, stamped, supply_of}
-use Rattle.x5_world.specs.Logs.{Logs, Notes, logs_at}
+use Rattle.x5_world.specs.Logs.{Notes, logs_at}
 use Rattle.x5_world.specs.LogViews.{logged_view, logs_view}
 use Rattle.x5_world.proofs.Courses.{some_is}
 use Rattle.x5_world.proofs.Suppliers.{copy_entries, is_supplier, supplied_noted}
@@ -253,8 +250,8 @@ found_once (y ∷ ys) (suc i) g d e =
     other : (y.number == g.number) ≡ false
     other = elim (true_or_false (y.number == g.number)) [
       | inl t ↦ absurd (never (sym alone ∙ has_in ◌==◌ nat_same_decides y.number (map (λ (a : Agreement). a.number) ys)
-        (subst (λ (n : ℕ). In n (map (λ (a : Agreement). a.number) ys)) (sym ((nat_same_decides y.number g.number).0 t))
-        (in_map (λ (a : Agreement). a.number) g ys there_is))))
+          (subst (λ (n : ℕ). In n (map (λ (a : Agreement). a.number) ys)) (sym ((nat_same_decides y.number g.number).0 t))
+          (in_map (λ (a : Agreement). a.number) g ys there_is))))
       | inr f ↦ f
     ]
       where

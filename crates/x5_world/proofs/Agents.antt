@@ -1,5 +1,5 @@
 -- One agent of the network sends what is supplied, or takes it: nothing else of the network changes.
-use Rattle.std.proofs.Common.{◌≡◌, ℕ, zero, suc, ◌+◌, ◌<◌, ◌⊎◌, inl, inr, Bool, true, List, [], ◌∷◌, length, map, slice_get, slice_set, refl, sym, ap, subst, ◌∙◌, Option, Some, None, Result, Ok, Err, OnOk, OnErr}
+use Rattle.std.proofs.Common.{◌≡◌, ℕ, zero, suc, ◌+◌, ◌<◌, ◌⊎◌, inl, inr, Bool, true, List, [], ◌∷◌, length, map, slice_get, slice_set, refl, sym, ap, subst, ◌∙◌, Option, Some, Result, Ok, Err, OnOk, OnErr}
 use Rattle.std.proofs.lemmas.List.{length-map, length-set, map-set}
 use Rattle.x5_model.specs.Words.{in_option}
 use Rattle.x5_model.specs.Keys.{Key}
@@ -15,9 +15,8 @@ use Rattle.x5_world.specs.Logs.{Logs, no_logs}
 use Rattle.x5_world.specs.LogViews.{logs_view}
 use Rattle.x5_world.specs.State.{Net, holdings_in, logs_in}
 use Rattle.x5_world.specs.Sent.{IsHolder, IsNet}
-use Rattle.x5_world.specs.Refreshing.{IsKnown, IsSupplied, IsTakenAt, is_known_in, sent_view}
+use Rattle.x5_world.specs.Refreshing.{IsSupplied, IsTakenAt, is_known_in, sent_view}
 use Rattle.x5_world.specs.declared.refreshing.Supplied.{Supplied}
-use Rattle.x5_world.specs.declared.refreshing.Supplied.TheVariants.{Sent, Refused}
 use Rattle.x5_world.proofs.Changing.{IsLike, of_states}
 use Rattle.x5_world.proofs.Courses.{map_at, some_is}
 use Rattle.x5_world.proofs.Knowing.{sent_known, taken_holder}

@@ -1,5 +1,5 @@
 -- What a refresh by an agreement's number comes to is what the run says: its block, and the network of the next line.
-use Rattle.std.proofs.Common.{◌≡◌, ℕ, zero, suc, ◌+◌, ◌≤◌, ◌<◌, ◌==◌, ◌&&◌, inl, inr, Bool, true, false, nat_lt, List, [], ◌∷◌, length, map, slice_get, refl, sym, ap, subst, ◌∙◌, arith, Option, Some, None, Ok, Err}
+use Rattle.std.proofs.Common.{◌≡◌, ℕ, zero, suc, ◌+◌, ◌<◌, ◌==◌, ◌&&◌, Bool, false, nat_lt, List, [], ◌∷◌, length, slice_get, refl, sym, ap, subst, ◌∙◌, Option, Some, None, Ok}
 use Rattle.std.specs.List.{find}
 use Rattle.std.specs.Option.{is_some}
 use Rattle.std.proofs.lemmas.List.{length-map}
@@ -7,44 +7,39 @@ use Rattle.x5_model.specs.Words.{in_option}
 use Rattle.x5_model.specs.Members.{In, here, there}
 use Rattle.x5_model.specs.Values.{key_of}
 use Rattle.x5_model.proofs.Decide.{less_decides}
-use Rattle.x5_model.proofs.Lists.{both_true, of_all, of_find}
-use Rattle.x5_model_tree.specs.World.{Agreement, World, names_of_agents}
+use Rattle.x5_model.proofs.Lists.{both_true, of_all}
+use Rattle.x5_model_tree.specs.World.{Agreement, names_of_agents}
 use Rattle.x5_model_tree.specs.Consistent.{Inconsistency, IsConsistent, first_breach}
 use Rattle.x5_model_tree.specs.Described.{is_agreement, is_entry_name, is_number}
 use Rattle.x5_model_tree.proofs.FirstBreach.{consistent_has_none}
-use Rattle.x5_model_run.specs.Holdings.{Copy, Holdings, copy_at}
-use Rattle.x5_model_run.specs.History.{Nothing, Point, Refreshed, as_of, copy_by, holdings_at, knowledge_at, moment_of}
+use Rattle.x5_model_run.specs.Holdings.{Copy}
+use Rattle.x5_model_run.specs.History.{Point, Refreshed, as_of, holdings_at, knowledge_at, moment_of}
 use Rattle.x5_model_run.specs.Refresh.{RefreshBlock, RefreshOutcome, Done, Unheard, Problem, Missed, NotConsistent, refresh_block, ended}
-use Rattle.x5_model_run.specs.Run.{Updates, Refreshing, did_by}
+use Rattle.x5_model_run.specs.Run.{Updates, Refreshing}
 use Rattle.x5_model_settled.specs.Held.{BySteps}
 use Rattle.x5_model_settled.proofs.Stamped.{stamped_after}
 use Rattle.x5_model_verdicts.specs.Committing.{IsStamped}
 use Rattle.x5_model_refreshed.specs.Bringing.{BringsNothing, after_block}
-use Rattle.x5_model_refreshed.specs.Growing.{after_deed}
-use Rattle.x5_model_refreshed.specs.Refreshed.{after_refresh}
 use Rattle.x5_model_refreshed.specs.Replaying.{IsLed}
 use Rattle.x5_model_refreshed.proofs.Blocks.{block_brings, others_do_nothing}
 use Rattle.x5_model_refreshed.proofs.Placing.{consumers_have_copies}
-use Rattle.x5_holdings.specs.State.{State, holdings_view}
-use Rattle.x5_ops.specs.declared.journal.Line.{Line}
+use Rattle.x5_holdings.specs.State.{holdings_view}
 use Rattle.x5_ops.specs.RefreshViews.{refreshed_view, shadows_view}
-use Rattle.x5_consume.specs.Taken.{stamp_at}
-use Rattle.x5_refresh.specs.declared.brought.Brought.{Brought}
-use Rattle.x5_refresh.specs.Course.{course, facts_at, line_of, opening}
+use Rattle.x5_refresh.specs.Course.{facts_at, line_of, opening}
 use Rattle.x5_refresh.specs.Joined.{IsByFacts, IsSupplier}
 use Rattle.x5_refresh.specs.Sent.{supply_of}
 use Rattle.x5_refresh.proofs.Sources.{supplies_are_facts}
 use Rattle.x5_world.specs.LogViews.{logs_view}
 use Rattle.x5_world.specs.Logs.{logs_at}
-use Rattle.x5_world.specs.Refreshes.{IsRefreshedAt, IsSound}
-use Rattle.x5_world.specs.Refreshing.{IsBroughtAt, IsDoneBy, IsInvalid, IsLeft, IsSupplied, IsWay, acknowledging, block_of, first_fate, last_block, last_fate, last_of, sent_view, whole_block}
-use Rattle.x5_world.specs.State.{Net, StandsAt, after, holdings_in, logs_in}
+use Rattle.x5_world.specs.Refreshes.{IsRefreshedAt}
+use Rattle.x5_world.specs.Refreshing.{IsBroughtAt, IsDoneBy, IsInvalid, IsLeft, IsSupplied, IsWay, block_of, first_fate, last_block, last_fate, last_of, sent_view, whole_block}
+use Rattle.x5_world.specs.State.{Net, StandsAt}
 use Rattle.x5_world.specs.declared.refreshing.Supplied.{Supplied}
-use Rattle.x5_world.specs.declared.refreshing.Supplied.TheVariants.{Sent, Refused}
+use Rattle.x5_world.specs.declared.refreshing.Supplied.TheVariants.{Sent}
 use Rattle.x5_world.specs.declared.refreshing.Way.{Way}
 use Rattle.x5_world.specs.declared.refreshment.Refreshment.{Refreshment}
-use Rattle.x5_world.proofs.Acceptable.{can_accept, found_once, taken_from}
-use Rattle.x5_world.proofs.Courses.{acked_is, block_is, held_so, known_so, last_so, led_at, number_is, own_is, run_block, some_is}
+use Rattle.x5_world.proofs.Acceptable.{found_once, taken_from}
+use Rattle.x5_world.proofs.Courses.{block_is, held_so, known_so, last_so, led_at, number_is, own_is, run_block, some_is}
 use Rattle.x5_world.proofs.Onward.{after_nothing, after_taken}
 use Rattle.x5_world.proofs.Suppliers.{is_supplier}
 
@@ -65,8 +60,7 @@ agents_there n p place g s e =
     (nat_lt g.supplier (length p.described.agents) && nat_lt g.consumer (length p.described.agents)) fit in
     let less = both_true (nat_lt g.supplier (length p.described.agents)) (nat_lt g.consumer (length p.described.agents)) both.1 in
     let many : length p.described.agents ≡ length n.names =
-    sym (length-map p.described.agents (λ a. a.name)) ∙ ap length (sym s.names) in
-    (
+    sym (length-map p.described.agents (λ a. a.name)) ∙ ap length (sym s.names) in (
       subst (λ (k : ℕ). g.supplier < k) many ((less_decides g.supplier (length p.described.agents)).0 less.0),
       subst (λ (k : ℕ). g.consumer < k) many ((less_decides g.consumer (length p.described.agents)).0 less.1),
     )

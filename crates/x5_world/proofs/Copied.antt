@@ -1,13 +1,12 @@
 -- What the consumer's copy is once a refresh was taken is what the run says of the next line.
-use Rattle.std.proofs.Common.{◌≡◌, ℕ, zero, suc, ◌+◌, ◌-◌, Bool, true, false, List, [], ◌∷◌, ◌++◌, length, map, drop, slice_get, slice_set, refl, sym, ap, subst, ◌∙◌, nat_lt, if◌then◌else◌, Option, Some, None, Result, Ok, Err}
+use Rattle.std.proofs.Common.{◌≡◌, ℕ, ◌-◌, false, List, [], ◌∷◌, ◌++◌, length, map, drop, refl, sym, ap, ◌∙◌, nat_lt, if◌then◌else◌, Option, Some, None, Ok, Err}
 use Rattle.std.specs.Option.{option_map}
-use Rattle.std.proofs.lemmas.List.{drop-map, length-map, map-append, map-set}
+use Rattle.std.proofs.lemmas.List.{drop-map, length-map, map-append}
 use Rattle.x5_model.specs.Words.{first_of, in_option}
 use Rattle.x5_model.specs.Members.{In}
-use Rattle.x5_model.specs.Keys.{Key, same_key}
+use Rattle.x5_model.specs.Keys.{Key}
 use Rattle.x5_model.specs.Values.{Name, key_of}
-use Rattle.x5_model.specs.Entries.{Named}
-use Rattle.x5_model_tree.specs.World.{Agent, Agreement, Nssr as ModelNssr, Specific as ModelSpecific}
+use Rattle.x5_model_tree.specs.World.{Agent, Agreement, Nssr as ModelNssr}
 use Rattle.x5_model_tree.specs.Masters.{agent_at}
 use Rattle.x5_model_run.specs.Holdings.{Copy, Held, Holdings}
 use Rattle.x5_model_run.specs.History.{Point, Refreshed, agent_holdings, as_of, copy_as_of, copy_by, holdings_at, knowledge_at, moment_of, no_holdings, sent_references}
@@ -21,7 +20,6 @@ use Rattle.x5_model_refreshed.proofs.Lying.{copy_advances}
 use Rattle.x5_model_refreshed.proofs.Sources.{consumer_supplies, master_supplies}
 use Rattle.x5_ops.specs.declared.knowledge.Content.{Content}
 use Rattle.x5_ops.specs.declared.knowledge.Nssr.{Nssr}
-use Rattle.x5_ops.specs.declared.knowledge.Specific.{Specific}
 use Rattle.x5_ops.specs.declared.knowledge.Step.{Step as CodeStep}
 use Rattle.x5_ops.specs.KnowledgeViews.{nssr_view, specific_view}
 use Rattle.x5_dse.specs.Linked.{entries_of}
@@ -33,8 +31,8 @@ use Rattle.x5_supply.specs.Supplied.{content_of_copy, content_of_master, copy_of
 use Rattle.x5_supply.specs.Supplied as supply
 use Rattle.x5_supply.proofs.Copying.{master_sends}
 use Rattle.x5_supply.proofs.Counting.{copy_sends}
-use Rattle.x5_consume.specs.Steps.{step_view, steps_view}
-use Rattle.x5_consume.specs.Taken.{AreDone, AreNoted, IsAdvanced, IsContent, IsReplaced}
+use Rattle.x5_consume.specs.Steps.{steps_view}
+use Rattle.x5_consume.specs.Taken.{AreNoted, IsAdvanced, IsContent, IsReplaced}
 use Rattle.x5_world.specs.Logs.{Notes, logs_at}
 use Rattle.x5_world.specs.LogViews.{logged_view, logs_view, notes_view}
 use Rattle.x5_world.proofs.Acceptable.{ok_is}

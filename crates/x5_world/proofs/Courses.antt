@@ -1,28 +1,26 @@
 -- The block of a refresh, as it is made of what its supplier sends, is that of the run's line.
-use Rattle.std.proofs.Common.{◌≡◌, ℕ, zero, suc, ◌+◌, ◌==◌, Bool, true, false, if◌then◌else◌, List, [], ◌∷◌, ◌++◌, map, slice_get, refl, sym, ap, subst, ◌∙◌, Option, Some, None}
+use Rattle.std.proofs.Common.{◌≡◌, ℕ, zero, suc, ◌+◌, ◌==◌, Bool, true, false, if◌then◌else◌, List, [], ◌∷◌, map, slice_get, refl, sym, ap, ◌∙◌, Option, Some}
 use Rattle.std.specs.List.{find}
 use Rattle.std.specs.Option.{is_some, option_map}
 use Rattle.x5_model.specs.Words.{in_option}
-use Rattle.x5_model.specs.Members.{In}
 use Rattle.x5_model.specs.Values.{key_of}
 use Rattle.x5_model.proofs.Decide.{nat_same_decides}
 use Rattle.x5_model.proofs.Lists.{of_find}
-use Rattle.x5_model_tree.specs.World.{Agreement, Network, World}
+use Rattle.x5_model_tree.specs.World.{Agreement, World}
 use Rattle.x5_model_tree.specs.Consistent.{IsConsistent, first_breach}
-use Rattle.x5_model_run.specs.Holdings.{Copy, Holdings}
-use Rattle.x5_model_run.specs.History.{Point, acked, as_of, copy_by, holdings_at, knowledge_at}
+use Rattle.x5_model_run.specs.Holdings.{Holdings}
+use Rattle.x5_model_run.specs.History.{Point, acked, as_of, holdings_at, knowledge_at}
 use Rattle.x5_model_run.specs.Network.{Fate, fate_of, is_unheard}
-use Rattle.x5_model_run.specs.Refresh.{RefreshBlock, RefreshOutcome, ShadowLine, Unheard, Problem, UpdateShadow, ended, refresh_block, peer_moment, shadow_line}
+use Rattle.x5_model_run.specs.Refresh.{RefreshBlock, ShadowLine, Unheard, Problem, UpdateShadow, ended, refresh_block, peer_moment, shadow_line}
 use Rattle.x5_model_settled.proofs.Held.{held_is_holdings}
 use Rattle.x5_model_settled.proofs.After.{knows_as_described}
 use Rattle.x5_model_refreshed.specs.Replaying.{IsLed}
 use Rattle.x5_consume.specs.Taken.{stamp_at}
-use Rattle.x5_refresh.specs.Course.{Facts, BlocksAreCourses, course, facts_at, problem_of, unsent, stopped, finished, unless_ended, line_of, opening}
+use Rattle.x5_refresh.specs.Course.{Facts, course, facts_at, unsent, stopped, finished, unless_ended, line_of, opening}
 use Rattle.x5_refresh.specs.Joined.{IsByFacts}
-use Rattle.x5_refresh.specs.Sent.{count_in}
 use Rattle.x5_refresh.proofs.Stages.{blocks_are_courses}
 use Rattle.x5_world.specs.State.{Net, StandsAt, holdings_in}
-use Rattle.x5_world.specs.Refreshing.{IsWay, sent_view, problem_in, stamp_in, count_of, last_block, first_fate, last_fate, last_of, whole_block}
+use Rattle.x5_world.specs.Refreshing.{IsWay, sent_view, problem_in, last_block, first_fate, last_fate, last_of, whole_block}
 use Rattle.x5_world.specs.declared.refreshing.Supplied.{Supplied}
 use Rattle.x5_world.specs.declared.refreshing.Supplied.TheVariants.{Sent, Refused}
 use Rattle.x5_world.specs.declared.refreshing.Way.{Way}

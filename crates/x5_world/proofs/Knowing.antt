@@ -1,11 +1,11 @@
 -- What comes with a refresh names agents of the network and pins that an octet counts, as what its supplier knows does; so the
 -- consumer's holdings do once it is taken.
-use Rattle.std.proofs.Common.{◌≡◌, ℕ, zero, suc, ◌<◌, ◌&&◌, Bool, true, false, not, nat_lt, inl, inr, List, [], ◌∷◌, ◌++◌, length, map, slice_get, slice_set, refl, sym, ap, subst, ◌∙◌, Option, Some, None, Ok}
-use Rattle.std.specs.List.{filter, find, list_all}
+use Rattle.std.proofs.Common.{◌≡◌, ℕ, zero, suc, ◌<◌, ◌&&◌, Bool, true, false, not, nat_lt, inl, inr, List, [], ◌∷◌, length, map, slice_get, slice_set, refl, sym, ap, subst, ◌∙◌, Option, Some, None, Ok}
+use Rattle.std.specs.List.{filter, list_all}
 use Rattle.std.specs.Option.{is_some, option_map}
 use Rattle.std.proofs.lemmas.List.{map-set}
 use Rattle.x5_model.specs.Words.{in_option}
-use Rattle.x5_model.specs.Members.{In, here, there}
+use Rattle.x5_model.specs.Members.{In}
 use Rattle.x5_model.specs.Keys.{Key, parent, same_key}
 use Rattle.x5_model.specs.Values.{key_of}
 use Rattle.x5_model.proofs.Decide.{less_decides}
@@ -13,8 +13,8 @@ use Rattle.x5_model.proofs.Lists.{all_in, and_true, both_true, in_either, in_map
 use Rattle.x5_model_tree.specs.World.{Nssr as ModelNssr, Specific as ModelSpecific}
 use Rattle.x5_model_tree.specs.Tree.{is_there}
 use Rattle.x5_model_run.specs.Holdings.{Copy, Held, Holdings}
-use Rattle.x5_model_known.specs.Holding.{access_names, context_names, copy_names, holdings_name, nssrs_name, references_name, superior_names}
-use Rattle.x5_model_known.specs.Counted.{context_counted, copy_counted, holdings_counted, is_counted, nssrs_counted, references_counted}
+use Rattle.x5_model_known.specs.Holding.{access_names, context_names, copy_names, nssrs_name, references_name, superior_names}
+use Rattle.x5_model_known.specs.Counted.{context_counted, copy_counted, is_counted, nssrs_counted, references_counted}
 use Rattle.x5_ops.specs.declared.knowledge.Content.{Content}
 use Rattle.x5_ops.specs.declared.knowledge.Nssr.{Nssr}
 use Rattle.x5_ops.specs.declared.knowledge.Specific.{Specific}
@@ -23,7 +23,7 @@ use Rattle.x5_dse.specs.Linked.{entries_of}
 use Rattle.x5_holdings.specs.State.{CopyKept, Kept, State, copy_view, held_view, holdings_view, shadow_view}
 use Rattle.x5_supply.specs.Supplied.{brought_of, content_of_copy, content_of_master, copy_of, mastered_among, mastered_of, of_master, or_else, or_inactive, others, reference, reference_to, total_of}
 use Rattle.x5_supply.specs.Supplied as supply
-use Rattle.x5_consume.specs.Taken.{IsAdvanced, IsReplaced, IsTaken}
+use Rattle.x5_consume.specs.Taken.{IsTaken}
 use Rattle.x5_refresh.specs.declared.brought.Brought.{Brought}
 use Rattle.x5_refresh.specs.declared.brought.Brought.TheVariants.{Total, Steps}
 use Rattle.x5_refresh.specs.Sent.{IsRefreshed, supply_of}
@@ -240,18 +240,18 @@ module _ (names : List (List ℕ)) (a : ℕ) (s t : State) (pin : Key) (m : ℕ)
         supplier = d.supplier;
       }) in (
         ap (copy_names size) at
-        ∙ and_true (nat_lt d.supplier size) (references_name size (map specific_view content.specific) && nssrs_name size (map nssr_view content.nssr)) supplier w.0,
+            ∙ and_true (nat_lt d.supplier size) (references_name size (map specific_view content.specific) && nssrs_name size (map nssr_view content.nssr)) supplier w.0,
         ap copy_counted at
-        ∙ and_true (is_counted d.prefix) (references_counted (map specific_view content.specific) && nssrs_counted (map nssr_view content.nssr)) prefix w.1,
+            ∙ and_true (is_counted d.prefix) (references_counted (map specific_view content.specific) && nssrs_counted (map nssr_view content.nssr)) prefix w.1,
       )
   good (Steps given) k u r =
       let same : (copy_names size (copy_view u) ≡ copy_names size (copy_view d)) × (copy_counted (copy_view u) ≡ copy_counted (copy_view d)) = (
         ap (λ (v : CopyKept). copy_names size (copy_view v)) r.after_is
-        ∙ (λ i. nat_lt d.supplier size && (references_name size (map specific_view (r.done.subordinate i)) && nssrs_name size (map nssr_view (r.done.nssrs i))))
-        ∙ ap (λ (o : Option (Kept × ℕ)). copy_names size (copy_view (record d { refreshed = o }))) (sym r.was),
+            ∙ (λ i. nat_lt d.supplier size && (references_name size (map specific_view (r.done.subordinate i)) && nssrs_name size (map nssr_view (r.done.nssrs i))))
+            ∙ ap (λ (o : Option (Kept × ℕ)). copy_names size (copy_view (record d { refreshed = o }))) (sym r.was),
         ap (λ (v : CopyKept). copy_counted (copy_view v)) r.after_is
-        ∙ (λ i. is_counted d.prefix && (references_counted (map specific_view (r.done.subordinate i)) && nssrs_counted (map nssr_view (r.done.nssrs i))))
-        ∙ ap (λ (o : Option (Kept × ℕ)). copy_counted (copy_view (record d { refreshed = o }))) (sym r.was),
+            ∙ (λ i. is_counted d.prefix && (references_counted (map specific_view (r.done.subordinate i)) && nssrs_counted (map nssr_view (r.done.nssrs i))))
+            ∙ ap (λ (o : Option (Kept × ℕ)). copy_counted (copy_view (record d { refreshed = o }))) (sym r.was),
       ) in (same.0 ∙ was_named, same.1 ∙ was_counted)
 
   is_good : IsGood taken.copied.after

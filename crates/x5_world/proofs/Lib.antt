@@ -23,3 +23,4 @@ pub mod Concluding
 pub mod Knowing
 pub mod Stopping
 pub mod Agents
+pub mod Rounding

@@ -22,7 +22,7 @@ use Rattle.x5_model_refreshed.proofs.Finding.{changed_at, map_alike}
 use Rattle.x5_model_refreshed.proofs.Lengths.{other_logs_stay}
 use Rattle.x5_model_refreshed.proofs.Placing.{context_key, is_placed, of_consumer, once_agreements, one_number, place_of, supplies}
 use Rattle.x5_model_refreshed.proofs.Refreshed.{copy_is_stamped, other_stamps_stay}
-use Rattle.x5_world.specs.Logs.{Logs, Notes, agent_logs, logs_at, no_logs, notes_at}
+use Rattle.x5_world.specs.Logs.{Notes, agent_logs, logs_at, no_logs, notes_at}
 
 notes_same : (p q : Point) (a : ℕ) (pin : Key) → IsLogOf p q a pin → notes_at q a pin ≡ notes_at p a pin
 notes_same p q a pin is = λ i. record { base = base_of (is.changes i); changes = last_256 (is.log i) }

@@ -1,5 +1,5 @@
 -- The network after a refresh is that of the next line.
-use Rattle.std.proofs.Common.{◌≡◌, ℕ, zero, suc, ◌+◌, ◌≤◌, ◌==◌, ◌&&◌, ◌⊎◌, inl, inr, Bool, true, false, if◌then◌else◌, List, [], ◌∷◌, length, map, slice_get, slice_set, refl, sym, ap, subst, ◌∙◌, arith, Option, Some, None, Ok}
+use Rattle.std.proofs.Common.{◌≡◌, ℕ, zero, suc, ◌+◌, ◌≤◌, ◌==◌, ◌&&◌, ◌⊎◌, inl, inr, Bool, true, false, if◌then◌else◌, List, [], ◌∷◌, length, map, slice_get, slice_set, refl, sym, ap, subst, ◌∙◌, arith, Option, Some, Ok}
 use Rattle.std.specs.List.{find}
 use Rattle.std.proofs.lemmas.List.{map-set}
 use mathlib.Core.Path.{fun_ext}
@@ -8,14 +8,13 @@ use Rattle.x5_model.specs.Members.{In}
 use Rattle.x5_model.specs.Keys.{Key}
 use Rattle.x5_model.specs.Values.{key_of}
 use Rattle.x5_model.proofs.Decide.{nat_same_decides}
-use Rattle.x5_model.proofs.Lists.{of_find, true_or_false}
-use Rattle.x5_model_tree.specs.World.{Agreement, Network, World}
+use Rattle.x5_model.proofs.Lists.{true_or_false}
+use Rattle.x5_model_tree.specs.World.{Agreement}
 use Rattle.x5_model_tree.specs.Consistent.{IsConsistent}
 use Rattle.x5_model_run.specs.Holdings.{Copy, Holdings}
-use Rattle.x5_model_run.specs.History.{Deed, Nothing, Refreshes, Did, Point, Refreshed, acked, as_of, copy_by, holdings_at, knowledge_at, moment_of, network_at, no_holdings, sent_before}
+use Rattle.x5_model_run.specs.History.{Nothing, Point, Refreshed, acked, as_of, copy_by, holdings_at, knowledge_at, moment_of, no_holdings, sent_before}
 use Rattle.x5_model_run.specs.Refresh.{base_of, changes_at}
 use Rattle.x5_model_run.specs.Refresh as refresh
-use Rattle.x5_model_settled.specs.Held.{held_at}
 use Rattle.x5_model_settled.proofs.Held.{held_is_holdings, held_on}
 use Rattle.x5_model_verdicts.specs.Committing.{IsStamped}
 use Rattle.x5_model_refreshed.specs.Logs.{log_at, stamped, steps_later}
@@ -23,21 +22,21 @@ use Rattle.x5_model_refreshed.specs.Growing.{after_deed}
 use Rattle.x5_model_refreshed.specs.Lengthening.{base_noting, kept_noting}
 use Rattle.x5_model_refreshed.specs.Refreshed.{after_refresh}
 use Rattle.x5_model_refreshed.specs.Renewing.{renewed}
-use Rattle.x5_model_refreshed.specs.Replaying.{IsBrought, IsLed, last_256}
+use Rattle.x5_model_refreshed.specs.Replaying.{IsBrought, IsLed}
 use Rattle.x5_model_refreshed.proofs.Acked.{acked_at_place, stamp_is_acked}
 use Rattle.x5_model_refreshed.proofs.Lengths.{steps_lengthen_log, total_begins_log}
 use Rattle.x5_model_refreshed.proofs.Placing.{copies_have_places}
 use Rattle.x5_model_refreshed.proofs.Renewal.{consumer_is_renewed, others_hold_on}
 use Rattle.x5_ops.specs.declared.knowledge.Content.{Content}
 use Rattle.x5_ops.specs.declared.knowledge.Step.{Step as CodeStep}
-use Rattle.x5_holdings.specs.State.{CopyKept, Kept, State, copy_view, holdings_view}
+use Rattle.x5_holdings.specs.State.{CopyKept, State, copy_view, holdings_view}
 use Rattle.x5_consume.specs.Steps.{steps_view}
 use Rattle.x5_consume.specs.Taken.{IsAdvanced, IsReplaced}
 use Rattle.x5_refresh.specs.declared.brought.Brought.{Brought}
 use Rattle.x5_refresh.specs.declared.brought.Brought.TheVariants.{Total, Steps}
 use Rattle.x5_refresh.specs.Sent.{IsRefreshed, supply_of}
 use Rattle.x5_world.specs.Logs.{Logs, Notes, logs_at, no_logs, notes_at}
-use Rattle.x5_world.specs.LogViews.{copy_notes, logs_view, notes_view, own_notes}
+use Rattle.x5_world.specs.LogViews.{copy_notes, logs_view, notes_view}
 use Rattle.x5_world.specs.State.{Net, StandsAt, holdings_in, logs_in}
 use Rattle.x5_world.specs.Refreshing.{IsTakenAt, acknowledging}
 use Rattle.x5_world.proofs.Acceptable.{no_steps, no_total, stamp_sent, steps_since, whole_sent}
@@ -151,8 +150,8 @@ module _ (old : Net) (p : Point) (g : Agreement) (total : Bool) (last : Option �
       let log = total_begins_log p f k g led brought (kind ∙ t) mine numbered in (
         replaced_so p g before u same content m r (content_so p g state led holds logs moment content m x.content_is x.stamp),
         ap copy_notes r.after_is
-        ∙ ap (λ (n : Notes). Some n) (began content m r.kept r.content_is
-        ∙ (λ i. record { base = sym (log.base ∙ stamp) i; changes = sym log.kept i })),
+            ∙ ap (λ (n : Notes). Some n) (began content m r.kept r.content_is
+            ∙ (λ i. record { base = sym (log.base ∙ stamp) i; changes = sym log.kept i })),
       )
 
   by_steps : (given : List CodeStep) → supply_of state pin false last ≡ Ok (m, Steps given) → total ≡ false → (u : CopyKept)
@@ -165,12 +164,12 @@ module _ (old : Net) (p : Point) (g : Agreement) (total : Bool) (last : Option �
       ∙ ap (notes_at p g.consumer) taken.taken.at in (
         advanced_so p g before u same given m x.from f led brought (kind ∙ t) mine numbered stamp x.last x.steps a,
         ap copy_notes a.after_is
-        ∙ ap (λ (n : Notes). Some n) (noted_all m given a.old.log a.kept.log a.done.noted
-        ∙ (λ i. record {
-          base = base_noting (was i).base (was i).changes (stamped_steps x.from x.steps i);
-          changes = kept_noting (was i).changes (stamped_steps x.from x.steps i);
-        })
-        ∙ (λ i. record { base = sym longer.base i; changes = sym longer.kept i })),
+            ∙ ap (λ (n : Notes). Some n) (noted_all m given a.old.log a.kept.log a.done.noted
+            ∙ (λ i. record {
+              base = base_noting (was i).base (was i).changes (stamped_steps x.from x.steps i);
+              changes = kept_noting (was i).changes (stamped_steps x.from x.steps i);
+            })
+            ∙ (λ i. record { base = sym longer.base i; changes = sym longer.kept i })),
       )
     where
       stamped_steps : (z : ℕ) → steps_later z (log_at p g.supplier pin) ≡ steps_view given

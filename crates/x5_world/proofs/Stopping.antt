@@ -1,27 +1,25 @@
 -- A refresh step by step: where it ends nothing is left changed, and where it goes on what is sent can be taken.
-use Rattle.std.proofs.Common.{◌≡◌, ℕ, zero, suc, ◌+◌, ◌<◌, ◌==◌, ◌≤◌, inl, inr, Bool, true, false, not, cond, if◌then◌else◌, nat_lt, List, [], ◌∷◌, ◌++◌, length, slice_get, refl, sym, ap, subst, ◌∙◌, arith, Option, Some, None, Ok}
+use Rattle.std.proofs.Common.{◌≡◌, ℕ, zero, suc, ◌+◌, ◌<◌, ◌==◌, inl, inr, Bool, true, false, not, cond, if◌then◌else◌, nat_lt, List, [], ◌∷◌, ◌++◌, length, slice_get, refl, sym, ap, subst, ◌∙◌, arith, Option, Some, None}
 use Rattle.std.specs.List.{find, list_all, position, position_or_len}
 use Rattle.x5_model.proofs.Decide.{less_decides}
 use Rattle.x5_model.proofs.Lists.{and_true, both_true, true_or_false}
 use Rattle.x5_model_refreshed.proofs.Listing.{less_false, not_less}
 use Rattle.std.specs.Option.{option_map}
-use Rattle.std.proofs.lemmas.Grind.{flat_map-append}
-use Rattle.x5_model.specs.Members.{In}
 use Rattle.x5_model.specs.Values.{key_of}
 use Rattle.x5_model_tree.specs.World.{Agreement}
 use Rattle.x5_model_run.specs.Holdings.{Holdings}
 use Rattle.x5_model_run.specs.History.{Point, as_of}
-use Rattle.x5_model_run.specs.Network.{Fate, Lost, NoReply, Sent as IsSent, is_lost, is_sent, is_unheard}
-use Rattle.x5_model_run.specs.Refresh.{RefreshBlock, RefreshOutcome, ShadowLine, Done, Unheard, Problem, Missed, NotConsistent, UpdateShadow, ended, same_moment}
+use Rattle.x5_model_run.specs.Network.{Fate, Lost, NoReply, Sent as IsSent, is_lost, is_unheard}
+use Rattle.x5_model_run.specs.Refresh.{RefreshBlock, RefreshOutcome, ShadowLine, Done, Unheard, Problem, Missed, NotConsistent, ended}
 use Rattle.x5_model_refreshed.specs.Bringing.{BringsNothing}
 use Rattle.x5_ops.specs.declared.journal.Line.{Line}
 use Rattle.x5_ops.specs.RefreshViews.{shadow_view, shadows_view}
-use Rattle.x5_refresh.specs.Course.{answered, finished, missing, stopped, unless_ended, unsent}
-use Rattle.x5_refresh.specs.Sent.{CanAccept, count_in, supply_of}
+use Rattle.x5_refresh.specs.Course.{answered, finished, stopped, unless_ended, unsent}
+use Rattle.x5_refresh.specs.Sent.{CanAccept}
 use Rattle.x5_world.specs.Answered.{line_names_agents}
 use Rattle.x5_world.specs.Refreshes.{IsSound}
-use Rattle.x5_world.specs.Refreshing.{AreMessages, CanBring, IsKnown, IsLeft, IsSupplied, IsWay, first_fate, last_of, problem_in, sent_view}
-use Rattle.x5_world.specs.State.{Net, StandsAt, holdings_in}
+use Rattle.x5_world.specs.Refreshing.{AreMessages, CanBring, IsKnown, IsLeft, IsSupplied, IsWay, first_fate, last_of, problem_in}
+use Rattle.x5_world.specs.State.{Net, StandsAt}
 use Rattle.x5_world.specs.declared.refreshing.Supplied.{Supplied}
 use Rattle.x5_world.specs.declared.refreshing.Supplied.TheVariants.{Sent, Refused}
 use Rattle.x5_world.specs.declared.refreshing.Way.{Way}
@@ -161,9 +159,9 @@ can_bring n by (Sent stamp brought) sound way supplied known e f =
     (ap (λ (b : Bool). stopped by.push b None by.own by.acked (first_fate n by.agreement by.push)) (sym t) ∙ f)
     ∙ own_so n p by s c way) in (
       subst (λ (h : Holdings). CanAccept h (key_of by.agreement.context) brought) (sym (held_so n p by.agreement.consumer s c))
-      (can_accept p by.agreement supplied.state (led n p by s c way) (holds n p by s c way sent supplied)
-      (logs n p by s c way sent supplied) (moment n p by s c way sent supplied) (mine n p by s c way) (by_number n p by s c way)
-      by.total (last_of by) stamp brought peer supplied.sent_is),
+          (can_accept p by.agreement supplied.state (led n p by s c way) (holds n p by s c way sent supplied)
+          (logs n p by s c way sent supplied) (moment n p by s c way sent supplied) (mine n p by s c way) (by_number n p by s c way)
+          by.total (last_of by) stamp brought peer supplied.sent_is),
       known,
     )
 

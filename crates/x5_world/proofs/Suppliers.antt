@@ -1,28 +1,26 @@
 -- A supplier of the network holds what the run says: the context as of the moment that the run has, with the entries of then, and a
 -- log of the changes that the run counts.
-use Rattle.std.proofs.Common.{◌≡◌, ℕ, zero, suc, ◌+◌, ◌-◌, ◌&&◌, ◌≤◌, Bool, true, false, cond, if◌then◌else◌, nat_le, List, [], ◌∷◌, ◌++◌, length, map, take, drop, reverse, slice_get, refl, sym, ap, subst, ◌∙◌, arith, Option, Some, None}
+use Rattle.std.proofs.Common.{◌≡◌, ℕ, zero, suc, ◌-◌, ◌≤◌, Bool, true, false, cond, if◌then◌else◌, nat_le, List, [], ◌∷◌, ◌++◌, length, map, take, drop, reverse, slice_get, refl, sym, ap, ◌∙◌, arith, Option, Some, None}
 use Rattle.std.specs.List.{find}
 use Rattle.std.specs.Option.{is_some, option_map}
-use Rattle.std.proofs.Math.Seq.{take-append_seam}
 use Rattle.std.proofs.lemmas.List.{length-map, length-drop, length-reverse, take-append-drop, reverse-append, reverse-reverse, drop-map}
 use Rattle.x5_model.specs.Words.{in_option}
-use Rattle.x5_model.specs.Members.{In, here, there}
+use Rattle.x5_model.specs.Members.{here}
 use Rattle.x5_model.specs.Keys.{Key, same_key}
 use Rattle.x5_model.specs.Values.{Name, key_of}
 use Rattle.x5_model.specs.Entries.{Named}
 use Rattle.x5_model.proofs.KeyLaws.{key_decides}
 use Rattle.x5_model.proofs.Lists.{and_true}
 use Rattle.x5_model_tree.specs.World.{Agent, Agreement, Context, World}
-use Rattle.x5_model_tree.specs.Tree.{Tree, part}
+use Rattle.x5_model_tree.specs.Tree.{part}
 use Rattle.x5_model_tree.specs.Masters.{Mastered, agent_at, held_contexts}
-use Rattle.x5_model_tree.specs.Consistent.{IsConsistent}
-use Rattle.x5_model_run.specs.Holdings.{Copy, Held, Holdings, copy_at, held_at, masters_pin}
+use Rattle.x5_model_run.specs.Holdings.{Copy, Held, Holdings, copy_at, held_at}
 use Rattle.x5_model_run.specs.History.{Point, agent_holdings, agreements_of, as_of, copy_as_of, copy_by, holdings_at, knowledge_at, mastered_at, moment_of, no_holdings, own_context, sent_references, tree_at, tree_of_moment}
 use Rattle.x5_model_run.specs.Refresh.{Changes, base_of, changes_at}
 use Rattle.x5_model_run.specs.Refresh as refresh
 use Rattle.x5_model_refreshed.specs.Steps.{Step}
 use Rattle.x5_model_refreshed.specs.Logs.{Log, log_at, moments_of}
-use Rattle.x5_model_refreshed.specs.Replaying.{IsLed, last_256}
+use Rattle.x5_model_refreshed.specs.Replaying.{IsLed}
 use Rattle.x5_model_refreshed.proofs.Lasting.{Down}
 use Rattle.x5_model_refreshed.proofs.Refreshed.{entries_are}
 use Rattle.x5_model_refreshed.proofs.Replayed.{changes_down, log_counts}
@@ -32,7 +30,7 @@ use Rattle.x5_holdings.specs.declared.log.Logged.{Logged}
 use Rattle.x5_holdings.specs.Logs as holdings
 use Rattle.x5_holdings.specs.State.{CopyKept, Kept, State, brought_entries, copy_view, held_view, holdings_view, stamp_of as stamp_in}
 use Rattle.x5_supply.specs.Copying.{IsLogOf, falls}
-use Rattle.x5_supply.specs.Supplied.{copy_of, mastered_of, or_else, refreshed_of, stamp_of, supplied}
+use Rattle.x5_supply.specs.Supplied.{copy_of, mastered_of, or_else, stamp_of, supplied}
 use Rattle.x5_refresh.specs.Joined.{IsSupplier}
 use Rattle.x5_world.specs.Logs.{Logs, Notes, agent_logs, logs_at, no_logs, notes_at}
 use Rattle.x5_world.specs.LogViews.{copy_notes, logged_view, logs_view, notes_view, own_notes}

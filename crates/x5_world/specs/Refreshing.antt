@@ -1,7 +1,7 @@
 -- A refresh by an agreement, by what the network has: what its supplier sends or tells, what is said of it, and how the
 -- network is then (X.525, sections 9 to 12).
 use Rattle.std.specs.Prelude.{◌≡◌, ℕ, ◌+◌, ◌≤◌, ◌&&◌, Bool, true, false, if◌then◌else◌, List, [], ◌∷◌, ◌++◌, length, map}
-use Rattle.std.specs.Prelude.{slice_get, slice_set, ⊤, ◌⊎◌, ◌==◌}
+use Rattle.std.specs.Prelude.{slice_get, slice_set, ⊤, ◌==◌}
 use Rattle.std.specs.List.{find, list_all}
 use Rattle.std.specs.declared.option.Option.{Option}
 use Rattle.std.specs.declared.option.Option.TheVariants.{None, Some}
@@ -13,7 +13,6 @@ use Rattle.x5_model_run.specs.Network.{Fate, fate_of}
 use Rattle.x5_model_run.specs.Refresh as refresh
 use Rattle.x5_model_run.specs.Refresh.{RefreshBlock, RefreshOutcome, Done, Unheard, Problem, Missed, NotConsistent}
 use Rattle.x5_model_run.specs.Refresh.{UpdateShadow, ended, invalid_agreement_id}
-use Rattle.x5_model_run.specs.History.{Refreshed}
 use Rattle.x5_model_known.specs.Holding.{references_name, nssrs_name}
 use Rattle.x5_model_known.specs.Counted.{references_counted, nssrs_counted}
 use Rattle.x5_ops.specs.KnowledgeViews.{specific_view, nssr_view}
