@@ -133,7 +133,15 @@ fn print_run<K: Sink>(
         Err(Failed) => return Status::WriteFault,
     }
     for (place, command) in commands.iter().enumerate() {
-        match print_command(alloc, described, network, told.is_consistent, place, command, out) {
+        match print_command(
+            alloc,
+            described,
+            network,
+            told.is_consistent,
+            place,
+            command,
+            out,
+        ) {
             Status::Done => {}
             stopped => return stopped,
         }

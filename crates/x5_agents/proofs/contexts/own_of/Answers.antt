@@ -31,23 +31,27 @@ loop-context-preserved c =
                 (λ q. (λ i. list_any (same_key q) (w.prefixes-is i).keys) ∙ w.in_ok-_added.ensures.updates.0 q
                 ∙ ap (λ (k : Key). cond (same_key k q) true (list_any (same_key q) c.loop-context.prefixes.keys)) key)
                 w.in_ok-held_of.ensures.held ((λ i. (w.own-is i).items) ∙ w.in_ok-push.ensures.items),
-            (one_apart c.loop-context.own.items c.loop-context.prefixes.keys c.if-not-contains.own.items
-                c.if-not-contains.prefixes.keys w.in_ok-held_of.field-0 (key_of c.context-item.result.prefix)
-                (ap (λ (h : Held). key_of h.prefix) w.in_ok-held_of.ensures.held) (at ∙ sym w.if-not-contains.ensures)
-                (λ q. (λ i. list_any (same_key q) (w.prefixes-is i).keys) ∙ w.in_ok-_added.ensures.updates.0 q
-                ∙ ap (λ (k : Key). cond (same_key k q) true (list_any (same_key q) c.loop-context.prefixes.keys)) key)
-                ((λ i. (w.own-is i).items) ∙ w.in_ok-push.ensures.items) c.loop-context.invariant.1.0,
-            one_more c.loop-context.own.items c.if-not-contains.own.items w.in_ok-held_of.field-0
-                ((λ i. (w.own-is i).items) ∙ w.in_ok-push.ensures.items) w.in_ok-held_of.ensures.unnoted
-                c.loop-context.invariant.1.1),
+            (
+              one_apart c.loop-context.own.items c.loop-context.prefixes.keys c.if-not-contains.own.items
+                  c.if-not-contains.prefixes.keys w.in_ok-held_of.field-0 (key_of c.context-item.result.prefix)
+                  (ap (λ (h : Held). key_of h.prefix) w.in_ok-held_of.ensures.held) (at ∙ sym w.if-not-contains.ensures)
+                  (λ q. (λ i. list_any (same_key q) (w.prefixes-is i).keys) ∙ w.in_ok-_added.ensures.updates.0 q
+                  ∙ ap (λ (k : Key). cond (same_key k q) true (list_any (same_key q) c.loop-context.prefixes.keys)) key)
+                  ((λ i. (w.own-is i).items) ∙ w.in_ok-push.ensures.items) c.loop-context.invariant.1.0,
+              one_more c.loop-context.own.items c.if-not-contains.own.items w.in_ok-held_of.field-0
+                  ((λ i. (w.own-is i).items) ∙ w.in_ok-push.ensures.items) w.in_ok-held_of.ensures.unnoted
+                  c.loop-context.invariant.1.1,
+            ),
           )
       | else-not-contains w ↦ (
         none_held (map specific_view c.args.specific.now) c.args.contexts.now c.loop-context.own.items
             c.loop-context.prefixes.keys c.loop-context.context-index c.context-item.result c.loop-context-test.true
             c.context-item.is c.loop-context.invariant.0 c.if-not-contains.own.items c.if-not-contains.prefixes.keys
             (at ∙ sym w.if-not-contains.ensures) (λ i. (w.own-is i).items) (λ i. (w.prefixes-is i).keys),
-        (still_apart c.loop-context.own.items c.loop-context.prefixes.keys c.if-not-contains.own.items
-            c.if-not-contains.prefixes.keys (λ i. (w.own-is i).items) (λ i. (w.prefixes-is i).keys) c.loop-context.invariant.1.0,
-        as_many c.loop-context.own.items c.if-not-contains.own.items (λ i. (w.own-is i).items) c.loop-context.invariant.1.1),
+        (
+          still_apart c.loop-context.own.items c.loop-context.prefixes.keys c.if-not-contains.own.items
+              c.if-not-contains.prefixes.keys (λ i. (w.own-is i).items) (λ i. (w.prefixes-is i).keys) c.loop-context.invariant.1.0,
+          as_many c.loop-context.own.items c.if-not-contains.own.items (λ i. (w.own-is i).items) c.loop-context.invariant.1.1,
+        ),
       )
     ]

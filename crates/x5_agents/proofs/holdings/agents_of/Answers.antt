@@ -33,13 +33,13 @@ holdings_of-requires c =
 
 pub loop-place-preserved : goal.loop-place-preserved
 loop-place-preserved c = (
-    one_each c.args.world.now c.loop-place.all.items c.push.new.self.items c.loop-place.place c.agent-item.result
-    c.in_ok-holdings_of.field-0
-    (subst (λ (xs : List DescribedAgent). c.loop-place.place < length xs) c.as_slice-agent-items.ensures c.loop-place-test.true)
-    (c.agent-item.is ∙ ap (λ (xs : List DescribedAgent). get_or xs c.loop-place.place c.agent-item.result) c.as_slice-agent-items.ensures)
-    c.in_ok-push.ensures.items c.in_ok-holdings_of.ensures.held c.loop-place.invariant.0,
-    one_agent_more c.loop-place.all.items c.push.new.self.items c.in_ok-holdings_of.field-0 c.in_ok-push.ensures.items
-        c.in_ok-holdings_of.ensures.unnoted c.loop-place.invariant.1,
+  one_each c.args.world.now c.loop-place.all.items c.push.new.self.items c.loop-place.place c.agent-item.result
+      c.in_ok-holdings_of.field-0
+      (subst (λ (xs : List DescribedAgent). c.loop-place.place < length xs) c.as_slice-agent-items.ensures c.loop-place-test.true)
+      (c.agent-item.is ∙ ap (λ (xs : List DescribedAgent). get_or xs c.loop-place.place c.agent-item.result) c.as_slice-agent-items.ensures)
+      c.in_ok-push.ensures.items c.in_ok-holdings_of.ensures.held c.loop-place.invariant.0,
+  one_agent_more c.loop-place.all.items c.push.new.self.items c.in_ok-holdings_of.field-0 c.in_ok-push.ensures.items
+      c.in_ok-holdings_of.ensures.unnoted c.loop-place.invariant.1,
 )
 
 pub returns-clause-count : goal.returns-clause-count
