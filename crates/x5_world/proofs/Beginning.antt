@@ -189,9 +189,10 @@ logs_begun w me s e fresh = by (agent_at w me) e
   where
     by : (o : Option Agent) → holdings_view s ≡ in_option (no_holdings me) (described_holdings w me) o
         → logs_view s ≡ in_option no_logs (agent_logs (first_line w) me) o
-    by None q = (let own : map held_view s.own ≡ [] = ap (λ (h : Holdings). h.own) q in
-    let copies : map copy_view s.copies ≡ [] = ap (λ (h : Holdings). h.copies) q in
-    λ i. record { own = nobody s.own own i; copies = none s.copies copies i })
+    by None q =
+        let own : map held_view s.own ≡ [] = ap (λ (h : Holdings). h.own) q in
+        let copies : map copy_view s.copies ≡ [] = ap (λ (h : Holdings). h.copies) q in
+        λ i. record { own = nobody s.own own i; copies = none s.copies copies i }
       where
         nobody : (ks : List Kept) → map held_view ks ≡ [] → map own_notes ks ≡ []
         nobody [] z = refl
