@@ -140,7 +140,7 @@ first_line w = record { described = w; past = [] }
 none_at_first : (w : World) (a : ℕ) (pin : Key) → notes_at (first_line w) a pin ≡ nothing_noted
 none_at_first w a pin = by (masters w a pin) (consumed_by w a pin)
   where
-    abbrev changes_by : Bool → Option Agreement → Changes
+    changes_by : Bool → Option Agreement → Changes
     changes_by b o =
         if b then record { origin = 0; moments = [] }
         else in_option (record { origin = 0; moments = [] }) (λ g. record { origin = 0; moments = [] }) o
