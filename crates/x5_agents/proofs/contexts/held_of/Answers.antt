@@ -55,7 +55,7 @@ returns-clause-unnoted c =
     IfOk-weaker c.with_entries.result (Grown c.in_ok-held.held c.in-Some.rest.now) IsUnnoted
     (λ now g. grown_unnoted c.in_ok-held.held now c.in-Some.rest.now g
     (record {
-      base = ap (λ (l : Log). l.base) c.in_ok-held.ensures.log ∙ c.new-log.ensures.base;
-      changes = ap (λ (l : Log). l.changes) c.in_ok-held.ensures.log ∙ c.new-log.ensures.changes;
+      base = ap (λ (l : Log). l.base) (c.in_ok-held.ensures.log ∙ c.log.view_is) ∙ c.new-log.ensures.base;
+      changes = ap (λ (l : Log). l.changes) (c.in_ok-held.ensures.log ∙ c.log.view_is) ∙ c.new-log.ensures.changes;
     }))
     c.with_entries.ensures
