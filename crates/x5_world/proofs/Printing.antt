@@ -2,7 +2,7 @@
 use Rattle.std.proofs.Common.{◌≡◌, ℕ, List, [], ◌∷◌, ap, ◌∙◌}
 use Rattle.x5_model_tree.specs.World.{Agreement}
 use Rattle.x5_model_run.specs.Network.{Fate}
-use Rattle.x5_model_run.specs.Refresh.{ShadowLine, ShadowOperation, RequestShadowUpdate, UpdateShadow, CoordinateShadowUpdate}
+use Rattle.x5_model_run.specs.Refresh.{ShadowOperation, RequestShadowUpdate, UpdateShadow, CoordinateShadowUpdate}
 use Rattle.x5_ops.specs.AgentNames.{agent_of}
 use Rattle.x5_refresh.specs.Course.{line_of}
 

@@ -1,5 +1,5 @@
 -- The line has what the message has, with the names of its two agents, which the operation tells.
-use Rattle.std.proofs.Common.{rules, ◌≡◌, List, length, ap, ◌∙◌}
+use Rattle.std.proofs.Common.{rules, ◌≡◌, length, ap, ◌∙◌}
 use Rattle.std.proofs.lemmas.Option.{slice_get_within}
 use Rattle.x5_model.proofs.Decide.{less_decides}
 use Rattle.x5_model.proofs.Lists.{and_true}

@@ -1,5 +1,5 @@
 -- The last message is behind the others, and what became of it is what the course says, as many as were taken.
-use Rattle.std.proofs.Common.{◌≡◌, ℕ, ◌<◌, Bool, List, [], ◌∷◌, ◌++◌, length, sym, ap, subst, ◌∙◌}
+use Rattle.std.proofs.Common.{◌≡◌, ℕ, ◌<◌, Bool, List, [], ◌∷◌, length, sym, ap, subst, ◌∙◌}
 use Rattle.x5_model_tree.specs.World.{Agreement}
 use Rattle.x5_model_run.specs.Network.{Fate}
 use Rattle.x5_model_run.specs.Refresh.{RefreshOutcome, UpdateShadow, ended}
@@ -39,7 +39,8 @@ returns-clause-block c =
     let became : heard ≡ finished total g.number (stamp_in c.args.supplied) (count_of c.args.supplied) (last_fate n g) =
     ap (λ (b : Bool). refreshed_view b g.number c.ended.result) c.is_heard.ensures
     ∙ c.ended.ensures g.number
-    ∙ finished_same total g.number c.in-Sent.stamp c.in_ok-count.count (count_in c.in-Sent.brought) last c.in_ok-count.ensures.count
+    ∙ finished_same total g.number c.in-Sent.stamp c.in_ok-count.count (count_in c.in-Sent.brought) last
+    c.in_ok-count.ensures.count
     ∙ ap (finished total g.number c.in-Sent.stamp (count_in c.in-Sent.brought)) c.fate_of_last-last.ensures
     ∙ ap (λ (s : Supplied). finished total g.number (stamp_in s) (count_of s) (last_fate n g)) (sym c.in-Sent.is) in
     ap (λ (ls : List Line). ended (shadows_view n.names ls) heard) c.in_ok-push.ensures.ok
