@@ -218,7 +218,7 @@ impl World {
         let held = &mut self.agents[agent.0 as usize];
         held.set_moment(moment);
         match x5_refresh::supply(alloc, held, &agreement.context, total, last) {
-            Ok((stamp, brought)) => Ok(Supplied::Sent(stamp, brought)),
+            Ok(sent) => Ok(Supplied::Sent(sent.0, sent.1)),
             Err(SupplyFault::Shadow(problem)) => Ok(Supplied::Refused(problem)),
             Err(SupplyFault::NoMemory) => Err(NoMemory),
         }
