@@ -1,5 +1,5 @@
 -- A refresh by the agreement of a place is its whole course, from what is looked at before its first message.
-use Rattle.std.proofs.Common.{◌≡◌, ℕ, Bool, true, false, [], length, refl, sym, ap, subst, ◌∙◌, Option, Some, None, Result, Ok, Err, IfOk}
+use Rattle.std.proofs.Common.{◌≡◌, ℕ, Bool, false, sym, ap, subst, ◌∙◌, Option, Some, None, Result, Ok, Err, IfOk}
 use Rattle.x5_model_run.specs.Refresh.{RefreshOutcome, ended}
 use Rattle.x5_model_refreshed.specs.Bringing.{BringsNothing}
 use Rattle.x5_ops.specs.RefreshViews.{refreshed_view, shadows_view}
@@ -34,8 +34,10 @@ goes_on (Ok r) old mid new by sent place push total at pushed whole way supplied
   way = way;
   sent = sent;
   supplied = supplied;
-  block = subst (λ (n : Net). block_of n.names by.agreement r ≡ opened_block n by sent) same block ∙ whole_goes_on old by sent more;
-  left = subst (λ (n : Net). IsLeft n by.agreement by.place sent (refreshed_view r.heard by.agreement.number r.became) new) same left;
+  block = subst (λ (n : Net). block_of n.names by.agreement r ≡ opened_block n by sent) same block
+      ∙ whole_goes_on old by sent more;
+  left = subst (λ (n : Net). IsLeft n by.agreement by.place sent (refreshed_view r.heard by.agreement.number r.became) new)
+      same left;
 }
 goes_on (Err e) old mid new by sent place push total at pushed whole way supplied more same block left = tt
 

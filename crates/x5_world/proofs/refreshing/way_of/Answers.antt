@@ -1,5 +1,5 @@
 -- The consumer of an agreement is one of the agents.
-use Rattle.std.proofs.Common.{◌≡◌, ◌<◌, length, subst, sym, ap, ◌∙◌}
+use Rattle.std.proofs.Common.{◌<◌, length, subst, sym}
 use Rattle.x5_model_tree.specs.World.{Agreement}
 use Rattle.x5_world.proofs.Concluding.{agents_there}
 use Rattle.x5_world.proofs.refreshing.way_of.Goals as goal

@@ -1,5 +1,5 @@
 -- What the agreement's consumer takes becomes its copy, and it's a network as before.
-use Rattle.std.proofs.Common.{◌≡◌, ℕ, ◌<◌, ◌+◌, length, map, subst, sym, ap, ◌∙◌, arith, OnOk, true}
+use Rattle.std.proofs.Common.{◌≡◌, ℕ, ◌<◌, length, map, subst, sym, ap, ◌∙◌, arith, OnOk, true}
 use Rattle.std.proofs.lemmas.List.{length-map}
 use Rattle.x5_model.specs.Values.{key_of}
 use Rattle.x5_model_tree.specs.World.{Agreement}

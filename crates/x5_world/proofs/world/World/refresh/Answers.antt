@@ -15,5 +15,6 @@ returns-clause-refreshed c =
     c.count.ensures ∙ ap (λ (k : ℕ). record mid { sent = mid.sent + k; line = mid.line + 1 }) c.len.ensures in
     λ p s consistent. elim c.in_ok-done.ensures.done [
       | inl x ↦ is_invalid old mid new p c.args.number c.args.push c.args.total r s consistent x next
-      | inr x ↦ is_done old mid new p c.args.number c.args.push c.args.total r s consistent x c.in_ok-done.ensures.messages.all next
+      | inr x ↦
+          is_done old mid new p c.args.number c.args.push c.args.total r s consistent x c.in_ok-done.ensures.messages.all next
     ]

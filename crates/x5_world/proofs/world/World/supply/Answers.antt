@@ -99,8 +99,8 @@ returns-clause-supplied c =
           carried sends c.match-supply.result _ w.result-is
           (is_supplied n c.self.inside.agents.items c.agent.inside.0 c.index_mut-held.result.now
           (got_place c.self.inside.agents.items c.agent.inside.0 c.index_mut-held.result.now few c.index_mut-held.ensures.value)
-          c.args.agreement.now c.args.total c.args.last (Sent w.in-Ok.sent.0 w.in-Ok.sent.1) u c.args.self.now (sym c.self.view_is)
-          (sym at) (later c.index_mut-held.result.now c.set_moment.new.self _ c.set_moment.ensures) moment
+          c.args.agreement.now c.args.total c.args.last (Sent w.in-Ok.sent.0 w.in-Ok.sent.1) u c.args.self.now
+          (sym c.self.view_is) (sym at) (later c.index_mut-held.result.now c.set_moment.new.self _ c.set_moment.ensures) moment
           (key ∙ subst (Answers (supply_of u (key_of c.agreement.inside.context) c.args.total c.args.last)) w.in-Ok.is
           c.supply.ensures.sent))
       | in-Err-Shadow w ↦
@@ -109,7 +109,8 @@ returns-clause-supplied c =
           (got_place c.self.inside.agents.items c.agent.inside.0 c.index_mut-held.result.now few c.index_mut-held.ensures.value)
           c.args.agreement.now c.args.total c.args.last (Refused w.in-Err-Shadow.problem) u c.args.self.now (sym c.self.view_is)
           (sym at) (later c.index_mut-held.result.now c.set_moment.new.self _ c.set_moment.ensures) moment
-          (key ∙ subst (λ (f : SupplyFault). Answers (supply_of u (key_of c.agreement.inside.context) c.args.total c.args.last) (Err f))
+          (key
+          ∙ subst (λ (f : SupplyFault). Answers (supply_of u (key_of c.agreement.inside.context) c.args.total c.args.last) (Err f))
           w.in-Err-Shadow.field-0-is
           (subst (Answers (supply_of u (key_of c.agreement.inside.context) c.args.total c.args.last)) w.in-Err-Shadow.is
           c.supply.ensures.sent)))
@@ -146,7 +147,8 @@ returns-clause-known c =
           (got_place c.self.inside.agents.items c.agent.inside.0 c.index_mut-held.result.now few c.index_mut-held.ensures.value)
           (key_of c.agreement.inside.context) c.args.total c.args.last w.in-Ok.sent.0 w.in-Ok.sent.1 u c.self.invariant there
           (later c.index_mut-held.result.now c.set_moment.new.self _ c.set_moment.ensures)
-          (subst (Answers (supply_of u (key_of c.agreement.inside.context) c.args.total c.args.last)) w.in-Ok.is c.supply.ensures.sent)))
+          (subst (Answers (supply_of u (key_of c.agreement.inside.context) c.args.total c.args.last)) w.in-Ok.is
+          c.supply.ensures.sent)))
       | in-Err-Shadow w ↦ carried knows c.match-supply.result _ w.result-is tt
       | in-Err-NoMemory w ↦ carried knows c.match-supply.result _ w.result-is tt
     ]
