@@ -24,3 +24,4 @@ pub mod Knowing
 pub mod Stopping
 pub mod Agents
 pub mod Rounding
+pub mod Printing
