@@ -110,8 +110,8 @@ returns-clause-supplied c =
           c.args.agreement.now c.args.total c.args.last (Refused w.in-Err-Shadow.problem) u c.args.self.now (sym c.self.view_is)
           (sym at) (later c.index_mut-held.result.now c.set_moment.new.self _ c.set_moment.ensures) moment
           (key
-          ∙ subst (λ (f : SupplyFault). Answers (supply_of u (key_of c.agreement.inside.context) c.args.total c.args.last) (Err f))
-          w.in-Err-Shadow.field-0-is
+          ∙ subst (λ (f : SupplyFault). Answers (supply_of u (key_of c.agreement.inside.context) c.args.total c.args.last)
+          (Err f)) w.in-Err-Shadow.field-0-is
           (subst (Answers (supply_of u (key_of c.agreement.inside.context) c.args.total c.args.last)) w.in-Err-Shadow.is
           c.supply.ensures.sent)))
       | in-Err-NoMemory w ↦ carried sends c.match-supply.result _ w.result-is tt
