@@ -214,10 +214,11 @@ impl World {
         ensures told { IfOk result (λ sent. is_of_supplier (problem_in sent) ≡ true) }
     {
         let moment = Moment(self.line + 1);
-        let held = &mut self.agents[agreement.supplier.0 as usize];
+        let agent = agreement.supplier;
+        let held = &mut self.agents[agent.0 as usize];
         held.set_moment(moment);
         match x5_refresh::supply(alloc, held, &agreement.context, total, last) {
-            Ok((stamp, brought)) => Ok(Supplied::Sent(stamp, brought)),
+            Ok(sent) => Ok(Supplied::Sent(sent.0, sent.1)),
             Err(SupplyFault::Shadow(problem)) => Ok(Supplied::Refused(problem)),
             Err(SupplyFault::NoMemory) => Err(NoMemory),
         }
@@ -239,7 +240,8 @@ impl World {
         ensures counted { IfOk result (λ count. count ≡ count_in brought) }
     {
         let moment = Moment(self.line + 1);
-        let held = &mut self.agents[agreement.consumer.0 as usize];
+        let agent = agreement.consumer;
+        let held = &mut self.agents[agent.0 as usize];
         held.set_moment(moment);
         x5_refresh::accept(alloc, held, &agreement.context, stamp, brought)
     }

@@ -1,0 +1,92 @@
+-- A refresh by the agreement of a place is its whole course, from what is looked at before its first message.
+use Rattle.std.proofs.Common.{◌≡◌, ℕ, Bool, false, sym, ap, subst, ◌∙◌, Option, Some, None, Result, Ok, Err, IfOk}
+use Rattle.x5_model_run.specs.Refresh.{RefreshOutcome, ended}
+use Rattle.x5_model_refreshed.specs.Bringing.{BringsNothing}
+use Rattle.x5_ops.specs.RefreshViews.{refreshed_view, shadows_view}
+use Rattle.x5_refresh.specs.Course.{unsent}
+use Rattle.x5_refresh.specs.Outcomes.{start_view}
+use Rattle.x5_world.specs.Refreshing.{IsDoneAt, IsLeft, IsSupplied, IsWay, block_of, last_of, opened_block, problem_in}
+use Rattle.x5_world.specs.State.{Net}
+use Rattle.x5_world.specs.declared.refreshing.Supplied.{Supplied}
+use Rattle.x5_world.specs.declared.refreshing.Way.{Way}
+use Rattle.x5_world.specs.declared.refreshment.Refreshment.{Refreshment}
+use Rattle.x5_world.proofs.Rounding.{whole_ends, whole_goes_on}
+use Rattle.x5_world.proofs.Stopping.{left_as_it_was, unsent_brings, way_agents}
+use Rattle.x5_world.proofs.refreshing.by_place.Goals as goal
+
+supplied_so : (n : Net) (by : Way) (total : Bool) (last : Option ℕ) (sent : Supplied) → by.total ≡ total → last ≡ last_of by
+    → IsSupplied n by.agreement total last sent → IsSupplied n by.agreement by.total (last_of by) sent
+supplied_so n by total last sent e f s =
+    subst (λ (b : Bool). IsSupplied n by.agreement b (last_of by) sent) (sym e)
+    (subst (λ (l : Option ℕ). IsSupplied n by.agreement total l sent) f s)
+
+goes_on : {E : Type 0} (result : Result Refreshment E) (old mid new : Net) (by : Way) (sent : Supplied) (place : ℕ)
+    (push total : Bool) → by.place ≡ place → by.push ≡ push → by.total ≡ total → IsWay old by
+    → IsSupplied old by.agreement by.total (last_of by) sent → unsent by.push (problem_in sent) ≡ None → mid ≡ old
+    → IfOk result (λ r. block_of mid.names by.agreement r ≡ opened_block mid by sent)
+    → IfOk result (λ r. IsLeft mid by.agreement by.place sent (refreshed_view r.heard by.agreement.number r.became) new)
+    → IfOk result (λ r. IsDoneAt old place push total r new)
+goes_on (Ok r) old mid new by sent place push total at pushed whole way supplied more same block left = record {
+  by = by;
+  place_is = at;
+  push_is = pushed;
+  total_is = whole;
+  way = way;
+  sent = sent;
+  supplied = supplied;
+  block = subst (λ (n : Net). block_of n.names by.agreement r ≡ opened_block n by sent) same block
+      ∙ whole_goes_on old by sent more;
+  left = subst (λ (n : Net). IsLeft n by.agreement by.place sent (refreshed_view r.heard by.agreement.number r.became) new)
+      same left;
+}
+goes_on (Err e) old mid new by sent place push total at pushed whole way supplied more same block left = tt
+
+pub supply-requires : goal.supply-requires
+supply-requires c = (way_agents c.args.world.now c.in_ok-by.by c.requires.sound c.in_ok-by.ensures.way).0
+
+pub returns-in-Ended-clause-done : goal.returns-in-Ended-clause-done
+returns-in-Ended-clause-done c =
+    let old : Net = c.args.world.now in
+    let by : Way = c.in_ok-by.by in
+    let sent : Supplied = c.in_ok-supplied.supplied in
+    let r : Refreshment = c.stopped.result in
+    let o : RefreshOutcome = refreshed_view false by.agreement.number c.in-Ended.became in
+    let stops : unsent by.push (problem_in sent) ≡ Some o =
+    (λ i. unsent (c.in_ok-by.ensures.push i) (sym c.problem_of.ensures i))
+    ∙ sym (c.opens.ensures false by.agreement.number)
+    ∙ ap (start_view false by.agreement.number) c.in-Ended.is in
+    let became : refreshed_view r.heard by.agreement.number r.became ≡ o =
+    (λ i. refreshed_view (c.stopped.ensures.2 i) by.agreement.number (c.stopped.ensures.1 i)) in
+    record {
+      by = by;
+      place_is = c.in_ok-by.ensures.place;
+      push_is = c.in_ok-by.ensures.push;
+      total_is = c.in_ok-by.ensures.total;
+      way = c.in_ok-by.ensures.way;
+      sent = sent;
+      supplied = supplied_so old by c.args.total c.last_moment.result sent c.in_ok-by.ensures.total c.last_moment.ensures
+          c.in_ok-supplied.ensures.supplied;
+      block = (λ i. ended (shadows_view old.names ((c.stopped.ensures.0 ∙ c.new.ensures) i)) (became i))
+          ∙ whole_ends old by sent o stops;
+      left = left_as_it_was old c.supply.new.self by.agreement by.place sent
+          (refreshed_view r.heard by.agreement.number r.became)
+          (subst BringsNothing (sym became) (unsent_brings by.push (problem_in sent) o stops)) c.supply.ensures.same;
+    }
+
+pub opened-requires-clause-goes_on : goal.opened-requires-clause-goes_on
+opened-requires-clause-goes_on c =
+    (λ i. unsent (c.in_ok-by.ensures.push i) (sym c.problem_of.ensures i)) ∙ sym (c.opens.ensures false 0)
+    ∙ ap (start_view false 0) c.in-GoesOn.is
+
+pub returns-clause-done : goal.returns-clause-done
+returns-clause-done c =
+    let old : Net = c.args.world.now in
+    let by : Way = c.in_ok-by.by in
+    let sent : Supplied = c.in_ok-supplied.supplied in
+    goes_on c.opened.result old c.supply.new.self c.opened.new.world by sent c.args.place c.args.push c.args.total
+    c.in_ok-by.ensures.place c.in_ok-by.ensures.push c.in_ok-by.ensures.total c.in_ok-by.ensures.way
+    (supplied_so old by c.args.total c.last_moment.result sent c.in_ok-by.ensures.total c.last_moment.ensures
+    c.in_ok-supplied.ensures.supplied)
+    ((λ i. unsent (c.in_ok-by.ensures.push i) (sym c.problem_of.ensures i)) ∙ sym (c.opens.ensures false 0)
+    ∙ ap (start_view false 0) c.in-GoesOn.is)
+    c.supply.ensures.same c.opened.ensures.block c.opened.ensures.left
