@@ -45,7 +45,7 @@ returns-in-GoesOn-clause-block c =
     (λ i. stopped by.push by.total (sym c.problem_of-problem.ensures i) by.own by.acked (sym c.fate_of_first-first.ensures i))
     ∙ sym (c.begins.ensures true 0) ∙ ap (start_view true 0) c.in-GoesOn.is in
     let first : shadows_view n.names c.in_ok-lines.lines
-        ≡ line_of by.agreement (opening by.push) (first_fate n by.agreement by.push) ∷ [] =
+    ≡ line_of by.agreement (opening by.push) (first_fate n by.agreement by.push) ∷ [] =
     c.in_ok-lines.ensures.view
     ∙ ap (λ (f : Fate). line_of by.agreement (opening by.push) f ∷ []) c.fate_of_first-first.ensures in
     IfOk-weaker c.updated.result _ _
