@@ -91,8 +91,8 @@ abbrev pub IsLike : State → State → Type 0
 IsLike s t = (holdings_view t ≡ holdings_view s) × (logs_view t ≡ logs_view s)
 
 -- as with another moment
-pub like : {s t : State} {moment : ℕ} → t ≡ record s { moment = moment } → IsLike s t
-like e = (ap holdings_view e, ap logs_view e)
+pub later : (s t : State) (moment : ℕ) → t ≡ record s { moment = moment } → IsLike s t
+later s t moment e = (ap holdings_view e, ap logs_view e)
 
 module _ (n : Net) (items : List State) (i : ℕ) (s : State) (at : slice_get items i ≡ Some s) where
   held_is : holdings_in (of_states n items) i ≡ holdings_view s

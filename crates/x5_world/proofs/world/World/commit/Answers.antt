@@ -5,7 +5,7 @@ use Rattle.x5_holdings.specs.State.{State, holdings_view}
 use Rattle.x5_ops.specs.RequestViews.{request_view}
 use Rattle.x5_world.specs.LogViews.{logs_view}
 use Rattle.x5_world.specs.State.{Net}
-use Rattle.x5_world.proofs.Changing.{stays_net, is_committed, is_as_it_was, like}
+use Rattle.x5_world.proofs.Changing.{stays_net, is_committed, is_as_it_was, later}
 use Rattle.x5_world.proofs.Holders.{got_place}
 use Rattle.x5_world.proofs.world.World.commit.Goals as goal
 
@@ -31,7 +31,7 @@ invariant_of-self c =
     stays_net n c.self.inside.agents.items c.agent.inside.0 c.index_mut-held.result.now
     (got_place c.self.inside.agents.items c.agent.inside.0 c.index_mut-held.result.now few c.index_mut-held.ensures.value)
     c.commit.result (request_view c.args.message.now.request) c.set_moment.new.self c.commit.new.state c.self.invariant there
-    (like c.set_moment.ensures) c.commit.ensures.ok c.commit.ensures.err
+    (later c.index_mut-held.result.now c.set_moment.new.self _ c.set_moment.ensures) c.commit.ensures.ok c.commit.ensures.err
 
 pub returns-clause-committed : goal.returns-clause-committed
 returns-clause-committed c =
@@ -55,7 +55,7 @@ returns-clause-committed c =
     is_committed n c.self.inside.agents.items c.agent.inside.0 c.index_mut-held.result.now
     (got_place c.self.inside.agents.items c.agent.inside.0 c.index_mut-held.result.now few c.index_mut-held.ensures.value)
     c.commit.result c.args.self.now c.args.agent (c.self.inside.line + 1) (request_view c.args.message.now.request)
-    c.set_moment.new.self c.commit.new.state c.self.view_is at (like c.set_moment.ensures)
+    c.set_moment.new.self c.commit.new.state c.self.view_is at (later c.index_mut-held.result.now c.set_moment.new.self _ c.set_moment.ensures)
     (ap (λ (s : State). s.moment) c.set_moment.ensures)
     (ap (λ (n : Net). n.line + 1) c.self.view_is) c.commit.ensures.ok
 
@@ -80,4 +80,4 @@ returns-clause-err c =
     } in
     is_as_it_was n c.self.inside.agents.items c.agent.inside.0 c.index_mut-held.result.now
     (got_place c.self.inside.agents.items c.agent.inside.0 c.index_mut-held.result.now few c.index_mut-held.ensures.value)
-    c.commit.result c.args.self.now c.set_moment.new.self c.commit.new.state c.self.view_is (like c.set_moment.ensures) c.commit.ensures.err
+    c.commit.result c.args.self.now c.set_moment.new.self c.commit.new.state c.self.view_is (later c.index_mut-held.result.now c.set_moment.new.self _ c.set_moment.ensures) c.commit.ensures.err
