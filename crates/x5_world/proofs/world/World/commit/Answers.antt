@@ -55,12 +55,8 @@ returns-clause-committed c =
     is_committed n c.self.inside.agents.items c.agent.inside.0 c.index_mut-held.result.now
     (got_place c.self.inside.agents.items c.agent.inside.0 c.index_mut-held.result.now few c.index_mut-held.ensures.value)
     c.commit.result c.args.self.now c.args.agent (c.self.inside.line + 1) (request_view c.args.message.now.request)
-<<<<<<< HEAD
-    c.set_moment.new.self c.commit.new.state c.self.view_is at (later c.index_mut-held.result.now c.set_moment.new.self _ c.set_moment.ensures)
-=======
     c.set_moment.new.self c.commit.new.state c.self.view_is at
     (later c.index_mut-held.result.now c.set_moment.new.self _ c.set_moment.ensures)
->>>>>>> 17832d1b354e05931f5717dd2b0b279d2db10ab0
     (ap (λ (s : State). s.moment) c.set_moment.ensures)
     (ap (λ (n : Net). n.line + 1) c.self.view_is) c.commit.ensures.ok
 
@@ -85,9 +81,5 @@ returns-clause-err c =
     } in
     is_as_it_was n c.self.inside.agents.items c.agent.inside.0 c.index_mut-held.result.now
     (got_place c.self.inside.agents.items c.agent.inside.0 c.index_mut-held.result.now few c.index_mut-held.ensures.value)
-<<<<<<< HEAD
-    c.commit.result c.args.self.now c.set_moment.new.self c.commit.new.state c.self.view_is (later c.index_mut-held.result.now c.set_moment.new.self _ c.set_moment.ensures) c.commit.ensures.err
-=======
     c.commit.result c.args.self.now c.set_moment.new.self c.commit.new.state c.self.view_is
     (later c.index_mut-held.result.now c.set_moment.new.self _ c.set_moment.ensures) c.commit.ensures.err
->>>>>>> 17832d1b354e05931f5717dd2b0b279d2db10ab0
