@@ -18,12 +18,12 @@ pairs-pairs-requires c =
     subst (λ (ds : List DescribedAgent). pairs_of_agents ds ≤ 4096) (sym c.as_slice-2.ensures)
     (few_pairs c.args.described.now c.requires.described)
 
-pub invariant_of-result : goal.invariant_of-result
-invariant_of-result c =
+pub invariant_of-result-2 : goal.invariant_of-result-2
+invariant_of-result-2 c =
     net_begun (world_view c.args.described.now) _ c.requires.described
-    (is_begun c.args.described.now c.in_ok-names.names c.in_ok-agents.agents.items c.in_ok-links.links
+    (is_begun c.args.described.now c.names.inside.names.keys c.in_ok-agents.agents.items c.in_ok-links.links
     c.contexts-contexts.result c.pairs-pairs.result c.in_ok-clone.field-0 c.in_ok-none_of.field-0.items
-    (c.in_ok-names.ensures ∙ c.requires.named) c.in_ok-agents.ensures.count c.in_ok-agents.ensures.each
+    (c.names.view_is ∙ c.in_ok-names.ensures ∙ c.requires.named) c.in_ok-agents.ensures.count c.in_ok-agents.ensures.each
     c.in_ok-agents.ensures.unnoted c.in_ok-links.ensures
     (c.contexts-contexts.ensures ∙ ap contexts_of c.as_slice.ensures)
     (c.pairs-pairs.ensures ∙ ap pairs_of_agents c.as_slice-2.ensures)
@@ -33,9 +33,9 @@ invariant_of-result c =
 pub returns-clause-stands : goal.returns-clause-stands
 returns-clause-stands c =
     stands_begun (world_view c.args.described.now) _ c.requires.described
-    (is_begun c.args.described.now c.in_ok-names.names c.in_ok-agents.agents.items c.in_ok-links.links
+    (is_begun c.args.described.now c.names.inside.names.keys c.in_ok-agents.agents.items c.in_ok-links.links
     c.contexts-contexts.result c.pairs-pairs.result c.in_ok-clone.field-0 c.in_ok-none_of.field-0.items
-    (c.in_ok-names.ensures ∙ c.requires.named) c.in_ok-agents.ensures.count c.in_ok-agents.ensures.each
+    (c.names.view_is ∙ c.in_ok-names.ensures ∙ c.requires.named) c.in_ok-agents.ensures.count c.in_ok-agents.ensures.each
     c.in_ok-agents.ensures.unnoted c.in_ok-links.ensures
     (c.contexts-contexts.ensures ∙ ap contexts_of c.as_slice.ensures)
     (c.pairs-pairs.ensures ∙ ap pairs_of_agents c.as_slice-2.ensures)
@@ -45,9 +45,9 @@ returns-clause-stands c =
 pub returns-clause-room : goal.returns-clause-room
 returns-clause-room c =
     room_begun (world_view c.args.described.now) _ c.requires.described
-    (is_begun c.args.described.now c.in_ok-names.names c.in_ok-agents.agents.items c.in_ok-links.links
+    (is_begun c.args.described.now c.names.inside.names.keys c.in_ok-agents.agents.items c.in_ok-links.links
     c.contexts-contexts.result c.pairs-pairs.result c.in_ok-clone.field-0 c.in_ok-none_of.field-0.items
-    (c.in_ok-names.ensures ∙ c.requires.named) c.in_ok-agents.ensures.count c.in_ok-agents.ensures.each
+    (c.names.view_is ∙ c.in_ok-names.ensures ∙ c.requires.named) c.in_ok-agents.ensures.count c.in_ok-agents.ensures.each
     c.in_ok-agents.ensures.unnoted c.in_ok-links.ensures
     (c.contexts-contexts.ensures ∙ ap contexts_of c.as_slice.ensures)
     (c.pairs-pairs.ensures ∙ ap pairs_of_agents c.as_slice-2.ensures)
