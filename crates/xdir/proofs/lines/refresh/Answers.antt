@@ -1,5 +1,5 @@
 use Rattle.std.proofs.Common.{◌≡◌, true, false, arith}
-use Rattle.xdir.proofs.Courses.{refreshed_course, unrefreshed_course}
+use Rattle.xdir.proofs.Courses.{refreshed_as, unrefreshed_course}
 use Rattle.xdir.proofs.Sound.{is_unsound}
 use Rattle.xdir.proofs.lines.refresh.Goals as goal
 
@@ -12,6 +12,6 @@ returns-then-not-is_consistent-clause-course c = λ p stands told.
 pub returns-clause-course : goal.returns-clause-course
 returns-clause-course c = λ p stands told.
     let sure : c.args.is_consistent ≡ true = grind (arith, c.if-not-is_consistent.false) in
-    refreshed_course p c.args.number c.args.push c.args.total c.args.network.now c.refresh.new.self
-    (record { lines = c.in_ok-lines.lines; became = c.in_ok-lines.became; heard = c.in_ok-lines.heard }) stands
+    refreshed_as p c.args.number c.args.push c.args.total c.args.network.now c.refresh.new.self c.in_ok-lines.field-0 _
+    (cc (c.in_ok-lines.lines-is, c.in_ok-lines.became-is, c.in_ok-lines.heard-is)) stands
     (c.in_ok-lines.ensures.refreshed p stands (told.0 sure)) c.in_ok-lines.ensures.named
