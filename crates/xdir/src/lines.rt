@@ -15,7 +15,7 @@ use x5_memory::NoMemory;
 use x5_ops::{AgentId, Journal, Listed, Outage, Request};
 use x5_report::LineOutcome;
 use x5_script::Command;
-use x5_world::{Refreshment, World};
+use x5_world::World;
 
 /// What came of a command, and the messages that it took.
 #[derive(Debug, Drop)]
@@ -93,17 +93,13 @@ fn refresh(
         network.pass();
         return Ok(unrefreshed(alloc));
     }
-    let Refreshment {
-        lines,
-        became,
-        heard,
-    } = network.refresh(alloc, number, push, total)?;
+    let told = network.refresh(alloc, number, push, total)?;
     Ok(Course {
         journal: Journal {
-            lines,
+            lines: told.lines,
             accepted: Listed::new(alloc),
         },
-        outcome: LineOutcome::Refreshed(number, became, heard),
+        outcome: LineOutcome::Refreshed(number, told.became, told.heard),
     })
 }
 

@@ -12,6 +12,6 @@ returns-then-not-is_consistent-clause-course c = λ p stands told.
 pub returns-clause-course : goal.returns-clause-course
 returns-clause-course c = λ p stands told.
     let sure : c.args.is_consistent ≡ true = grind (arith, c.if-not-is_consistent.false) in
-    refreshed_as p c.args.number c.args.push c.args.total c.args.network.now c.refresh.new.self c.in_ok-lines.field-0 _
-    (cc (c.in_ok-lines.lines-is, c.in_ok-lines.became-is, c.in_ok-lines.heard-is)) stands
-    (c.in_ok-lines.ensures.refreshed p stands (told.0 sure)) c.in_ok-lines.ensures.named
+    refreshed_as p c.args.number c.args.push c.args.total c.args.network.now c.refresh.new.self c.in_ok-told.told _
+    (cc) stands
+    (c.in_ok-told.ensures.refreshed p stands (told.0 sure)) c.in_ok-told.ensures.named
