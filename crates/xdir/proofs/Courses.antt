@@ -144,7 +144,7 @@ refreshing_known names r number n =
     let all : list_all (line_known names) r.lines ≡ true = lines_are names r.lines n in
     rw all
 
-pub refreshed_course : (p : Point) (number : ℕ) (pushes total : Bool) (old new : Net) (r : Refreshment) → StandsAt old p
+refreshed_course : (p : Point) (number : ℕ) (pushes total : Bool) (old new : Net) (r : Refreshment) → StandsAt old p
     → IsRefreshedAt new p number pushes total r → list_all (line_names_agents old.names) r.lines ≡ true
     → IsCourse p (Updates number pushes total) new (refreshed r number)
 refreshed_course p number pushes total old new r stands is n = record {
@@ -160,6 +160,12 @@ refreshed_course p number pushes total old new r stands is n = record {
   known = refreshing_known (names_of_agents p.described) r number
       (subst (λ (names : List (List ℕ)). list_all (line_names_agents names) r.lines ≡ true) stands.names n);
 }
+
+pub refreshed_as : (p : Point) (number : ℕ) (pushes total : Bool) (old new : Net) (r : Refreshment) (c : Course) → refreshed r number ≡ c
+    → StandsAt old p → IsRefreshedAt new p number pushes total r → list_all (line_names_agents old.names) r.lines ≡ true
+    → IsCourse p (Updates number pushes total) new c
+refreshed_as p number pushes total old new r c e stands is n =
+    subst (IsCourse p (Updates number pushes total) new) e (refreshed_course p number pushes total old new r stands is n)
 
 -- ---- what was carried out
 

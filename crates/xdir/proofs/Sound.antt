@@ -1,5 +1,5 @@
 -- Whether knowledge is consistent, and the line on it, in which no moment stands.
-use Rattle.std.proofs.Common.{◌≡◌, ◌↔◌, ℕ, Bool, true, List, [], ◌∷◌, codes, Option, Some, None, is_some, IsTrue, refl, ap, ap₂}
+use Rattle.std.proofs.Common.{◌≡◌, ◌↔◌, ℕ, Bool, true, false, List, [], ◌∷◌, codes, Option, Some, None, is_some, IsTrue, refl, sym, ap, ap₂, ◌∙◌}
 use Rattle.std.specs.Fmt.{decimal}
 use Rattle.std.specs.List.{concat}
 use Rattle.x5_know.specs.Moments.{moment_text}
@@ -28,6 +28,10 @@ other_is_broken w other = by (first_breach w) refl
 pub is_sound : (w : World) (told : Bool) → (IsTrue told ↔ IsConsistent w) → (past : List Did) (net : Net) → StandsAt net (point w past)
     → IsTrue told → IsSound net
 is_sound w told is past net stands sure = record { point = point w past; stands = stands; consistent = is.0 sure }
+
+pub is_unsound : (w : World) (told : Bool) → told ≡ false → (IsTrue told ↔ IsConsistent w) → IsConsistent w → ⊥
+is_unsound w told unsure is consistent =
+    let wrong : true ≡ false = sym (is.1 consistent) ∙ unsure in cc
 
 -- ---- its line
 

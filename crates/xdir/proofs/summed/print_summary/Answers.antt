@@ -1,4 +1,4 @@
-use Rattle.std.proofs.Common.{map, sym, subst}
+use Rattle.std.proofs.Common.{map, inl, sym, subst}
 use Rattle.x5_load.specs.Views.{file_view}
 use Rattle.xdir.specs.Summed.{IsSummary}
 use Rattle.xdir.specs.Taken.{run_view}
@@ -13,6 +13,18 @@ returns-in-Ok-put_all-clause-sums g c =
           (c.in-Ok.ensures f c.requires.begun.stands c.requires.knowledge c.requires.consistent);
       whole = c.in-Ok-put_all.ensures.all;
     }
+
+pub returns-in-Ok-clause-sums : goal.returns-in-Ok-clause-sums
+returns-in-Ok-clause-sums g c =
+    let f = file_view c.args.described.now in (
+      c.in-Err-put_all.ensures.failed,
+      record {
+        text = c.as_bytes.result.now;
+        is = inl (subst (IsSummary f (map run_view c.args.commands.now)) (sym c.as_bytes.ensures.value)
+            (c.in-Ok.ensures f c.requires.begun.stands c.requires.knowledge c.requires.consistent));
+        part = c.in-Err-put_all.ensures.taken;
+      },
+    )
 
 pub summary_of-requires-clause-begun : goal.summary_of-requires-clause-begun
 summary_of-requires-clause-begun g c = (file_view c.args.described.now, (c.requires.begun.stands, c.requires.consistent))

@@ -7,5 +7,5 @@ use Rattle.xdir.proofs.summed.summary_of.Goals as goal
 pub returns : goal.returns
 returns c =
     if_ok_more c.text_of.result (λ text is f stands knowledge told.
-    is_summary f (map run_view c.args.commands.now) c.totals_of.new.network (totals_view c.in_ok-totals.totals) (c.in_ok-totals.ensures f stands told) c.as_str.result.now (string_bytes text) (c.as_str.ensures ∙ knowledge) is)
+    is_summary f (map run_view c.args.commands.now) c.totals_of.new.network (totals_view c.in_ok-totals.totals) (c.in_ok-totals.ensures f stands told) c.as_str.result.now (string_bytes text) (c.as_str.ensures.value ∙ knowledge) is)
     c.text_of.ensures

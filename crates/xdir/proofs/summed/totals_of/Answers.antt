@@ -32,8 +32,8 @@ count_command-requires-clause-room c =
 pub count_command-requires-clause-sound : goal.count_command-requires-clause-sound
 count_command-requires-clause-sound c =
     let begun = c.requires.begun in
-    let far = c.loop-command.invariant.counted begun.0 begun.1 begun.2 in
-    is_sound begun.0.world c.args.is_consistent begun.2 far.past c.loop-command.network far.stands
+    let far = c.loop-command.invariant.counted begun.0 begun.1.0 begun.1.1 in
+    is_sound begun.0.world c.args.is_consistent begun.1.1 far.past c.loop-command.network far.stands
 
 pub loop-command-preserved : goal.loop-command-preserved
 loop-command-preserved c =
