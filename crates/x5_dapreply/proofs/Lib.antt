@@ -1,6 +1,0 @@
-mod ReferenceParts
-mod RepliesBack
-mod ReplyIsSayable
-mod Sequences
-mod ShownParts
-mod Six

@@ -1,3 +1,0 @@
-pub mod ReplyViews
-pub mod Sayable
-pub mod Told
