@@ -1,6 +1,6 @@
 mod ReferenceParts
-mod RepliesBack
-mod ReplyIsSayable
-mod Sequences
+pub mod RepliesBack
+pub mod ReplyIsSayable
+pub mod Sequences
 mod ShownParts
-mod Six
+pub mod Six

@@ -208,11 +208,11 @@ with_id id r = (id, r)
 
 pub replies_back : RepliesReadBack
 unfolding with_id
-replies_back id (Answered code answer) h = ap (λ (a : Answer). with_id id (Answered code a)) (answer_back code answer h)
-replies_back id (NoSuchObject matched) h = ap (λ (n : Name). with_id id (NoSuchObject n)) (the_name matched h)
-replies_back id (AttributeProblem problem type) h = ap (λ (t : TypeRef). with_id id (AttributeProblem problem t)) (types_back type h)
-replies_back id (UpdateProblem problem) h = refl
-replies_back id (ServiceProblem problem reference item) h =
+replies_back referral id (Answered code answer) h = ap (λ (a : Answer). with_id id (Answered code a)) (answer_back code answer h)
+replies_back referral id (NoSuchObject matched) h = ap (λ (n : Name). with_id id (NoSuchObject n)) (the_name matched h)
+replies_back referral id (AttributeProblem problem type) h = ap (λ (t : TypeRef). with_id id (AttributeProblem problem t)) (types_back type h)
+replies_back referral id (UpdateProblem problem) h = refl
+replies_back referral id (ServiceProblem problem reference item) h =
     ap₂ (λ (r : Option Reference) (i : Option TraceItem). with_id id (ServiceProblem problem r i)) (reference_if_back reference h.0)
     (item_if_back item h.1)
-replies_back id (Referred reference) h = ap (λ (r : Reference). with_id id (Referred r)) (reference_back reference h)
+replies_back referral id (Referred reference) h = ap (λ (r : Reference). with_id id (Referred r)) (reference_back reference h)

@@ -88,13 +88,13 @@ kind_writes (nodes.Text t) octets h = absurd (cc h)
 kind_writes (Chosen tag n) octets h = absurd (cc h)
 kind_writes (Many ns) octets h = absurd (cc h)
 
-kind_fits : (n : Node) → Fits table (table named.RefType) n → IsCount n
+pub kind_fits : (n : Node) → Fits table (table named.RefType) n → IsCount n
 kind_fits n f =
     let w = only_leaf table 2 (number (one_of (1 ∷ 2 ∷ 3 ∷ 4 ∷ 5 ∷ 8 ∷ []))) n f in kind_writes n w.0 w.1
 
 -- ---- references, trace items and sources
 
-progress_fits : (n : Node) → Fits table (table named.Progress) n → IsProgress n
+pub progress_fits : (n : Node) → Fits table (table named.Progress) n → IsProgress n
 progress_fits n f =
     let m = only_made table _ n refl (λ x. refl) f in
     let a = first_in table (named.Enumeration 1 3) _ IsCount phase_fits m.members (sequence_in table _ m.members m.within) in
@@ -116,7 +116,7 @@ access_fits n f =
 accesses_fit : (n : Node) → Fits table (table named.Agents) n → All IsAccess (parts n)
 accesses_fit n f = many_of named.Agent IsAccess access_fits n (only_made table _ n refl (λ m. refl) f)
 
-reference_fits : (n : Node) → Fits table (table named.Reference) n → IsReference n
+pub reference_fits : (n : Node) → Fits table (table named.Reference) n → IsReference n
 reference_fits n f =
     let m = only_made table _ n refl (λ x. refl) f in
     let a = required_in table 0 named.Name _ anything (λ x g. tt) m.members (set_in table _ m.members m.within) in
@@ -133,7 +133,7 @@ reference_fits n f =
 references_fit : (n : Node) → Fits table (table named.References) n → All IsReference (parts n)
 references_fit n f = many_of named.Reference IsReference reference_fits n (only_made table _ n refl (λ m. refl) f)
 
-item_fits : (n : Node) → Fits table (table named.TraceItem) n → IsItem n
+pub item_fits : (n : Node) → Fits table (table named.TraceItem) n → IsItem n
 item_fits n f =
     let m = only_made table _ n refl (λ x. refl) f in
     let a = first_in table named.AgentName _ anything (λ x g. tt) m.members (sequence_in table _ m.members m.within) in
@@ -317,7 +317,7 @@ item_if (nodes.Text t) h = h
 item_if (Chosen tag n) h = h
 item_if (Many ns) h = h
 
-attribute_error : (n : Node) → Fits table (table named.AttributeError) n → IsError 1 n
+pub attribute_error : (n : Node) → Fits table (table named.AttributeError) n → IsError 1 n
 attribute_error n f =
     let m = only_made table _ n refl (λ x. refl) f in
     let a = first_in table (named.NumberBelow 1 6) _ IsSmall (number_fits 1 6 (2 ^ 8) (omega arith)) m.members
@@ -327,7 +327,7 @@ attribute_error n f =
     m.is_many ∙ ap Many (a.split ∙ ap (More a.first) (b.split ∙ ap (More b.first) (none_left table b.others b.rest))) in
     subst (IsError 1) (sym is) (a.is, b.is)
 
-name_error : (n : Node) → Fits table (table named.NameError) n → IsError 2 n
+pub name_error : (n : Node) → Fits table (table named.NameError) n → IsError 2 n
 name_error n f =
     let m = only_made table _ n refl (λ x. refl) f in
     let a = first_in table (named.NumberBelow 1 1) _ IsSmall (number_fits 1 1 (2 ^ 8) (omega arith)) m.members
@@ -337,7 +337,7 @@ name_error n f =
     m.is_many ∙ ap Many (a.split ∙ ap (More a.first) (b.split ∙ ap (More b.first) (none_left table b.others b.rest))) in
     subst (IsError 2) (sym is) (a.is, tt)
 
-service_error : (n : Node) → Fits table (table named.ServiceError) n → IsError 3 n
+pub service_error : (n : Node) → Fits table (table named.ServiceError) n → IsError 3 n
 service_error n f =
     let m = only_made table _ n refl (λ x. refl) f in
     let a = first_in table (named.NumberBelow 1 12) _ IsSmall (number_fits 1 12 (2 ^ 8) (omega arith)) m.members
@@ -350,7 +350,7 @@ service_error n f =
     subst (IsError 3) (sym is) (a.is, b.is, c.is)
 
 -- a reference has six components
-referred : (code : ℕ) (n : Node) → IsReference n → IsError code n
+pub referred : (code : ℕ) (n : Node) → IsReference n → IsError code n
 referred code (Many (More a (More b (More c (More d ns))))) h = h
 referred code (Many (More a (More b (More c Nil)))) h = absurd h
 referred code (Many (More a (More b Nil))) h = absurd h
@@ -365,7 +365,7 @@ referred code (Octets o) h = h
 referred code (nodes.Text t) h = h
 referred code (Chosen tag n) h = h
 
-update_error : (n : Node) → Fits table (table named.UpdateError) n → IsError 8 n
+pub update_error : (n : Node) → Fits table (table named.UpdateError) n → IsError 8 n
 update_error n f =
     let m = only_made table _ n refl (λ x. refl) f in
     let a = first_in table (named.NumberBelow 1 7) [] IsSmall (number_fits 1 7 (2 ^ 8) (omega arith)) m.members
@@ -406,15 +406,15 @@ error_fits (pos (suc (suc (suc (suc (suc (suc (suc (suc (suc m)))))))))) form n 
 -- ---- messages
 
 -- a code, and what it names
-record IsCoded (names : ℤ → Option named.Named) (ns : Nodes) : Type 0 where
-  operation : ℤ
-  said : Node
-  split : ns ≡ More (Number operation) (More said Nil)
-  form : named.Named
-  names_it : names operation ≡ Some form
-  fits_said : Fits table (table form) said
+pub record IsCoded (names : ℤ → Option named.Named) (ns : Nodes) : Type 0 where
+  pub operation : ℤ
+  pub said : Node
+  pub split : ns ≡ More (Number operation) (More said Nil)
+  pub form : named.Named
+  pub names_it : names operation ≡ Some form
+  pub fits_said : Fits table (table form) said
 
-coded_in : (names : ℤ → Option named.Named) (ns : Nodes) → FitsSequence table (code named.AnyNumber names ∷ []) ns → IsCoded names ns
+pub coded_in : (names : ℤ → Option named.Named) (ns : Nodes) → FitsSequence table (code named.AnyNumber names ∷ []) ns → IsCoded names ns
 coded_in names _ (left_out d e f g) = absurd (cc e)
 coded_in names _ (given nd f (named k form is names_it) (left_out d e g h)) = absurd (cc e)
 coded_in names _ (given {n = c} nd f (named k form is names_it) (given {n = a} nd' f' required over)) = record {
@@ -426,7 +426,7 @@ coded_in names _ (given {n = c} nd f (named k form is names_it) (given {n = a} n
   fits_said = f';
 }
 
-dap_result_fits : (n : Node) → Fits table (table named.DapResult) n → IsResult n
+pub dap_result_fits : (n : Node) → Fits table (table named.DapResult) n → IsResult n
 dap_result_fits n f =
     let m = only_made table _ n refl (λ x. refl) f in
     let c = coded_in result_codes m.members (sequence_in table _ m.members m.within) in

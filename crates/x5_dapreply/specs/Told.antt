@@ -9,7 +9,7 @@ use Rattle.x5_model.specs.Types.{is_type}
 use Rattle.x5_model_messages.specs.Laws.{IsName, IsRdn, is_sayable}
 use Rattle.x5_model_messages.specs.Replies.{Reference, TraceItem, Source, Outcome, Answer, Entry, Match, Listed, Found}
 use Rattle.x5_model_messages.specs.Replies.{Changed, Reply, Answered, NoSuchObject, AttributeProblem, UpdateProblem}
-use Rattle.x5_model_messages.specs.Replies.{ServiceProblem, Referred, to_user, reply_node, reply_in}
+use Rattle.x5_model_messages.specs.Replies.{ServiceProblem, Referred, reply_node, reply_in}
 
 -- each of them is so
 abbrev pub Each : {X : Type 0} → (X → Type 0) → List X → Type 0
@@ -58,5 +58,6 @@ IsTold (UpdateProblem problem) = Unit {0}
 IsTold (ServiceProblem problem reference item) = IfThere IsReference reference × IfThere IsItem item
 IsTold (Referred reference) = IsReference reference
 
+-- whatever the code of a referral
 abbrev pub RepliesReadBack : Type 0
-RepliesReadBack = (id : ℕ) (r : Reply) → IsTold r → reply_in (reply_node to_user id r) ≡ (id, r)
+RepliesReadBack = (referral id : ℕ) (r : Reply) → IsTold r → reply_in (reply_node referral id r) ≡ (id, r)

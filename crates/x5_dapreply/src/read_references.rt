@@ -37,7 +37,7 @@ fn agent_in(alloc: Global, node: &Node<'_>) -> Result<AgentName, NoMemory>
 }
 
 /// How far the node says that a name is resolved.
-fn progress_in(node: &Node<'_>) -> Progress
+pub fn progress_in(node: &Node<'_>) -> Progress
     requires { IsProgress (node_view node.now) }
     ensures { progress_view result ≡ replies.progress_in (node_view node.now) }
 {
@@ -51,7 +51,8 @@ fn progress_in(node: &Node<'_>) -> Progress
     }
 }
 
-fn kind_in(node: &Node<'_>) -> RefType
+/// The kind of reference that the node says.
+pub fn kind_in(node: &Node<'_>) -> RefType
     requires { IsCount (node_view node.now) }
     ensures { kind_view result ≡ replies.kind_in (node_view node.now) }
 {
@@ -89,7 +90,8 @@ fn accesses_in(alloc: Global, nodes: &[Node<'_>]) -> Result<AccessList, NoMemory
     Ok(agents)
 }
 
-fn rdns_in(alloc: Global, nodes: &[Node<'_>]) -> Result<RdnList, NoMemory>
+/// The RDNs that the nodes say.
+pub fn rdns_in(alloc: Global, nodes: &[Node<'_>]) -> Result<RdnList, NoMemory>
     ensures { IfOk result (λ l. l ≡ map terms.rdn_of (map node_view nodes.now)) }
 {
     let mut rdns = RdnList::new(alloc);
@@ -130,7 +132,7 @@ pub(crate) fn references_in(alloc: Global, nodes: &[Node<'_>]) -> Result<Referen
 }
 
 /// The item of trace information that the node says.
-pub(crate) fn item_in(alloc: Global, node: &Node<'_>) -> Result<TraceItem, NoMemory>
+pub fn item_in(alloc: Global, node: &Node<'_>) -> Result<TraceItem, NoMemory>
     requires { IsItem (node_view node.now) }
     ensures { IfOk result (λ i. told_item i ≡ replies.item_in (node_view node.now)) }
 {

@@ -295,7 +295,7 @@ fn result_in(alloc: Global, node: &Node<'_>) -> Result<Reply, NoMemory>
 }
 
 /// The id and the reply of the answer that the node says.
-pub(crate) fn reply_in(alloc: Global, node: &Node<'_>) -> Result<(u32, Reply), NoMemory>
+pub fn reply_in(alloc: Global, node: &Node<'_>) -> Result<(u32, Reply), NoMemory>
     requires { sayable.IsReply (node_view node.now) }
     ensures { IfOk result (λ p. (p.0, heard p.1) ≡ heard_in (node_view node.now)) }
 {

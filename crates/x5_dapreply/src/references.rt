@@ -22,7 +22,7 @@ fn agent_node<'a>(agent: &'a AgentName) -> Node<'a>
 }
 
 /// How far a name is resolved (X.518, section 10.5).
-fn progress_node<'a>(alloc: Global, progress: Progress) -> Result<Node<'a>, NoMemory>
+pub fn progress_node<'a>(alloc: Global, progress: Progress) -> Result<Node<'a>, NoMemory>
     ensures { IfOk result (λ n. node_view n ≡ replies.progress_node (progress_view progress)) }
 {
     match progress {
@@ -48,7 +48,8 @@ fn accesses_node<'a>(alloc: Global, agents: &'a [AccessPoint]) -> Result<Node<'a
     Ok(many(nodes))
 }
 
-fn rdns_node<'a>(alloc: Global, rdns: &'a [Rdn]) -> Result<Node<'a>, NoMemory>
+/// RDNs: a SEQUENCE OF them.
+pub fn rdns_node<'a>(alloc: Global, rdns: &'a [Rdn]) -> Result<Node<'a>, NoMemory>
     ensures { IfOk result (λ n. node_view n ≡ node_of (map rdn_node_of rdns.now)) }
 {
     let mut nodes = Vec::new(alloc);
@@ -90,7 +91,7 @@ pub(crate) fn references_node<'a>(
 }
 
 /// An item of trace information (X.518, section 10.6).
-pub(crate) fn item_node<'a>(alloc: Global, item: &'a TraceItem) -> Result<Node<'a>, NoMemory>
+pub fn item_node<'a>(alloc: Global, item: &'a TraceItem) -> Result<Node<'a>, NoMemory>
     ensures { IfOk result (λ n. node_view n ≡ replies.item_node (told_item item.now)) }
 {
     let target = name_node(alloc, &item.target)?;

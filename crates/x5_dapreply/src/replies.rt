@@ -199,7 +199,7 @@ fn failed_node<'a>(
 }
 
 /// A reply: a result of the operation, an error or a referral, whose code is that of the protocol.
-pub(crate) fn reply_node<'a>(
+pub fn reply_node<'a>(
     alloc: Global,
     referral: u32,
     id: u32,

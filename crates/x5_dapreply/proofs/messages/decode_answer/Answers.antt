@@ -20,7 +20,7 @@ abbrev seen : ℕ × Reply → ℕ × replies.Reply
 seen p = (p.0, heard p.1)
 
 heard_back : (id : ℕ) (r : replies.Reply) → IsTold r → heard_in (replies.reply_node replies.to_user id r) ≡ (id, unnumbered r)
-heard_back id r h = ap (λ (p : ℕ × replies.Reply). (p.0, unnumbered p.1)) (replies_back id r h)
+heard_back id r h = ap (λ (p : ℕ × replies.Reply). (p.0, unnumbered p.1)) (replies_back replies.to_user id r h)
 
 pub reply_in-requires : goal.reply_in-requires
 reply_in-requires c =

@@ -1,0 +1,3 @@
+mod ChainedIsSayable
+mod Five
+mod ResultIsSayable
