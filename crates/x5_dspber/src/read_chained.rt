@@ -32,7 +32,7 @@ fn trace_in(alloc: Global, nodes: &[Node<'_>]) -> Result<Trace, NoMemory>
 /// The message of the request with the chaining arguments that the node says.
 fn chaining_in(alloc: Global, node: &Node<'_>, request: Request) -> Result<Chained, NoMemory>
     requires { sayable.IsChaining (node_view node.now) }
-    ensures { IfOk result (λ m. told_chained m ≡ chains.chaining_in (request_view request.entry) (node_view node.now)) }
+    ensures { IfOk result (λ m. told_chained m ≡ chains.chaining_in (request_view request) (node_view node.now)) }
 {
     let [target, progress, trace, kind, exclusions] = node.parts() else {
         unreachable!()
