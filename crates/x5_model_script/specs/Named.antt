@@ -2,7 +2,7 @@
 use Rattle.std.specs.Prelude.{ℕ, ◌<◌, All, IfOk, List, [], ◌∷◌, length}
 use Rattle.x5_model.specs.Values.{Text}
 use Rattle.x5_model_run.specs.Network.{Outage, Down, Up, Cut, Join, Refuse, Willing}
-use Rattle.x5_model_run.specs.Run.{Command, Blank, Asks, Changes, Drops, Updates}
+use Rattle.x5_model_run.specs.Run.{Command, Blank, Asks, Changes, Drops, Updates, Hands}
 use Rattle.x5_model_script.specs.Lines.{Asked, Runs, Delivers}
 use Rattle.x5_model_script.specs.Script.{script_of}
 
@@ -20,6 +20,7 @@ agents_in (Asks to request) = to ∷ []
 agents_in (Changes change) = agents_between change
 agents_in (Drops reply k) = []
 agents_in (Updates id pushes total) = []
+agents_in (Hands to count brings) = to ∷ []
 
 abbrev pub agents_of : Asked → List ℕ
 agents_of (Runs command) = agents_in command

@@ -4,7 +4,7 @@ use Rattle.std.specs.Prelude.{ℕ, ◌+◌, Bool, false, not, ◌&&◌, ◌==◌
 use Rattle.std.specs.Prelude.{Err}
 use Rattle.std.specs.List.{slice_split}
 use Rattle.x5_model.specs.Values.{Text}
-use Rattle.x5_model_run.specs.Run.{Blank, Asks, Changes, Drops, Updates}
+use Rattle.x5_model_run.specs.Run.{Blank, Asks, Changes, Drops, Updates, Hands}
 use Rattle.x5_model_script.specs.Words.{Fault, Long, ◌>>=◌}
 use Rattle.x5_model_script.specs.Lines.{Asked, Runs, Delivers, line_of}
 use Rattle.x5_model_tree.specs.Described.{most_lost_replies}
@@ -36,6 +36,7 @@ loses_reply (Runs Blank) = false
 loses_reply (Runs (Asks to request)) = false
 loses_reply (Runs (Changes outage)) = false
 loses_reply (Runs (Updates number pushes total)) = false
+loses_reply (Runs (Hands to count brings)) = false
 loses_reply (Delivers dsp to octets) = false
 
 -- what is asked for behind so many lost replies; one too many is as a line that is too long
