@@ -14,6 +14,7 @@ use Rattle.x5_model.specs.Keys.{same_key, key_below}
 use Rattle.x5_model.specs.Values.{key_of}
 use Rattle.x5_model.proofs.Lists.{both_true, and_true, of_all}
 use Rattle.x5_model_text.specs.NameText.{text_of_name}
+use Rattle.x5_model_run.specs.Network as network
 use Rattle.x5_model_run.specs.Journal as journal
 use Rattle.x5_model_output.specs.Output as print
 use Rattle.x5_model_output.specs.Output.{Names}
@@ -25,6 +26,7 @@ use Rattle.x5_ops.specs.ReferenceViews.{progress_view, kind_view, access_view, r
 use Rattle.x5_ops.specs.declared.journal.Line.{Line}
 use Rattle.x5_ops.specs.declared.journal.Line.TheVariants.{Msg, Dis, Raw}
 use Rattle.x5_ops.specs.declared.journal.Journal.{Journal}
+use Rattle.x5_ops.specs.declared.journal.Fate.{Fate}
 use Rattle.x5_ops.specs.declared.references.AccessPoint.{AccessPoint}
 use Rattle.x5_ops.specs.declared.references.Reference.{Reference}
 use Rattle.x5_ops.specs.declared.references.TraceItem.{TraceItem}
@@ -43,6 +45,9 @@ use Rattle.x5_know.specs.Moments.{Start}
 use Rattle.x5_report.specs.Spelled as spelled
 use Rattle.x5_report.specs.Views.{names_with, is_known, line_known, journal_known, reference_known, item_known, source_known, sources_known, answer_known, error_known, reply_known}
 use Rattle.x5_ops.specs.RefreshViews.{shadow_view, shadows_view, operation_view}
+use Rattle.x5_typed.specs.Breaches.{breach_view}
+use Rattle.x5_typed.specs.declared.fault.Breach.{Breach}
+use Rattle.x5_report.specs.Blocks.{raw_of}
 use Rattle.x5_report.proofs.Mapped.{flat_map_same, sorted_map, of_sorted}
 
 -- the name at the place that a name stands for
@@ -53,6 +58,9 @@ named (n ∷ ns) a h = by (same_octets n a) refl (named ns a)
     by : (b : Bool) → same_octets n a ≡ b → (is_known ns a ≡ true → in_option [] (λ n. n) (slice_get ns (agent_of ns a)) ≡ a) → in_option [] (λ n. n) (slice_get (n ∷ ns) (agent_of (n ∷ ns) a)) ≡ a
     by true e rest = rw e (same_text n a (sym e))
     by false e rest = rw (e, one-add) (rest (rw e at h))
+
+cons_same : {A : Type 0} (a b : A) (xs ys : List A) → a ∷ xs ≡ b ∷ ys → (a ≡ b) × (xs ≡ ys)
+cons_same a b xs ys e = (cc, cc)
 
 module _ (names : List (List ℕ)) (start : Start) where
   pub agent_is : (a : List ℕ) → is_known names a ≡ true → (names_with names start).agent (agent_of names a) ≡ a
@@ -226,3 +234,39 @@ module _ (names : List (List ℕ)) (start : Start) where
   reply_is (Done answer) h = answer_is answer h
   reply_is (Failed error) h = error_is error h
   reply_is (Refer reference) h = λ i. concat (codes "referral " ∷ reference_is reference h i ∷ codes "\n" ∷ [])
+
+  -- ---- octets
+
+  raw_is : (to : List ℕ) (count : ℕ) (fate : Fate) (to' : ℕ) (fate' : network.Fate) → is_known names to ≡ true → to' ≡ agent_of names to → fate' ≡ fate_view fate → print.raw_line (names_with names start) (record { receiver = to'; count = count; fate = fate' }) ≡ spelled.raw_text to count fate
+  raw_is to count fate to' fate' h a f =
+      λ i. concat (codes "raw " ∷ (ap (names_with names start).agent a ∙ agent_is to h) i ∷ codes " dap " ∷ decimal count ∷ codes " " ∷ print.fate_word (f i) ∷ codes "\n" ∷ [])
+
+  -- the first message that is printed stands for the octets
+  module _ (count : ℕ) (agents : List ℕ) (accepted : List (List ℕ)) (reply : Reply) where
+    handed_as : (ls : List journal.Line) (lines : List Line) → flat_map (print.accepted_line (names_with names start)) agents ≡ flat_map spelled.accepted_text accepted → reply_known names reply ≡ true → ((l : Line) → In l lines → line_known names l ≡ true) → map journal.printed_line ls ≡ messages_view names lines → print.handed_text (names_with names start) count ls agents (reply_view names reply) ≡ spelled.handed_for start count (spelled.first_message lines) accepted reply
+    handed_as [] [] e r h same = e
+    handed_as (l ∷ ls) [] e r h same = cc
+    handed_as [] (Msg from to operation progress t target fate ∷ more) e r h same = cc
+    handed_as (l ∷ ls) (Msg from to operation progress t target fate ∷ more) e r h same =
+        let both = cons_same _ _ (map journal.printed_line ls) (messages_view names more) same in
+        let known = both_true (in_option true (is_known names) from) (is_known names to) (h (Msg from to operation progress t target fate) here) in
+        λ i. concat (raw_is to count fate l.receiver l.fate known.1 (ap (λ (p : journal.Printed). p.receiver) both.0) (ap (λ (p : journal.Printed). p.fate) both.0) i
+        ∷ (sym (flat_map-map (spelled.printed_message (names_with names start)) journal.printed_line ls)
+        ∙ ap (flat_map (spelled.printed_message (names_with names start))) both.1
+        ∙ messages_are more (λ k j. h k (there j))) i
+        ∷ e i ∷ print.heard_by (both.0 i).fate (reply_is reply r i) ∷ [])
+    handed_as ls (Dis from to operation agreement fate ∷ more) e r h same = handed_as ls more e r (λ k j. h k (there j)) same
+    handed_as ls (Raw to dsp n fate ∷ more) e r h same = handed_as ls more e r (λ k j. h k (there j)) same
+
+  pub handed_is : (count : ℕ) (j : Journal) (m : journal.Journal) (reply : Reply) → journal_known names j ≡ true → reply_known names reply ≡ true → map journal.printed_line (reverse m.lines) ≡ messages_view names j.lines → reverse m.accepted ≡ map (agent_of names) j.accepted → print.handed_text (names_with names start) count (reverse m.lines) (reverse m.accepted) (reply_view names reply) ≡ spelled.handed_text start count j reply
+  handed_is count j m reply h r lines agents =
+      let w = both_true (list_all (line_known names) j.lines) (list_all (is_known names) j.accepted) h in
+      handed_as count (reverse m.accepted) j.accepted reply (reverse m.lines) j.lines
+      (ap (flat_map (print.accepted_line (names_with names start))) agents
+      ∙ accepted_are j.accepted (λ a i. of_all (is_known names) a j.accepted w.1 i))
+      r (λ l i. of_all (line_known names) l j.lines w.0 i) lines
+
+  pub rejected_is : (to : List ℕ) (count : ℕ) (fate : Fate) (breach : Breach) → is_known names to ≡ true → print.rejected_text (names_with names start) (raw_of names to count fate) (breach_view breach) ≡ spelled.rejected_text to count fate breach
+  rejected_is to count fate breach h =
+      ap (λ t. t ++ print.heard_by (fate_view fate) (print.reject_line (breach_view breach)))
+      (raw_is to count fate (agent_of names to) (fate_view fate) h refl refl)

@@ -23,6 +23,7 @@ use Rattle.x5_ops.specs.JournalViews.{fate_view, code_view}
 use Rattle.x5_ops.specs.ReferenceViews.{progress_view, kind_view}
 use Rattle.x5_ops.specs.declared.journal.Line.{Line}
 use Rattle.x5_ops.specs.declared.journal.Line.TheVariants.{Msg, Dis, Raw}
+use Rattle.x5_ops.specs.declared.journal.Fate.{Fate}
 use Rattle.x5_ops.specs.declared.journal.Journal.{Journal}
 use Rattle.x5_ops.specs.declared.journal.Refreshed.{Refreshed}
 use Rattle.x5_ops.specs.declared.journal.Refreshed.TheVariants as refreshes
@@ -42,6 +43,8 @@ use Rattle.x5_ops.specs.declared.answers.Reply.{Reply}
 use Rattle.x5_ops.specs.declared.answers.Reply.TheVariants.{Done, Failed, Refer}
 use Rattle.x5_know.specs.Moments.{Start, moment_text}
 use Rattle.x5_ops.specs.RefreshViews.{operation_view}
+use Rattle.x5_typed.specs.Breaches.{breach_view}
+use Rattle.x5_typed.specs.declared.fault.Breach.{Breach}
 
 -- ---- messages
 
@@ -247,3 +250,31 @@ refreshed_text start number (refreshes.Incremental m n) heard = done_text start 
 refreshed_text start number (refreshes.Nothing m) heard = done_text start number false m 0 heard
 refreshed_text start number refreshes.Lost heard = concat (codes "unrefreshed " ∷ decimal number ∷ codes "\n" ∷ [])
 refreshed_text start number (refreshes.Failed problem held given) heard = problem_text start problem held given
+
+-- ---- octets
+
+abbrev pub raw_text : List ℕ → ℕ → Fate → Text
+raw_text to count fate =
+    concat (codes "raw " ∷ to ∷ codes " dap " ∷ decimal count ∷ codes " " ∷ print.fate_word (fate_view fate)
+    ∷ codes "\n" ∷ [])
+
+-- the first message of a request: whom it goes to, what became of it, and the lines behind it; other lines aren't some
+abbrev pub first_message : List Line → Option (List ℕ × Fate × List Line)
+first_message [] = None
+first_message (Msg from to operation progress t target fate ∷ more) = Some (to, fate, more)
+first_message (Dis from to operation agreement fate ∷ more) = first_message more
+first_message (Raw to dsp count fate ∷ more) = first_message more
+
+-- so many octets stand for it
+abbrev pub handed_for : Start → ℕ → Option (List ℕ × Fate × List Line) → List (List ℕ) → Reply → Text
+handed_for start count None accepted reply = flat_map accepted_text accepted
+handed_for start count (Some first) accepted reply =
+    concat (raw_text first.0 count first.1 ∷ flat_map message_text first.2 ∷ flat_map accepted_text accepted
+    ∷ print.heard_by (fate_view first.1) (reply_text start reply) ∷ [])
+
+abbrev pub handed_text : Start → ℕ → Journal → Reply → Text
+handed_text start count j reply = handed_for start count (first_message j.lines) j.accepted reply
+
+abbrev pub rejected_text : List ℕ → ℕ → Fate → Breach → Text
+rejected_text to count fate breach =
+    raw_text to count fate ++ print.heard_by (fate_view fate) (print.reject_line (breach_view breach))

@@ -1,7 +1,6 @@
 -- Who is named in journals and replies, and the names and moments that the definitions print with.
 use Rattle.std.specs.Prelude.{ℕ, Bool, true, ◌&&◌, List, [], slice_get}
 use Rattle.std.specs.List.{list_any, list_all}
-use Rattle.std.specs.declared.option.Option.{Option}
 use Rattle.x5_model.specs.Words.{in_option, same_octets}
 use Rattle.x5_model_output.specs.Output.{Names}
 use Rattle.x5_ops.specs.declared.journal.Line.{Line}

@@ -3,6 +3,7 @@
 #![tactic(auto)]
 
 mod lines;
+mod octets;
 mod order;
 mod plain;
 mod refreshes;

@@ -10,18 +10,21 @@ ghost use Rattle.x5_know.specs.Moments.{moment_text};
 ghost use Rattle.x5_model_tree.specs.World.{World, names_of_agents};
 
 use crate::lines::{accepted, messages, shadows};
+use crate::octets::{handed, rejected};
 use crate::plain::plain_reply;
 use crate::refreshes::refreshed;
 use crate::replies::reply;
 use std::alloc::{AllocError, Global};
 use x5_know::Start;
 use x5_memory::NoMemory;
-use x5_ops::{Journal, Refreshed, Reply};
+use x5_ops::{AgentName, Fate, Journal, Refreshed, Reply};
 use x5_syntax::Text;
+use x5_typed::Breach;
 
 /// What came of a command: a changed network; the reply to a request, of agents or (`Plain`) of the one tree; what became of
-/// the refresh of the agreement with the number, true where the supplier knows that it was taken; or that knowledge doesn't
-/// hold together, so that there are no refreshes.
+/// the refresh of the agreement with the number, true where the supplier knows that it was taken; that knowledge doesn't
+/// hold together, so that there are no refreshes; the reply to a request that so many octets brought, for which the first
+/// message of the journal stands; or the first breach of octets that brought none.
 #[derive(Debug, Drop)]
 pub enum LineOutcome {
     Set,
@@ -29,6 +32,13 @@ pub enum LineOutcome {
     Plain(Reply),
     Refreshed(u32, Refreshed, bool),
     NotConsistent,
+    Handed(u64, Reply),
+    Rejected {
+        to: AgentName,
+        count: u64,
+        fate: Fate,
+        breach: Breach,
+    },
 }
 
 /// The line with the number.
@@ -60,6 +70,27 @@ fn joined(
     format!(in alloc; "{number}{messages}{told}")
 }
 
+/// The number, and what is told behind it.
+fn behind(mut number: String, told: &str) -> Result<String, NoMemory>
+    ensures { IfOk result (λ text. string_bytes text ≡ string_bytes number ++ told.now) }
+{
+    number.push_str(told)?;
+    Ok(number)
+}
+
+/// The number, the messages of a refresh, and what came of it.
+fn refreshing(
+    alloc: Global,
+    number: &String,
+    journal: &Journal,
+    told: &str,
+) -> Result<String, NoMemory>
+    ensures { IfOk result (λ text. string_bytes text ≡ concat (string_bytes number.now ∷ flat_map spelled.shadow_text journal.now.lines ∷ told.now ∷ [])) }
+{
+    let messages = shadows(alloc, journal.lines.as_slice())?;
+    Ok(joined(alloc, number, &messages, told)?)
+}
+
 /// The block, each agent by its name.
 fn block_string(
     alloc: Global,
@@ -70,12 +101,9 @@ fn block_string(
 ) -> Result<String, NoMemory>
     ensures { IfOk result (λ text. string_bytes text ≡ blocks.block_text start.now line journal.now outcome.now) }
 {
-    let mut number = number_line(alloc, line)?;
+    let number = number_line(alloc, line)?;
     match outcome {
-        LineOutcome::Set => {
-            number.push_str("set\n")?;
-            Ok(number)
-        }
+        LineOutcome::Set => behind(number, "set\n"),
         LineOutcome::Answered(answer) => {
             let messages = journal_lines(alloc, journal)?;
             let told = reply(alloc, start, answer)?;
@@ -83,24 +111,33 @@ fn block_string(
         }
         LineOutcome::Plain(answer) => {
             let told = plain_reply(alloc, start, answer)?;
-            number.push_str(told.as_str())?;
-            Ok(number)
+            behind(number, told.as_str())
         }
         LineOutcome::Refreshed(agreement, became, heard) => {
-            let messages = shadows(alloc, journal.lines.as_slice())?;
             let told = refreshed(alloc, start, *agreement, became, *heard)?;
-            Ok(joined(alloc, &number, &messages, told.as_str())?)
+            refreshing(alloc, &number, journal, told.as_str())
         }
         LineOutcome::NotConsistent => {
-            let messages = shadows(alloc, journal.lines.as_slice())?;
-            let told = "error shadow inconsistent\n";
-            Ok(joined(alloc, &number, &messages, told)?)
+            refreshing(alloc, &number, journal, "error shadow inconsistent\n")
+        }
+        LineOutcome::Handed(count, answer) => {
+            let told = handed(alloc, start, *count, journal, answer)?;
+            behind(number, told.as_str())
+        }
+        LineOutcome::Rejected {
+            to,
+            count,
+            fate,
+            breach,
+        } => {
+            let told = rejected(alloc, to, *count, *fate, breach)?;
+            behind(number, told.as_str())
         }
     }
 }
 
 /// What is printed of the command in the line: the line's number, the messages of its journal, and what came of it; of a reply
-/// of the one tree no messages, no mark of a copy and no source.
+/// of the one tree no messages, no mark of a copy and no source; of octets that brought no request nothing of the journal.
 /// Moments are counted from the start. Agents are named by the texts of their names, which are those of a world's agents if each
 /// of them is the name of one.
 pub fn block(

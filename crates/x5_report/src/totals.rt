@@ -1,21 +1,24 @@
 //! The counts of a run, and the line that sums them up.
 
-ghost use Rattle.std.specs.Prelude.{◌≡◌, ◌++◌, ◌∷◌, [], ℕ, List, IfOk, codes, string_bytes};
+ghost use Rattle.std.specs.Prelude.{◌≡◌, ◌++◌, ◌∷◌, [], ℕ, List, IfOk, codes, length, string_bytes};
 ghost use Rattle.std.specs.Fmt.{decimal};
 ghost use Rattle.std.specs.List.{concat};
 ghost use Rattle.x5_model_run.specs.Run.{Block};
 ghost use Rattle.x5_model_output.specs.Summary as sums;
 ghost use Rattle.x5_ops.specs.AnswerViews.{answer_view, reply_view};
-ghost use Rattle.x5_report.specs.Counted.{totals_view, told_counts, IsOf};
+ghost use Rattle.x5_ops.specs.JournalViews.{fate_view};
+ghost use Rattle.x5_report.specs.Spelled as spelled;
+ghost use Rattle.x5_report.specs.Counted.{totals_view, told_counts, counts_for, IsOf};
 ghost use Rattle.x5_ops.specs.RefreshViews.{refreshed_view};
 
+use crate::octets::first_message;
 use crate::report::LineOutcome;
 use std::alloc::{AllocError, Global};
 use x5_memory::NoMemory;
-use x5_ops::{Answer, Journal, Refreshed, Reply};
+use x5_ops::{Answer, Fate, Journal, Refreshed, Reply};
 use x5_syntax::Text;
 
-/// How many requests a script had, and how many lines of its blocks begin with `entry`, `sub`, `error`, `referral`,
+/// How many requests a script had, apart from those that octets bring, and how many lines of its blocks begin with `entry`, `sub`, `error`, `referral`,
 /// `unexplored`, `accepted` and `refreshed`. A count stops at 2^64 - 1.
 #[derive(Clone, Copy, Debug, PartialEq, Eq)]
 pub struct Totals {
@@ -80,6 +83,31 @@ fn of_request(reply: &Reply, agents: usize) -> Totals
     }
 }
 
+/// What is counted of a reply to a message with this fate: nothing where it isn't heard.
+fn of_heard(fate: Fate, reply: &Reply) -> Totals
+    ensures { (names : List (List ℕ)) → totals_view result ≡ sums.heard_counts (fate_view fate) (reply_view names reply.now) }
+{
+    match fate {
+        Fate::Lost | Fate::NoReply => Totals::new(),
+        Fate::Sent => of_reply(reply),
+    }
+}
+
+/// What is counted of a request that octets brought.
+fn of_handed(journal: &Journal, reply: &Reply) -> Totals
+    ensures { (names : List (List ℕ)) → totals_view result
+        ≡ counts_for (spelled.first_message journal.now.lines) (length journal.now.accepted) (reply_view names reply.now) }
+{
+    let heard = match first_message(journal.lines.as_slice()) {
+        None => Totals::new(),
+        Some((_, fate, _)) => of_heard(fate, reply),
+    };
+    Totals {
+        accepted: journal.accepted.len() as u64,
+        ..heard
+    }
+}
+
 /// What is counted of a refresh.
 fn of_refresh(number: u32, became: &Refreshed, heard: bool) -> Totals
     ensures { totals_view result ≡ sums.refresh_counts (refreshed_view heard number became.now) }
@@ -108,6 +136,8 @@ fn of_block(journal: &Journal, outcome: &LineOutcome) -> Totals
             errors: 1,
             ..Totals::new()
         },
+        LineOutcome::Handed(_, reply) => of_handed(journal, reply),
+        LineOutcome::Rejected { .. } => Totals::new(),
     }
 }
 

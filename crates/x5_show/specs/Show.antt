@@ -6,8 +6,8 @@ use Rattle.std.specs.List.{concat}
 use lib.Chars.{codes}
 use Rattle.hex.specs.Hex.{encode_lower}
 use Rattle.x5_model_octets.specs.Elements.{Element, Elements, Primitive, Constructed, Nil, More, Spells, SpellsAll}
-use Rattle.x5_model_octets.specs.Faults.{Fault, Truncated, BadLength, BadTag, BadContent, TooDeep, FirstFault}
-use Rattle.x5_model_octets.specs.Faults.{outermost}
+use Rattle.x5_model_octets.specs.Faults.{Fault, FirstFault, outermost}
+use Rattle.x5_model_output.specs.Output.{fault_word, fault_place}
 use Rattle.x5_ber.specs.Reading.{Stands}
 use Rattle.x5_ber.specs.Found.{Frames}
 use Rattle.x5_show.specs.declared.Shown.{Shown}
@@ -23,23 +23,10 @@ pub data FaultyFrom (bytes : List ℕ) : ℕ → Fault → Type 0 where
   behind : {at : ℕ} {fault : Fault} (value : Element) (octets : List ℕ) → Spells 1 value octets →
       Stands bytes at octets → FaultyFrom bytes (at + length octets) fault → FaultyFrom bytes at fault
 
--- The fault's word and place.
-abbrev pub word : Fault → List ℕ
-word (Truncated at) = codes "truncated"
-word (BadLength at) = codes "badLength"
-word (BadTag at) = codes "badTag"
-word (BadContent at) = codes "badContent"
-word (TooDeep at) = codes "tooDeep"
-
-abbrev pub place : Fault → ℕ
-place (Truncated at) = at
-place (BadLength at) = at
-place (BadTag at) = at
-place (BadContent at) = at
-place (TooDeep at) = at
-
+-- The fault's place and word.
 abbrev pub refusal_text : Fault → List ℕ
-refusal_text fault = concat (codes "refused octet " ∷ decimal (place fault) ∷ codes " " ∷ word fault ∷ codes "\n" ∷ [])
+refusal_text fault =
+    concat (codes "refused octet " ∷ decimal (fault_place fault) ∷ codes " " ∷ fault_word fault ∷ codes "\n" ∷ [])
 
 -- Two spaces for each element around.
 abbrev pub indent : ℕ → List ℕ

@@ -1,6 +1,6 @@
 //! Whether a file's octets are values, one after the other.
 ghost use Rattle.std.specs.Prelude.{◌≡◌, ℕ, IfOk, MatchOption, string_bytes};
-ghost use Rattle.x5_show.specs.Show.{AreValues, FaultyFrom, refusal_text, word};
+ghost use Rattle.x5_show.specs.Show.{AreValues, FaultyFrom, refusal_text};
 ghost use Rattle.x5_ber.specs.Views.{fault_view};
 
 use std::alloc::Global;

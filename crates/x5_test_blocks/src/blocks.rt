@@ -5,11 +5,12 @@ use std::test::Fail;
 use x5_know::Start;
 use x5_ops::{
     AccessList, AccessPoint, AgentName, Answer, EntryInfo, EntryList, Fate, Journal, Line, Listed,
-    Moment, Name, Outcome, Progress, Rdn, RdnList, RefType, Reference, ReferenceList, Refreshed,
-    Reply, ShadowOperation, Source, SourceList,
+    Moment, Name, Operation, Outcome, Progress, Rdn, RdnList, RefType, Reference, ReferenceList,
+    Refreshed, Reply, ShadowOperation, Source, SourceList,
 };
 use x5_report::{LineOutcome, Totals, block, summary};
 use x5_syntax::Text;
+use x5_typed::{BerFault, Breach};
 
 fn agent(alloc: Global, text: &str) -> Result<AgentName, Fail> {
     Ok(AgentName::new(Text::new(alloc, text)?))
@@ -286,6 +287,86 @@ fn a_refresh_prints_its_messages_and_what_became_of_it(rt: HostRuntime) -> Resul
     assert_eq!(rt;
         lost.as_str(),
         "#2\ndis Epsilon Beta requestShadowUpdate 1 sent\nunrefreshed 7\n"
+    );
+    Ok(())
+}
+
+/// What is printed of 26 octets for Alpha with this first breach.
+fn rejected(alloc: Global, fate: Fate, breach: Breach) -> Result<Text, Fail> {
+    let to = agent(alloc, "Alpha")?;
+    let outcome = LineOutcome::Rejected {
+        to,
+        count: 26,
+        fate,
+        breach,
+    };
+    printed(alloc, &journal(alloc, Vec::new(alloc)), &outcome)
+}
+
+#[test]
+fn octets_that_bring_no_request_print_why(rt: HostRuntime) -> Result<(), Fail> {
+    let alloc = rt.alloc();
+    let cut = rejected(alloc, Fate::Sent, Breach::Ber(BerFault::Truncated(26)))?;
+    assert_eq!(rt;
+        cut.as_str(),
+        "#2\nraw Alpha dap 26 sent\nreject truncated 26\n"
+    );
+    let other = rejected(alloc, Fate::Sent, Breach::Unrecognised(-3))?;
+    assert_eq!(rt;
+        other.as_str(),
+        "#2\nraw Alpha dap 26 sent\nreject unrecognised -3\n"
+    );
+    let lost = rejected(alloc, Fate::Lost, Breach::Ber(BerFault::Truncated(26)))?;
+    assert_eq!(rt; lost.as_str(), "#2\nraw Alpha dap 26 lost\n");
+    Ok(())
+}
+
+/// The removal of Acme's desk, which the user asks of Alpha, or which Alpha passes on to Beta.
+fn removal(alloc: Global, passed: bool, fate: Fate) -> Result<Line, Fail> {
+    let alpha = agent(alloc, "Alpha")?;
+    let (from, to) = if passed {
+        (Some(alpha), agent(alloc, "Beta")?)
+    } else {
+        (None, alpha)
+    };
+    Ok(Line::Msg {
+        from,
+        to,
+        operation: Operation::RemoveEntry,
+        progress: Progress::NotStarted,
+        t: if passed { 1 } else { 0 },
+        target: name(alloc, "/C=NL/O=Acme/CN=Desk")?,
+        fate,
+    })
+}
+
+/// What is printed of the removal where 50 octets brought it, and Beta accepted it.
+fn handed(alloc: Global, fate: Fate) -> Result<Text, Fail> {
+    let lines = vec![in alloc;
+        removal(alloc, false, fate)?,
+        removal(alloc, true, Fate::Sent)?,
+    ]?;
+    let beta = agent(alloc, "Beta")?;
+    let journal = Journal {
+        lines: Listed::from_vec(lines),
+        accepted: Listed::from_vec(vec![in alloc; beta]?),
+    };
+    let outcome = LineOutcome::Handed(50, Reply::Done(Answer::Changed));
+    printed(alloc, &journal, &outcome)
+}
+
+#[test]
+fn octets_stand_for_the_first_message_of_what_they_bring(rt: HostRuntime) -> Result<(), Fail> {
+    let alloc = rt.alloc();
+    let heard = handed(alloc, Fate::Sent)?;
+    assert_eq!(rt;
+        heard.as_str(),
+        "#2\nraw Alpha dap 50 sent\nmsg Alpha Beta remove start t=1 /C=NL/O=Acme/CN=Desk sent\naccepted Beta\nchanged\n"
+    );
+    let unheard = handed(alloc, Fate::NoReply)?;
+    assert_eq!(rt;
+        unheard.as_str(),
+        "#2\nraw Alpha dap 50 noreply\nmsg Alpha Beta remove start t=1 /C=NL/O=Acme/CN=Desk sent\naccepted Beta\n"
     );
     Ok(())
 }
