@@ -1,4 +1,4 @@
-//! Tests of the edges through their public calls: elements of octets, and messages; files and a sink, in memory and real. Nothing stands on it.
+//! Tests of the edges through their public calls: elements of octets, and messages, answers to users among them; files and a sink, in memory and real. Nothing stands on it.
 #![tactic(auto)]
 
 #[cfg(test)]
@@ -7,3 +7,5 @@ mod messages;
 mod octets;
 #[cfg(test)]
 mod ports;
+#[cfg(test)]
+mod replies;
