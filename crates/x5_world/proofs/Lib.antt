@@ -20,6 +20,7 @@ pub mod Copied
 pub mod Longer
 pub mod Onward
 pub mod Concluding
+pub mod Delivering
 pub mod Knowing
 pub mod Stopping
 pub mod Agents

@@ -9,3 +9,4 @@ pub mod Laws
 pub mod Users
 pub mod Refreshing
 pub mod Refreshes
+pub mod Delivered

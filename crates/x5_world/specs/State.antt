@@ -3,20 +3,18 @@
 use Rattle.std.specs.Prelude.{◌≡◌, ℕ, ◌+◌, ◌*◌, ◌≤◌, List, ◌∷◌, length, map, slice_get, Some}
 use Rattle.std.specs.declared.option.Option.{Option}
 use Rattle.x5_model.specs.Words.{in_option}
-use Rattle.x5_model.specs.Values.{Name}
-use Rattle.x5_model.specs.Requests.{Body}
 use Rattle.x5_model_tree.specs.World.{Agreement, Network, World, names_of_agents}
 use Rattle.x5_model_tree.specs.Masters.{mastered}
 use Rattle.x5_model_tree.specs.Consistent.{IsConsistent}
 use Rattle.x5_model_tree.specs.Described.{IsDescribed}
 use Rattle.x5_model_run.specs.Holdings.{Holdings}
 use Rattle.x5_model_run.specs.History.{Did, Point, acked, no_holdings, network_at, sent_before}
-use Rattle.x5_model_run.specs.Needs as needs
 use Rattle.x5_model_run.specs.Stage.{nssr_pairs}
 use Rattle.x5_model_updates.specs.Keeping.{NoneMoved}
 use Rattle.x5_model_verdicts.specs.Committing.{IsStamped}
 use Rattle.x5_model_refreshed.specs.Replaying.{AllHappen}
 use Rattle.x5_model_settled.specs.Held.{held_at}
+pub use Rattle.x5_dapber.specs.ShortNames.{HasShortNames}
 use Rattle.x5_world.specs.Logs.{Logs, logs_at, no_logs}
 
 -- The agents' names, what each holds and keeps of its changes, in their order; how the network stands; how many messages
@@ -69,11 +67,6 @@ pub record StandsAt (n : Net) (p : Point) : Type 0 where
 -- after one more line
 abbrev pub after : Did → Point → Point
 after d p = record { described = p.described; past = d ∷ p.past }
-
--- A request whose names have 16 RDNs at most, as all names in a directory have.
-pub record HasShortNames (b : Body) : Type 0 where
-  pub target : length (needs.target_of b) ≤ 16
-  pub new_name : (name : Name) → needs.new_name b ≡ Some name → length name ≤ 16
 
 -- messages of one request at most
 abbrev pub most_messages : ℕ

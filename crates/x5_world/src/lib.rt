@@ -6,6 +6,7 @@ mod asking;
 mod begin;
 mod copies;
 mod counts;
+mod delivered;
 mod exchange;
 mod journal;
 mod links;
@@ -15,5 +16,6 @@ mod refreshment;
 mod stamps;
 mod world;
 
+pub use delivered::Delivered;
 pub use refreshment::Refreshment;
 pub use world::World;

@@ -1,6 +1,6 @@
 //! The network of a run.
 
-ghost use Rattle.std.specs.Prelude.{◌≡◌, ℕ, ◌<◌, ◌+◌, ◌≤◌, ◌*◌, ◌==◌, [], true, nat_lt, length, List, IfOk, OnErr, slice_get, Some};
+ghost use Rattle.std.specs.Prelude.{◌≡◌, ℕ, ◌<◌, ◌+◌, ◌≤◌, ◌*◌, ◌==◌, [], true, nat_lt, length, List, IfOk, OnErr, slice_get, Some, None, Err};
 ghost use Rattle.std.specs.List.{filter, list_all, position};
 ghost use Rattle.std.specs.Option.{option_map};
 ghost use Rattle.x5_know.specs.WorldView.{world_view};
@@ -19,6 +19,8 @@ ghost use Rattle.x5_ops.specs.ReferenceViews.{chained_view};
 ghost use Rattle.x5_ops.specs.RequestViews.{body_view, request_view};
 ghost use Rattle.x5_update.specs.Judging.{IsReady};
 ghost use Rattle.x5_world.specs.Answered.{IsAnswered, NamesAgents, line_names_agents};
+ghost use Rattle.x5_typed.specs.Breaches.{breach_view};
+ghost use Rattle.x5_world.specs.Delivered.{IsDelivered, IsDeliveredAt, NamesAgentsIn};
 ghost use Rattle.x5_world.specs.Refreshes.{IsRefreshedAt, IsSound};
 ghost use Rattle.x5_world.specs.Refreshing.{IsKnown, IsSupplied, IsTakenAt, acknowledging, is_known_in, problem_in};
 ghost use Rattle.x5_world.specs.Sent.{IsCommittedAt, IsHolder, no_net};
@@ -27,6 +29,7 @@ ghost use Rattle.x5_model_tree.specs.World.{names_of_agents};
 
 use crate::asking::asked;
 use crate::counts::{contexts, pairs};
+use crate::delivered::{Delivered, breach_of, receiver};
 use crate::journal;
 use crate::links::Links;
 use crate::naming::copied;
@@ -37,12 +40,14 @@ use std::alloc::Global;
 use std::marker::{Brand, Model};
 use std::mem::replace;
 use x5_agents::agents_of;
+use x5_dapber::decode_request;
 use x5_holdings::Holdings;
 use x5_know::{AgentNames, Agreement, AgreementList, Described};
 use x5_memory::NoMemory;
 use x5_ops::{AgentId, Chained, Fate, Journal, Listed, Moment, Outage, Reply, Request};
 use x5_refresh::Brought;
 use x5_supply::SupplyFault;
+use x5_typed::Breach;
 
 /// The agents with what each holds, the network between them, and their agreements with the stamp of the last refresh by each that
 /// its supplier knows to be taken.
@@ -308,6 +313,59 @@ impl World {
         *self = told.world;
         self.count(messages);
         Ok((told.reply, journal))
+    }
+
+    /// A message of the user to this agent that is none: what becomes of it. No memory.
+    fn spoil(&mut self, to: AgentId) -> Fate
+        requires room { self.old.sent + 1 ≤ 18446744073709551615 }
+        requires lines { self.old.line < 100000 }
+        ensures fate { fate_view result ≡ network.fate_of self.old.network (self.old.sent + 1) None to }
+        ensures counted { self.new ≡ record self.old { sent = self.old.sent + 1; line = self.old.line + 1 } }
+    {
+        let fate = self.fate(self.sent + 1, None, to);
+        self.count(1);
+        fate
+    }
+
+    /// Octets that have this first breach on their way to this agent.
+    fn reject(&mut self, to: AgentId, breach: Breach) -> Result<Delivered, NoMemory>
+        requires there { to < length self.old.names }
+        requires room { (lines : ℕ) × (HasRoom self.old lines × (lines < 100000)) }
+        ensures names { self.new.names ≡ self.old.names }
+        ensures rejected { IfOk result (λ d. (p : Point) (count : ℕ) → StandsAt self.old p → IsDelivered self.old self.new p to count (Err (breach_view breach)) d) }
+        ensures named { IfOk result (λ d. NamesAgentsIn self.old.names d) }
+        ensures room_after { IfOk result (λ _. (lines : ℕ) → HasRoom self.old lines → HasRoom self.new (lines + 1)) }
+    {
+        let name = receiver(&self.names, to)?;
+        let fate = self.spoil(to);
+        Ok(Delivered::Rejected(name, fate, breach))
+    }
+
+    /// Hands octets to this agent as a user's message (X.519, section 7): the request that they spell is answered as any other;
+    /// others are told by their first breach, and nothing changes. After want of memory the network isn't used again.
+    pub fn deliver(
+        &mut self,
+        alloc: Global,
+        to: AgentId,
+        octets: &[u8],
+    ) -> Result<Delivered, NoMemory>
+        requires there { to < length self.old.names }
+        requires room { (lines : ℕ) × (HasRoom self.old lines × (lines < 100000)) }
+        ensures names { IfOk result (λ _. self.new.names ≡ self.old.names) }
+        ensures delivered { IfOk result (λ d. (p : Point) → StandsAt self.old p → IsDeliveredAt self.old self.new p to octets.now d) }
+        ensures named { IfOk result (λ d. NamesAgentsIn self.old.names d) }
+        ensures room_after { IfOk result (λ _. (lines : ℕ) → HasRoom self.old lines → HasRoom self.new (lines + 1)) }
+    {
+        match decode_request(alloc, octets) {
+            Ok((_, request)) => {
+                let (reply, journal) = self.ask(alloc, to, &request)?;
+                Ok(Delivered::Answered(reply, journal))
+            }
+            Err(fault) => match breach_of(fault) {
+                Some(breach) => self.reject(to, breach),
+                None => Err(NoMemory),
+            },
+        }
     }
 
     /// An agent is down or up again, a pair is cut or joined again, an agent refuses to chain or is willing again. After want of
