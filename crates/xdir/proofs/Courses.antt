@@ -1,26 +1,29 @@
 -- What came of a command stands for its block of a run: whom messages and reply name are agents of the world, so what is
 -- printed of it is what the definitions print of that block.
-use Rattle.std.proofs.Common.{◌≡◌, ℕ, Bool, true, is_some, List, [], ◌∷◌, refl, sym, ap, subst, ◌∙◌, Some, None, Option, append-nil}
+use Rattle.std.proofs.Common.{◌≡◌, ◌≤◌, ◌<◌, ℕ, zero, suc, Bool, true, false, is_some, List, [], ◌∷◌, length, map, slice_get, refl, sym, ap, subst, ◌∙◌, Some, None, Option, Result, Ok, Err, append-nil, arith}
 use Rattle.std.specs.List.{list_all}
+use Rattle.x5_model.specs.Words.{in_option}
 use Rattle.x5_model.specs.Requests.{Request}
+use Rattle.x5_model.specs.Values.{Name}
 use Rattle.x5_model.proofs.Lists.{both_true, and_true}
 use Rattle.x5_know.specs.Moments.{moment_text}
 use Rattle.x5_model_output.specs.Output as print
 use Rattle.x5_model_output.specs.Output.{names_of}
 use Rattle.x5_model_run.specs.History.{Did, Point}
 use Rattle.x5_model_run.specs.Refresh as refresh
-use Rattle.x5_model_run.specs.Run.{Command, Blank, Asks, Changes, Drops, Updates, Block, Silent, did_by}
+use Rattle.x5_model_run.specs.Run.{Command, Blank, Asks, Changes, Drops, Updates, asked_of, Block, Silent, did_by}
+use Rattle.x5_model_run.specs.Needs.{target_of, new_name}
 use Rattle.x5_model_run.specs.Network.{Outage}
+use Rattle.x5_model_script.specs.Lines.{Asked}
+use Rattle.x5_model_script.specs.Lines as script
+use Rattle.x5_model_settled.specs.Settled.{HasAgent}
+use Rattle.x5_model_settled.specs.Runs.{IsAskable}
+use Rattle.x5_model_typed.specs.Judged.{Breach}
 use Rattle.x5_model_run.specs.Run as model
 use Rattle.x5_model_tree.specs.Consistent.{first_breach, IsConsistent}
 use Rattle.x5_model_world.specs.WorldFile.{File}
 use Rattle.x5_ops.specs.AnswerViews.{reply_view}
-use Rattle.x5_ops.specs.declared.agents.AgentId.{AgentId}
 use Rattle.x5_ops.specs.declared.answers.Reply.{Reply}
-use Rattle.x5_ops.specs.declared.journal.Outage.{Outage as Change}
-use Rattle.x5_ops.specs.declared.requests.Request.{Request as Asking}
-use Rattle.x5_script.specs.declared.command.Command.{Command as Line}
-use Rattle.x5_script.specs.declared.command.Command.TheVariants as lines
 use Rattle.x5_ops.specs.declared.journal.Line.{Line as Message}
 use Rattle.x5_ops.specs.declared.journal.Line.TheVariants.{Msg, Dis, Raw}
 use Rattle.x5_ops.specs.declared.journal.Journal.{Journal}
@@ -30,15 +33,21 @@ use Rattle.x5_ops.specs.RefreshViews.{shadows_view}
 use Rattle.x5_report.specs.Blocks.{block_known, IsJournal}
 use Rattle.x5_report.specs.Blocks as report
 use Rattle.x5_report.specs.declared.report.LineOutcome.{LineOutcome}
-use Rattle.x5_report.specs.declared.report.LineOutcome.TheVariants.{Set, Answered, Plain, NotConsistent}
+use Rattle.x5_report.specs.declared.report.LineOutcome.TheVariants.{Set, Answered, Plain, NotConsistent, Handed, Rejected}
 use Rattle.x5_report.specs.declared.report.LineOutcome.TheVariants as outcomes
+use Rattle.x5_ops.specs.AgentNames.{agent_of}
+use Rattle.x5_ops.specs.declared.journal.Fate.{Fate}
+use Rattle.x5_typed.specs.declared.fault.Breach as typed
 use Rattle.x5_world.specs.Answered.{IsAnswered, NamesAgents, is_agent, line_names_agents}
+use Rattle.x5_world.specs.Delivered.{Comes, IsDelivered, IsDeliveredAt}
+use Rattle.x5_world.specs.declared.delivered.Delivered.TheVariants as delivered
 use Rattle.x5_world.specs.Refreshes.{IsRefreshedAt}
 use Rattle.x5_world.specs.declared.refreshment.Refreshment.{Refreshment}
-use Rattle.x5_world.specs.State.{Net, StandsAt, after}
-use Rattle.x5_model_tree.specs.World.{names_of_agents}
-use Rattle.xdir.specs.Blocks.{Gives, IsTold, IsCourse, IsCarriedOut, IsTextOf, IsBlockText, WritesCourse, WritesBlock}
-use Rattle.xdir.specs.Taken.{IsTaken, point, run_view}
+use Rattle.x5_world.specs.State.{Net, StandsAt, HasShortNames, after}
+use Rattle.x5_model_tree.specs.World.{Agent, World, names_of_agents}
+use Rattle.xdir.specs.Blocks.{Gives, IsTold, IsCourse, IsCarriedOut, IsDelivery, IsDone, IsTextOf, IsAskedText, WritesCourse, WritesBlock}
+use Rattle.x5_script.specs.declared.command.Command.TheVariants as lines
+use Rattle.xdir.specs.Taken.{IsCommand, IsTaken, point}
 use Rattle.xdir.specs.declared.lines.Course.{Course}
 use Rattle.xdir.specs.declared.top.Status.{Status}
 use Rattle.xdir.specs.declared.top.Status.TheVariants.{Done, Refused, Usage, ReadFault, WriteFault, NoMemory, Inconsistent, TooLong}
@@ -177,17 +186,127 @@ pub silent : (p : Point) (command : Command) (net : Net) (o : Option Course) →
     → Gives p command net Silent
 silent p command net o e h = subst (IsCarriedOut p command net) e h
 
--- ---- a comment, where no other line that is taken is left
+-- ---- what was done of what a line asks for
 
-pub passed : (p : Point) (agents : ℕ) (c : Line) (net : Net) → IsTaken agents c
-    → ((to : AgentId) (request : Asking) → c ≡ lines.Ask to request → ⊥) → ((change : Change) → c ≡ lines.Outage change → ⊥)
-    → ((id : ℕ) (push total : Bool) → c ≡ lines.Refresh id push total → ⊥) → ((reply : Bool) (k : ℕ) → c ≡ lines.Lose reply k → ⊥) → StandsAt net (after (did_by Blank Silent) p) → Gives p (run_view c) net Silent
-passed p agents lines.Nothing net taken no_ask no_outage no_refresh no_loss stands = record { is = tt; stands = stands }
-passed p agents (lines.Ask to request) net taken no_ask no_outage no_refresh no_loss stands = absurd (no_ask to request refl)
-passed p agents (lines.Outage change) net taken no_ask no_outage no_refresh no_loss stands = absurd (no_outage change refl)
-passed p agents (lines.Refresh id push total) net taken no_ask no_outage no_refresh no_loss stands = absurd (no_refresh id push total refl)
-passed p agents (lines.Deliver dsp to octets) net taken no_ask no_outage no_refresh no_loss stands = absurd taken
-passed p agents (lines.Lose reply k) net taken no_ask no_outage no_refresh no_loss stands = absurd (no_loss reply k refl)
+-- an agent at a place among the names
+agent_there : (agents : List Agent) (a : ℕ) → a < length (map (λ (x : Agent). x.name) agents) → (x : Agent) × (slice_get agents a ≡ Some x)
+agent_there [] a l = absurd (omega (arith, l))
+agent_there (x ∷ more) zero l = (x, refl)
+agent_there (x ∷ more) (suc a) l = agent_there more a (omega (arith, l))
+
+abbrev both : ℕ → Request → ℕ × Request
+both to r = (to, r)
+
+-- what is asked of an agent of the world may be asked
+asks_one : (w : World) (to : ℕ) (r : Request) → to < length (names_of_agents w) → HasShortNames r.body
+    → (first : ℕ) (q : Request) → Some (both to r) ≡ Some (both first q)
+    → HasAgent w first × (length (target_of q.body) ≤ 16) × ((name : Name) → new_name q.body ≡ Some name → length name ≤ 16)
+asks_one w to r there short first q e =
+    let same : both to r ≡ both first q = ap (λ (o : Option (ℕ × Request)). in_option (both to r) (λ x. x) o) e in
+    subst (λ (x : ℕ × Request). HasAgent w x.0 × (length (target_of x.1.body) ≤ 16)
+    × ((name : Name) → new_name x.1.body ≡ Some name → length name ≤ 16)) same
+    (agent_there w.agents to there, short.target, short.new_name)
+
+-- of the network of a line
+there_in : (net : Net) (p : Point) (to : ℕ) → StandsAt net p → to < length net.names → to < length (names_of_agents p.described)
+there_in net p to s l = subst (λ (names : List (List ℕ)). to < length names) s.names l
+
+-- a command of a run that is none of a user's requests
+module _ (p : Point) (command : Command) (none : asked_of command ≡ None) (net : Net) (o : Option Course) where
+  pub done_as : IsCarriedOut p command net o → IsDone p (script.Runs command) net o
+  done_as carried = record {
+    command = command;
+    is = refl;
+    askable = λ first r e. (let no : None ≡ Some (first, r) = sym none ∙ e in cc);
+    carried = carried;
+  }
+
+pub done_asking : (p : Point) (to : ℕ) (r : Request) (old net : Net) (o : Option Course) → StandsAt old p → to < length old.names
+    → HasShortNames r.body → IsCarriedOut p (Asks to r) net o → IsDone p (script.Runs (Asks to r)) net o
+done_asking p to r old net o s there short carried = record {
+  command = Asks to r;
+  is = refl;
+  askable = asks_one p.described to r (there_in old p to s there) short;
+  carried = carried;
+}
+
+done_handing : (p : Point) (to : ℕ) (octets : List ℕ) (net : Net) (c : Course) → IsDelivery p to octets net c
+    → IsDone p (script.Delivers false to octets) net (Some c)
+done_handing p to octets net c d = record {
+  command = model.Hands to (length octets) d.read;
+  is = (d.read, d.comes, refl);
+  askable = d.askable;
+  carried = d.course;
+}
+
+pub done_delivering : (p : Point) (agents : ℕ) (dsp : Bool) (to : ℕ) (octets : List ℕ) (net : Net) (c : Course) → IsTaken agents (lines.Deliver dsp to octets)
+    → IsDelivery p to octets net c → IsDone p (script.Delivers dsp to octets) net (Some c)
+done_delivering p agents true to octets net c taken d = absurd taken
+done_delivering p agents false to octets net c taken d = done_handing p to octets net c d
+
+-- ---- what came of octets
+
+abbrev handed : Journal → ℕ → Reply → Course
+handed journal count reply = record { journal = journal; outcome = Handed count reply }
+
+abbrev rejected : List ℕ → ℕ → Fate → typed.Breach → Course
+rejected name count fate breach = record {
+  journal = record { lines = []; accepted = [] };
+  outcome = Rejected name count fate breach;
+}
+
+module _ (old new : Net) (p : Point) (to : ℕ) (octets : List ℕ) (s : StandsAt old p) (there : to < length old.names) where
+  abbrev n : ℕ
+  n = length octets
+
+  handed_command : (reply : Reply) (journal : Journal) (r : Request) → IsAnswered old new p to r reply journal
+      → NamesAgents old.names reply journal → IsCourse p (model.Hands to n (Ok r)) new (handed journal n reply)
+  handed_command reply journal r a named =
+      let told : IsTold old.names (model.Hands to n (Ok r)) journal (Handed n reply) (model.Handed n a.whole (reply_view old.names reply)) =
+      (a.whole, (a.lines, a.accepted), refl) in
+      record {
+        block = model.Handed n a.whole (reply_view old.names reply);
+        gives = record { is = (refl, a.asked); stands = a.stands };
+        told = subst (λ (ns : List (List ℕ)). IsTold ns (model.Hands to n (Ok r)) journal (Handed n reply) (model.Handed n a.whole (reply_view old.names reply))) s.names told;
+        known = subst (λ (ns : List (List ℕ)). block_known ns journal (Answered reply) ≡ true) s.names (answer_known old.names reply journal named);
+      }
+
+  pub handed_course : (reply : Reply) (journal : Journal) → IsDeliveredAt old new p to octets (delivered.Answered reply journal)
+      → NamesAgents old.names reply journal → IsDelivery p to octets new (handed journal n reply)
+  handed_course reply journal d named = by d.read d.comes d.short d.delivered
+    where
+      by : (e : Result Request Breach) → Comes octets e → ((r : Request) → e ≡ Ok r → HasShortNames r.body)
+          → IsDelivered old new p to n e (delivered.Answered reply journal) → IsDelivery p to octets new (handed journal n reply)
+      by (Ok r) comes short a = record {
+        read = Ok r;
+        comes = comes;
+        askable = asks_one p.described to r (there_in old p to s there) (short r refl);
+        course = handed_command reply journal r a named;
+      }
+      by (Err b) comes short a = absurd a
+
+  pub rejected_course : (name : List ℕ) (fate : Fate) (breach : typed.Breach) → IsDeliveredAt old new p to octets (delivered.Rejected name fate breach)
+      → is_agent old.names name ≡ true → IsDelivery p to octets new (rejected name n fate breach)
+  rejected_course name fate breach d is = by d.read d.comes d.delivered
+    where
+      by : (e : Result Request Breach) → Comes octets e → IsDelivered old new p to n e (delivered.Rejected name fate breach)
+          → IsDelivery p to octets new (rejected name n fate breach)
+      by (Ok r) comes a = absurd a
+      by (Err b) comes a = record {
+        read = Err b;
+        comes = comes;
+        askable = λ first r e. cc;
+        course = record {
+          block = model.Rejected (model.raw_to p to n) b;
+          gives = record { is = (refl, refl); stands = a.3 };
+          told = (λ i. model.Rejected (record {
+            receiver = (sym a.0 ∙ ap (λ (ns : List (List ℕ)). agent_of ns name) s.names) i;
+            count = n;
+            fate = sym a.1 i;
+          }) (sym a.2 i));
+          known = subst (λ (ns : List (List ℕ)). is_known ns name ≡ true) s.names (named old.names name is);
+        };
+      }
 
 -- ---- what is printed of it
 
@@ -209,6 +328,11 @@ is_text_of f line c text prints = record { prints = λ command b told known. by 
     by j (outcomes.Refreshed number g heard) command b told is =
         is command told.refreshing told.agreement told.lines told.outcome
         ∙ ap (λ (x : Block). print.block_text (names_of f.world (moment_text f.start)) line command x) (sym told.is)
+    by j (Handed count reply) command b told is =
+        is command told.0 told.1
+        ∙ ap (λ (x : Block). print.block_text (names_of f.world (moment_text f.start)) line command x) (sym told.2)
+    by j (Rejected to count fate breach) command b told is =
+        is command ∙ ap (λ (x : Block). print.block_text (names_of f.world (moment_text f.start)) line command x) (sym told)
     by j NotConsistent command b told is =
         is command (refresh.ended [] refresh.NotConsistent) (sym (ap (λ (ls : List Message). shadows_view (names_of_agents f.world) ls) told.0)) refl
         ∙ ap (λ (x : Block). print.block_text (names_of f.world (moment_text f.start)) line command x) (sym told.1)
@@ -219,14 +343,19 @@ pub is_text_at : (f : File) (line : ℕ) (c : Course) (text shown : List ℕ) �
     → IsTextOf f line c shown
 is_text_at f line c text shown e prints = subst (IsTextOf f line c) (sym e) (is_text_of f line c text prints)
 
-module _ (f : File) (past : List Did) (line : ℕ) (command : Command) (net : Net) where
+module _ (f : File) (past : List Did) (line : ℕ) (a : Asked) (command : Command) (net : Net) (is : IsCommand a command)
+    (askable : IsAskable f.world command) where
   block_text_of : (c : Course) → IsCourse (point f.world past) command net c → (text : List ℕ) → IsTextOf f line c text
-      → IsBlockText f past line command net text
-  block_text_of c course text is =
-      record { block = course.block; gives = course.gives; printed = is.prints command course.block course.told course.known }
+      → IsAskedText f past line a net text
+  block_text_of c course text shown = record {
+    command = command;
+    is = is;
+    askable = askable;
+    text_is = record { block = course.block; gives = course.gives; printed = shown.prints command course.block course.told course.known };
+  }
 
   pub writes_course : (c : Course) → IsCourse (point f.world past) command net c → (status : Status) (old new : Option (List ℕ)) (before after : ℕ)
-      → WritesCourse status f line c old new before after → WritesBlock status f past line command net old new before after
+      → WritesCourse status f line c old new before after → WritesBlock status f past line a net old new before after
   writes_course c course Done old new before after w = wrote_more (block_text_of c course) old new w
   writes_course c course WriteFault old new before after w = (w.0, broke_more (block_text_of c course) old new w.1)
   writes_course c course NoMemory old new before after w = w
@@ -238,10 +367,10 @@ module _ (f : File) (past : List Did) (line : ℕ) (command : Command) (net : Ne
 
   -- a comment has no block
   pub writes_nothing : (old : Option (List ℕ)) (before after : ℕ) → Gives (point f.world past) command net Silent
-      → WritesBlock Done f past line command net old old before after
+      → WritesBlock Done f past line a net old old before after
   writes_nothing old before after gives = record {
     text = [];
-    is = record { block = Silent; gives = gives; printed = refl };
+    is = record { command = command; is = is; askable = askable; text_is = record { block = Silent; gives = gives; printed = refl } };
     whole = none_more old;
   }
     where

@@ -1,9 +1,7 @@
 -- What is written of a script over a world, and of the files that hold them.
 use Rattle.std.proofs.Common.{◌≡◌, ◌≤◌, inl, inr, ℕ, List, [], map, length, IsSomeAnd, Option, Some, None, sym, ap, subst, ◌∙◌, Ok, Err, append-nil}
 use Rattle.x5_load.specs.Views.{Loads}
-use Rattle.x5_model_run.specs.Run.{Command}
 use Rattle.x5_model_script.specs.Lines.{Asked}
-use Rattle.x5_model_script.specs.Lines as lines
 use Rattle.x5_model_script.specs.Script.{script_of}
 use Rattle.x5_model_script.specs.Words as words
 use Rattle.x5_model_world.specs.Reading as model
@@ -23,38 +21,29 @@ use Rattle.xdir.specs.declared.top.Status.{Status}
 use Rattle.xdir.specs.declared.top.Status.TheVariants.{Done, Refused, Usage, ReadFault, WriteFault, NoMemory, Inconsistent, TooLong}
 use Rattle.xdir.specs.Faults.{IsWorldLine, IsScriptLine, IsRefusalLine}
 use Rattle.xdir.specs.Outcomes.{IsReadable, most_octets}
-use Rattle.xdir.specs.Run.{lost_in, AsksFor, IsOutput, Runs, RunsSoFar, RefusesFile, no_json, faulty, RefusesWorld, RefusesScript, faulty_line, not_yet, Refuses, Writes, TakesWorld, FilesRead}
+use Rattle.xdir.specs.Run.{lost_in, AsksFor, Runs, RunsSoFar, RefusesFile, no_json, faulty, RefusesWorld, RefusesScript, faulty_line, not_yet, Refuses, Writes, TakesWorld, FilesRead}
 use Rattle.x5_model_tree.specs.World.{names_of_agents}
-use Rattle.xdir.specs.Steps.{IsFirstOutput, WritesSuchLine, WritesRun, IsAskedOutput, IsFirstAskedOutput, IsNotYet, WritesAsked, IsScriptOutput, IsFirstScriptOutput, WritesScript, OfScript, WritesScriptFile, ReadsFile}
+use Rattle.xdir.specs.Steps.{WritesSuchLine, WritesRun, IsAskedOutput, IsFirstAskedOutput, IsNotYet, WritesAsked, IsScriptOutput, IsFirstScriptOutput, WritesScript, OfScript, WritesScriptFile, ReadsFile}
 use Rattle.xdir.proofs.Ends.{ends_more, rose_later, wrote_more, broke_more, such_ends}
 
 -- ---- what is asked for, as it is run
 
-module _ (f : File) (asked : List Asked) (commands : List Command) (are : asked ≡ map lines.Runs commands) where
-  asked_output : (text : List ℕ) → IsOutput f commands text → IsAskedOutput f asked text
-  asked_output text p = record { commands = commands; are = are; prints = p }
-
-  first_asked : (text : List ℕ) → IsFirstOutput f commands text → IsFirstAskedOutput f asked text
-  first_asked text p = record { commands = commands; are = are; first = p }
-
+module _ (f : File) (asked : List Asked) where
   pub nothing : (text : List ℕ) → ⊥ → IsNotYet asked text
   nothing text p = absurd p
 
-  pub runs_asked : (status : Status) (old new : Option (List ℕ)) (before after : ℕ) → WritesRun status f commands old new before after
+  pub runs_asked : (status : Status) (old new : Option (List ℕ)) (before after : ℕ) → WritesRun status f asked old new before after
       → WritesAsked status f asked old new before after
-  runs_asked status old new before after w = ends_more asked_output first_asked nothing status old new before after w
+  runs_asked status old new before after w = ends_more (λ text p. p) (λ text p. p) nothing status old new before after w
 
 -- ---- a script over a world
 
 module _ (f : File) (octets : List ℕ) (asked : List Asked) (asks : AsksFor f.world octets asked) where
-  pub as_commands : (commands : List Command) → asked ≡ map lines.Runs commands → AsksFor f.world octets (map lines.Runs commands)
-  as_commands commands are = asks ∙ ap Ok are
-
   script_output : (text : List ℕ) → IsAskedOutput f asked text → IsScriptOutput f octets text
-  script_output text p = record { commands = p.commands; asked = as_commands p.commands p.are; prints = p.prints }
+  script_output text p = record { asked = asked; asks = asks; prints = p }
 
   first_script : (text : List ℕ) → IsFirstAskedOutput f asked text → IsFirstScriptOutput f octets text
-  first_script text p = record { commands = p.commands; asked = as_commands p.commands p.are; first = p.first }
+  first_script text p = record { asked = asked; asks = asks; first = p }
 
   pub other_line : (text : List ℕ) → IsNotYet asked text → RefusesScript f.world octets text
   other_line text p = not_yet asked p.before asks p.first p.is_line
@@ -133,9 +122,11 @@ module _ (told : Option (List outside.File)) (names : FileNames) (octets : List 
       script_is = p.1;
       file = f;
       described = described;
-      commands = p.2.commands;
-      asked = p.2.asked ∙ ap (λ (c : List Command). Ok (map lines.Runs c)) (sym (append-nil p.2.commands));
-      prints = p.2.prints;
+      asked = p.2.asked;
+      asks = p.2.asks ∙ ap (λ (lines : List Asked). Ok lines) (sym (append-nil p.2.asked));
+      commands = p.2.prints.commands;
+      are = p.2.prints.are;
+      prints = p.2.prints.prints;
     }
 
     first_of : (text : List ℕ) → OfScript told names.script (IsFirstScriptOutput f) text → RunsSoFar told names text
@@ -148,9 +139,11 @@ module _ (told : Option (List outside.File)) (names : FileNames) (octets : List 
         script_is = p.1;
         file = f;
         described = described;
-        commands = p.2.first.first;
-        asked = p.2.asked ∙ ap (λ (c : List Command). Ok (map lines.Runs c)) p.2.first.parts;
-        prints = p.2.first.prints;
+        asked = p.2.first.first;
+        asks = p.2.asks ∙ ap (λ (lines : List Asked). Ok lines) p.2.first.parts;
+        commands = p.2.first.prints.commands;
+        are = p.2.first.prints.are;
+        prints = p.2.first.prints.prints;
       };
     }
 

@@ -3,7 +3,6 @@ use Rattle.std.proofs.Common.{◌≡◌, ◌≤◌, ◌<◌, ◌+◌, ◌++◌, 
 use Rattle.std.specs.List.{AllByRecursion}
 use Rattle.std.proofs.Common.{All}
 use Rattle.std.proofs.lemmas.List.Elements.{All-get_or}
-use Rattle.x5_model_tree.specs.World.{Agent, World}
 use Rattle.x5_model_run.specs.History.{Did}
 use Rattle.x5_model_run.specs.Run.{Command, Block, did_by, IsRun, begin, next}
 use Rattle.x5_model_output.specs.Output.{Names, names_of, block_text, blocks_text}
@@ -14,18 +13,17 @@ use Rattle.x5_port.specs.Outside.{with_octets}
 use Rattle.x5_port.proofs.Octets.{with_octets-with_octets}
 use Rattle.x5_know.specs.Moments.{moment_text}
 use Rattle.x5_model_world.specs.WorldFile.{File}
-use Rattle.x5_script.specs.declared.command.Command.{Command as Asked}
-use Rattle.x5_script.specs.declared.command.Command.TheVariants.{Nothing, Ask, Outage, Refresh, Deliver, Lose}
+use Rattle.x5_model_script.specs.Lines.{Asked}
+use Rattle.x5_script.specs.declared.command.Command.{Command as Line}
 use Rattle.x5_world.specs.State.{Net, StandsAt}
-use Rattle.x5_model_tree.specs.World.{names_of_agents}
 use Rattle.xdir.specs.declared.top.Status.{Status}
 use Rattle.xdir.specs.declared.top.Status.TheVariants.{Done, Refused, Usage, ReadFault, WriteFault, NoMemory, Inconsistent, TooLong}
-use Rattle.xdir.specs.Blocks.{IsBlockText, WritesBlock}
+use Rattle.xdir.specs.Blocks.{IsAskedText, IsBlockText, WritesBlock}
 use Rattle.xdir.specs.Checked.{knowledge_text}
 use Rattle.xdir.specs.Outcomes.{Wrote}
 use Rattle.xdir.specs.Run.{IsOutput}
-use Rattle.xdir.specs.Steps.{IsFirstOutput, Prints, WritesRun}
-use Rattle.xdir.specs.Taken.{IsTaken, point, run_view}
+use Rattle.xdir.specs.Steps.{IsAskedOutput, IsFirstAskedOutput, Prints, WritesRun}
+use Rattle.xdir.specs.Taken.{AreCommands, IsCommand, IsTaken, point}
 use Rattle.xdir.proofs.Ends.{rose_later, took_after}
 use Rattle.xdir.proofs.Sound.{knowledge_is}
 
@@ -98,79 +96,109 @@ module _ (f : File) (commands : List Command) (net : Net) (text : List ℕ) (far
         octets_are = far.printed ∙ ap (λ (line : List ℕ). line ++ blocks_text (printing f) 1 commands far.blocks) (knowledge_is f);
       })
 
--- ---- which commands are taken
+-- ---- which lines are taken
 
--- an agent at a place among the names
-agent_there : (agents : List Agent) (a : ℕ) → a < length (map (λ (x : Agent). x.name) agents) → (x : Agent) × (slice_get agents a ≡ Some x)
-agent_there [] a l = absurd (omega (arith, l))
-agent_there (x ∷ more) zero l = (x, refl)
-agent_there (x ∷ more) (suc a) l = agent_there more a (omega (arith, l))
-
-askable : (w : World) (c : Asked) → IsTaken (length (names_of_agents w)) c → IsAskable w (run_view c)
-askable w Nothing t = tt
-askable w (Ask to request) t = (agent_there w.agents to t.0, t.1.target, t.1.new_name)
-askable w (Outage change) t = tt
-askable w (Refresh id push total) t = tt
-askable w (Deliver dsp to octets) t = tt
-askable w (Lose reply k) t = tt
-
-pub taken_at : (agents : ℕ) (commands : List Asked) (i : ℕ) (c : Asked) → i < length commands → c ≡ get_or commands i c
+pub taken_at : (agents : ℕ) (commands : List Line) (i : ℕ) (c : Line) → i < length commands → c ≡ get_or commands i c
     → All (IsTaken agents) commands → IsTaken agents c
 taken_at agents commands i c within is all =
-    subst (λ (x : Asked). IsTaken agents x) (sym is) (All-get_or (IsTaken agents) commands i c within all)
+    subst (λ (x : Line). IsTaken agents x) (sym is) (All-get_or (IsTaken agents) commands i c within all)
 
--- so many agents has the world of the network
-pub as_many_agents : (net : Net) (w : World) (past : List Did) → StandsAt net (point w past) → length net.names ≡ length (names_of_agents w)
-as_many_agents net w past stands = ap (λ (names : List (List ℕ)). length names) stands.names
+-- ---- lines as commands
 
-pub askable_at : (net : Net) (w : World) (past : List Did) → StandsAt net (point w past) → (c : Asked) → IsTaken (length net.names) c
-    → IsAskable w (run_view c)
-askable_at net w past stands c t = askable w c (subst (λ (n : ℕ). IsTaken n c) (as_many_agents net w past stands) t)
+pub commands_more : (asked : List Asked) (commands : List Command) (a : Asked) (c : Command) → AreCommands asked commands → IsCommand a c
+    → AreCommands (asked ++ a ∷ []) (commands ++ c ∷ [])
+commands_more [] [] a c are is = (is, tt)
+commands_more [] (d ∷ ds) a c are is = absurd are
+commands_more (b ∷ bs) [] a c are is = absurd are
+commands_more (b ∷ bs) (d ∷ ds) a c are is = (are.0, commands_more bs ds a c are.1 is)
+
+as_many_commands : (asked : List Asked) (commands : List Command) → AreCommands asked commands → length asked ≡ length commands
+as_many_commands [] [] are = refl
+as_many_commands [] (d ∷ ds) are = absurd are
+as_many_commands (b ∷ bs) [] are = absurd are
+as_many_commands (b ∷ bs) (d ∷ ds) are = ap suc (as_many_commands bs ds are.1)
 
 -- ---- the output so far, of which the text was written
 
-pub record IsSoFar (f : File) (commands : List Command) (net : Net) (old now : Option (List ℕ)) : Type 0 where
+pub record IsSoFar (f : File) (asked : List Asked) (net : Net) (old now : Option (List ℕ)) : Type 0 where
+  pub commands : List Command
+  pub are : AreCommands asked commands
   pub text : List ℕ
   pub is_text : IsText f commands net text
   pub whole : now ≡ with_octets text old
 
--- what is written of the next command
-abbrev pub WritesNext : Status → File → ℕ → Command → Net → Net → Option (List ℕ) → Option (List ℕ) → ℕ → ℕ → Type 0
-WritesNext status f line command net later old new before after =
-    (past : List Did) → StandsAt net (point f.world past) → WritesBlock status f past line command later old new before after
+-- what is written of the next line
+abbrev pub WritesNext : Status → File → ℕ → Asked → Net → Net → Option (List ℕ) → Option (List ℕ) → ℕ → ℕ → Type 0
+WritesNext status f line asked net later old new before after =
+    (past : List Did) → StandsAt net (point f.world past) → WritesBlock status f past line asked later old new before after
 
-pub so_far_more : (f : File) (commands : List Command) (command : Command) (net later : Net) (old mid new : Option (List ℕ)) (before after : ℕ)
-    → IsAskable f.world command → IsSoFar f commands net old mid
-    → WritesNext Done f (length commands + 1) command net later mid new before after → IsSoFar f (commands ++ command ∷ []) later old new
-so_far_more f commands command net later old mid new before after askable far writes =
+-- one line more
+module _ (f : File) (asked : List Asked) (net : Net) (old now : Option (List ℕ)) (far : IsSoFar f asked net old now) (a : Asked) where
+  pub line_more : (later : Net) (block : List ℕ) (b : IsAskedText f far.is_text.past (length asked + 1) a later block)
+      → IsText f (far.commands ++ b.command ∷ []) later (far.text ++ block)
+  line_more later block b =
+      one_more f far.commands net far.text far.is_text b.command later block b.askable
+      (subst (λ (n : ℕ). IsBlockText f far.is_text.past (n + 1) b.command later block)
+      (as_many_commands asked far.commands far.are) b.text_is)
+
+  pub output_more : (later : Net) (block : List ℕ) → IsAskedText f far.is_text.past (length asked + 1) a later block
+      → IsAskedOutput f (asked ++ a ∷ []) (far.text ++ block)
+  output_more later block b = record {
+    commands = far.commands ++ b.command ∷ [];
+    are = commands_more asked far.commands a b.command far.are b.is;
+    prints = is_output f (far.commands ++ b.command ∷ []) later (far.text ++ block) (line_more later block b);
+  }
+
+  pub output_so_far : IsAskedOutput f asked far.text
+  output_so_far =
+      record { commands = far.commands; are = far.are; prints = is_output f far.commands net far.text far.is_text }
+
+pub so_far_more : (f : File) (asked : List Asked) (a : Asked) (net later : Net) (old mid new : Option (List ℕ)) (before after : ℕ)
+    → IsSoFar f asked net old mid
+    → WritesNext Done f (length asked + 1) a net later mid new before after → IsSoFar f (asked ++ a ∷ []) later old new
+so_far_more f asked a net later old mid new before after far writes =
     let wrote = writes far.is_text.past far.is_text.stands in
     record {
+      commands = far.commands ++ wrote.is.command ∷ [];
+      are = commands_more asked far.commands a wrote.is.command far.are wrote.is.is;
       text = far.text ++ wrote.text;
-      is_text = one_more f commands net far.text far.is_text command later wrote.text askable wrote.is;
+      is_text = line_more f asked net old mid far a later wrote.text wrote.is;
       whole = wrote.whole ∙ ap (λ (taken : Option (List ℕ)). with_octets wrote.text taken) far.whole ∙ with_octets-with_octets far.text wrote.text old;
     }
 
-pub first_output : (f : File) (net : Net) (commands first rest : List Command) (text : List ℕ) → commands ≡ first ++ rest → IsText f first net text
-    → IsFirstOutput f commands text
-first_output f net commands first rest text parts is =
-    record { first = first; rest = rest; parts = parts; prints = is_output f first net text is }
+-- before the first line
+pub none_asked : (f : File) (net : Net) (text : List ℕ) (old now : Option (List ℕ)) → StandsAt net (point f.world [])
+    → text ≡ knowledge_text f.world → now ≡ with_octets text old → IsSoFar f [] net old now
+none_asked f net text old now stands e whole =
+    record { commands = []; are = tt; text = text; is_text = of_nothing f net text stands e; whole = whole }
+
+pub first_output : (f : File) (asked first rest : List Asked) (text : List ℕ) → asked ≡ first ++ rest → IsAskedOutput f first text
+    → IsFirstAskedOutput f asked text
+first_output f asked first rest text parts prints =
+    record { first = first; rest = rest; parts = parts; prints = prints }
+
+pub no_output : (f : File) (asked : List Asked) (net : Net) (text : List ℕ) → StandsAt net (point f.world [])
+    → text ≡ knowledge_text f.world → IsFirstAskedOutput f asked text
+no_output f asked net text stands e =
+    first_output f asked [] asked text refl
+    (record { commands = []; are = tt; prints = is_output f [] net text (of_nothing f net text stands e) })
 
 -- a block that can't be written ends the run
-module _ (f : File) (commands first : List Command) (command : Command) (rest : List Command) (parts : commands ≡ first ++ command ∷ rest) (askable : IsAskable f.world command) where
+module _ (f : File) (asked first : List Asked) (a : Asked) (rest : List Asked) (parts : asked ≡ first ++ a ∷ rest) where
   stopped : (status : Status) (net later : Net) (old mid new : Option (List ℕ)) (begun before after : ℕ) → (status ≡ Done → ⊥) → begun ≤ before
-      → (far : IsSoFar f first net old mid) → WritesBlock status f far.is_text.past (length first + 1) command later mid new before after
-      → WritesRun status f commands old new begun after
+      → (far : IsSoFar f first net old mid) → WritesBlock status f far.is_text.past (length first + 1) a later mid new before after
+      → WritesRun status f asked old new begun after
   stopped Done net later old mid new begun before after n le far w = absurd (n refl)
   stopped WriteFault net later old mid new begun before after n le far w = (
     rose_later begun before after le w.0,
     record {
       text = far.text ++ w.1.text;
-      is = inl (first_output f later commands (first ++ command ∷ []) rest (far.text ++ w.1.text) (parts ∙ sym (append_assoc first (command ∷ []) rest)) (one_more f first net far.text far.is_text command later w.1.text askable w.1.is));
+      is = inl (first_output f asked (first ++ a ∷ []) rest (far.text ++ w.1.text) (parts ∙ sym (append_assoc first (a ∷ []) rest)) (output_more f first net old mid far a later w.1.text w.1.is));
       part = took_after far.text w.1.text old mid new far.whole w.1.part;
     },
   )
   stopped NoMemory net later old mid new begun before after n le far w =
-      inr (record { text = far.text; is = first_output f net commands first (command ∷ rest) far.text parts far.is_text; whole = w ∙ far.whole })
+      inr (record { text = far.text; is = first_output f asked first (a ∷ rest) far.text parts (output_so_far f first net old mid far a); whole = w ∙ far.whole })
   stopped Refused net later old mid new begun before after n le far w = absurd w
   stopped Usage net later old mid new begun before after n le far w = absurd w
   stopped ReadFault net later old mid new begun before after n le far w = absurd w
@@ -178,28 +206,31 @@ module _ (f : File) (commands first : List Command) (command : Command) (rest : 
   stopped TooLong net later old mid new begun before after n le far w = absurd w
 
   pub writes_stopped : (status : Status) (net later : Net) (old mid new : Option (List ℕ)) (begun before after : ℕ) → (status ≡ Done → ⊥) → begun ≤ before
-      → IsSoFar f first net old mid → WritesNext status f (length first + 1) command net later mid new before after
-      → WritesRun status f commands old new begun after
+      → IsSoFar f first net old mid → WritesNext status f (length first + 1) a net later mid new before after
+      → WritesRun status f asked old new begun after
   writes_stopped status net later old mid new begun before after n le far writes =
       stopped status net later old mid new begun before after n le far (writes far.is_text.past far.is_text.stands)
 
--- all commands are done
-pub writes_all : (f : File) (commands : List Command) (net : Net) (old new : Option (List ℕ)) → IsSoFar f commands net old new → Wrote (IsOutput f commands) old new
-writes_all f commands net old new far =
-    record { text = far.text; is = is_output f commands net far.text far.is_text; whole = far.whole }
+-- all lines are done
+pub writes_all : (f : File) (asked : List Asked) (net : Net) (old new : Option (List ℕ)) → IsSoFar f asked net old new → Wrote (IsAskedOutput f asked) old new
+writes_all f asked net old new far = record {
+  text = far.text;
+  is = record { commands = far.commands; are = far.are; prints = is_output f far.commands net far.text far.is_text };
+  whole = far.whole;
+}
 
-prints_block : (status : Status) (f : File) (past : List Did) (line : ℕ) (command : Command) (net : Net) (old new : Option (List ℕ)) (before after : ℕ)
-    → WritesBlock status f past line command net old new before after → Prints status
-prints_block Done f past line command net old new before after w = tt
-prints_block WriteFault f past line command net old new before after w = tt
-prints_block NoMemory f past line command net old new before after w = tt
-prints_block Refused f past line command net old new before after w = absurd w
-prints_block Usage f past line command net old new before after w = w
-prints_block ReadFault f past line command net old new before after w = w
-prints_block Inconsistent f past line command net old new before after w = w
-prints_block TooLong f past line command net old new before after w = w
+prints_block : (status : Status) (f : File) (past : List Did) (line : ℕ) (a : Asked) (net : Net) (old new : Option (List ℕ)) (before after : ℕ)
+    → WritesBlock status f past line a net old new before after → Prints status
+prints_block Done f past line a net old new before after w = tt
+prints_block WriteFault f past line a net old new before after w = tt
+prints_block NoMemory f past line a net old new before after w = tt
+prints_block Refused f past line a net old new before after w = absurd w
+prints_block Usage f past line a net old new before after w = w
+prints_block ReadFault f past line a net old new before after w = w
+prints_block Inconsistent f past line a net old new before after w = w
+prints_block TooLong f past line a net old new before after w = w
 
-pub prints_next : (status : Status) (f : File) (command : Command) (commands : List Command) (line : ℕ) (net later : Net) (old mid new : Option (List ℕ)) (before after : ℕ)
-    → IsSoFar f commands net old mid → WritesNext status f line command net later mid new before after → Prints status
-prints_next status f command commands line net later old mid new before after far writes =
-    prints_block status f far.is_text.past line command later mid new before after (writes far.is_text.past far.is_text.stands)
+pub prints_next : (status : Status) (f : File) (a : Asked) (asked : List Asked) (line : ℕ) (net later : Net) (old mid new : Option (List ℕ)) (before after : ℕ)
+    → IsSoFar f asked net old mid → WritesNext status f line a net later mid new before after → Prints status
+prints_next status f a asked line net later old mid new before after far writes =
+    prints_block status f far.is_text.past line a later mid new before after (writes far.is_text.past far.is_text.stands)

@@ -1,9 +1,7 @@
 -- What is written of the summary of a script over a world, and of the files that hold them.
 use Rattle.std.proofs.Common.{◌≡◌, inl, inr, ◌⊎◌, ℕ, List, map, Option, sym, ap, ◌∙◌, Ok, Err, append-nil}
 use Rattle.x5_load.specs.Views.{Loads}
-use Rattle.x5_model_run.specs.Run.{Command}
 use Rattle.x5_model_script.specs.Lines.{Asked}
-use Rattle.x5_model_script.specs.Lines as lines
 use Rattle.x5_model_world.specs.WorldFile.{File, Describes}
 use Rattle.x5_port.specs.Outside as outside
 use Rattle.x5_port.specs.Outside.{IsContent}
@@ -17,9 +15,9 @@ use Rattle.xdir.specs.Faults.{IsWorldLine, IsRefusalLine}
 use Rattle.xdir.specs.Run.{lost_in, AsksFor}
 use Rattle.x5_model_tree.specs.World.{names_of_agents}
 use Rattle.xdir.specs.Steps.{WritesSuchLine, OfScript}
-use Rattle.xdir.specs.Summed.{IsSummary, Sums, EndsAtOnce, WritesSummed, SumsRun, IsAskedSummary, SumsAsked, IsScriptSummary, SumsScript, SumsScriptFile}
+use Rattle.xdir.specs.Summed.{Sums, EndsAtOnce, WritesSummed, SumsRun, IsAskedSummary, SumsAsked, IsScriptSummary, SumsScript, SumsScriptFile}
 use Rattle.xdir.proofs.Ends.{wrote_more, broke_more}
-use Rattle.xdir.proofs.Files.{nothing, as_commands, other_line, refused_as, refusal_of, wrong_as}
+use Rattle.xdir.proofs.Files.{nothing, other_line, refused_as, refusal_of, wrong_as}
 
 -- what is said of the texts may say less
 module _ {output refusal output' refusal' : List ℕ → Type 0} (out : (text : List ℕ) → output text → output' text) (refuse : (text : List ℕ) → refusal text → refusal' text) where
@@ -53,19 +51,15 @@ module _ {P Q : List ℕ → Type 0} (more : (text : List ℕ) → P text → Q 
 
 -- ---- what is asked for, and a script
 
-module _ (f : File) (asked : List Asked) (commands : List Command) (are : asked ≡ map lines.Runs commands) where
-  asked_summary : (text : List ℕ) → IsSummary f commands text → IsAskedSummary f asked text
-  asked_summary text s = record { commands = commands; are = are; sums = s }
-
-  pub sums_asked : (status : Status) (old new : Option (List ℕ)) (before after : ℕ) → SumsRun status f commands old new before after
+module _ (f : File) (asked : List Asked) where
+  pub sums_asked : (status : Status) (old new : Option (List ℕ)) (before after : ℕ) → SumsRun status f asked old new before after
       → SumsAsked status f asked old new before after
   sums_asked status old new before after w =
-      at_once_more asked_summary (nothing f asked commands are) status old new before after w
+      at_once_more (λ text s. s) (nothing f asked) status old new before after w
 
 module _ (f : File) (octets : List ℕ) (asked : List Asked) (asks : AsksFor f.world octets asked) where
   script_summary : (text : List ℕ) → IsAskedSummary f asked text → IsScriptSummary f octets text
-  script_summary text s =
-      record { commands = s.commands; asked = as_commands f octets asked asks s.commands s.are; sums = s.sums }
+  script_summary text s = record { asked = asked; asks = asks; sums = s }
 
   pub sums_script : (status : Status) (old new : Option (List ℕ)) (before after : ℕ) → SumsAsked status f asked old new before after
       → SumsScript status f octets old new before after
@@ -91,7 +85,7 @@ module _ (told : Option (List outside.File)) (names : FileNames) (octets : List 
   module _ (f : File) (described : Describes octets (Ok f)) where
     summary_of_files : (text : List ℕ) → OfScript told names.script (IsScriptSummary f) text → Sums told names text
     summary_of_files text p = record {
-      output = p.2.sums.output;
+      output = p.2.sums.sums.output;
       runs = record {
         world = octets;
         script = p.0;
@@ -99,11 +93,13 @@ module _ (told : Option (List outside.File)) (names : FileNames) (octets : List 
         script_is = p.1;
         file = f;
         described = described;
-        commands = p.2.commands;
-        asked = p.2.asked ∙ ap (λ (c : List Command). Ok (map lines.Runs c)) (sym (append-nil p.2.commands));
-        prints = p.2.sums.prints;
+        asked = p.2.asked;
+        asks = p.2.asks ∙ ap (λ (lines : List Asked). Ok lines) (sym (append-nil p.2.asked));
+        commands = p.2.sums.commands;
+        are = p.2.sums.are;
+        prints = p.2.sums.sums.prints;
       };
-      sums_up = p.2.sums.sums_up;
+      sums_up = p.2.sums.sums.sums_up;
     }
 
     pub sums_files : (status : Status) (old new : Option (List ℕ)) (before after : ℕ) → SumsScriptFile status told names.script f old new before after

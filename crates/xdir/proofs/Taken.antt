@@ -1,36 +1,28 @@
--- Where no line asks for what no run does so far, each is a comment, a request to an agent that has a name, an outage, a loss, or a
--- refresh.
+-- Where no line asks for what no run does so far, each is a comment, a request or octets to an agent that has a name, an outage, a
+-- loss, or a refresh.
 use Rattle.std.proofs.Common.{◌≡◌, ℕ, ◌+◌, ◌<◌, ◌≤◌, Bool, true, false, cond, not, nat_lt, All, List, [], ◌∷◌, length, map, None, Some, refl, ap, ap₂, ◌∙◌, arith}
 use Rattle.std.proofs.lemmas.List.Elements.{All-nil, All-cons, All-head, All-tail}
 use Rattle.std.proofs.lemmas.List.{length-map}
 use Rattle.std.specs.List.{position, position_or_len}
 use Rattle.x5_model_script.proofs.Places.{position_some, position_none}
 use Rattle.x5_model_script.specs.Lines.{Asked}
-use Rattle.x5_model_script.specs.Lines as lines
 use Rattle.x5_model_script.specs.Named.{AreNamed}
 use Rattle.x5_script.specs.Views.{command_view}
 use Rattle.x5_script.specs.declared.command.Command.{Command}
 use Rattle.x5_script.specs.declared.command.Command.TheVariants.{Nothing, Ask, Outage, Refresh, Deliver, Lose}
 use Rattle.xdir.specs.Run.{is_other}
-use Rattle.xdir.specs.Taken.{AsksShortNames, IsTaken, command_of, run_view}
+use Rattle.xdir.specs.Taken.{AsksShortNames, IsTaken}
 
 -- one line
 taken : (names : List (List ℕ)) (c : Command) → is_other (command_view c) ≡ false → AreNamed names (command_view c)
-    → AsksShortNames (run_view c) → IsTaken (length names) c
+    → AsksShortNames (command_view c) → IsTaken (length names) c
 taken names Nothing other_no named short = tt
 taken names (Ask to request) other_no named short = (All-head (λ a. a < length names) to [] named, short)
 taken names (Outage change) other_no named short = tt
 taken names (Refresh id push total) other_no named short = tt
-taken names (Deliver dsp to octets) other_no named short = cc
+taken names (Deliver true to octets) other_no named short = cc
+taken names (Deliver false to octets) other_no named short = All-head (λ a. a < length names) to [] named
 taken names (Lose reply k) other_no named short = tt
-
-as_run : (c : Command) → is_other (command_view c) ≡ false → command_view c ≡ lines.Runs (run_view c)
-as_run Nothing other_no = refl
-as_run (Ask to request) other_no = refl
-as_run (Outage change) other_no = refl
-as_run (Refresh id push total) other_no = refl
-as_run (Deliver dsp to octets) other_no = cc
-as_run (Lose reply k) other_no = refl
 
 -- all of them
 abbrev other : Command → Bool
@@ -40,31 +32,19 @@ far_step : (b : Bool) (n k : ℕ) → n + 1 ≤ cond (not b) (1 + k) 0 → (b �
 far_step true n k l = absurd (omega (arith, l))
 far_step false n k l = (refl, omega (arith, l))
 
-abbrev IsShort : Asked → Type 0
-IsShort a = AsksShortNames (command_of a)
-
 far_taken : (names : List (List ℕ)) (cs : List Command) → length cs ≤ position_or_len other cs → All (AreNamed names) (map command_view cs)
-    → All IsShort (map command_view cs) → All (IsTaken (length names)) cs
+    → All AsksShortNames (map command_view cs) → All (IsTaken (length names)) cs
 far_taken names [] far named short = All-nil (IsTaken (length names))
 far_taken names (c ∷ cs) far named short =
     let n = far_step (other c) (length cs) (position_or_len other cs) (omega (arith, far)) in
     let rest = map command_view cs in
     All-cons (IsTaken (length names)) c cs
-    (taken names c n.0 (All-head (AreNamed names) (command_view c) rest named) (All-head IsShort (command_view c) rest short))
-    (far_taken names cs n.1 (All-tail (AreNamed names) (command_view c) rest named) (All-tail IsShort (command_view c) rest short))
+    (taken names c n.0 (All-head (AreNamed names) (command_view c) rest named) (All-head AsksShortNames (command_view c) rest short))
+    (far_taken names cs n.1 (All-tail (AreNamed names) (command_view c) rest named) (All-tail AsksShortNames (command_view c) rest short))
 
 pub all_taken : (names : List (List ℕ)) (cs : List Command) → position other cs ≡ None → All (AreNamed names) (map command_view cs)
-    → All IsShort (map command_view cs) → All (IsTaken (length names)) cs
+    → All AsksShortNames (map command_view cs) → All (IsTaken (length names)) cs
 all_taken names cs none named short = far_taken names cs (position_none other cs none) named short
-
-far_run : (cs : List Command) → length cs ≤ position_or_len other cs → map command_view cs ≡ map lines.Runs (map run_view cs)
-far_run [] far = refl
-far_run (c ∷ cs) far =
-    let n = far_step (other c) (length cs) (position_or_len other cs) (omega (arith, far)) in
-    ap₂ (λ (x : Asked) (xs : List Asked). x ∷ xs) (as_run c n.0) (far_run cs n.1)
-
-pub all_run : (cs : List Command) → position other cs ≡ None → map command_view cs ≡ map lines.Runs (map run_view cs)
-all_run cs none = far_run cs (position_none other cs none)
 
 -- a line's place is the place of what it asks for
 same_place : (cs : List Command) → position_or_len is_other (map command_view cs) ≡ position_or_len other cs

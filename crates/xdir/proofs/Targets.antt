@@ -24,7 +24,7 @@ use Rattle.x5_model_text.specs.NameText.{NameFault, TooManyRdns, sorted, rdn_at,
 use Rattle.x5_model_tree.specs.Described.{most_lost_replies}
 use Rattle.x5_names.specs.Reading.{stored_name_of_text}
 use Rattle.x5_world.specs.State.{HasShortNames}
-use Rattle.xdir.specs.Taken.{command_of, AsksShortNames}
+use Rattle.xdir.specs.Taken.{AsksShortNames}
 
 -- ---- names that are read
 
@@ -216,7 +216,7 @@ operation_short left = whatever IsOperation (next left) _ (λ w. by_word w.0 w.1
 -- ---- lines
 
 abbrev IsShortLine : Asked → Type 0
-IsShortLine a = AsksShortNames (command_of a)
+IsShortLine a = AsksShortNames a
 
 request_short : (names : List Text) (left : Left) → IfOk (lines.request names left) IsShortLine
 request_short names left =

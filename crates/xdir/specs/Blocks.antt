@@ -1,6 +1,8 @@
 -- What comes of one command of a run, by what agents do with a request (X.518, sections 17 to 21), and what is written
 -- of it.
-use Rattle.std.specs.Prelude.{◌≡◌, ℕ, Bool, true, List, [], Option, None, Some}
+use Rattle.std.specs.Prelude.{◌≡◌, ℕ, Bool, true, List, [], length, Option, None, Some}
+use Rattle.std.specs.declared.result.Result.{Result}
+use Rattle.x5_model.specs.Requests.{Request}
 use Rattle.x5_know.specs.Moments.{moment_text}
 use Rattle.x5_model_output.specs.Output.{names_of, number_of, block_text}
 use Rattle.x5_model_run.specs.History.{Did, Point}
@@ -8,21 +10,26 @@ use Rattle.x5_model_run.specs.Run as model
 use Rattle.x5_model_run.specs.Run.{Command, Block, Silent, did_by}
 use Rattle.x5_model_run.specs.Journal as messages
 use Rattle.x5_model_run.specs.Refresh as refresh
+use Rattle.x5_model_script.specs.Lines.{Asked}
 use Rattle.x5_model_settled.specs.Held.{BySteps}
+use Rattle.x5_model_settled.specs.Runs.{IsAskable}
+use Rattle.x5_model_typed.specs.Judged.{Breach}
 use Rattle.x5_model_world.specs.WorldFile.{File}
 use Rattle.x5_ops.specs.AnswerViews.{reply_view}
 use Rattle.x5_ops.specs.RefreshViews.{shadows_view, refreshed_view}
 use Rattle.x5_ops.specs.declared.journal.Journal.{Journal}
 use Rattle.x5_ops.specs.declared.journal.Refreshed.{Refreshed}
 use Rattle.x5_port.specs.Outside.{Rose}
-use Rattle.x5_report.specs.Blocks.{block_known, IsJournal}
+use Rattle.x5_report.specs.Blocks.{block_known, raw_of, IsJournal}
 use Rattle.x5_report.specs.declared.report.LineOutcome.{LineOutcome}
-use Rattle.x5_report.specs.declared.report.LineOutcome.TheVariants.{Set, Answered, Plain, NotConsistent}
+use Rattle.x5_report.specs.declared.report.LineOutcome.TheVariants.{Set, Answered, Plain, NotConsistent, Handed, Rejected}
 use Rattle.x5_report.specs.declared.report.LineOutcome.TheVariants as outcomes
+use Rattle.x5_typed.specs.Breaches.{breach_view}
+use Rattle.x5_world.specs.Delivered.{Comes}
 use Rattle.x5_world.specs.State.{Net, StandsAt, after}
 use Rattle.x5_model_tree.specs.World.{names_of_agents}
 use Rattle.xdir.specs.Outcomes.{Wrote, Broke}
-use Rattle.xdir.specs.Taken.{point}
+use Rattle.xdir.specs.Taken.{IsCommand, point}
 use Rattle.xdir.specs.declared.lines.Course.{Course}
 use Rattle.xdir.specs.declared.top.Status.{Status}
 use Rattle.xdir.specs.declared.top.Status.TheVariants.{Done, Refused, Usage, ReadFault, WriteFault, NoMemory}
@@ -52,6 +59,10 @@ IsTold names command j (Plain reply) b = ⊥
 IsTold names command j (outcomes.Refreshed number f heard) b = IsRefresh names command j number f heard b
 IsTold names command j NotConsistent b =
     (j.lines ≡ []) × (b ≡ model.Refreshing (refresh.ended [] refresh.NotConsistent))
+IsTold names command j (Handed count reply) b =
+    (m : messages.Journal) × IsJournal names j m × (b ≡ model.Handed count m (reply_view names reply))
+IsTold names command j (Rejected to count fate breach) b =
+    b ≡ model.Rejected (raw_of names to count fate) (breach_view breach)
 
 -- what came of a command: of a comment nothing is told
 pub record IsCourse (p : Point) (command : Command) (net : Net) (c : Course) : Type 0 where
@@ -63,6 +74,20 @@ pub record IsCourse (p : Point) (command : Command) (net : Net) (c : Course) : T
 abbrev pub IsCarriedOut : Point → Command → Net → Option Course → Type 0
 IsCarriedOut p command net None = Gives p command net Silent
 IsCarriedOut p command net (Some c) = IsCourse p command net c
+
+-- what came of octets that are handed to an agent, by what they come to
+pub record IsDelivery (p : Point) (to : ℕ) (octets : List ℕ) (net : Net) (c : Course) : Type 0 where
+  pub read : Result Request Breach
+  pub comes : Comes octets read
+  pub askable : IsAskable p.described (model.Hands to (length octets) read)
+  pub course : IsCourse p (model.Hands to (length octets) read) net c
+
+-- what a line asks for was done, as this command
+pub record IsDone (p : Point) (asked : Asked) (net : Net) (o : Option Course) : Type 0 where
+  pub command : Command
+  pub is : IsCommand asked command
+  pub askable : IsAskable p.described command
+  pub carried : IsCarriedOut p command net o
 
 -- The text is what is printed of what came of a command in this line: the block of it in a run.
 pub record IsTextOf (f : File) (line : ℕ) (c : Course) (text : List ℕ) : Type 0 where
@@ -88,15 +113,23 @@ pub record IsBlockText (f : File) (past : List Did) (line : ℕ) (command : Comm
   pub gives : Gives (point f.world past) command net block
   pub printed : text ≡ block_text (names_of f.world (moment_text f.start)) line command block
 
--- what is written of a command's block
-abbrev pub WritesBlock : Status → File → List Did → ℕ → Command → Net → Option (List ℕ) → Option (List ℕ) → ℕ → ℕ →
+-- it's that of the command that a line asks for
+pub record IsAskedText (f : File) (past : List Did) (line : ℕ) (asked : Asked) (net : Net) (text : List ℕ) : Type 0
+  where
+    pub command : Command
+    pub is : IsCommand asked command
+    pub askable : IsAskable f.world command
+    pub text_is : IsBlockText f past line command net text
+
+-- what is written of a line's block
+abbrev pub WritesBlock : Status → File → List Did → ℕ → Asked → Net → Option (List ℕ) → Option (List ℕ) → ℕ → ℕ →
     Type 0
-WritesBlock Done f past line command net old new before after = Wrote (IsBlockText f past line command net) old new
-WritesBlock WriteFault f past line command net old new before after =
-    Rose before after × Broke (IsBlockText f past line command net) old new
-WritesBlock NoMemory f past line command net old new before after = new ≡ old
-WritesBlock Refused f past line command net old new before after = ⊥
-WritesBlock Usage f past line command net old new before after = ⊥
-WritesBlock ReadFault f past line command net old new before after = ⊥
-WritesBlock Inconsistent f past line command net old new before after = ⊥
-WritesBlock TooLong f past line command net old new before after = ⊥
+WritesBlock Done f past line asked net old new before after = Wrote (IsAskedText f past line asked net) old new
+WritesBlock WriteFault f past line asked net old new before after =
+    Rose before after × Broke (IsAskedText f past line asked net) old new
+WritesBlock NoMemory f past line asked net old new before after = new ≡ old
+WritesBlock Refused f past line asked net old new before after = ⊥
+WritesBlock Usage f past line asked net old new before after = ⊥
+WritesBlock ReadFault f past line asked net old new before after = ⊥
+WritesBlock Inconsistent f past line asked net old new before after = ⊥
+WritesBlock TooLong f past line asked net old new before after = ⊥

@@ -1,5 +1,5 @@
 -- What `run WORLD SCRIPT` reads and writes, by how it ends. The headline is `Runs`.
-use Rattle.std.specs.Prelude.{◌≡◌, ℕ, ◌+◌, ◌⊎◌, Bool, true, false, List, [], ◌++◌, length, map, Option, Some, Ok}
+use Rattle.std.specs.Prelude.{◌≡◌, ℕ, ◌+◌, ◌⊎◌, Bool, false, List, [], ◌++◌, length, Option, Some, Ok}
 use Rattle.std.specs.Prelude.{Err, ⊤}
 use Rattle.std.specs.List.{position}
 use Rattle.x5_know.specs.Moments.{moment_text}
@@ -17,6 +17,7 @@ use Rattle.x5_port.specs.Outside as outside
 use Rattle.x5_port.specs.Outside.{IsContent, IsLonger, Rose}
 use Rattle.x5_words.specs.Forms.{FileNames}
 use Rattle.xdir.specs.Outcomes.{most_octets, Wrote, Broke, Ends, IsReadable}
+use Rattle.xdir.specs.Taken.{AreCommands}
 use Rattle.xdir.specs.Text.{not_json_text, refused_world_text, refused_line_text, not_yet_text}
 use Rattle.xdir.specs.declared.top.Status.{Status}
 use Rattle.xdir.specs.declared.top.Status.TheVariants.{Done, Refused, Usage, ReadFault, WriteFault, NoMemory}
@@ -30,10 +31,11 @@ lost_in w = length w.network.lost_replies
 abbrev pub AsksFor : World → List ℕ → List Asked → Type 0
 AsksFor w script asked = script_of (names_of_agents w) (lost_in w) script ≡ Ok asked
 
--- A comment, a request, an outage, a loss or a refresh is for every run. Octets are for no run so far.
+-- A comment, a request, an outage, a loss, a refresh or octets of a user are for every run. Octets of another agent are
+-- for no run so far.
 abbrev pub is_other : Asked → Bool
 is_other (lines.Runs command) = false
-is_other (Delivers dsp to octets) = true
+is_other (Delivers dsp to octets) = dsp
 
 -- The text is the output of a run of these commands over the world of this file: the line on knowledge, and for each
 -- command one block, in order: what agents do with it, by what they hold, at the point that the blocks before it lead
@@ -42,9 +44,9 @@ abbrev pub IsOutput : File → List Command → List ℕ → Type 0
 IsOutput f commands text = PrintsRun Performed f.world (moment_text f.start) commands text
 
 -- The headline: these octets are the contents of both files, as far as the files tell them; the world file describes
--- this world, the script asks for these commands, and the text is the output of a run of them. The rest of the script
--- is still to come.
-pub record Runs (told : Option (List outside.File)) (names : FileNames) (rest : List Command)
+-- this world, the script's lines ask for these commands, and the text is the output of a run of them. The rest of the
+-- script is still to come.
+pub record Runs (told : Option (List outside.File)) (names : FileNames) (rest : List Asked)
     (text : List ℕ) : Type 0 where
   pub world : List ℕ
   pub script : List ℕ
@@ -52,13 +54,15 @@ pub record Runs (told : Option (List outside.File)) (names : FileNames) (rest : 
   pub script_is : IsContent told names.script script
   pub file : File
   pub described : Describes world (Ok file)
+  pub asked : List Asked
+  pub asks : AsksFor file.world script (asked ++ rest)
   pub commands : List Command
-  pub asked : AsksFor file.world script (map lines.Runs (commands ++ rest))
+  pub are : AreCommands asked commands
   pub prints : IsOutput file commands text
 
 -- the output of the script's first commands
 pub record RunsSoFar (told : Option (List outside.File)) (names : FileNames) (text : List ℕ) : Type 0 where
-  pub rest : List Command
+  pub rest : List Asked
   pub runs : Runs told names rest text
 
 -- the file is no JSON, or something is wrong in it, and the text is its line

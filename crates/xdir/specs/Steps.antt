@@ -1,25 +1,30 @@
 -- What the steps of a run read and write, from the described world on; and of a file that is read, by how that ends.
-use Rattle.std.specs.Prelude.{◌≡◌, ℕ, ◌+◌, List, ◌++◌, map, Option, Some, ⊤}
+use Rattle.std.specs.Prelude.{◌≡◌, ℕ, ◌+◌, List, ◌++◌, Option, Some, ⊤}
 use Rattle.std.specs.List.{position}
 use Rattle.x5_model_run.specs.Run.{Command}
 use Rattle.x5_model_script.specs.Lines.{Asked}
-use Rattle.x5_model_script.specs.Lines as lines
 use Rattle.x5_model_world.specs.WorldFile.{File}
 use Rattle.x5_port.specs.Outside as outside
 use Rattle.x5_port.specs.Outside.{IsContent, IsLonger, Rose, with_octets, TookPrefix}
 use Rattle.xdir.specs.Outcomes.{most_octets, Wrote, Broke, Ends, IsReadable}
 use Rattle.xdir.specs.Run.{AsksFor, is_other, IsOutput, RefusesScript}
+use Rattle.xdir.specs.Taken.{AreCommands}
 use Rattle.xdir.specs.Text.{not_yet_text}
 use Rattle.xdir.specs.declared.top.Status.{Status}
 use Rattle.xdir.specs.declared.top.Status.TheVariants.{Done, Refused, Usage, ReadFault, WriteFault, NoMemory}
 use Rattle.xdir.specs.declared.top.Status.TheVariants.{Inconsistent, TooLong}
 
--- the output of a run of the first of these commands
-pub record IsFirstOutput (f : File) (commands : List Command) (text : List ℕ) : Type 0 where
-  pub first : List Command
-  pub rest : List Command
-  pub parts : commands ≡ first ++ rest
-  pub prints : IsOutput f first text
+-- the output of a run of what these lines ask for, and of the first of them
+pub record IsAskedOutput (f : File) (asked : List Asked) (text : List ℕ) : Type 0 where
+  pub commands : List Command
+  pub are : AreCommands asked commands
+  pub prints : IsOutput f commands text
+
+pub record IsFirstAskedOutput (f : File) (asked : List Asked) (text : List ℕ) : Type 0 where
+  pub first : List Asked
+  pub rest : List Asked
+  pub parts : asked ≡ first ++ rest
+  pub prints : IsAskedOutput f first text
 
 -- the line of a file that isn't taken was written, or a first part of it
 abbrev pub WritesLine : Status → List ℕ → Option (List ℕ) → Option (List ℕ) → ℕ → ℕ → Type 0
@@ -43,22 +48,12 @@ WritesSuchLine TooLong P old new before after = ⊥
 WritesSuchLine Usage P old new before after = ⊥
 WritesSuchLine Inconsistent P old new before after = ⊥
 
--- what a run of these commands over the world of this file writes
-abbrev pub WritesRun : Status → File → List Command → Option (List ℕ) → Option (List ℕ) → ℕ → ℕ → Type 0
-WritesRun status f commands old new before after =
-    Ends (IsOutput f commands) (IsFirstOutput f commands) (λ text. ⊥) status old new before after
+-- what a run of these lines over the world of this file writes, where each is taken
+abbrev pub WritesRun : Status → File → List Asked → Option (List ℕ) → Option (List ℕ) → ℕ → ℕ → Type 0
+WritesRun status f asked old new before after =
+    Ends (IsAskedOutput f asked) (IsFirstAskedOutput f asked) (λ text. ⊥) status old new before after
 
--- the output of what is asked for, of the first part of it, and the line of what no run does so far
-pub record IsAskedOutput (f : File) (asked : List Asked) (text : List ℕ) : Type 0 where
-  pub commands : List Command
-  pub are : asked ≡ map lines.Runs commands
-  pub prints : IsOutput f commands text
-
-pub record IsFirstAskedOutput (f : File) (asked : List Asked) (text : List ℕ) : Type 0 where
-  pub commands : List Command
-  pub are : asked ≡ map lines.Runs commands
-  pub first : IsFirstOutput f commands text
-
+-- the line of what no run does so far
 pub record IsNotYet (asked : List Asked) (text : List ℕ) : Type 0 where
   pub before : ℕ
   pub first : position is_other asked ≡ Some before
@@ -69,16 +64,16 @@ abbrev pub WritesAsked : Status → File → List Asked → Option (List ℕ) �
 WritesAsked status f asked old new before after =
     Ends (IsAskedOutput f asked) (IsFirstAskedOutput f asked) (IsNotYet asked) status old new before after
 
--- the output of the script's commands over this world, and of the first of them
+-- the output of the script's lines over this world, and of the first of them
 pub record IsScriptOutput (f : File) (script text : List ℕ) : Type 0 where
-  pub commands : List Command
-  pub asked : AsksFor f.world script (map lines.Runs commands)
-  pub prints : IsOutput f commands text
+  pub asked : List Asked
+  pub asks : AsksFor f.world script asked
+  pub prints : IsAskedOutput f asked text
 
 pub record IsFirstScriptOutput (f : File) (script text : List ℕ) : Type 0 where
-  pub commands : List Command
-  pub asked : AsksFor f.world script (map lines.Runs commands)
-  pub first : IsFirstOutput f commands text
+  pub asked : List Asked
+  pub asks : AsksFor f.world script asked
+  pub first : IsFirstAskedOutput f asked text
 
 -- what a run of this script over this world writes
 abbrev pub WritesScript : Status → File → List ℕ → Option (List ℕ) → Option (List ℕ) → ℕ → ℕ → Type 0

@@ -1,10 +1,9 @@
 -- What `run --summary WORLD SCRIPT` writes, by how it ends. The headline is `Sums`.
-use Rattle.std.specs.Prelude.{◌≡◌, ℕ, ◌⊎◌, List, [], map, Option}
+use Rattle.std.specs.Prelude.{◌≡◌, ℕ, ◌⊎◌, List, [], Option}
 use Rattle.x5_know.specs.Moments.{moment_text}
 use Rattle.x5_model_output.specs.Summary.{summary_text}
 use Rattle.x5_model_run.specs.Run.{Command}
 use Rattle.x5_model_script.specs.Lines.{Asked}
-use Rattle.x5_model_script.specs.Lines as lines
 use Rattle.x5_model_world.specs.WorldFile.{File}
 use Rattle.x5_port.specs.Outside as outside
 use Rattle.x5_port.specs.Outside.{Rose}
@@ -12,6 +11,7 @@ use Rattle.x5_words.specs.Forms.{FileNames}
 use Rattle.xdir.specs.Outcomes.{Wrote, Broke}
 use Rattle.xdir.specs.Run.{AsksFor, IsOutput, Runs, RefusesScript, Refuses}
 use Rattle.xdir.specs.Steps.{IsNotYet, OfScript}
+use Rattle.xdir.specs.Taken.{AreCommands}
 use Rattle.xdir.specs.declared.top.Status.{Status}
 use Rattle.xdir.specs.declared.top.Status.TheVariants.{Done, Refused, Usage, ReadFault, WriteFault, NoMemory}
 use Rattle.xdir.specs.declared.top.Status.TheVariants.{Inconsistent, TooLong}
@@ -52,26 +52,26 @@ WritesSummed status told names old new before after =
 
 -- ---- the steps of such a run, from the described world on
 
--- what a summary of these commands over the world of this file writes
-abbrev pub SumsRun : Status → File → List Command → Option (List ℕ) → Option (List ℕ) → ℕ → ℕ → Type 0
-SumsRun status f commands old new before after =
-    EndsAtOnce (IsSummary f commands) (λ text. ⊥) status old new before after
-
--- of what is asked for
+-- the summary of what these lines ask for
 pub record IsAskedSummary (f : File) (asked : List Asked) (text : List ℕ) : Type 0 where
   pub commands : List Command
-  pub are : asked ≡ map lines.Runs commands
+  pub are : AreCommands asked commands
   pub sums : IsSummary f commands text
+
+-- what a summary of these lines over the world of this file writes, where each is taken
+abbrev pub SumsRun : Status → File → List Asked → Option (List ℕ) → Option (List ℕ) → ℕ → ℕ → Type 0
+SumsRun status f asked old new before after =
+    EndsAtOnce (IsAskedSummary f asked) (λ text. ⊥) status old new before after
 
 abbrev pub SumsAsked : Status → File → List Asked → Option (List ℕ) → Option (List ℕ) → ℕ → ℕ → Type 0
 SumsAsked status f asked old new before after =
     EndsAtOnce (IsAskedSummary f asked) (IsNotYet asked) status old new before after
 
--- of the script's commands over this world
+-- of the script's lines over this world
 pub record IsScriptSummary (f : File) (script text : List ℕ) : Type 0 where
-  pub commands : List Command
-  pub asked : AsksFor f.world script (map lines.Runs commands)
-  pub sums : IsSummary f commands text
+  pub asked : List Asked
+  pub asks : AsksFor f.world script asked
+  pub sums : IsAskedSummary f asked text
 
 abbrev pub SumsScript : Status → File → List ℕ → Option (List ℕ) → Option (List ℕ) → ℕ → ℕ → Type 0
 SumsScript status f script old new before after =

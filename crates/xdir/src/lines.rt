@@ -7,15 +7,16 @@ ghost use Rattle.x5_ops.specs.RequestViews.{body_view, request_view};
 ghost use Rattle.x5_report.specs.declared.report.LineOutcome.TheVariants.{NotConsistent, Set};
 ghost use Rattle.x5_world.specs.Refreshes.{IsSound};
 ghost use Rattle.x5_world.specs.State.{HasRoom, HasShortNames, StandsAt};
-ghost use Rattle.xdir.specs.Blocks.{IsCarriedOut, IsCourse};
-ghost use Rattle.xdir.specs.Taken.{IsTaken, run_view};
+ghost use Rattle.x5_script.specs.Views.{command_view};
+ghost use Rattle.xdir.specs.Blocks.{IsCourse, IsDelivery, IsDone};
+ghost use Rattle.xdir.specs.Taken.{IsTaken};
 
 use std::alloc::Global;
 use x5_memory::NoMemory;
 use x5_ops::{AgentId, Journal, Listed, Outage, Request};
 use x5_report::LineOutcome;
 use x5_script::Command;
-use x5_world::World;
+use x5_world::{Delivered, World};
 
 /// What came of a command, and the messages that it took.
 #[derive(Debug, Drop)]
@@ -103,6 +104,42 @@ fn refresh(
     })
 }
 
+/// What comes of octets that are handed to an agent as a user's message: the answer to the request that they spell, or their first
+/// breach.
+fn deliver(
+    alloc: Global,
+    network: &mut World,
+    to: AgentId,
+    octets: &[u8],
+) -> Result<Course, NoMemory>
+    requires there { to < length network.old.names }
+    requires room { (lines : ℕ) × (HasRoom network.old lines × (lines < 100000)) }
+    ensures course { IfOk result (λ course. (p : Point) → StandsAt network.old p → IsDelivery p to octets.now network.new course) }
+    ensures names { IfOk result (λ _. network.new.names ≡ network.old.names) }
+    ensures room_after { IfOk result (λ _. (lines : ℕ) → HasRoom network.old lines → HasRoom network.new (lines + 1)) }
+{
+    let count = octets.len() as u64;
+    let told = network.deliver(alloc, to, octets)?;
+    match told {
+        Delivered::Answered(reply, messages) => Ok(Course {
+            journal: messages,
+            outcome: LineOutcome::Handed(count, reply),
+        }),
+        Delivered::Rejected(to, fate, breach) => Ok(Course {
+            journal: Journal {
+                lines: Listed::new(alloc),
+                accepted: Listed::new(alloc),
+            },
+            outcome: LineOutcome::Rejected {
+                to,
+                count,
+                fate,
+                breach,
+            },
+        }),
+    }
+}
+
 /// Does what a line asks for, and tells what came of it; of a comment there is nothing to tell. Whether knowledge is consistent is
 /// told before the first line. After want of memory the network isn't used again.
 pub fn carry_out(
@@ -114,7 +151,7 @@ pub fn carry_out(
     requires taken { IsTaken (length network.old.names) command.now }
     requires room { (lines : ℕ) × (HasRoom network.old lines × (lines < 100000)) }
     requires sound { IsTrue is_consistent → IsSound network.old }
-    ensures carried { IfOk result (λ course. (p : Point) → StandsAt network.old p → (IsTrue is_consistent ↔ IsConsistent p.described) → IsCarriedOut p (run_view command.now) network.new course) }
+    ensures carried { IfOk result (λ course. (p : Point) → StandsAt network.old p → (IsTrue is_consistent ↔ IsConsistent p.described) → IsDone p (command_view command.now) network.new course) }
     ensures names { IfOk result (λ _. network.new.names ≡ network.old.names) }
     ensures room_after { IfOk result (λ _. (lines : ℕ) → HasRoom network.old lines → HasRoom network.new (lines + 1)) }
 {
@@ -136,7 +173,10 @@ pub fn carry_out(
             *push,
             *total,
         )?)),
-        _ => {
+        Command::Deliver { to, octets, .. } => {
+            Ok(Some(deliver(alloc, network, *to, octets.as_slice())?))
+        }
+        Command::Nothing => {
             network.pass();
             Ok(None)
         }

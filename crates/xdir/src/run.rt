@@ -14,7 +14,7 @@ ghost use Rattle.xdir.specs.Checked.{knowledge_text};
 ghost use Rattle.xdir.specs.Run.{is_other};
 ghost use Rattle.xdir.specs.Steps.{Prints, WritesAsked, WritesRun};
 ghost use Rattle.xdir.specs.Summed.{SumsAsked, SumsRun};
-ghost use Rattle.xdir.specs.Taken.{AsksShortNames, IsBegun, IsTaken, command_of, point, run_view};
+ghost use Rattle.xdir.specs.Taken.{AsksShortNames, IsBegun, IsTaken, point};
 
 use crate::check::{Told, line_of};
 use crate::lines::{Course, carry_out};
@@ -42,12 +42,12 @@ pub enum Printed {
     Summary,
 }
 
-/// Whether a line asks for what no run does so far: it hands octets to an agent. No memory.
+/// Whether a line asks for what no run does so far: it hands octets to an agent as another agent's. No memory.
 fn is_other_line(command: &Command) -> bool
     ensures { result ≡ is_other (command_view command.now) }
 {
     match command {
-        Command::Deliver { .. } => true,
+        Command::Deliver { dsp, .. } => *dsp,
         _ => false,
     }
 }
@@ -71,7 +71,7 @@ pub fn run_commands<K: Sink>(
     requires begun { IsBegun described.now network.old }
     requires few { length commands.now ≤ 100000 }
     requires named { All (AreNamed network.old.names) (map command_view commands.now) }
-    requires short { All (λ c. AsksShortNames (command_of c)) (map command_view commands.now) }
+    requires short { All AsksShortNames (map command_view commands.now) }
     ensures prints { Prints result }
     ensures writes { printed ≡ Printed.Blocks → WritesAsked result (file_view described.now) (map command_view commands.now) (K.octets out.old) (K.octets out.new) (K.fault_count out.old) (K.fault_count out.new) }
     ensures sums { printed ≡ Printed.Summary → SumsAsked result (file_view described.now) (map command_view commands.now) (K.octets out.old) (K.octets out.new) (K.fault_count out.old) (K.fault_count out.new) }
@@ -102,8 +102,8 @@ fn run_taken<K: Sink>(
     requires few { length commands.now ≤ 100000 }
     requires taken { All (IsTaken (length network.old.names)) commands.now }
     ensures prints { Prints result }
-    ensures writes { printed ≡ Printed.Blocks → WritesRun result (file_view described.now) (map run_view commands.now) (K.octets out.old) (K.octets out.new) (K.fault_count out.old) (K.fault_count out.new) }
-    ensures sums { printed ≡ Printed.Summary → SumsRun result (file_view described.now) (map run_view commands.now) (K.octets out.old) (K.octets out.new) (K.fault_count out.old) (K.fault_count out.new) }
+    ensures writes { printed ≡ Printed.Blocks → WritesRun result (file_view described.now) (map command_view commands.now) (K.octets out.old) (K.octets out.new) (K.fault_count out.old) (K.fault_count out.new) }
+    ensures sums { printed ≡ Printed.Summary → SumsRun result (file_view described.now) (map command_view commands.now) (K.octets out.old) (K.octets out.new) (K.fault_count out.old) (K.fault_count out.new) }
 {
     match printed {
         Printed::Blocks => print_run(alloc, described, network, told, commands, out),
@@ -126,7 +126,7 @@ fn print_run<K: Sink>(
     requires few { length commands.now ≤ 100000 }
     requires taken { All (IsTaken (length network.old.names)) commands.now }
     ensures prints { Prints result }
-    ensures writes { WritesRun result (file_view described.now) (map run_view commands.now) (K.octets out.old) (K.octets out.new) (K.fault_count out.old) (K.fault_count out.new) }
+    ensures writes { WritesRun result (file_view described.now) (map command_view commands.now) (K.octets out.old) (K.octets out.new) (K.fault_count out.old) (K.fault_count out.new) }
 {
     match put_all(out, told.line.as_bytes()) {
         Ok(()) => {}
@@ -166,7 +166,7 @@ fn print_command<K: Sink>(
     ensures rising { K.fault_count out.old ≤ K.fault_count out.new }
     ensures names { result ≡ Status.Done → network.new.names ≡ network.old.names }
     ensures room_after { result ≡ Status.Done → HasRoom network.new (before + 1) }
-    ensures block { (past : List Did) → StandsAt network.old (point (world_view described.now) past) → (IsTrue is_consistent ↔ IsConsistent (world_view described.now)) → WritesBlock result (file_view described.now) past (before + 1) (run_view command.now) network.new (K.octets out.old) (K.octets out.new) (K.fault_count out.old) (K.fault_count out.new) }
+    ensures block { (past : List Did) → StandsAt network.old (point (world_view described.now) past) → (IsTrue is_consistent ↔ IsConsistent (world_view described.now)) → WritesBlock result (file_view described.now) past (before + 1) (command_view command.now) network.new (K.octets out.old) (K.octets out.new) (K.fault_count out.old) (K.fault_count out.new) }
 {
     match carry_out(alloc, network, is_consistent, command) {
         Ok(Some(course)) => print_course(alloc, described, before, &course, out),

@@ -7,13 +7,14 @@ ghost use Rattle.x5_model_run.specs.History.{Point};
 ghost use Rattle.x5_model_tree.specs.Consistent.{IsConsistent};
 ghost use Rattle.x5_model_world.specs.WorldFile.{File};
 ghost use Rattle.x5_report.specs.Counted.{totals_view};
+ghost use Rattle.x5_script.specs.Views.{command_view};
 ghost use Rattle.x5_world.specs.Refreshes.{IsSound};
 ghost use Rattle.x5_world.specs.State.{HasRoom, StandsAt};
 ghost use Rattle.xdir.specs.Checked.{knowledge_text};
 ghost use Rattle.xdir.specs.Counted.{AddsBlock, IsCounted};
 ghost use Rattle.xdir.specs.Steps.{Prints};
-ghost use Rattle.xdir.specs.Summed.{IsSummary, SumsRun};
-ghost use Rattle.xdir.specs.Taken.{IsBegun, IsTaken, point, run_view};
+ghost use Rattle.xdir.specs.Summed.{IsAskedSummary, SumsRun};
+ghost use Rattle.xdir.specs.Taken.{IsBegun, IsTaken, point};
 
 use crate::check::Told;
 use crate::lines::carry_out;
@@ -41,7 +42,7 @@ pub fn print_summary<K: Sink>(
     requires few { length commands.now ≤ 100000 }
     requires taken { All (IsTaken (length network.old.names)) commands.now }
     ensures prints { Prints result }
-    ensures sums { SumsRun result (file_view described.now) (map run_view commands.now) (K.octets out.old) (K.octets out.new) (K.fault_count out.old) (K.fault_count out.new) }
+    ensures sums { SumsRun result (file_view described.now) (map command_view commands.now) (K.octets out.old) (K.octets out.new) (K.fault_count out.old) (K.fault_count out.new) }
 {
     match summary_of(alloc, network, told, commands) {
         Ok(text) => match put_all(out, text.as_bytes()) {
@@ -63,7 +64,7 @@ fn summary_of(
     requires few { length commands.now ≤ 100000 }
     requires taken { All (IsTaken (length network.old.names)) commands.now }
     requires begun { (f : File) × (StandsAt network.old (point f.world []) × (IsTrue told.now.is_consistent ↔ IsConsistent f.world)) }
-    ensures { IfOk result (λ text. (f : File) → StandsAt network.old (point f.world []) → string_bytes told.now.line ≡ knowledge_text f.world → (IsTrue told.now.is_consistent ↔ IsConsistent f.world) → IsSummary f (map run_view commands.now) (string_bytes text)) }
+    ensures { IfOk result (λ text. (f : File) → StandsAt network.old (point f.world []) → string_bytes told.now.line ≡ knowledge_text f.world → (IsTrue told.now.is_consistent ↔ IsConsistent f.world) → IsAskedSummary f (map command_view commands.now) (string_bytes text)) }
 {
     let totals = totals_of(alloc, network, told.is_consistent, commands)?;
     text_of(alloc, told.line.as_str(), &totals)
@@ -90,7 +91,7 @@ fn totals_of(
     requires few { length commands.now ≤ 100000 }
     requires taken { All (IsTaken (length network.old.names)) commands.now }
     requires begun { (f : File) × (StandsAt network.old (point f.world []) × (IsTrue is_consistent ↔ IsConsistent f.world)) }
-    ensures { IfOk result (λ totals. (f : File) → StandsAt network.old (point f.world []) → (IsTrue is_consistent ↔ IsConsistent f.world) → IsCounted f (map run_view commands.now) network.new (totals_view totals)) }
+    ensures { IfOk result (λ totals. (f : File) → StandsAt network.old (point f.world []) → (IsTrue is_consistent ↔ IsConsistent f.world) → IsCounted f (map command_view commands.now) network.new (totals_view totals)) }
 {
     let mut totals = Totals::new();
     for command in commands {
@@ -112,7 +113,7 @@ fn count_command(
     requires sound { IsTrue is_consistent → IsSound network.old }
     ensures names { IfOk result (λ _. network.new.names ≡ network.old.names) }
     ensures room_after { IfOk result (λ _. (lines : ℕ) → HasRoom network.old lines → HasRoom network.new (lines + 1)) }
-    ensures adds { OnOk result ((p : Point) → StandsAt network.old p → (IsTrue is_consistent ↔ IsConsistent p.described) → AddsBlock p (run_view command.now) network.new (totals_view totals.old) (totals_view totals.new)) }
+    ensures adds { OnOk result ((p : Point) → StandsAt network.old p → (IsTrue is_consistent ↔ IsConsistent p.described) → AddsBlock p (command_view command.now) network.new (totals_view totals.old) (totals_view totals.new)) }
 {
     let carried = carry_out(alloc, network, is_consistent, command)?;
     match carried {

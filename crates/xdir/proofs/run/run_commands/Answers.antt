@@ -1,13 +1,12 @@
 use Rattle.std.proofs.Common.{◌∙◌, map, sym, arith}
 use Rattle.x5_script.specs.Views.{command_view}
 use Rattle.x5_load.specs.Views.{file_view}
-use Rattle.xdir.specs.Taken.{run_view}
 use Rattle.xdir.specs.Steps.{IsAskedOutput, IsFirstAskedOutput}
 use Rattle.xdir.specs.Summed.{IsAskedSummary}
 use Rattle.xdir.proofs.Ends.{such_ends, such_prints}
 use Rattle.xdir.proofs.Files.{runs_asked}
 use Rattle.xdir.proofs.Summaries.{such_at_once, sums_asked}
-use Rattle.xdir.proofs.Taken.{all_taken, all_run, first_is, within}
+use Rattle.xdir.proofs.Taken.{all_taken, first_is, within}
 use Rattle.xdir.proofs.Beginning.{few_loaded}
 use Rattle.xdir.proofs.run.run_commands.Goals as goal
 
@@ -52,14 +51,12 @@ run_taken-requires-clause-taken g c =
 
 pub returns-clause-writes : goal.returns-clause-writes
 returns-clause-writes g c = λ printed.
-    runs_asked (file_view c.args.described.now) (map command_view c.args.commands.now) (map run_view c.args.commands.now)
-    (all_run c.args.commands.now (sym c.first_other.ensures ∙ c.in-None.is))
+    runs_asked (file_view c.args.described.now) (map command_view c.args.commands.now)
     c.run_taken.result (g.K.Sink.octets c.args.out.now) (g.K.Sink.octets c.run_taken.new.out)
     (g.K.Sink.fault_count c.args.out.now) (g.K.Sink.fault_count c.run_taken.new.out) (c.run_taken.ensures.writes printed)
 
 pub returns-clause-sums : goal.returns-clause-sums
 returns-clause-sums g c = λ printed.
-    sums_asked (file_view c.args.described.now) (map command_view c.args.commands.now) (map run_view c.args.commands.now)
-    (all_run c.args.commands.now (sym c.first_other.ensures ∙ c.in-None.is))
+    sums_asked (file_view c.args.described.now) (map command_view c.args.commands.now)
     c.run_taken.result (g.K.Sink.octets c.args.out.now) (g.K.Sink.octets c.run_taken.new.out)
     (g.K.Sink.fault_count c.args.out.now) (g.K.Sink.fault_count c.run_taken.new.out) (c.run_taken.ensures.sums printed)

@@ -1,7 +1,7 @@
 use Rattle.std.proofs.Common.{map, inl, sym, subst}
 use Rattle.x5_load.specs.Views.{file_view}
-use Rattle.xdir.specs.Summed.{IsSummary}
-use Rattle.xdir.specs.Taken.{run_view}
+use Rattle.xdir.specs.Summed.{IsAskedSummary}
+use Rattle.x5_script.specs.Views.{command_view}
 use Rattle.xdir.proofs.summed.print_summary.Goals as goal
 
 pub returns-in-Ok-put_all-clause-sums : goal.returns-in-Ok-put_all-clause-sums
@@ -9,7 +9,7 @@ returns-in-Ok-put_all-clause-sums g c =
     let f = file_view c.args.described.now in
     record {
       text = c.as_bytes.result.now;
-      is = subst (IsSummary f (map run_view c.args.commands.now)) (sym c.as_bytes.ensures.value)
+      is = subst (IsAskedSummary f (map command_view c.args.commands.now)) (sym c.as_bytes.ensures.value)
           (c.in-Ok.ensures f c.requires.begun.stands c.requires.knowledge c.requires.consistent);
       whole = c.in-Ok-put_all.ensures.all;
     }
@@ -20,7 +20,7 @@ returns-in-Ok-clause-sums g c =
       c.in-Err-put_all.ensures.failed,
       record {
         text = c.as_bytes.result.now;
-        is = inl (subst (IsSummary f (map run_view c.args.commands.now)) (sym c.as_bytes.ensures.value)
+        is = inl (subst (IsAskedSummary f (map command_view c.args.commands.now)) (sym c.as_bytes.ensures.value)
             (c.in-Ok.ensures f c.requires.begun.stands c.requires.knowledge c.requires.consistent));
         part = c.in-Err-put_all.ensures.taken;
       },

@@ -1,13 +1,14 @@
 use Rattle.std.proofs.Common.{◌∙◌, ℕ, List, length, map, take, refl, sym, subst, arith}
 use Rattle.std.proofs.lemmas.List.{take_all}
-use Rattle.x5_model_run.specs.Run.{Command}
+use Rattle.x5_model_script.specs.Lines.{Asked}
 use Rattle.x5_report.specs.Counted.{totals_view}
-use Rattle.x5_script.specs.declared.command.Command.{Command as Asked}
+use Rattle.x5_script.specs.Views.{command_view}
+use Rattle.x5_script.specs.declared.command.Command.{Command as Line}
 use Rattle.xdir.specs.Counted.{IsCounted}
-use Rattle.xdir.specs.Taken.{IsTaken, point, run_view}
+use Rattle.xdir.specs.Taken.{IsTaken, point}
 use Rattle.xdir.proofs.Counts.{none_counted, counted_more}
 use Rattle.xdir.proofs.Mapped.{first_more}
-use Rattle.xdir.proofs.SoFar.{askable_at, taken_at}
+use Rattle.xdir.proofs.SoFar.{taken_at}
 use Rattle.xdir.proofs.Sound.{is_sound}
 use Rattle.xdir.proofs.summed.totals_of.Goals as goal
 
@@ -45,19 +46,17 @@ loop-command-preserved c =
     let later = c.count_command.new.network in
     let old = totals_view c.loop-command.totals in
     let new = totals_view c.count_command.new.totals in
-    let taken = subst (λ (names : List (List ℕ)). IsTaken (length names) line) (sym c.loop-command.invariant.names)
-    (taken_at (length c.args.network.now.names) lines i line within c.command-item.is c.requires.taken) in
     record {
       counted = λ f stands told.
-          let far : IsCounted f (map run_view (take i lines)) net old = c.loop-command.invariant.counted f stands told in
-          subst (λ (commands : List Command). IsCounted f commands later new) (sym (first_more run_view lines i line within c.command-item.is))
-          (counted_more f (map run_view (take i lines)) net later old new far (run_view line)
-          (askable_at net f.world far.past far.stands line taken) (λ past s. c.in_ok-count_command.ensures.adds (point f.world past) s told));
+          let far : IsCounted f (map command_view (take i lines)) net old = c.loop-command.invariant.counted f stands told in
+          subst (λ (asked : List Asked). IsCounted f asked later new) (sym (first_more command_view lines i line within c.command-item.is))
+          (counted_more f (map command_view (take i lines)) net later old new far (command_view line)
+          (λ past s. c.in_ok-count_command.ensures.adds (point f.world past) s told));
       names = c.in_ok-count_command.ensures.names ∙ c.loop-command.invariant.names;
       room = c.in_ok-count_command.ensures.room_after i c.loop-command.invariant.room;
     }
 
 pub returns : goal.returns
 returns c = λ f stands told.
-    subst (λ (lines : List Asked). IsCounted f (map run_view lines) c.loop-command.network (totals_view c.loop-command.totals))
+    subst (λ (lines : List Line). IsCounted f (map command_view lines) c.loop-command.network (totals_view c.loop-command.totals))
     (take_all c.loop-command.command-index c.args.commands.now c.loop-command-test.false) (c.loop-command.invariant.counted f stands told)

@@ -4,12 +4,13 @@ use Rattle.x5_model_world.specs.WorldFile.{File}
 use Rattle.x5_report.specs.Counted.{totals_view}
 use Rattle.x5_world.specs.State.{HasRoom, StandsAt}
 use Rattle.xdir.specs.Counted.{IsCounted}
-use Rattle.xdir.specs.Taken.{point, run_view}
+use Rattle.x5_script.specs.Views.{command_view}
+use Rattle.xdir.specs.Taken.{point}
 use Rattle.xdir.proofs.summed.totals_of.Given as goal
 
 abbrev pub invariant-loop-command : goal.invariant-loop-command
 invariant-loop-command l = record {
-  counted : (f : File) → StandsAt l.fn.network (point f.world []) → (IsTrue l.is_consistent ↔ IsConsistent f.world) → IsCounted f (map run_view (take l.command-index l.commands)) l.network (totals_view l.totals);
+  counted : (f : File) → StandsAt l.fn.network (point f.world []) → (IsTrue l.is_consistent ↔ IsConsistent f.world) → IsCounted f (map command_view (take l.command-index l.commands)) l.network (totals_view l.totals);
   names : l.network.names ≡ l.fn.network.names;
   room : HasRoom l.network l.command-index;
 }

@@ -2,12 +2,11 @@ use Rattle.std.proofs.Common.{ℕ, List, ◌≤◌, length, map, sym, subst, ◌
 use Rattle.std.proofs.lemmas.List.{length-map}
 use Rattle.std.proofs.lemmas.Result.{IfOk-at_ok}
 use Rattle.x5_load.specs.Views.{file_view}
-use Rattle.x5_model_script.specs.Lines.{Asked}
 use Rattle.x5_model_script.specs.Named.{AreNamed}
 use Rattle.x5_model_script.proofs.NamedLaws.{script_named}
 use Rattle.x5_script.specs.Views.{command_view}
 use Rattle.x5_script.specs.declared.command.Command.{Command}
-use Rattle.xdir.specs.Taken.{AsksShortNames, command_of}
+use Rattle.xdir.specs.Taken.{AsksShortNames}
 use Rattle.xdir.proofs.Ends.{such_prints}
 use Rattle.xdir.proofs.Few.{few}
 use Rattle.xdir.proofs.Files.{runs_script, refuses_script, asked_for, refused_for}
@@ -29,8 +28,8 @@ run_commands-requires-clause-named g c =
 
 pub run_commands-requires-clause-short : goal.run_commands-requires-clause-short
 run_commands-requires-clause-short g c =
-    subst (λ (cs : List Command). All (λ (a : Asked). AsksShortNames (command_of a)) (map command_view cs)) (sym c.deref.ensures.value)
-    (IfOk-at_ok (All (λ (a : Asked). AsksShortNames (command_of a))) c.in-Ok.ensures (script_short c.names.result.now c.len-lost_replies.result c.args.script.now))
+    subst (λ (cs : List Command). All AsksShortNames (map command_view cs)) (sym c.deref.ensures.value)
+    (IfOk-at_ok (All AsksShortNames) c.in-Ok.ensures (script_short c.names.result.now c.len-lost_replies.result c.args.script.now))
 
 pub returns-in-Ok-clause-writes : goal.returns-in-Ok-clause-writes
 returns-in-Ok-clause-writes g c = λ printed.
