@@ -1,0 +1,5 @@
+mod Carried
+mod ChainedIsSayable
+mod ChainedSpelled
+mod Five
+mod ResultIsSayable
