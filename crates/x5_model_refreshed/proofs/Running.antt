@@ -20,7 +20,7 @@ use Rattle.x5_model_run.specs.Refresh.{RequestShadowUpdate, UpdateShadow, Coordi
 use Rattle.x5_model_run.specs.History.{Refreshed, Deed, Nothing, Accepts, Did, Point, tree_at, knowledge_at, as_of, acked}
 use Rattle.x5_model_run.specs.Chain.{scene_at}
 use Rattle.x5_model_run.specs.Right.{is_accepted_right, is_master_at, AnswersRight}
-use Rattle.x5_model_run.specs.Run.{Command, Blank, Asks, Changes, Drops, Updates, Block, Silent, Set, Replies, Refreshing, IsBlock, refreshed_by, did_by, IsRun, begin, next}
+use Rattle.x5_model_run.specs.Run.{Command, Blank, Asks, Changes, Drops, Updates, Hands, Block, Silent, Set, Replies, Refreshing, Handed, Rejected, IsBlock, refreshed_by, did_by, IsRun, begin, next}
 use Rattle.x5_model_refreshed.specs.Replaying.{GoesOn, IsBrought, Happens, AllHappen, RunsLead}
 
 -- ---- an update
@@ -176,9 +176,25 @@ module _ (p : Point) where
   did_happen (Asks to r) Set is = tt
   did_happen (Asks to r) (Replies j reply) is = taken p to r j.lines j.accepted is.accepts.one is.accepts.right
   did_happen (Asks to r) (Refreshing b) is = tt
+  did_happen (Asks to r) (Handed n j reply) is = tt
+  did_happen (Asks to r) (Rejected raw breach) is = tt
   did_happen (Updates number pushes total) Silent is = tt
   did_happen (Updates number pushes total) Set is = tt
   did_happen (Updates number pushes total) (Replies j reply) is = tt
+  did_happen (Updates number pushes total) (Handed n j reply) is = tt
+  did_happen (Updates number pushes total) (Rejected raw breach) is = tt
+  did_happen (Hands to count (Ok r)) Silent is = tt
+  did_happen (Hands to count (Ok r)) Set is = tt
+  did_happen (Hands to count (Ok r)) (Replies j reply) is = tt
+  did_happen (Hands to count (Ok r)) (Refreshing b) is = tt
+  did_happen (Hands to count (Ok r)) (Handed n j reply) is = taken p to r j.lines j.accepted is.1.accepts.one is.1.accepts.right
+  did_happen (Hands to count (Ok r)) (Rejected raw breach) is = tt
+  did_happen (Hands to count (Err x)) Silent is = tt
+  did_happen (Hands to count (Err x)) Set is = tt
+  did_happen (Hands to count (Err x)) (Replies j reply) is = tt
+  did_happen (Hands to count (Err x)) (Refreshing b) is = tt
+  did_happen (Hands to count (Err x)) (Handed n j reply) is = tt
+  did_happen (Hands to count (Err x)) (Rejected raw breach) is = tt
   did_happen (Updates number pushes total) (Refreshing b) is =
       outcome_happens b.outcome (subst (λ (x : RefreshBlock). Fits p x.outcome) (sym is) (block_fits number pushes total))
 

@@ -1,6 +1,7 @@
 -- Whole runs: one block for each line of a script, each right at the point that the blocks before it lead to.
 use Rattle.std.specs.Prelude.{◌≡◌, ℕ, ◌+◌, Bool, List, [], ◌∷◌, ◌++◌, length, map, reverse, ⊤}
-use Rattle.std.specs.declared.option.Option.TheVariants.{None}
+use Rattle.std.specs.declared.option.Option.{Option}
+use Rattle.std.specs.declared.option.Option.TheVariants.{None, Some}
 use Rattle.std.specs.declared.result.Result.{Result}
 use Rattle.std.specs.declared.result.Result.TheVariants.{Ok, Err}
 use Rattle.x5_model.specs.Requests.{Request}
@@ -22,6 +23,12 @@ pub data Command : Type 0 where
   Drops : Bool → ℕ → Command
   Updates : ℕ → Bool → Bool → Command
   Hands : ℕ → ℕ → Result Request Breach → Command
+
+-- what it asks of whom, if anything
+abbrev pub asked_of : Command → Option (ℕ × Request)
+asked_of (Asks to r) = Some (to, r)
+asked_of (Hands to count (Ok r)) = Some (to, r)
+asked_of other = None
 
 -- octets on their way to an agent: how many, and what becomes of them
 pub record Raw : Type 0 where

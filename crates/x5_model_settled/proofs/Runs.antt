@@ -1,6 +1,6 @@
 -- A script that agents carry out is a run: block by block, each request by what holds at every line of a run,
 -- whatever its judge; all other blocks are judged alike.
-use Rattle.std.proofs.Common.{◌≡◌, ℕ, List, [], ◌∷◌, ◌++◌, refl, subst}
+use Rattle.std.proofs.Common.{◌≡◌, ℕ, List, [], ◌∷◌, ◌++◌, refl, Some, Ok, Err}
 use Rattle.std.specs.List.{AllByRecursion}
 use Rattle.x5_model.specs.Requests.{Request}
 use Rattle.x5_model.specs.Answers.{Reply}
@@ -9,7 +9,7 @@ use Rattle.x5_model_tree.specs.Consistent.{IsConsistent}
 use Rattle.x5_model_tree.specs.Described.{IsDescribed}
 use Rattle.x5_model_run.specs.Journal.{Journal}
 use Rattle.x5_model_run.specs.History.{Did, Point}
-use Rattle.x5_model_run.specs.Run.{Command, Blank, Asks, Changes, Drops, Updates, Block, Silent, Set, Replies, Refreshing, Judge, IsBlock, IsRun, begin, next}
+use Rattle.x5_model_run.specs.Run.{Command, Blank, Asks, Changes, Drops, Updates, Hands, asked_of, Block, Silent, Set, Replies, Refreshing, Handed, Rejected, Judge, IsBlock, IsRun, begin, next}
 use Rattle.x5_model_settled.specs.Judges.{RightAndWhole}
 use Rattle.x5_model_settled.specs.Runs.{ByAgents, IsAskable, AgentsRunIsRun, AgentsPrintRun}
 use Rattle.x5_model_settled.proofs.Settled.{runs_are_right}
@@ -21,29 +21,51 @@ before_last P (y ∷ ys) x f = (let w = before_last P ys x f.1 in ((f.0, w.0), w
 
 -- a block is judged by another judge, where that holds of requests; all other blocks are judged alike
 pub block_more : (judge other : Judge) (p : Point) (command : Command) (block : Block)
-    → ((first : ℕ) (r : Request) (j : Journal) (reply : Reply) → command ≡ Asks first r → judge p first r j reply
-    → other p first r j reply)
+    → ((first : ℕ) (r : Request) (j : Journal) (reply : Reply) → asked_of command ≡ Some (first, r)
+    → judge p first r j reply → other p first r j reply)
     → IsBlock judge p command block → IsBlock other p command block
-block_more judge other p (Asks first r) (Replies j reply) more is = more first r j reply refl is
 block_more judge other p (Asks first r) Silent more is = absurd is
 block_more judge other p (Asks first r) Set more is = absurd is
+block_more judge other p (Asks first r) (Replies j reply) more is = more first r j reply refl is
 block_more judge other p (Asks first r) (Refreshing b) more is = absurd is
+block_more judge other p (Asks first r) (Handed n j reply) more is = absurd is
+block_more judge other p (Asks first r) (Rejected raw breach) more is = absurd is
 block_more judge other p Blank Silent more is = tt
 block_more judge other p Blank Set more is = absurd is
 block_more judge other p Blank (Replies j reply) more is = absurd is
 block_more judge other p Blank (Refreshing b) more is = absurd is
+block_more judge other p Blank (Handed n j reply) more is = absurd is
+block_more judge other p Blank (Rejected raw breach) more is = absurd is
 block_more judge other p (Changes o) Silent more is = absurd is
 block_more judge other p (Changes o) Set more is = tt
 block_more judge other p (Changes o) (Replies j reply) more is = absurd is
 block_more judge other p (Changes o) (Refreshing b) more is = absurd is
+block_more judge other p (Changes o) (Handed n j reply) more is = absurd is
+block_more judge other p (Changes o) (Rejected raw breach) more is = absurd is
 block_more judge other p (Drops lost k) Silent more is = absurd is
 block_more judge other p (Drops lost k) Set more is = tt
 block_more judge other p (Drops lost k) (Replies j reply) more is = absurd is
 block_more judge other p (Drops lost k) (Refreshing b) more is = absurd is
+block_more judge other p (Drops lost k) (Handed n j reply) more is = absurd is
+block_more judge other p (Drops lost k) (Rejected raw breach) more is = absurd is
 block_more judge other p (Updates number pushes total) Silent more is = absurd is
 block_more judge other p (Updates number pushes total) Set more is = absurd is
 block_more judge other p (Updates number pushes total) (Replies j reply) more is = absurd is
 block_more judge other p (Updates number pushes total) (Refreshing b) more is = is
+block_more judge other p (Updates number pushes total) (Handed n j reply) more is = absurd is
+block_more judge other p (Updates number pushes total) (Rejected raw breach) more is = absurd is
+block_more judge other p (Hands first count (Ok r)) Silent more is = absurd is
+block_more judge other p (Hands first count (Ok r)) Set more is = absurd is
+block_more judge other p (Hands first count (Ok r)) (Replies j reply) more is = absurd is
+block_more judge other p (Hands first count (Ok r)) (Refreshing b) more is = absurd is
+block_more judge other p (Hands first count (Ok r)) (Handed n j reply) more is = (is.0, more first r j reply refl is.1)
+block_more judge other p (Hands first count (Ok r)) (Rejected raw breach) more is = absurd is
+block_more judge other p (Hands first count (Err x)) Silent more is = absurd is
+block_more judge other p (Hands first count (Err x)) Set more is = absurd is
+block_more judge other p (Hands first count (Err x)) (Replies j reply) more is = absurd is
+block_more judge other p (Hands first count (Err x)) (Refreshing b) more is = absurd is
+block_more judge other p (Hands first count (Err x)) (Handed n j reply) more is = absurd is
+block_more judge other p (Hands first count (Err x)) (Rejected raw breach) more is = is
 
 module _ (w : World) (described : IsDescribed w) (consistent : IsConsistent w) where
   alike : (commands : List Command) (blocks : List Block) (past : List Did) (command : Command) (block : Block)
@@ -52,7 +74,7 @@ module _ (w : World) (described : IsDescribed w) (consistent : IsConsistent w) w
       → IsBlock RightAndWhole (record { described = w; past = past }) command block
   alike commands blocks past command block run may =
       block_more ByAgents RightAndWhole (record { described = w; past = past }) command block (λ first r j reply e is.
-      let asked : IsAskable w (Asks first r) = subst (IsAskable w) e may in
+      let asked = may first r e in
       runs_are_right ByAgents w commands blocks past first r described consistent run asked.0 j reply asked.1 asked.2 is)
 
   runs : (commands : List Command) (blocks : List Block) (past : List Did) → AllByRecursion (IsAskable w) commands

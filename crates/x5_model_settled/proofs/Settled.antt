@@ -1,12 +1,12 @@
 -- The setting of a user's request, part by part: what lines find and copies stand by is shown for lines that moved no
 -- context, a user's message is placed wherever it is, and the agents are those of the described world. A run moves none,
 -- by its commands. In a setting, what agents do is right by the one induction over all that is done.
-use Rattle.std.proofs.Common.{◌≡◌, ℕ, List, [], ◌∷◌, map, reverse, refl, sym, subst}
+use Rattle.std.proofs.Common.{◌≡◌, ℕ, List, [], ◌∷◌, map, reverse, refl, sym, subst, Ok, Err}
 use Rattle.x5_model.specs.Requests.{Request}
 use Rattle.x5_model_tree.specs.World.{World}
 use Rattle.x5_model_run.specs.Refresh.{RefreshOutcome, Done, Unheard, Problem, Missed, NotConsistent}
 use Rattle.x5_model_run.specs.History.{Deed, Nothing, Outs, Loses, Accepts, Refreshes, Splits, Unsplits, Did, knowledge_by, knowledge_after}
-use Rattle.x5_model_run.specs.Run.{Command, Blank, Asks, Changes, Drops, Updates, Block, Silent, Set, Replies, Refreshing, Judge, refreshed_by, did_by, IsRun, begin, next}
+use Rattle.x5_model_run.specs.Run.{Command, Blank, Asks, Changes, Drops, Updates, Hands, Block, Silent, Set, Replies, Refreshing, Handed, Rejected, Judge, refreshed_by, did_by, IsRun, begin, next}
 use Rattle.x5_model_theory.proofs.Carrying.{opening_is_placed}
 use Rattle.x5_model_updates.specs.Keeping.{MovesNone, NoneMoved}
 use Rattle.x5_model_updates.specs.Standing as updates
@@ -72,10 +72,26 @@ did_none_move (Asks to r) Silent = tt
 did_none_move (Asks to r) Set = tt
 did_none_move (Asks to r) (Replies j reply) = accepts_none_moved r (reverse j.accepted)
 did_none_move (Asks to r) (Refreshing b) = tt
+did_none_move (Asks to r) (Handed n j reply) = tt
+did_none_move (Asks to r) (Rejected raw breach) = tt
 did_none_move (Updates number pushes total) Silent = tt
 did_none_move (Updates number pushes total) Set = tt
 did_none_move (Updates number pushes total) (Replies j reply) = tt
 did_none_move (Updates number pushes total) (Refreshing b) = refreshed_none_moved b.outcome
+did_none_move (Updates number pushes total) (Handed n j reply) = tt
+did_none_move (Updates number pushes total) (Rejected raw breach) = tt
+did_none_move (Hands to count (Ok r)) Silent = tt
+did_none_move (Hands to count (Ok r)) Set = tt
+did_none_move (Hands to count (Ok r)) (Replies j reply) = tt
+did_none_move (Hands to count (Ok r)) (Refreshing b) = tt
+did_none_move (Hands to count (Ok r)) (Handed n j reply) = accepts_none_moved r (reverse j.accepted)
+did_none_move (Hands to count (Ok r)) (Rejected raw breach) = tt
+did_none_move (Hands to count (Err x)) Silent = tt
+did_none_move (Hands to count (Err x)) Set = tt
+did_none_move (Hands to count (Err x)) (Replies j reply) = tt
+did_none_move (Hands to count (Err x)) (Refreshing b) = tt
+did_none_move (Hands to count (Err x)) (Handed n j reply) = tt
+did_none_move (Hands to count (Err x)) (Rejected raw breach) = tt
 
 pub run_none_moved : (judge : Judge) (w : World) (commands : List Command) (blocks : List Block) (past : List Did)
     → IsRun judge w commands blocks past → NoneMoved past

@@ -1,7 +1,7 @@
 -- The stamps of copies stay moments of lines before. A refresh is stamped with the moment of its own line where the master
 -- supplies it, and as the supplier's copy where a consumer does: no later either way. Every other command refreshes
 -- nothing.
-use Rattle.std.proofs.Common.{◌≡◌, ◌≤◌, ℕ, suc, ◌==◌, Bool, true, false, not, ◌&&◌, List, [], ◌∷◌, ◌++◌, length, reverse, refl, sym, subst, arith, Option, Some, None, if◌then◌else◌}
+use Rattle.std.proofs.Common.{◌≡◌, ◌≤◌, ℕ, suc, ◌==◌, Bool, true, false, not, ◌&&◌, List, [], ◌∷◌, ◌++◌, length, reverse, refl, sym, subst, arith, Option, Some, None, if◌then◌else◌, Ok, Err}
 use Rattle.std.specs.Prelude.{⊤}
 use Rattle.std.specs.List.{find}
 use Rattle.std.specs.Option.{is_some}
@@ -15,7 +15,7 @@ use Rattle.x5_model_tree.specs.Consistent.{first_breach}
 use Rattle.x5_model_run.specs.Network.{is_lost, is_unheard, is_sent}
 use Rattle.x5_model_run.specs.Refresh.{RequestShadowUpdate, UpdateShadow, CoordinateShadowUpdate, ShadowLine, RefreshOutcome, Done, Unheard, Problem, Missed, NotConsistent, RefreshBlock, inactive_agreement, full_update_required, invalid_agreement_id, consumed_by, supplied, peer_moment, same_moment, needs_total, shadow_line, ended, updates_with, refresh_with, pull, push, refresh_block}
 use Rattle.x5_model_run.specs.History.{Refreshed, Refreshes, Did, Point, moment_of, knowledge_at, refresh_of, refreshes_of, stamp_of, as_of, acked}
-use Rattle.x5_model_run.specs.Run.{Blank, Asks, Changes, Drops, Updates, Silent, Set, Replies, Refreshing, Judge, refreshed_by, did_by}
+use Rattle.x5_model_run.specs.Run.{Blank, Asks, Changes, Drops, Updates, Hands, Silent, Set, Replies, Refreshing, Handed, Rejected, Judge, refreshed_by, did_by}
 use Rattle.x5_model_verdicts.specs.Committing.{IsStamped}
 use Rattle.x5_model_settled.specs.Afterwards.{line_after, StampedAfterRefresh, StampedAfter}
 use Rattle.x5_model_settled.proofs.Settled.{accepted_deed, did_none_move}
@@ -157,9 +157,28 @@ stamped_after judge w past (Asks first r) (Replies j reply) is =
     stamped_on w past (did_by (Asks first r) (Replies j reply)) (did_none_move (Asks first r) (Replies j reply))
     (accepts_plain r (reverse j.accepted))
 stamped_after judge w past (Asks first r) (Refreshing b) is = absurd is
+stamped_after judge w past (Asks first r) (Handed n j reply) is = absurd is
+stamped_after judge w past (Asks first r) (Rejected raw breach) is = absurd is
 stamped_after judge w past (Updates number pushes total) Silent is = absurd is
 stamped_after judge w past (Updates number pushes total) Set is = absurd is
 stamped_after judge w past (Updates number pushes total) (Replies j reply) is = absurd is
+stamped_after judge w past (Updates number pushes total) (Handed n j reply) is = absurd is
+stamped_after judge w past (Updates number pushes total) (Rejected raw breach) is = absurd is
+stamped_after judge w past (Hands first count (Ok r)) Silent is = absurd is
+stamped_after judge w past (Hands first count (Ok r)) Set is = absurd is
+stamped_after judge w past (Hands first count (Ok r)) (Replies j reply) is = absurd is
+stamped_after judge w past (Hands first count (Ok r)) (Refreshing b) is = absurd is
+stamped_after judge w past (Hands first count (Ok r)) (Rejected raw breach) is = absurd is
+stamped_after judge w past (Hands first count (Ok r)) (Handed n j reply) is =
+    stamped_on w past (did_by (Hands first count (Ok r)) (Handed n j reply))
+    (did_none_move (Hands first count (Ok r)) (Handed n j reply)) (accepts_plain r (reverse j.accepted))
+stamped_after judge w past (Hands first count (Err x)) Silent is = absurd is
+stamped_after judge w past (Hands first count (Err x)) Set is = absurd is
+stamped_after judge w past (Hands first count (Err x)) (Replies j reply) is = absurd is
+stamped_after judge w past (Hands first count (Err x)) (Refreshing b) is = absurd is
+stamped_after judge w past (Hands first count (Err x)) (Handed n j reply) is = absurd is
+stamped_after judge w past (Hands first count (Err x)) (Rejected raw breach) is =
+    stamped_on w past (did_by (Hands first count (Err x)) (Rejected raw breach)) tt (λ n. refl)
 stamped_after judge w past (Updates number pushes total) (Refreshing b) is =
     λ stamped. subst (λ (x : RefreshBlock). IsStamped (line_after w (did_by (Updates number pushes total) (Refreshing x) ∷ past)))
     (sym is) (stamped_after_refresh w past number pushes total stamped)

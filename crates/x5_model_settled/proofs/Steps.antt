@@ -8,7 +8,7 @@ use Rattle.x5_model_tree.specs.Described.{IsDescribed}
 use Rattle.x5_model_run.specs.History.{Did}
 use Rattle.x5_model_run.specs.Stage.{budget}
 use Rattle.x5_model_run.specs.Chain.{Scene}
-use Rattle.x5_model_run.specs.Run.{Command, Asks, Block, IsBlock, IsRun, begin, next}
+use Rattle.x5_model_run.specs.Run.{Command, Block, IsBlock, IsRun, begin, next}
 use Rattle.x5_model_serve.specs.Serving.{IsRequest}
 use Rattle.x5_model_settled.specs.Judges.{RightAndWhole}
 use Rattle.x5_model_settled.specs.Runs.{ByAgents, IsAskable}
@@ -57,7 +57,7 @@ module _ (w : World) (described : IsDescribed w) where
       block_more BySteps Performed (line_after w past) command block (λ first r j reply e is. (
         is,
         λ consistent.
-            let may : IsAskable w (Asks first r) = subst (IsAskable w) e asked in
+            let may = asked first r e in
             runs_are_right BySteps w commands blocks past first r described consistent run may.0 j reply may.1 may.2
             (subst (λ (s : Scene). IsRequest s (budget (line_after w past)) j reply)
             (scene_is (line_after w past) first r consistent) is),

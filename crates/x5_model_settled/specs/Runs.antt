@@ -1,9 +1,10 @@
 -- A script that agents carry out, each request by what they do with it: over consistent knowledge it is a run whose
 -- blocks are right.
-use Rattle.std.specs.Prelude.{◌≡◌, ◌≤◌, ℕ, List, length, ⊤}
+use Rattle.std.specs.Prelude.{◌≡◌, ◌≤◌, ℕ, List, length}
 use Rattle.std.specs.List.{AllByRecursion}
 use Rattle.std.specs.declared.option.Option.TheVariants.{Some}
 use Rattle.x5_model.specs.Values.{Text, Name}
+use Rattle.x5_model.specs.Requests.{Request}
 use Rattle.x5_model_tree.specs.World.{World}
 use Rattle.x5_model_tree.specs.Consistent.{IsConsistent}
 use Rattle.x5_model_tree.specs.Described.{IsDescribed}
@@ -11,7 +12,7 @@ use Rattle.x5_model_run.specs.Needs.{target_of, new_name}
 use Rattle.x5_model_run.specs.History.{Did}
 use Rattle.x5_model_run.specs.Stage.{budget}
 use Rattle.x5_model_run.specs.Chain.{scene_at}
-use Rattle.x5_model_run.specs.Run.{Command, Asks, Block, Judge, IsRun}
+use Rattle.x5_model_run.specs.Run.{Command, asked_of, Block, Judge, IsRun}
 use Rattle.x5_model_output.specs.Output.{PrintsRun}
 use Rattle.x5_model_serve.specs.Serving.{IsRequest}
 use Rattle.x5_model_settled.specs.Judges.{RightAndWhole}
@@ -21,12 +22,12 @@ use Rattle.x5_model_settled.specs.Settled.{HasAgent}
 abbrev pub ByAgents : Judge
 ByAgents p first r j reply = IsRequest (scene_at p first r) (budget p) j reply
 
--- it asks an agent of the world, with names of 16 RDNs at most, as all names that are read have
+-- what it asks it asks of an agent of the world, with names of 16 RDNs at most, as all names that are read have
 abbrev pub IsAskable : World → Command → Type 0
-IsAskable w (Asks first r) =
-    HasAgent w first × (length (target_of r.body) ≤ 16) ×
+IsAskable w command =
+    (first : ℕ) (r : Request) → asked_of command ≡ Some (first, r)
+    → HasAgent w first × (length (target_of r.body) ≤ 16) ×
     ((name : Name) → new_name r.body ≡ Some name → length name ≤ 16)
-IsAskable w other = ⊤
 
 -- 1. Such a script is a run: each answer is right, and no message is left out;
 abbrev pub AgentsRunIsRun : Type 0

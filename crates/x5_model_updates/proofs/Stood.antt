@@ -21,7 +21,7 @@ use Rattle.x5_model_tree.proofs.Gives.{consistent_is_good}
 use Rattle.x5_model_tree.proofs.WholeTree.{whole_is_tree, of_whole, whole_in_order, part_is_context}
 use Rattle.x5_model_run.specs.Refresh.{RefreshOutcome, Done, Unheard, Problem, Missed, NotConsistent}
 use Rattle.x5_model_run.specs.History.{Deed, Nothing, Outs, Loses, Accepts, Refreshes, Splits, Unsplits, Did, Acceptance, tree_with, tree_accepting, tree_after, tree_by, knowledge_after, knowledge_by}
-use Rattle.x5_model_run.specs.Run.{Command, Blank, Asks, Changes, Drops, Updates, Block, Silent, Set, Replies, Refreshing, Judge, refreshed_by, did_by, IsRun, begin, next}
+use Rattle.x5_model_run.specs.Run.{Command, Blank, Asks, Changes, Drops, Updates, Hands, Block, Silent, Set, Replies, Refreshing, Handed, Rejected, Judge, refreshed_by, did_by, IsRun, begin, next}
 use Rattle.x5_model_theory.specs.Knowledge.{Knowledge, Area}
 use Rattle.x5_model_theory.specs.Described.{area_of, knowledge_of}
 use Rattle.x5_model_theory.specs.Coherent.{Coherent}
@@ -166,10 +166,26 @@ did_none_move (Asks to r) Silent = tt
 did_none_move (Asks to r) Set = tt
 did_none_move (Asks to r) (Replies j reply) = accepts_none_moved r (reverse j.accepted)
 did_none_move (Asks to r) (Refreshing b) = tt
+did_none_move (Asks to r) (Handed n j reply) = tt
+did_none_move (Asks to r) (Rejected raw breach) = tt
 did_none_move (Updates number pushes total) Silent = tt
 did_none_move (Updates number pushes total) Set = tt
 did_none_move (Updates number pushes total) (Replies j reply) = tt
 did_none_move (Updates number pushes total) (Refreshing b) = refreshed_none_moved b.outcome
+did_none_move (Updates number pushes total) (Handed n j reply) = tt
+did_none_move (Updates number pushes total) (Rejected raw breach) = tt
+did_none_move (Hands to count (Ok r)) Silent = tt
+did_none_move (Hands to count (Ok r)) Set = tt
+did_none_move (Hands to count (Ok r)) (Replies j reply) = tt
+did_none_move (Hands to count (Ok r)) (Refreshing b) = tt
+did_none_move (Hands to count (Ok r)) (Handed n j reply) = accepts_none_moved r (reverse j.accepted)
+did_none_move (Hands to count (Ok r)) (Rejected raw breach) = tt
+did_none_move (Hands to count (Err x)) Silent = tt
+did_none_move (Hands to count (Err x)) Set = tt
+did_none_move (Hands to count (Err x)) (Replies j reply) = tt
+did_none_move (Hands to count (Err x)) (Refreshing b) = tt
+did_none_move (Hands to count (Err x)) (Handed n j reply) = tt
+did_none_move (Hands to count (Err x)) (Rejected raw breach) = tt
 
 run_none_moved : (judge : Judge) (w : World) (commands : List Command) (blocks : List Block) (past : List Did) → IsRun judge w commands blocks past → NoneMoved past
 run_none_moved judge w commands blocks past begin = tt

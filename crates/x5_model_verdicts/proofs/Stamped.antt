@@ -1,5 +1,5 @@
 -- The stamps of copies are moments of lines before, at every line of a run: by induction over the run.
-use Rattle.std.proofs.Common.{◌≡◌, ◌≤◌, ℕ, suc, ◌==◌, Bool, true, false, not, ◌&&◌, inl, inr, List, [], ◌∷◌, map, length, reverse, refl, sym, subst, arith, Option, Some, None, if◌then◌else◌}
+use Rattle.std.proofs.Common.{◌≡◌, ◌≤◌, ℕ, suc, ◌==◌, Bool, true, false, not, ◌&&◌, inl, inr, List, [], ◌∷◌, map, length, reverse, refl, sym, subst, arith, Option, Some, None, if◌then◌else◌, Ok, Err}
 use Rattle.std.specs.Prelude.{⊤}
 use Rattle.std.specs.List.{find}
 use Rattle.std.specs.Option.{is_some}
@@ -14,7 +14,7 @@ use Rattle.x5_model_tree.specs.Consistent.{first_breach}
 use Rattle.x5_model_run.specs.Network.{is_lost, is_unheard, is_sent}
 use Rattle.x5_model_run.specs.Refresh.{RequestShadowUpdate, UpdateShadow, CoordinateShadowUpdate, ShadowLine, RefreshOutcome, Done, Unheard, Problem, Missed, NotConsistent, RefreshBlock, inactive_agreement, full_update_required, invalid_agreement_id, consumed_by, supplied, peer_moment, same_moment, needs_total, shadow_line, ended, updates_with, refresh_with, pull, push, refresh_block}
 use Rattle.x5_model_run.specs.History.{Refreshed, Deed, Nothing, Outs, Loses, Accepts, Refreshes, Splits, Unsplits, Did, Point, moment_of, knowledge_at, refresh_of, refreshes_of, stamp_of, as_of, acked}
-use Rattle.x5_model_run.specs.Run.{Command, Blank, Asks, Changes, Drops, Updates, Block, Silent, Set, Replies, Refreshing, Judge, IsBlock, refreshed_by, did_by, IsRun, begin, next}
+use Rattle.x5_model_run.specs.Run.{Command, Blank, Asks, Changes, Drops, Updates, Hands, Block, Silent, Set, Replies, Refreshing, Handed, Rejected, Judge, IsBlock, refreshed_by, did_by, IsRun, begin, next}
 use Rattle.x5_model_verdicts.specs.Committing.{RunsAreStamped}
 
 -- a refresh's stamp is no later than this
@@ -144,9 +144,25 @@ did_early judge p (Asks to r) Silent all is = tt
 did_early judge p (Asks to r) Set all is = tt
 did_early judge p (Asks to r) (Replies j reply) all is = accepts_early (suc (length p.past)) r (reverse j.accepted)
 did_early judge p (Asks to r) (Refreshing b) all is = tt
+did_early judge p (Asks to r) (Handed n j reply) all is = tt
+did_early judge p (Asks to r) (Rejected raw breach) all is = tt
 did_early judge p (Updates number pushes total) Silent all is = tt
 did_early judge p (Updates number pushes total) Set all is = tt
 did_early judge p (Updates number pushes total) (Replies j reply) all is = tt
+did_early judge p (Updates number pushes total) (Handed n j reply) all is = tt
+did_early judge p (Updates number pushes total) (Rejected raw breach) all is = tt
+did_early judge p (Hands to count (Ok r)) Silent all is = tt
+did_early judge p (Hands to count (Ok r)) Set all is = tt
+did_early judge p (Hands to count (Ok r)) (Replies j reply) all is = tt
+did_early judge p (Hands to count (Ok r)) (Refreshing b) all is = tt
+did_early judge p (Hands to count (Ok r)) (Handed n j reply) all is = accepts_early (suc (length p.past)) r (reverse j.accepted)
+did_early judge p (Hands to count (Ok r)) (Rejected raw breach) all is = tt
+did_early judge p (Hands to count (Err x)) Silent all is = tt
+did_early judge p (Hands to count (Err x)) Set all is = tt
+did_early judge p (Hands to count (Err x)) (Replies j reply) all is = tt
+did_early judge p (Hands to count (Err x)) (Refreshing b) all is = tt
+did_early judge p (Hands to count (Err x)) (Handed n j reply) all is = tt
+did_early judge p (Hands to count (Err x)) (Rejected raw breach) all is = tt
 did_early judge p (Updates number pushes total) (Refreshing b) all is =
     outcome_early (suc (length p.past)) b.outcome (subst (λ (x : RefreshBlock). EarlyBlock (suc (length p.past)) x) (sym is) (block_early p all number pushes total))
 
