@@ -1,5 +1,5 @@
 -- Summaries of blocks built by hand, and that as many lines of the blocks' text begin with each word.
-use Rattle.std.proofs.Common.{◌≡◌, ℕ, ◌==◌, true, false, List, [], ◌∷◌, length, None, Some, refl, codes}
+use Rattle.std.proofs.Common.{◌≡◌, ℕ, ◌==◌, pos, true, false, List, [], ◌∷◌, length, None, Some, refl, codes}
 use Rattle.std.specs.Prelude.{nat_eq}
 use Rattle.std.specs.Fmt.{digits}
 use Rattle.std.specs.List.{filter, slice_split, starts_with}
@@ -7,10 +7,13 @@ use Rattle.x5_model.specs.Values.{Text, Known, TextValue}
 use Rattle.x5_model.specs.References.{Reference, Done as Completed, NonSpecific}
 use Rattle.x5_model.specs.Answers.{EntryInfo, EntryFound, Found, Answered, Failed, Referred}
 use Rattle.x5_model.specs.Answers.{NoSuchObject}
+use Rattle.x5_model_octets.specs.Faults.{Truncated}
+use Rattle.x5_model_typed.specs.Judged.{Ber, Unrecognised}
 use Rattle.x5_model_run.specs.Journal.{Journal}
+use Rattle.x5_model_run.specs.Network.{Sent, NoReply}
 use Rattle.x5_model_run.specs.Refresh as refresh
-use Rattle.x5_model_run.specs.Run.{Command, Blank, Updates, Block, Set, Replies, Refreshing}
-use Rattle.x5_model_output.specs.Output.{Names, blocks_text}
+use Rattle.x5_model_run.specs.Run.{Command, Blank, Updates, Block, Set, Replies, Refreshing, Rejected}
+use Rattle.x5_model_output.specs.Output.{Names, blocks_text, block_text}
 use Rattle.x5_model_output.specs.Summary.{Counts, counts_of, summary_line}
 
 -- lines of a text that begin with the word
@@ -99,3 +102,20 @@ by_text =
 same : by_text ≡ counts_of blocks
 unfolding digits
 same = refl
+
+-- octets of which the last is missing, and a message of an operation that the protocol lacks
+cut_off : block_text names 1 Blank (Rejected (record { receiver = 0; count = 26; fate = Sent }) (Ber (Truncated 26)))
+    ≡ codes "#1\nraw Alpha dap 26 sent\nreject truncated 26\n"
+unfolding digits
+cut_off = refl
+
+unknown_code : block_text names 2 Blank (Rejected (record { receiver = 0; count = 9; fate = Sent }) (Unrecognised (pos 3)))
+    ≡ codes "#2\nraw Alpha dap 9 sent\nreject unrecognised 3\n"
+unfolding digits
+unknown_code = refl
+
+-- nothing is heard where the reply is lost
+unheard : block_text names 1 Blank (Rejected (record { receiver = 0; count = 26; fate = NoReply }) (Ber (Truncated 26)))
+    ≡ codes "#1\nraw Alpha dap 26 noreply\n"
+unfolding digits
+unheard = refl

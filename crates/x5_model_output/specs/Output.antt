@@ -5,7 +5,7 @@ use Rattle.std.specs.Prelude.{◌≡◌, ℕ, ◌+◌, Bool, true, false, ◌&&�
 use Rattle.std.specs.Prelude.{length, map, reverse, codes}
 use Rattle.std.specs.List.{concat, find, flat_map, join_with_byte}
 use Rattle.std.specs.Ordering.{is_lt}
-use Rattle.std.specs.Fmt.{decimal}
+use Rattle.std.specs.Fmt.{decimal, signed_decimal}
 use Rattle.std.specs.declared.option.Option.{Option}
 use Rattle.std.specs.declared.option.Option.TheVariants.{None, Some}
 use Rattle.x5_model.specs.Words.{in_option, sorted, octets_below}
@@ -20,6 +20,8 @@ use Rattle.x5_model_tree.specs.World.{World}
 use Rattle.x5_model_tree.specs.Masters.{agent_at}
 use Rattle.x5_model_tree.specs.Consistent.{Printed, AgentPrinted, NamePrinted, AgreementPrinted, Inconsistency}
 use Rattle.x5_model_tree.specs.Consistent.{first_breach}
+use Rattle.x5_model_octets.specs.Faults.{Fault, Truncated, BadLength, BadTag, BadContent, TooDeep}
+use Rattle.x5_model_typed.specs.Judged.{Breach, Ber, Unrecognised}
 use Rattle.x5_model_run.specs.Network.{Fate, Lost, NoReply, Sent}
 use Rattle.x5_model_run.specs.Journal.{Line, Journal, depth, operation_of, is_wide}
 use Rattle.x5_model_run.specs.History.{Refreshed, Did}
@@ -27,7 +29,8 @@ use Rattle.x5_model_run.specs.Refresh as refresh
 use Rattle.x5_model_run.specs.Refresh.{ShadowOperation, RequestShadowUpdate, UpdateShadow, CoordinateShadowUpdate}
 use Rattle.x5_model_run.specs.Refresh.{ShadowLine, RefreshOutcome, Unheard, Problem, Missed, NotConsistent}
 use Rattle.x5_model_run.specs.Refresh.{RefreshBlock}
-use Rattle.x5_model_run.specs.Run.{Command, Updates, Block, Silent, Set, Replies, Refreshing, Judge, IsRun}
+use Rattle.x5_model_run.specs.Run.{Command, Updates, Raw, Block, Silent, Set, Replies, Refreshing, Handed, Rejected}
+use Rattle.x5_model_run.specs.Run.{Judge, IsRun}
 use Rattle.x5_model_text.specs.TypeText.{text_of_type}
 use Rattle.x5_model_text.specs.NameText.{text_of_name, text_of_rdn, text_of_value}
 
@@ -349,6 +352,53 @@ abbrev pub number_of : Command → ℕ
 number_of (Updates number pushes total) = number
 number_of other = 0
 
+-- ---- octets
+
+-- a first fault of octets by its word, and its place (X.690)
+abbrev pub fault_word : Fault → Text
+fault_word (Truncated at) = codes "truncated"
+fault_word (BadLength at) = codes "badLength"
+fault_word (BadTag at) = codes "badTag"
+fault_word (BadContent at) = codes "badContent"
+fault_word (TooDeep at) = codes "tooDeep"
+
+abbrev pub fault_place : Fault → ℕ
+fault_place (Truncated at) = at
+fault_place (BadLength at) = at
+fault_place (BadTag at) = at
+fault_place (BadContent at) = at
+fault_place (TooDeep at) = at
+
+-- octets on their way to an agent, as a user's message (X.519, section 7)
+abbrev pub raw_line : Names → Raw → Text
+raw_line names l =
+    concat (codes "raw " ∷ names.agent l.receiver ∷ codes " dap " ∷ decimal l.count ∷ codes " " ∷ fate_word l.fate
+    ∷ codes "\n" ∷ [])
+
+abbrev pub reject_line : Breach → Text
+reject_line (Ber fault) =
+    concat (codes "reject " ∷ fault_word fault ∷ codes " " ∷ decimal (fault_place fault) ∷ codes "\n" ∷ [])
+reject_line (Unrecognised code) = concat (codes "reject unrecognised " ∷ signed_decimal code ∷ codes "\n" ∷ [])
+
+-- who handed the octets hears nothing unless they are sent
+abbrev pub heard_by : Fate → Text → Text
+heard_by Lost text = []
+heard_by NoReply text = []
+heard_by Sent text = text
+
+-- what was handed over stands for the first message of the request that it spells
+abbrev pub brought : ℕ → Line → Raw
+brought count l = record { receiver = l.receiver; count = count; fate = l.fate }
+
+abbrev pub handed_text : Names → ℕ → List Line → List ℕ → Reply → Text
+handed_text names count [] accepted reply = flat_map (accepted_line names) accepted
+handed_text names count (l ∷ more) accepted reply =
+    concat (raw_line names (brought count l) ∷ flat_map (message_line names) more
+    ∷ flat_map (accepted_line names) accepted ∷ heard_by l.fate (reply_lines names reply) ∷ [])
+
+abbrev pub rejected_text : Names → Raw → Breach → Text
+rejected_text names raw breach = raw_line names raw ++ heard_by raw.fate (reject_line breach)
+
 -- ---- blocks
 
 abbrev pub number_line : ℕ → Text
@@ -363,6 +413,9 @@ block_text names n command (Replies j reply) =
 block_text names n command (Refreshing b) =
     concat (number_line n ∷ flat_map (shadow_line names) b.lines ∷ refresh_line names (number_of command) b.outcome
     ∷ [])
+block_text names n command (Handed count j reply) =
+    number_line n ++ handed_text names count (reverse j.lines) (reverse j.accepted) reply
+block_text names n command (Rejected raw breach) = number_line n ++ rejected_text names raw breach
 
 abbrev pub blocks_text : Names → ℕ → List Command → List Block → Text
 blocks_text names n [] blocks = []

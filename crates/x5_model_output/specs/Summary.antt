@@ -1,6 +1,6 @@
 -- What a run prints of its blocks where it is asked for a summary (docs/FORMATS.md, output): how many requests there
 -- were, and how many lines of each of seven kinds the blocks have. All of it is this project's own.
-use Rattle.std.specs.Prelude.{◌≡◌, ℕ, ◌+◌, ◌-◌, ◌^◌, List, [], ◌∷◌, ◌++◌, length, codes, min}
+use Rattle.std.specs.Prelude.{◌≡◌, ℕ, ◌+◌, ◌-◌, ◌^◌, List, [], ◌∷◌, ◌++◌, length, reverse, codes, min}
 use Rattle.std.specs.List.{concat}
 use Rattle.std.specs.Fmt.{decimal}
 use Rattle.x5_model.specs.Values.{Text}
@@ -10,7 +10,9 @@ use Rattle.x5_model_tree.specs.World.{World}
 use Rattle.x5_model_tree.specs.Consistent.{first_breach}
 use Rattle.x5_model_run.specs.Refresh as refresh
 use Rattle.x5_model_run.specs.Refresh.{RefreshOutcome, Unheard, Problem, Missed, NotConsistent}
-use Rattle.x5_model_run.specs.Run.{Block, Silent, Set, Replies, Refreshing}
+use Rattle.x5_model_run.specs.Network.{Fate, Lost, NoReply, Sent}
+use Rattle.x5_model_run.specs.Journal.{Line}
+use Rattle.x5_model_run.specs.Run.{Block, Silent, Set, Replies, Refreshing, Handed, Rejected}
 use Rattle.x5_model_output.specs.Output.{names_of, knowledge_line}
 
 -- requests, and lines that begin with `entry`, `sub`, `error`, `referral`, `unexplored`, `accepted` and `refreshed`
@@ -74,11 +76,23 @@ refresh_counts (Problem n) = record no_counts { errors = 1 }
 refresh_counts (Missed held given) = record no_counts { errors = 1 }
 refresh_counts NotConsistent = record no_counts { errors = 1 }
 
+-- A request that octets bring is none of the script's; of its reply counts what is heard.
+abbrev pub heard_counts : Fate → Reply → Counts
+heard_counts Lost reply = no_counts
+heard_counts NoReply reply = no_counts
+heard_counts Sent reply = reply_counts reply
+
+abbrev pub handed_counts : List Line → ℕ → Reply → Counts
+handed_counts [] agents reply = record no_counts { accepted = agents }
+handed_counts (l ∷ more) agents reply = record (heard_counts l.fate reply) { accepted = agents }
+
 abbrev pub block_counts : Block → Counts
 block_counts Silent = no_counts
 block_counts Set = no_counts
 block_counts (Replies j reply) = request_counts (length j.accepted) reply
 block_counts (Refreshing b) = refresh_counts b.outcome
+block_counts (Handed count j reply) = handed_counts (reverse j.lines) (length j.accepted) reply
+block_counts (Rejected raw breach) = no_counts
 
 abbrev pub counts_of : List Block → Counts
 counts_of [] = no_counts
