@@ -1,11 +1,26 @@
--- How deep filters are nested (X.511, section 7.8): so many levels at most.
-use Rattle.std.specs.Prelude.{ℕ, ◌-◌, ◌≤◌}
+-- How deep filters are nested (X.511, section 7.8): so many levels at most, and below them the parts of substrings are texts.
+use Rattle.std.specs.Prelude.{◌≡◌, ℕ, ◌-◌, ◌≤◌, true, List, [], ◌∷◌}
+use Rattle.x5_model.specs.Filters.{Piece, Item, Equality, Substrings, GreaterOrEqual, LessOrEqual, Present, Approximate}
 use Rattle.x5_model.specs.Filters.{Filter, Filters, Is, And, Or, Not, Nil, More}
 use Rattle.x5_model.specs.Requests.{Body, Search}
+use Rattle.x5_model_messages.specs.Terms.{value_node}
+use Rattle.x5_model_typed.specs.Rules.{is_text}
+
+abbrev pub AreTexts : List Piece → Type 0
+AreTexts [] = Unit {0}
+AreTexts (p ∷ pieces) = (is_text (value_node p.value) ≡ true) × AreTexts pieces
+
+abbrev pub HasTexts : Item → Type 0
+HasTexts (Equality a) = Unit {0}
+HasTexts (Substrings s) = AreTexts s.pieces
+HasTexts (GreaterOrEqual a) = Unit {0}
+HasTexts (LessOrEqual a) = Unit {0}
+HasTexts (Present type) = Unit {0}
+HasTexts (Approximate a) = Unit {0}
 
 abbrev mutual
   pub HasLevels : ℕ → Filter → Type 0
-  HasLevels most (Is i) = 1 ≤ most
+  HasLevels most (Is i) = (1 ≤ most) × HasTexts i
   HasLevels most (And fs) = (1 ≤ most) × HaveLevels (most - 1) fs
   HasLevels most (Or fs) = (1 ≤ most) × HaveLevels (most - 1) fs
   HasLevels most (Not f) = (1 ≤ most) × HasLevels (most - 1) f

@@ -1,16 +1,16 @@
 pub mod AttributeParts
 pub mod Clockless
 pub mod Decoding
-mod FilterLevels
+pub mod FilterLevels
 mod FilterMembers
 mod FilterRows
 pub mod Fitting
 mod Invokes
-mod Levels
+pub mod Levels
 pub mod Members
 pub mod Octets
 pub mod ReadIsSayable
-mod RequestRooms
+pub mod RequestRooms
 mod RequestsSpelled
 pub mod Rooms
 mod Selections

@@ -333,7 +333,7 @@ controls_last ns f =
     let a = optional_in table layouts.no_controls 30 named.Controls [] AreControls no_count controls_fit ns f in
     record { first = a.first; split = a.split ∙ ap (More a.first) (no_more table a.others a.rest); is = a.is }
 
-read_fits : (n : Node) → Fits table (table (named.Argument named.Read)) n → IsArgument 1 n
+pub read_fits : (n : Node) → Fits table (table (named.Argument named.Read)) n → IsArgument 1 n
 read_fits n f =
     let m = only_made table _ n refl (λ x. refl) f in
     let a = required_in table 0 named.Name _ anything (λ x g. tt) m.members (set_in table _ m.members m.within) in
@@ -343,7 +343,7 @@ read_fits n f =
     m.is_many ∙ ap Many (a.split ∙ ap (More a.first) (b.split ∙ ap (More b.first) c.split)) in
     subst (IsArgument 1) (sym is) (c.is, b.is)
 
-compare_fits : (n : Node) → Fits table (table (named.Argument named.Compare)) n → IsArgument 2 n
+pub compare_fits : (n : Node) → Fits table (table (named.Argument named.Compare)) n → IsArgument 2 n
 compare_fits n f =
     let m = only_made table _ n refl (λ x. refl) f in
     let a = required_in table 0 named.Name _ anything (λ x g. tt) m.members (set_in table _ m.members m.within) in
@@ -353,7 +353,7 @@ compare_fits n f =
     m.is_many ∙ ap Many (a.split ∙ ap (More a.first) (b.split ∙ ap (More b.first) c.split)) in
     subst (IsArgument 2) (sym is) (c.is, b.is)
 
-list_fits : (n : Node) → Fits table (table (named.Argument named.ListBelow)) n → IsArgument 4 n
+pub list_fits : (n : Node) → Fits table (table (named.Argument named.ListBelow)) n → IsArgument 4 n
 list_fits n f =
     let m = only_made table _ n refl (λ x. refl) f in
     let a = required_in table 0 named.Name _ anything (λ x g. tt) m.members (set_in table _ m.members m.within) in
@@ -361,7 +361,7 @@ list_fits n f =
     let is : n ≡ Many (More a.first (More c.first Nil)) = m.is_many ∙ ap Many (a.split ∙ ap (More a.first) c.split) in
     subst (IsArgument 4) (sym is) (c.is, tt)
 
-search_fits : (n : Node) → Fits table (table (named.Argument named.Search)) n → IsArgument 5 n
+pub search_fits : (n : Node) → Fits table (table (named.Argument named.Search)) n → IsArgument 5 n
 search_fits n f =
     let m = only_made table _ n refl (λ x. refl) f in
     let a = required_in table 0 named.Name _ anything (λ x g. tt) m.members (set_in table _ m.members m.within) in
@@ -373,7 +373,7 @@ search_fits n f =
     m.is_many ∙ ap Many (a.split ∙ ap (More a.first) (b.split ∙ ap (More b.first) (c.split ∙ ap (More c.first) (d.split ∙ ap (More d.first) e.split)))) in
     subst (IsArgument 5) (sym is) (e.is, (b.is, c.is, d.is))
 
-add_fits : (n : Node) → Fits table (table (named.Argument named.AddEntry)) n → IsArgument 6 n
+pub add_fits : (n : Node) → Fits table (table (named.Argument named.AddEntry)) n → IsArgument 6 n
 add_fits n f =
     let m = only_made table _ n refl (λ x. refl) f in
     let a = required_in table 0 named.Name _ anything (λ x g. tt) m.members (set_in table _ m.members m.within) in
@@ -383,7 +383,7 @@ add_fits n f =
     m.is_many ∙ ap Many (a.split ∙ ap (More a.first) (b.split ∙ ap (More b.first) c.split)) in
     subst (IsArgument 6) (sym is) (c.is, b.is)
 
-remove_fits : (n : Node) → Fits table (table (named.Argument named.RemoveEntry)) n → IsArgument 7 n
+pub remove_fits : (n : Node) → Fits table (table (named.Argument named.RemoveEntry)) n → IsArgument 7 n
 remove_fits n f =
     let m = only_made table _ n refl (λ x. refl) f in
     let a = required_in table 0 named.Name _ anything (λ x g. tt) m.members (set_in table _ m.members m.within) in
@@ -391,7 +391,7 @@ remove_fits n f =
     let is : n ≡ Many (More a.first (More c.first Nil)) = m.is_many ∙ ap Many (a.split ∙ ap (More a.first) c.split) in
     subst (IsArgument 7) (sym is) (c.is, tt)
 
-modify_fits : (n : Node) → Fits table (table (named.Argument named.ModifyEntry)) n → IsArgument 8 n
+pub modify_fits : (n : Node) → Fits table (table (named.Argument named.ModifyEntry)) n → IsArgument 8 n
 modify_fits n f =
     let m = only_made table _ n refl (λ x. refl) f in
     let a = required_in table 0 named.Name _ anything (λ x g. tt) m.members (set_in table _ m.members m.within) in
@@ -401,7 +401,7 @@ modify_fits n f =
     m.is_many ∙ ap Many (a.split ∙ ap (More a.first) (b.split ∙ ap (More b.first) c.split)) in
     subst (IsArgument 8) (sym is) (c.is, b.is)
 
-rename_fits : (n : Node) → Fits table (table (named.Argument named.ModifyDn)) n → IsArgument 9 n
+pub rename_fits : (n : Node) → Fits table (table (named.Argument named.ModifyDn)) n → IsArgument 9 n
 rename_fits n f =
     let m = only_made table _ n refl (λ x. refl) f in
     let a = required_in table 0 named.Name _ anything (λ x g. tt) m.members (set_in table _ m.members m.within) in

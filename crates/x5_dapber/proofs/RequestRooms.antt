@@ -1,5 +1,5 @@
 -- There is room under what is written of a request whose filter isn't too deep.
-use Rattle.std.proofs.Common.{◌≡◌, ℕ, ◌+◌, ◌*◌, ◌-◌, ◌≤◌, List, [], ◌∷◌, ◌++◌, map, arith}
+use Rattle.std.proofs.Common.{◌≡◌, true, ℕ, ◌+◌, ◌*◌, ◌-◌, ◌≤◌, List, [], ◌∷◌, ◌++◌, map, arith}
 use Rattle.std.specs.declared.option.Option.{Option}
 use Rattle.std.specs.declared.option.Option.TheVariants.{None, Some}
 use Rattle.x5_model.specs.Values.{TypeRef, Text, Value, TextValue, OctetsValue, OidValue, NameOf, NameValue, Offered, Rdn, Name, written, written_pair}
@@ -11,11 +11,12 @@ use Rattle.x5_model_typed.specs.Nodes.{Node, Nodes, Vacant, Nil, More, row}
 use Rattle.x5_model_messages.specs.Terms.{node_of, type_node, pair_node, pairs_node, rdn_node, name_value_node, name_node, value_node, attribute_node, assertion_node, change_node}
 use Rattle.x5_model_messages.specs.FilterTerms.{piece_node, substrings_node, item_node, filter_node, filter_nodes}
 use Rattle.x5_model_messages.specs.Requests.{size_node, controls_node, selection_node, argument_node, request_node}
-use Rattle.x5_dapber.proofs.Levels.{HasLevels, HaveLevels, IsShallow}
+use Rattle.x5_model_typed.specs.Rules.{is_text}
+use Rattle.x5_dapber.proofs.Levels.{AreTexts, HasTexts, HasLevels, HaveLevels, IsShallow}
 use Rattle.x5_dapber.proofs.Rooms.{Room, RoomForAll}
 
 -- so many levels are enough
-abbrev Takes : ℕ → Node → Type 0
+abbrev pub Takes : ℕ → Node → Type 0
 Takes r n = (d : ℕ) → d + r ≤ deepest → Room d n
 
 mapped_take : {X : Type 0} (f : X → Node) (r : ℕ) → ((x : X) → Takes r (f x)) → (xs : List X) (d : ℕ) → d + r ≤ deepest
@@ -23,7 +24,7 @@ mapped_take : {X : Type 0} (f : X → Node) (r : ℕ) → ((x : X) → Takes r (
 mapped_take f r takes [] d le = tt
 mapped_take f r takes (x ∷ xs) d le = (takes x d le, mapped_take f r takes xs d le)
 
-many_take : {X : Type 0} (f : X → Node) (r : ℕ) → ((x : X) → Takes r (f x)) → (xs : List X) → Takes (r + 2) (node_of (map f xs))
+pub many_take : {X : Type 0} (f : X → Node) (r : ℕ) → ((x : X) → Takes r (f x)) → (xs : List X) → Takes (r + 2) (node_of (map f xs))
 many_take f r takes xs d le = (omega (arith, le), mapped_take f r takes xs (d + 2) (omega (arith, le)))
 
 -- ---- names, values and attributes
@@ -40,10 +41,10 @@ pairs_take r = many_take pair_node 2 pair_takes r
 name_value_takes : (n : NameValue) → Takes 6 (name_value_node n)
 name_value_takes n = many_take pairs_node 4 pairs_take n
 
-rdn_takes : (r : Rdn) → Takes 4 (rdn_node r)
+pub rdn_takes : (r : Rdn) → Takes 4 (rdn_node r)
 rdn_takes r = pairs_take (map written_pair r)
 
-name_takes : (n : Name) → Takes 6 (name_node n)
+pub name_takes : (n : Name) → Takes 6 (name_node n)
 name_takes n = name_value_takes (written n)
 
 value_takes : (v : Value) → Takes 6 (value_node v)
@@ -72,31 +73,38 @@ change_takes (RemoveValues a) d le = (omega (arith, le), attribute_takes a (d + 
 
 -- ---- filters
 
-piece_takes : (p : Piece) → Takes 7 (piece_node p)
-piece_takes p d le = (omega (arith, le), value_takes p.value (d + 1) (omega (arith, le)))
+text_takes : (v : Value) → is_text (value_node v) ≡ true → Takes 0 (value_node v)
+text_takes (TextValue t) h d le = omega (arith, le)
+text_takes (OctetsValue o) h d le = absurd (cc h)
+text_takes (OidValue arcs) h d le = absurd (cc h)
+text_takes (NameOf n) h d le = absurd (cc h)
 
-substrings_take : (s : SubstringItem) → Takes 11 (substrings_node s)
-substrings_take s d le =
-    (omega (arith, le), (omega (arith, le), (many_take piece_node 7 piece_takes s.pieces (d + 2) (omega (arith, le)), tt)))
+pieces_take : (ps : List Piece) → AreTexts ps → (d : ℕ) → d + 1 ≤ deepest → RoomForAll d (row (map piece_node ps))
+pieces_take [] h d le = tt
+pieces_take (p ∷ ps) h d le = ((omega (arith, le), text_takes p.value h.0 (d + 1) (omega (arith, le))), pieces_take ps h.1 d le)
 
-item_takes : (i : Item) → Takes 12 (item_node i)
-item_takes (Equality a) d le = (omega (arith, le), assertion_takes a (d + 1) (omega (arith, le)))
-item_takes (Substrings s) d le = (omega (arith, le), substrings_take s (d + 1) (omega (arith, le)))
-item_takes (GreaterOrEqual a) d le = (omega (arith, le), assertion_takes a (d + 1) (omega (arith, le)))
-item_takes (LessOrEqual a) d le = (omega (arith, le), assertion_takes a (d + 1) (omega (arith, le)))
-item_takes (Present t) d le = (omega (arith, le), omega (arith, le))
-item_takes (Approximate a) d le = (omega (arith, le), assertion_takes a (d + 1) (omega (arith, le)))
+substrings_take : (s : SubstringItem) → AreTexts s.pieces → Takes 5 (substrings_node s)
+substrings_take s h d le =
+    (omega (arith, le), (omega (arith, le), ((omega (arith, le), pieces_take s.pieces h (d + 2 + 2) (omega (arith, le))), tt)))
+
+item_takes : (i : Item) → HasTexts i → Takes 9 (item_node i)
+item_takes (Equality a) h d le = (omega (arith, le), assertion_takes a (d + 1) (omega (arith, le)))
+item_takes (Substrings s) h d le = (omega (arith, le), substrings_take s h (d + 1) (omega (arith, le)))
+item_takes (GreaterOrEqual a) h d le = (omega (arith, le), assertion_takes a (d + 1) (omega (arith, le)))
+item_takes (LessOrEqual a) h d le = (omega (arith, le), assertion_takes a (d + 1) (omega (arith, le)))
+item_takes (Present t) h d le = (omega (arith, le), omega (arith, le))
+item_takes (Approximate a) h d le = (omega (arith, le), assertion_takes a (d + 1) (omega (arith, le)))
 
 mutual
-  filter_takes : (k : ℕ) (f : Filter) → HasLevels k f → Takes (3 * k + 10) (filter_node f)
-  filter_takes k (Is i) h d le = (omega (arith, le), item_takes i (d + 1) (omega (arith, le, h)))
+  filter_takes : (k : ℕ) (f : Filter) → HasLevels k f → Takes (3 * k + 7) (filter_node f)
+  filter_takes k (Is i) h d le = (omega (arith, le), item_takes i h.1 (d + 1) (omega (arith, le, h.0)))
   filter_takes k (And fs) h d le =
       (omega (arith, le), (omega (arith, le, h.0), filters_take (k - 1) fs h.1 (d + 1 + 2) (omega (arith, le, h.0))))
   filter_takes k (Or fs) h d le =
       (omega (arith, le), (omega (arith, le, h.0), filters_take (k - 1) fs h.1 (d + 1 + 2) (omega (arith, le, h.0))))
   filter_takes k (Not f) h d le = (omega (arith, le), filter_takes (k - 1) f h.1 (d + 1) (omega (arith, le, h.0)))
 
-  filters_take : (k : ℕ) (fs : Filters) → HaveLevels k fs → (d : ℕ) → d + (3 * k + 10) ≤ deepest
+  filters_take : (k : ℕ) (fs : Filters) → HaveLevels k fs → (d : ℕ) → d + (3 * k + 7) ≤ deepest
       → RoomForAll d (filter_nodes fs)
   filters_take k filters.Nil h d le = tt
   filters_take k (filters.More f fs) h d le = (filter_takes k f h.0 d le, filters_take k fs h.1 d le)
@@ -120,7 +128,7 @@ selection_takes : (s : Selection) → Takes 4 (selection_node s)
 selection_takes All d le = (omega (arith, le), (omega (arith, le), tt))
 selection_takes (Only types) d le = (omega (arith, le), (many_take type_node 0 type_takes types (d + 2) (omega (arith, le)), tt))
 
-argument_takes : (c : Controls) (b : Body) → IsShallow b → Takes 60 (argument_node (record { controls = c; body = b }))
+pub argument_takes : (c : Controls) (b : Body) → IsShallow b → Takes 57 (argument_node (record { controls = c; body = b }))
 argument_takes c (Read name selection) h d le = (
   omega (arith, le),
   (
@@ -185,5 +193,5 @@ argument_takes c (ModifyDn name rdn drops) h d le = (
 
 pub request_room : (id : ℕ) (r : Request) → IsShallow r.body → Room 1 (request_node id r)
 request_room id r h =
-    let fits : 1 + 1 + 2 + 60 ≤ deepest = omega arith in
+    let fits : 1 + 1 + 2 + 57 ≤ deepest = omega arith in
     (omega arith, (omega arith, (omega arith, (omega arith, (argument_takes r.controls r.body h (1 + 1 + 2) fits, tt)))))

@@ -122,7 +122,7 @@ fn rename_node<'a>(
 }
 
 /// The argument of an operation, with its controls.
-pub(crate) fn argument_node<'a>(alloc: Global, request: &'a Request) -> Result<Node<'a>, NoMemory>
+pub fn argument_node<'a>(alloc: Global, request: &'a Request) -> Result<Node<'a>, NoMemory>
     ensures { IfOk result (λ n. node_view n ≡ requests.argument_node (request_view request.now)) }
 {
     let controls = controls_node(alloc, request.controls)?;

@@ -1,15 +1,15 @@
 //! Requests of users as octets (DAP: X.511, X.519), written and read: each part as a value of its type, and the whole by the one writer
-//! and the one reader over the table of types (X.690). The parts that answers have, too, are public.
+//! and the one reader over the table of types (X.690). The parts that answers and messages between agents have, too, are public.
 #![tactic(auto)]
 
-mod arguments;
+pub mod arguments;
 mod attributes;
 mod fault;
 mod filters;
 mod messages;
 pub mod names;
 pub mod parts;
-mod read_arguments;
+pub mod read_arguments;
 mod read_attributes;
 mod read_filters;
 pub mod read_parts;

@@ -205,7 +205,7 @@ fn body_in(alloc: Global, code: u32, parts: &[Node<'_>]) -> Result<Body, NoMemor
 }
 
 /// The request of the operation with the code that the argument says.
-pub(crate) fn argument_in(alloc: Global, code: u32, node: &Node<'_>) -> Result<Request, NoMemory>
+pub fn argument_in(alloc: Global, code: u32, node: &Node<'_>) -> Result<Request, NoMemory>
     requires { sayable.IsArgument code (node_view node.now) }
     ensures { IfOk result (λ r. request_view r ≡ requests.argument_in code (node_view node.now)) }
 {

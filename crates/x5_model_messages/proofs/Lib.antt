@@ -1,3 +1,4 @@
 mod Back
+pub mod Chained
 pub mod Requests
 mod Rows

@@ -20,10 +20,10 @@ use Rattle.x5_model_messages.specs.Requests.{controls_node, subset_number, selec
 use Rattle.x5_model_messages.specs.Laws.{IsName, IsRdn, is_sayable, IsAttribute, AreAttributes, IsAssertion, IsSubstrings, IsItem, IsFilter, AreFilters, IsChange, AreChanges, IsSelection, IsBody, RequestsReadBack}
 use Rattle.x5_model_messages.proofs.Back.{types_back, name_back, names_back, rdn_back}
 
-the_name : (n : Name) → IsName n → name_of (name_node n) ≡ n
+pub the_name : (n : Name) → IsName n → name_of (name_node n) ≡ n
 the_name n h = names_back n h.0 ∙ sym h.1
 
-the_rdn : (r : Rdn) → IsRdn r → rdn_of (rdn_node r) ≡ r
+pub the_rdn : (r : Rdn) → IsRdn r → rdn_of (rdn_node r) ≡ r
 the_rdn r h = ap stored_rdn (rdn_back (map written_pair r) h.0) ∙ sym h.1
 
 value_back : (v : Value) → is_sayable v ≡ true → value_in (value_node v) ≡ v
@@ -134,7 +134,7 @@ selection_back (Only types) h =
 both : Controls → Body → Request
 both c b = record { controls = c; body = b }
 
-argument_back : (c : Controls) (b : Body) → IsBody b
+pub argument_back : (c : Controls) (b : Body) → IsBody b
     → argument_in (operation_of b) (argument_node (record { controls = c; body = b })) ≡ record { controls = c; body = b }
 unfolding both
 argument_back c (Read name selection) h =

@@ -1,0 +1,6 @@
+mod ReferenceParts
+pub mod RepliesBack
+pub mod ReplyIsSayable
+pub mod Sequences
+mod ShownParts
+pub mod Six

@@ -1,0 +1,3 @@
+pub mod ReplyViews
+pub mod Sayable
+pub mod Told

@@ -1,0 +1,4 @@
+mod ChainedIsSayable
+mod ChainedSpelled
+mod Five
+mod ResultIsSayable

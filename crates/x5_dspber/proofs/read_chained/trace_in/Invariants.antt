@@ -1,0 +1,11 @@
+-- The items so far, and then those of the other nodes.
+use Rattle.std.proofs.Common.{◌≡◌, ◌++◌, drop, map}
+use Rattle.x5_dapreply.specs.ReplyViews.{told_item}
+use Rattle.x5_model_messages.specs.Replies as replies
+use Rattle.x5_types.specs.NodeView.{node_view}
+use Rattle.x5_dspber.proofs.read_chained.trace_in.Given as goal
+
+abbrev pub invariant-loop-node : goal.invariant-loop-node
+invariant-loop-node l =
+    map told_item l.trace ++ map replies.item_in (map node_view (drop l.node-index l.nodes))
+    ≡ map replies.item_in (map node_view l.nodes)

@@ -1,0 +1,2 @@
+pub mod ChainedViews
+pub mod Sayable
