@@ -63,6 +63,16 @@ set_in L cs ns (fits.set f) = f
 pub members_in : (L : Layout) (form : Named) (ns : Nodes) → FitsIn L (Members form) ns → FitsEach L form ns
 members_in L form ns (fits.members f) = f
 
+-- ---- the rule of one alternative keeps the value
+
+pub only_settles : (L : Layout) (a : Alternative) (n : Node) → a.marked ≡ false → Fits L (a ∷ []) n → a.settles n ≡ Some n
+only_settles L a n free_of (whole b octets free held unmarked writes settles) =
+    subst (λ (c : Alternative). c.settles n ≡ Some n) (only a b (can_hold n a) held) settles
+only_settles L a _ free_of (made {ns} b held unmarked empty inside settles) =
+    subst (λ (c : Alternative). c.settles (Many ns) ≡ Some (Many ns)) (only a b (can_hold (Many ns) a) held) settles
+only_settles L a _ free_of (chosen b tag form found c f settles) = absurd (unmarked_not_found a b tag free_of found)
+only_settles L a _ free_of (chosen_made b tag found inside settles) = absurd (unmarked_not_found a b tag free_of found)
+
 -- ---- one alternative, of octets
 
 no_members : (L : Layout) (leaf : Leaf (List ℕ)) (ns : Nodes) → FitsIn L (Primitive leaf) ns → ⊥

@@ -8,6 +8,7 @@ pub mod Fitting
 mod Invokes
 pub mod Levels
 pub mod Members
+pub mod NamesShort
 pub mod Octets
 pub mod ReadIsSayable
 pub mod RequestRooms

@@ -1,5 +1,5 @@
 -- What fits the type of a user's message is a value for whose parts the code has types.
-use Rattle.std.proofs.Common.{◌≡◌, ℕ, zero, suc, ◌<◌, ◌≤◌, ◌^◌, ℤ, pos, negsuc, Bool, true, false, cond, ◌&&◌, ◌==◌, nat_le, nat_lt, List, [], ◌∷◌, refl, sym, ap, subst, ◌∙◌, arith}
+use Rattle.std.proofs.Common.{◌≡◌, ℕ, zero, suc, ◌<◌, ◌≤◌, ◌^◌, ℤ, pos, negsuc, Bool, true, false, cond, ◌&&◌, ◌==◌, nat_le, nat_lt, List, [], ◌∷◌, length, refl, sym, ap, subst, ◌∙◌, arith}
 use Rattle.std.specs.Prelude.{All}
 use Rattle.std.specs.List.{find}
 use Rattle.std.specs.Option.{is_some}
@@ -7,23 +7,24 @@ use Rattle.std.proofs.lemmas.Bool.{leb-true, eqb-true}
 use Rattle.std.proofs.lemmas.List.Elements.{All-nil}
 use Rattle.std.specs.declared.option.Option.{Option}
 use Rattle.std.specs.declared.option.Option.TheVariants.{None, Some}
-use Rattle.x5_model.specs.Normal.{is_oid}
+use Rattle.x5_model.specs.Normal.{is_oid, most_rdns}
 use Rattle.x5_model.proofs.Lists.{both_true}
 use Rattle.x5_model_typed.specs.Nodes as nodes
 use Rattle.x5_model_typed.specs.Nodes.{Node, Nodes, Vacant, Flag, Number, Oid, Bits, Octets, Chosen, Many, Nil, More, list}
 use Rattle.x5_model_typed.specs.Named as named
 use Rattle.x5_model_typed.specs.Forms as forms
-use Rattle.x5_model_typed.specs.Forms.{Component, Explicit, Sequence, Set, Members, Never, Alternative, choice, plain, at, or, code}
+use Rattle.x5_model_typed.specs.Forms.{Component, Explicit, Sequence, Set, Members, Never, Alternative, choice, plain, at, or, code, ruled}
 use Rattle.x5_model_typed.specs.Leaves.{where_so, any_oid, short_oid, oid, oid_octets, from_to, is_short_number, number, number_octets, options_node}
 use Rattle.x5_model_typed.specs.Layouts as layouts
+use Rattle.x5_model_typed.specs.Rules.{name_rule}
 use Rattle.x5_model_typed.specs.Typed.{named, required}
 use Rattle.x5_model_typed.specs.Written.{can_hold, is_marked}
 use Rattle.x5_model_typed_laws.specs.Fits.{Fits, FitsIn, FitsSequence, FitsSet, FitsEach, more, left_out, given, over, whole, made, chosen, chosen_made}
 use Rattle.x5_types.specs.FormView.{table}
-use Rattle.x5_dapber.specs.Sayable.{IsType, IsValue, IsAttribute, IsAssertion, IsChange, IsPiece, IsSubstrings, IsItem, IsFilter, HasFilters, AreFilters, IsCount, IsSelection, AreControls, IsArgument, IsRequest}
+use Rattle.x5_dapber.specs.Sayable.{IsType, IsValue, IsAttribute, IsAssertion, IsChange, IsPiece, IsSubstrings, IsItem, IsFilter, HasFilters, AreFilters, IsCount, IsSelection, AreControls, IsShortName, IsArgument, IsRequest}
 use Rattle.x5_model.specs.Words.{in_option}
 use Rattle.x5_model_messages.specs.Terms.{number_in}
-use Rattle.x5_dapber.proofs.Fitting.{so, only, IsMade, only_made, sequence_in, set_in, members_in, only_leaf, found_is, tag_below, is_explicit, no_explicit, as_form, each_in, pair_in, required_in, optional_in, no_more}
+use Rattle.x5_dapber.proofs.Fitting.{so, only, IsMade, only_made, only_settles, sequence_in, set_in, members_in, only_leaf, found_is, tag_below, is_explicit, no_explicit, as_form, each_in, pair_in, required_in, optional_in, no_more}
 
 -- ---- types and values
 
@@ -333,84 +334,89 @@ controls_last ns f =
     let a = optional_in table layouts.no_controls 30 named.Controls [] AreControls no_count controls_fit ns f in
     record { first = a.first; split = a.split ∙ ap (More a.first) (no_more table a.others a.rest); is = a.is }
 
+name_fits : (n : Node) → Fits table (table named.Name) n → IsShortName n
+name_fits n f =
+    let settled = only_settles table (ruled name_rule (layouts.sequence_of named.Rdn)) n refl f in
+    leb-true (length (nodes.parts n)) most_rdns (so (nat_le (length (nodes.parts n)) most_rdns) n n settled)
+
 pub read_fits : (n : Node) → Fits table (table (named.Argument named.Read)) n → IsArgument 1 n
 read_fits n f =
     let m = only_made table _ n refl (λ x. refl) f in
-    let a = required_in table 0 named.Name _ anything (λ x g. tt) m.members (set_in table _ m.members m.within) in
+    let a = required_in table 0 named.Name _ IsShortName name_fits m.members (set_in table _ m.members m.within) in
     let b = optional_in table layouts.all_attributes 1 named.Selection _ IsSelection (All-nil IsType) selection_fits a.others a.rest in
     let c = controls_last b.others b.rest in
     let is : n ≡ Many (More a.first (More b.first (More c.first Nil))) =
     m.is_many ∙ ap Many (a.split ∙ ap (More a.first) (b.split ∙ ap (More b.first) c.split)) in
-    subst (IsArgument 1) (sym is) (c.is, b.is)
+    subst (IsArgument 1) (sym is) (c.is, b.is, a.is)
 
 pub compare_fits : (n : Node) → Fits table (table (named.Argument named.Compare)) n → IsArgument 2 n
 compare_fits n f =
     let m = only_made table _ n refl (λ x. refl) f in
-    let a = required_in table 0 named.Name _ anything (λ x g. tt) m.members (set_in table _ m.members m.within) in
+    let a = required_in table 0 named.Name _ IsShortName name_fits m.members (set_in table _ m.members m.within) in
     let b = required_in table 1 named.Assertion _ IsAssertion assertion_fits a.others a.rest in
     let c = controls_last b.others b.rest in
     let is : n ≡ Many (More a.first (More b.first (More c.first Nil))) =
     m.is_many ∙ ap Many (a.split ∙ ap (More a.first) (b.split ∙ ap (More b.first) c.split)) in
-    subst (IsArgument 2) (sym is) (c.is, b.is)
+    subst (IsArgument 2) (sym is) (c.is, b.is, a.is)
 
 pub list_fits : (n : Node) → Fits table (table (named.Argument named.ListBelow)) n → IsArgument 4 n
 list_fits n f =
     let m = only_made table _ n refl (λ x. refl) f in
-    let a = required_in table 0 named.Name _ anything (λ x g. tt) m.members (set_in table _ m.members m.within) in
+    let a = required_in table 0 named.Name _ IsShortName name_fits m.members (set_in table _ m.members m.within) in
     let c = controls_last a.others a.rest in
     let is : n ≡ Many (More a.first (More c.first Nil)) = m.is_many ∙ ap Many (a.split ∙ ap (More a.first) c.split) in
-    subst (IsArgument 4) (sym is) (c.is, tt)
+    subst (IsArgument 4) (sym is) (c.is, tt, a.is)
 
 pub search_fits : (n : Node) → Fits table (table (named.Argument named.Search)) n → IsArgument 5 n
 search_fits n f =
     let m = only_made table _ n refl (λ x. refl) f in
-    let a = required_in table 0 named.Name _ anything (λ x g. tt) m.members (set_in table _ m.members m.within) in
+    let a = required_in table 0 named.Name _ IsShortName name_fits m.members (set_in table _ m.members m.within) in
     let b = optional_in table (nodes.whole 0) 1 (named.NumberBelow 0 2) _ IsCount (small_count 0 (omega arith)) (count_fits 2 (omega arith)) a.others a.rest in
     let c = optional_in table layouts.everything 2 (named.Filter 16) _ IsFilter tt filter_fits b.others b.rest in
     let d = optional_in table layouts.all_attributes 4 named.Selection _ IsSelection (All-nil IsType) selection_fits c.others c.rest in
     let e = controls_last d.others d.rest in
     let is : n ≡ Many (More a.first (More b.first (More c.first (More d.first (More e.first Nil))))) =
     m.is_many ∙ ap Many (a.split ∙ ap (More a.first) (b.split ∙ ap (More b.first) (c.split ∙ ap (More c.first) (d.split ∙ ap (More d.first) e.split)))) in
-    subst (IsArgument 5) (sym is) (e.is, (b.is, c.is, d.is))
+    subst (IsArgument 5) (sym is) (e.is, (b.is, c.is, d.is), a.is)
 
 pub add_fits : (n : Node) → Fits table (table (named.Argument named.AddEntry)) n → IsArgument 6 n
 add_fits n f =
     let m = only_made table _ n refl (λ x. refl) f in
-    let a = required_in table 0 named.Name _ anything (λ x g. tt) m.members (set_in table _ m.members m.within) in
+    let a = required_in table 0 named.Name _ IsShortName name_fits m.members (set_in table _ m.members m.within) in
     let b = required_in table 1 named.Attributes _ (λ x. All IsAttribute (nodes.parts x)) attributes_fit a.others a.rest in
     let c = controls_last b.others b.rest in
     let is : n ≡ Many (More a.first (More b.first (More c.first Nil))) =
     m.is_many ∙ ap Many (a.split ∙ ap (More a.first) (b.split ∙ ap (More b.first) c.split)) in
-    subst (IsArgument 6) (sym is) (c.is, b.is)
+    subst (IsArgument 6) (sym is) (c.is, b.is, a.is)
 
 pub remove_fits : (n : Node) → Fits table (table (named.Argument named.RemoveEntry)) n → IsArgument 7 n
 remove_fits n f =
     let m = only_made table _ n refl (λ x. refl) f in
-    let a = required_in table 0 named.Name _ anything (λ x g. tt) m.members (set_in table _ m.members m.within) in
+    let a = required_in table 0 named.Name _ IsShortName name_fits m.members (set_in table _ m.members m.within) in
     let c = controls_last a.others a.rest in
     let is : n ≡ Many (More a.first (More c.first Nil)) = m.is_many ∙ ap Many (a.split ∙ ap (More a.first) c.split) in
-    subst (IsArgument 7) (sym is) (c.is, tt)
+    subst (IsArgument 7) (sym is) (c.is, tt, a.is)
 
 pub modify_fits : (n : Node) → Fits table (table (named.Argument named.ModifyEntry)) n → IsArgument 8 n
 modify_fits n f =
     let m = only_made table _ n refl (λ x. refl) f in
-    let a = required_in table 0 named.Name _ anything (λ x g. tt) m.members (set_in table _ m.members m.within) in
+    let a = required_in table 0 named.Name _ IsShortName name_fits m.members (set_in table _ m.members m.within) in
     let b = required_in table 1 named.Changes _ (λ x. All IsChange (nodes.parts x)) changes_fit a.others a.rest in
     let c = controls_last b.others b.rest in
     let is : n ≡ Many (More a.first (More b.first (More c.first Nil))) =
     m.is_many ∙ ap Many (a.split ∙ ap (More a.first) (b.split ∙ ap (More b.first) c.split)) in
-    subst (IsArgument 8) (sym is) (c.is, b.is)
+    subst (IsArgument 8) (sym is) (c.is, b.is, a.is)
 
 pub rename_fits : (n : Node) → Fits table (table (named.Argument named.ModifyDn)) n → IsArgument 9 n
 rename_fits n f =
     let m = only_made table _ n refl (λ x. refl) f in
-    let a = required_in table 0 named.Name _ anything (λ x g. tt) m.members (set_in table _ m.members m.within) in
+    let a = required_in table 0 named.Name _ IsShortName name_fits m.members (set_in table _ m.members m.within) in
     let b = required_in table 1 named.Rdn _ anything (λ x g. tt) a.others a.rest in
     let c = optional_in table (Flag false) 2 named.Boolean _ anything tt (λ x g. tt) b.others b.rest in
     let d = controls_last c.others c.rest in
     let is : n ≡ Many (More a.first (More b.first (More c.first (More d.first Nil)))) =
     m.is_many ∙ ap Many (a.split ∙ ap (More a.first) (b.split ∙ ap (More b.first) (c.split ∙ ap (More c.first) d.split))) in
-    subst (IsArgument 9) (sym is) (d.is, tt)
+    subst (IsArgument 9) (sym is) (d.is, tt, a.is)
 
 -- ---- messages
 

@@ -1,8 +1,9 @@
 -- Values of types of messages for whose parts the code has types: each type of an attribute is an object identifier,
--- and sizes, ids and codes have four octets at most. What octets spell of a request is such a value.
-use Rattle.std.specs.Prelude.{◌≡◌, ℕ, ◌<◌, ◌^◌, ◌==◌, Bool, true, false, List, [], ◌∷◌, All}
+-- sizes, ids and codes have four octets at most, and the name that an argument begins with is no longer than names may
+-- be. What octets spell of a request is such a value.
+use Rattle.std.specs.Prelude.{◌≡◌, ℕ, ◌<◌, ◌≤◌, ◌^◌, ◌==◌, Bool, true, false, List, [], ◌∷◌, All, length}
 use Rattle.std.specs.declared.option.Option.TheVariants.{Some}
-use Rattle.x5_model.specs.Normal.{is_oid}
+use Rattle.x5_model.specs.Normal.{is_oid, most_rdns}
 use Rattle.x5_model.specs.Words.{in_option}
 use Rattle.x5_model_typed.specs.Nodes as nodes
 use Rattle.x5_model_typed.specs.Nodes.{Node, Nodes, Oid, Chosen, Many, parts}
@@ -111,8 +112,17 @@ AreParts code ns =
     (pick (code == 8) (OfThree (λ name changes controls. All IsChange (parts changes)) ns)
     (OfFour (λ name rdn drops controls. Unit {0}) ns)))))))
 
+-- a name of no more RDNs than names may have
+abbrev pub IsShortName : Node → Type 0
+IsShortName n = length (parts n) ≤ most_rdns
+
+-- the first component of each argument is a name
+abbrev pub BeginShort : List Node → Type 0
+BeginShort (name ∷ ns) = IsShortName name
+BeginShort [] = ⊥
+
 abbrev pub IsArgument : ℕ → Node → Type 0
-IsArgument code n = AreControls (last_node (parts n)) × AreParts code (parts n)
+IsArgument code n = AreControls (last_node (parts n)) × AreParts code (parts n) × BeginShort (parts n)
 
 abbrev pub IsRequest : Node → Type 0
 IsRequest (Chosen tag n) =

@@ -1,6 +1,7 @@
 //! Whole messages of a user (X.519, section 7), as octets.
 ghost use Rattle.std.specs.Prelude.{◌≡◌, ℕ, IfOk, Result, Ok};
 ghost use Rattle.x5_dapber.specs.Results.{IsWritten, Decodes, IsRead};
+ghost use Rattle.x5_dapber.specs.ShortNames.{HasShortNames};
 ghost use Rattle.x5_model.specs.Requests as model;
 ghost use Rattle.x5_model_messages.specs.Laws.{IsBody};
 ghost use Rattle.x5_model_messages.specs.Requests as requests;
@@ -68,6 +69,8 @@ pub fn decode_request(alloc: Global, octets: &[u8]) -> Result<(u32, Request), Wi
         → Decodes (λ p. (p.0, request_view p.1)) requests.request_in (Ok n) result }
     ensures spelled { IfOk result (λ p. (n : nodes.Node) × Spells table named.DapRequest octets.now n
         × ((p.0, request_view p.1) ≡ requests.request_in n)) }
+    // Its names have no more RDNs than names may have.
+    ensures short { IfOk result (λ p. HasShortNames (request_view p.1).body) }
     // Octets that spell what is written of a request whose parts are as they are spelled give it back, with its id.
     ensures back { (id : ℕ) (r : model.Request) → IsBody r.body → Spells table named.DapRequest octets.now (requests.request_node id r)
         → IsRead {Y = ℕ × model.Request} (λ p. (p.0, request_view p.1)) (id, r) result }

@@ -1,17 +1,24 @@
 -- What the octets spell is a value for whose parts the code has types, so what it says is decoded.
-use Rattle.std.proofs.Common.{ℕ, arith}
+use Rattle.std.proofs.Common.{◌≡◌, ℕ, true, List, sym, subst, arith}
+use Rattle.std.specs.List.{list_all}
 use Rattle.std.proofs.lemmas.Result.{err_from_is_err_and}
 use Rattle.std.specs.declared.result.Result.TheVariants.{Ok}
 use Rattle.x5_model.specs.Requests as model
 use Rattle.x5_model_messages.specs.Requests.{request_in, request_node}
 use Rattle.x5_model_messages.proofs.Requests.{requests_back}
 use Rattle.x5_model_typed.specs.Named as named
+use Rattle.x5_model_typed.specs.Nodes.{Node}
+use Rattle.x5_model_typed.specs.Typed.{Spells}
+use Rattle.x5_model_typed_laws.specs.Said.{is_octet}
 use Rattle.x5_model_typed_laws.proofs.Closed.{messages_spelled_fit}
 use Rattle.x5_ops.specs.RequestViews.{request_view}
 use Rattle.x5_ops.specs.declared.requests.Request.{Request}
-use Rattle.x5_types.specs.FormView.{nowhere}
+use Rattle.x5_types.specs.FormView.{nowhere, table}
 use Rattle.x5_types.specs.NodeView.{node_view}
 use Rattle.x5_dapber.proofs.Decoding.{value_decodes, fault_decodes, memory_decodes, known_read}
+use Rattle.x5_dapber.specs.Sayable.{IsRequest}
+use Rattle.x5_dapber.specs.ShortNames.{HasShortNames}
+use Rattle.x5_dapber.proofs.NamesShort.{names_short}
 use Rattle.x5_dapber.proofs.Octets.{are_octets, spelled_comes}
 use Rattle.x5_dapber.proofs.ReadIsSayable.{request_fits}
 use Rattle.x5_dapber.proofs.messages.decode_request.Goals as goal
@@ -19,11 +26,13 @@ use Rattle.x5_dapber.proofs.messages.decode_request.Goals as goal
 abbrev seen : ℕ × Request → ℕ × model.Request
 seen p = (p.0, request_view p.1)
 
+sayable : (octets : List ℕ) (n : Node) → list_all is_octet octets ≡ true → Spells table named.DapRequest octets n → IsRequest n
+sayable octets n are spells = request_fits n (messages_spelled_fit nowhere named.DapRequest octets n are spells)
+
 pub request_in-requires : goal.request_in-requires
 request_in-requires c =
-    request_fits (node_view c.in_ok-node.node)
-    (messages_spelled_fit nowhere named.DapRequest c.args.octets.now (node_view c.in_ok-node.node)
-    (are_octets c.args.octets.now (λ k. omega (arith, c.type_inv.octets k))) c.in_ok-node.ensures.spelled)
+    sayable c.args.octets.now (node_view c.in_ok-node.node)
+    (are_octets c.args.octets.now (λ k. omega (arith, c.type_inv.octets k))) c.in_ok-node.ensures.spelled
 
 -- a breach, or want of memory while octets are read
 pub returns-in_err-node-clause-decodes : goal.returns-in_err-node-clause-decodes
@@ -82,3 +91,9 @@ returns-clause-back c = λ id r body spells.
 
 pub returns-clause-spelled : goal.returns-clause-spelled
 returns-clause-spelled c = (node_view c.in_ok-node.node, c.in_ok-node.ensures.spelled, c.in_ok-request_in.ensures)
+
+pub returns-clause-short : goal.returns-clause-short
+returns-clause-short c =
+    subst (λ (p : ℕ × model.Request). HasShortNames p.1.body) (sym c.in_ok-request_in.ensures)
+    (names_short (node_view c.in_ok-node.node) (sayable c.args.octets.now (node_view c.in_ok-node.node)
+    (are_octets c.args.octets.now (λ k. omega (arith, c.type_inv.octets k))) c.in_ok-node.ensures.spelled))
