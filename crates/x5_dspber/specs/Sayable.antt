@@ -9,7 +9,8 @@ use Rattle.x5_dapreply.specs.Sayable.{IsProgress, IsItem}
 
 abbrev pub IsChaining : Node → Type 0
 IsChaining n =
-    OfFive (λ target progress trace kind exclusions. IsProgress progress × All IsItem (parts trace) × IsCount kind) (parts n)
+    OfFive (λ target progress trace kind exclusions. IsProgress progress × All IsItem (parts trace)
+    × IsCount kind) (parts n)
 
 abbrev pub IsCarried : ℕ → Node → Type 0
 IsCarried code n = OfTwo (λ chaining argument. IsChaining chaining × IsArgument code argument) (parts n)
