@@ -20,7 +20,7 @@ use Rattle.x5_model_typed.specs.Leaves.{oid, short_oid, octet_string}
 use Rattle.x5_model_typed.specs.Rules.{text_rule, is_text}
 use Rattle.x5_model_typed.specs.Layouts as layouts
 use Rattle.x5_model_typed.specs.Written.{can_hold, is_marked}
-use Rattle.x5_model_typed_laws.specs.Fits.{Fits, FitsIn, FitsEach, more, none, whole, made, chosen, chosen_made}
+use Rattle.x5_model_typed_laws.specs.Fits.{Fits, FitsIn, FitsEach, more, whole, made, chosen, chosen_made}
 use Rattle.x5_types.specs.FormView.{table}
 use Rattle.x5_dapber.proofs.Levels.{AreTexts, HasTexts, HasLevels, HaveLevels, IsShallow}
 use Rattle.x5_dapber.proofs.Fitting.{only, only_made, pair_in, sequence_in, set_in, members_in, required_in, optional_in, found_is}
@@ -62,7 +62,7 @@ no_node o n e f = cc
 
 -- a value isn't kept that the one alternative has no place for
 not_kept : (a b : Alternative) (n : Node) → a ≡ b → b.settles n ≡ None → a.settles n ≡ Some n → ⊥
-not_kept a b n e none kept = no_node (b.settles n) n none (ap (λ (x : Alternative). x.settles n) (sym e) ∙ kept)
+not_kept a b n e not_so kept = no_node (b.settles n) n not_so (ap (λ (x : Alternative). x.settles n) (sym e) ∙ kept)
 
 abbrev oid_part : Alternative
 oid_part = ruled text_rule (universal 6 (Primitive (oid short_oid)))
