@@ -13,7 +13,7 @@ use Rattle.x5_model_messages.specs.Requests.{argument_node, request_node}
 use Rattle.x5_model_messages.specs.Terms.{node_of, pairs_node, value_node}
 use Rattle.x5_model_run.specs.Journal.{operation_of}
 use Rattle.x5_model_typed.specs.Nodes as nodes
-use Rattle.x5_model_typed.specs.Nodes.{Node, Nodes, Oid, Octets, Chosen, Many, Nil, More, parts, row}
+use Rattle.x5_model_typed.specs.Nodes.{Node, Nodes, Number, Oid, Octets, Chosen, Many, Nil, More, parts, row}
 use Rattle.x5_model_typed.specs.Named as named
 use Rattle.x5_model_typed.specs.Forms.{Primitive, Joined, Explicit, Alternative, choice, ruled, universal}
 use Rattle.x5_model_typed.specs.Leaves.{oid, short_oid, octet_string}

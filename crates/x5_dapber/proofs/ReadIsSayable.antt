@@ -10,10 +10,10 @@ use Rattle.std.specs.declared.option.Option.TheVariants.{None, Some}
 use Rattle.x5_model.specs.Normal.{is_oid, most_rdns}
 use Rattle.x5_model.proofs.Lists.{both_true}
 use Rattle.x5_model_typed.specs.Nodes as nodes
-use Rattle.x5_model_typed.specs.Nodes.{Node, Nodes, Vacant, Flag, Number, Oid, Bits, Octets, Chosen, Many, Nil, More}
+use Rattle.x5_model_typed.specs.Nodes.{Node, Nodes, Vacant, Flag, Number, Oid, Bits, Octets, Chosen, Many, Nil, More, list}
 use Rattle.x5_model_typed.specs.Named as named
 use Rattle.x5_model_typed.specs.Forms as forms
-use Rattle.x5_model_typed.specs.Forms.{Explicit, Sequence, Set, Members, Never, Alternative, choice, code, ruled}
+use Rattle.x5_model_typed.specs.Forms.{Component, Explicit, Sequence, Set, Members, Never, Alternative, choice, plain, at, or, code, ruled}
 use Rattle.x5_model_typed.specs.Leaves.{where_so, any_oid, short_oid, oid, oid_octets, from_to, is_short_number, number, number_octets, options_node}
 use Rattle.x5_model_typed.specs.Layouts as layouts
 use Rattle.x5_model_typed.specs.Rules.{name_rule}

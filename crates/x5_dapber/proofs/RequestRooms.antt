@@ -7,7 +7,7 @@ use Rattle.x5_model.specs.Filters.{Assertion, Piece, SubstringItem, Item, Equali
 use Rattle.x5_model.specs.Filters as filters
 use Rattle.x5_model.specs.Requests.{Selection, All, Only, Attribute, Change, AddAttribute, RemoveAttribute, AddValues, RemoveValues, Controls, Body, Read, Compare, ListBelow, Search, AddEntry, RemoveEntry, ModifyEntry, ModifyDn, Request}
 use Rattle.x5_model_octets.specs.Elements.{deepest}
-use Rattle.x5_model_typed.specs.Nodes.{Node, row}
+use Rattle.x5_model_typed.specs.Nodes.{Node, Nodes, Vacant, Nil, More, row}
 use Rattle.x5_model_messages.specs.Terms.{node_of, type_node, pair_node, pairs_node, rdn_node, name_value_node, name_node, value_node, attribute_node, assertion_node, change_node}
 use Rattle.x5_model_messages.specs.FilterTerms.{piece_node, substrings_node, item_node, filter_node, filter_nodes}
 use Rattle.x5_model_messages.specs.Requests.{size_node, controls_node, selection_node, argument_node, request_node}

@@ -8,6 +8,7 @@ use Rattle.x5_model_typed.specs.Typed.{Spells}
 use Rattle.x5_model_typed.specs.Written.{canonical_octets}
 use Rattle.x5_ops.specs.RequestViews.{request_view}
 use Rattle.x5_types.specs.FormView.{table}
+use Rattle.x5_types.specs.NodeView.{node_view}
 use Rattle.x5_dapber.proofs.RequestsSpelled.{request_spelled}
 use Rattle.x5_dapber.proofs.messages.encode_request.Goals as goal
 
