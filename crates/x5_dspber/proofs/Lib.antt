@@ -1,3 +1,4 @@
+mod Carried
 mod ChainedIsSayable
 mod ChainedSpelled
 mod Five

@@ -6,6 +6,8 @@ ghost use Rattle.x5_dspber.specs.ChainedViews.{told_chained};
 ghost use Rattle.x5_dspber.specs.Sayable as sayable;
 ghost use Rattle.x5_model_messages.specs.Chained as chains;
 ghost use Rattle.x5_model_messages.specs.Replies as replies;
+ghost use Rattle.x5_model_messages.specs.Terms as terms;
+ghost use Rattle.x5_model_typed.specs.Nodes as nodes;
 ghost use Rattle.x5_ops.specs.RequestViews.{request_view};
 ghost use Rattle.x5_types.specs.NodeView.{node_view};
 
@@ -14,7 +16,8 @@ use x5_dapber::read_arguments::argument_in;
 use x5_dapber::read_parts::code_in;
 use x5_dapreply::read_references::{item_in, kind_in, progress_in, rdns_in};
 use x5_memory::NoMemory;
-use x5_ops::{Chained, Request, Trace};
+use x5_names::Name;
+use x5_ops::{Chained, RdnList, Request, Trace};
 use x5_rules::name_of;
 use x5_types::Node;
 
@@ -29,6 +32,24 @@ fn trace_in(alloc: Global, nodes: &[Node<'_>]) -> Result<Trace, NoMemory>
     Ok(trace)
 }
 
+/// The target, the exclusions and the trace that the nodes say.
+fn places_in(
+    alloc: Global,
+    target: &Node<'_>,
+    exclusions: &Node<'_>,
+    trace: &Node<'_>,
+) -> Result<(Name, RdnList, Trace), NoMemory>
+    requires { All IsItem (nodes.parts (node_view trace.now)) }
+    ensures { IfOk result (λ p. (p.0 ≡ terms.name_of (node_view target.now))
+        × (p.1 ≡ map terms.rdn_of (nodes.parts (node_view exclusions.now)))
+        × (map told_item p.2 ≡ map replies.item_in (nodes.parts (node_view trace.now)))) }
+{
+    let name = name_of(alloc, target)?;
+    let rdns = rdns_in(alloc, exclusions.parts())?;
+    let items = trace_in(alloc, trace.parts())?;
+    Ok((name, rdns, items))
+}
+
 /// The message of the request with the chaining arguments that the node says.
 fn chaining_in(alloc: Global, node: &Node<'_>, request: Request) -> Result<Chained, NoMemory>
     requires { sayable.IsChaining (node_view node.now) }
@@ -37,12 +58,13 @@ fn chaining_in(alloc: Global, node: &Node<'_>, request: Request) -> Result<Chain
     let [target, progress, trace, kind, exclusions] = node.parts() else {
         unreachable!()
     };
+    let (name, rdns, items) = places_in(alloc, target, exclusions, trace)?;
     Ok(Chained {
-        target: name_of(alloc, target)?,
+        target: name,
         progress: progress_in(progress),
         kind: kind_in(kind),
-        exclusions: rdns_in(alloc, exclusions.parts())?,
-        trace: trace_in(alloc, trace.parts())?,
+        exclusions: rdns,
+        trace: items,
         request,
     })
 }
@@ -52,11 +74,12 @@ fn carried_in(alloc: Global, code: u32, node: &Node<'_>) -> Result<Chained, NoMe
     requires { sayable.IsCarried code (node_view node.now) }
     ensures { IfOk result (λ m. told_chained m ≡ chains.carried_in code (node_view node.now)) }
 {
-    let [chaining, argument] = node.parts() else {
+    let parts = node.parts();
+    if parts.len() != 2 {
         unreachable!()
-    };
-    let request = argument_in(alloc, code, argument)?;
-    chaining_in(alloc, chaining, request)
+    }
+    let request = argument_in(alloc, code, &parts[1])?;
+    chaining_in(alloc, &parts[0], request)
 }
 
 /// The id and what is asked of the agent's message that the node says.
@@ -67,8 +90,11 @@ pub(crate) fn chained_in(alloc: Global, node: &Node<'_>) -> Result<(u32, Chained
     let Node::Chosen(_, message) = node else {
         unreachable!()
     };
-    let [id, code, carried] = message.parts() else {
+    let parts = message.parts();
+    if parts.len() != 3 {
         unreachable!()
-    };
-    Ok((code_in(id), carried_in(alloc, code_in(code), carried)?))
+    }
+    let code = code_in(&parts[1]);
+    let chained = carried_in(alloc, code, &parts[2])?;
+    Ok((code_in(&parts[0]), chained))
 }

@@ -1,0 +1,18 @@
+-- Two components: chaining arguments, and the argument of the operation.
+use Rattle.x5_ops.specs.RequestViews.{request_view}
+use Rattle.x5_types.specs.NodeView.{node_view}
+use Rattle.x5_dspber.specs.ChainedViews.{told_chained}
+use Rattle.x5_dspber.proofs.Carried.{not_both, chaining_so, argument_so, carried_said}
+use Rattle.x5_dspber.proofs.read_chained.carried_in.Goals as goal
+
+pub unreachable-requires : goal.unreachable-requires
+unreachable-requires c =
+    not_both c.parts-parts.result.now _ _ c.parts-parts.ensures c.requires c.if-parts-ne2.true
+
+pub argument_in-request-requires : goal.argument_in-request-requires
+argument_in-request-requires c =
+    argument_so c.parts-parts.result.now _ _ c.parts-parts.ensures c.requires c.index-parts-1.result c.index-parts-1.is
+
+pub chaining_in-requires : goal.chaining_in-requires
+chaining_in-requires c =
+    chaining_so c.parts-parts.result.now _ _ c.parts-parts.ensures c.requires c.index-parts-0.result c.index-parts-0.is
