@@ -20,6 +20,14 @@ places_in-requires c =
     c.kind-item.is c.exclusions-item.is c.requires in
     five.are.1
 
+pub kind_in-requires : goal.kind_in-requires
+unfolding AreSo
+kind_in-requires c =
+    let five = all_five AreSo c.parts.result.now _ c.target-item.result c.progress-item.result c.trace-item.result
+    c.kind-item.result c.exclusions-item.result c.parts.ensures c.target-item.is c.progress-item.is c.trace-item.is
+    c.kind-item.is c.exclusions-item.is c.requires in
+    five.are.2
+
 pub returns : goal.returns
 unfolding AreSo
 returns c =

@@ -6,8 +6,8 @@ use Rattle.x5_dapber.proofs.Members.{members_are}
 use Rattle.x5_dapreply.specs.Sayable.{IsItem}
 use Rattle.x5_dspber.proofs.read_chained.places_in.Goals as goal
 
-pub trace_in-items-requires : goal.trace_in-items-requires
-trace_in-items-requires c =
+pub trace_in-requires : goal.trace_in-requires
+trace_in-requires c =
     members_are IsItem c.parts-2.result.now _ c.parts-2.ensures c.requires
 
 pub returns : goal.returns
