@@ -1,15 +1,13 @@
 -- What an agent's message carries: its id, its code, its chaining arguments and the argument of its operation.
 use Rattle.std.proofs.Common.{◌≡◌, ◌≢◌, ℕ, List, [], ◌∷◌, length, map, get_or, refl, ap, ap₂, sym, subst, ◌∙◌}
-use Rattle.x5_model.specs.Requests.{Request}
-use Rattle.x5_model_messages.specs.Chained.{Chained, chaining_in, carried_in, chained_in}
+use Rattle.x5_model_messages.specs.Chained.{Chained, carried_in, chained_in}
 use Rattle.x5_model_messages.specs.Replies.{or_zero}
-use Rattle.x5_model_messages.specs.Requests.{argument_in}
 use Rattle.x5_model_messages.specs.Terms.{number_in}
 use Rattle.x5_model_typed.specs.Nodes as nodes
 use Rattle.x5_types.specs.declared.node.Node.{Node}
 use Rattle.x5_types.specs.NodeView.{node_view}
 use Rattle.x5_dapber.specs.Sayable.{IsCount, IsArgument, OfTwo, OfThree}
-use Rattle.x5_dapber.proofs.Members.{two_are, as_two, three_at, triple_is, not_three, as_three}
+use Rattle.x5_dapber.proofs.Members.{three_at, triple_is, not_three, as_three}
 use Rattle.x5_dspber.specs.Sayable.{IsChaining, IsCarried, IsChained}
 
 not_two : (P : nodes.Node → nodes.Node → Type 0) (xs : List Node) → length xs ≢ 2 → OfTwo P (map node_view xs) → ⊥
@@ -46,14 +44,6 @@ module _ (xs : List Node) (n : nodes.Node) (code : ℕ) (parts : map node_view x
   unfolding Both
   argument_so argument at =
       subst (λ (v : Node). IsArgument code (node_view v)) (sym at) (two_at Both xs argument both_so).1
-
-  pub carried_said : (chaining argument : Node) (r : Request) (m : Chained) → chaining ≡ get_or xs 0 chaining
-      → argument ≡ get_or xs 1 argument → r ≡ argument_in code (node_view argument)
-      → m ≡ chaining_in r (node_view chaining) → m ≡ carried_in code n
-  carried_said chaining argument r m f g of_argument of_chaining =
-      let two = two_are Both xs (map node_view xs) chaining argument refl f g both_so in
-      of_chaining ∙ ap (λ (q : Request). chaining_in q (node_view chaining)) of_argument
-      ∙ sym (ap (carried_in code) (as_two n (node_view chaining) (node_view argument) (sym parts ∙ two.0)))
 
 number : nodes.Node → ℕ
 number n = or_zero (number_in n)

@@ -1,8 +1,5 @@
 -- Two components: chaining arguments, and the argument of the operation.
-use Rattle.x5_ops.specs.RequestViews.{request_view}
-use Rattle.x5_types.specs.NodeView.{node_view}
-use Rattle.x5_dspber.specs.ChainedViews.{told_chained}
-use Rattle.x5_dspber.proofs.Carried.{not_both, chaining_so, argument_so, carried_said}
+use Rattle.x5_dspber.proofs.Carried.{not_both, chaining_so, argument_so}
 use Rattle.x5_dspber.proofs.read_chained.carried_in.Goals as goal
 
 pub unreachable-requires : goal.unreachable-requires
