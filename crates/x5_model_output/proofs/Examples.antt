@@ -12,7 +12,7 @@ use Rattle.x5_model_typed.specs.Judged.{Ber, Unrecognised}
 use Rattle.x5_model_run.specs.Journal.{Journal}
 use Rattle.x5_model_run.specs.Network.{Sent, NoReply}
 use Rattle.x5_model_run.specs.Refresh as refresh
-use Rattle.x5_model_run.specs.Run.{Command, Blank, Updates, Block, Set, Replies, Refreshing, Rejected}
+use Rattle.x5_model_run.specs.Run.{Dap, Dsp, Command, Blank, Updates, Block, Set, Replies, Refreshing, Rejected}
 use Rattle.x5_model_output.specs.Output.{Names, blocks_text, block_text}
 use Rattle.x5_model_output.specs.Summary.{Counts, counts_of, summary_line}
 
@@ -104,18 +104,24 @@ unfolding digits
 same = refl
 
 -- octets of which the last is missing, and a message of an operation that the protocol lacks
-cut_off : block_text names 1 Blank (Rejected (record { receiver = 0; count = 26; fate = Sent }) (Ber (Truncated 26)))
+cut_off : block_text names 1 Blank (Rejected (record { protocol = Dap; receiver = 0; count = 26; fate = Sent }) (Ber (Truncated 26)))
     ≡ codes "#1\nraw Alpha dap 26 sent\nreject truncated 26\n"
 unfolding digits
 cut_off = refl
 
-unknown_code : block_text names 2 Blank (Rejected (record { receiver = 0; count = 9; fate = Sent }) (Unrecognised (pos 3)))
+unknown_code : block_text names 2 Blank (Rejected (record { protocol = Dap; receiver = 0; count = 9; fate = Sent }) (Unrecognised (pos 3)))
     ≡ codes "#2\nraw Alpha dap 9 sent\nreject unrecognised 3\n"
 unfolding digits
 unknown_code = refl
 
+-- so it is of octets that are handed over as another agent's message
+between_agents : block_text names 1 Blank (Rejected (record { protocol = Dsp; receiver = 0; count = 66; fate = Sent }) (Ber (Truncated 66)))
+    ≡ codes "#1\nraw Alpha dsp 66 sent\nreject truncated 66\n"
+unfolding digits
+between_agents = refl
+
 -- nothing is heard where the reply is lost
-unheard : block_text names 1 Blank (Rejected (record { receiver = 0; count = 26; fate = NoReply }) (Ber (Truncated 26)))
+unheard : block_text names 1 Blank (Rejected (record { protocol = Dap; receiver = 0; count = 26; fate = NoReply }) (Ber (Truncated 26)))
     ≡ codes "#1\nraw Alpha dap 26 noreply\n"
 unfolding digits
 unheard = refl

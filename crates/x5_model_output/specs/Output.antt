@@ -29,7 +29,8 @@ use Rattle.x5_model_run.specs.Refresh as refresh
 use Rattle.x5_model_run.specs.Refresh.{ShadowOperation, RequestShadowUpdate, UpdateShadow, CoordinateShadowUpdate}
 use Rattle.x5_model_run.specs.Refresh.{ShadowLine, RefreshOutcome, Unheard, Problem, Missed, NotConsistent}
 use Rattle.x5_model_run.specs.Refresh.{RefreshBlock}
-use Rattle.x5_model_run.specs.Run.{Command, Updates, Raw, Block, Silent, Set, Replies, Refreshing, Handed, Rejected}
+use Rattle.x5_model_run.specs.Run.{Protocol, Dap, Dsp, Command, Updates, Raw, Block, Silent, Set, Replies, Refreshing}
+use Rattle.x5_model_run.specs.Run.{Handed, Rejected}
 use Rattle.x5_model_run.specs.Run.{Judge, IsRun}
 use Rattle.x5_model_text.specs.TypeText.{text_of_type}
 use Rattle.x5_model_text.specs.NameText.{text_of_name, text_of_rdn, text_of_value}
@@ -369,11 +370,15 @@ fault_place (BadTag at) = at
 fault_place (BadContent at) = at
 fault_place (TooDeep at) = at
 
--- octets on their way to an agent, as a user's message (X.519, section 7)
+-- octets on their way to an agent, as a user's message or another agent's (X.519, section 7)
+abbrev pub protocol_word : Protocol → Text
+protocol_word Dap = codes "dap"
+protocol_word Dsp = codes "dsp"
+
 abbrev pub raw_line : Names → Raw → Text
 raw_line names l =
-    concat (codes "raw " ∷ names.agent l.receiver ∷ codes " dap " ∷ decimal l.count ∷ codes " " ∷ fate_word l.fate
-    ∷ codes "\n" ∷ [])
+    concat (codes "raw " ∷ names.agent l.receiver ∷ codes " " ∷ protocol_word l.protocol ∷ codes " " ∷ decimal l.count
+    ∷ codes " " ∷ fate_word l.fate ∷ codes "\n" ∷ [])
 
 abbrev pub reject_line : Breach → Text
 reject_line (Ber fault) =
@@ -386,14 +391,14 @@ heard_by Lost text = []
 heard_by NoReply text = []
 heard_by Sent text = text
 
--- what was handed over stands for the first message of the request that it spells
-abbrev pub brought : ℕ → Line → Raw
-brought count l = record { receiver = l.receiver; count = count; fate = l.fate }
+-- what was handed over stands for the first message, which it spells
+abbrev pub brought : Protocol → ℕ → Line → Raw
+brought via count l = record { protocol = via; receiver = l.receiver; count = count; fate = l.fate }
 
-abbrev pub handed_text : Names → ℕ → List Line → List ℕ → Reply → Text
-handed_text names count [] accepted reply = flat_map (accepted_line names) accepted
-handed_text names count (l ∷ more) accepted reply =
-    concat (raw_line names (brought count l) ∷ flat_map (message_line names) more
+abbrev pub handed_text : Names → Protocol → ℕ → List Line → List ℕ → Reply → Text
+handed_text names via count [] accepted reply = flat_map (accepted_line names) accepted
+handed_text names via count (l ∷ more) accepted reply =
+    concat (raw_line names (brought via count l) ∷ flat_map (message_line names) more
     ∷ flat_map (accepted_line names) accepted ∷ heard_by l.fate (reply_lines names reply) ∷ [])
 
 abbrev pub rejected_text : Names → Raw → Breach → Text
@@ -413,8 +418,8 @@ block_text names n command (Replies j reply) =
 block_text names n command (Refreshing b) =
     concat (number_line n ∷ flat_map (shadow_line names) b.lines ∷ refresh_line names (number_of command) b.outcome
     ∷ [])
-block_text names n command (Handed count j reply) =
-    number_line n ++ handed_text names count (reverse j.lines) (reverse j.accepted) reply
+block_text names n command (Handed via count j reply) =
+    number_line n ++ handed_text names via count (reverse j.lines) (reverse j.accepted) reply
 block_text names n command (Rejected raw breach) = number_line n ++ rejected_text names raw breach
 
 abbrev pub blocks_text : Names → ℕ → List Command → List Block → Text

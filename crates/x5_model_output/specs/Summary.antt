@@ -76,7 +76,7 @@ refresh_counts (Problem n) = record no_counts { errors = 1 }
 refresh_counts (Missed held given) = record no_counts { errors = 1 }
 refresh_counts NotConsistent = record no_counts { errors = 1 }
 
--- A request that octets bring is none of the script's; of its reply counts what is heard.
+-- A message that octets bring is no request of the script's; of its reply counts what is heard.
 abbrev pub heard_counts : Fate → Reply → Counts
 heard_counts Lost reply = no_counts
 heard_counts NoReply reply = no_counts
@@ -91,7 +91,7 @@ block_counts Silent = no_counts
 block_counts Set = no_counts
 block_counts (Replies j reply) = request_counts (length j.accepted) reply
 block_counts (Refreshing b) = refresh_counts b.outcome
-block_counts (Handed count j reply) = handed_counts (reverse j.lines) (length j.accepted) reply
+block_counts (Handed via count j reply) = handed_counts (reverse j.lines) (length j.accepted) reply
 block_counts (Rejected raw breach) = no_counts
 
 abbrev pub counts_of : List Block → Counts

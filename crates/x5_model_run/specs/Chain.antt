@@ -36,16 +36,20 @@ pub record Scene : Type 0 where
 abbrev pub opening : Request → Chained
 opening r = record { target = target_of r.body; progress = Start; kind = Own; exclusions = []; trace = []; request = r }
 
--- over consistent knowledge, a request of a user who doesn't follow
-abbrev pub scene_at : Point → ℕ → Request → Scene
-scene_at p first r = record {
+-- over consistent knowledge, a message of a user who doesn't follow
+abbrev pub scene_with : Point → ℕ → Chained → Scene
+scene_with p first m = record {
   holdings = holdings_at p;
   network = network_at p;
   sent = sent_before p.past;
   first = first;
-  message = opening r;
+  message = m;
   follows = false;
 }
+
+-- and a request of his
+abbrev pub scene_at : Point → ℕ → Request → Scene
+scene_at p first r = scene_with p first (opening r)
 
 abbrev pub is_prohibited : Scene → Bool
 is_prohibited s = s.message.request.controls.nochain

@@ -11,7 +11,7 @@ use Rattle.x5_model.specs.Keys.{Key, same_key}
 use Rattle.x5_model.specs.Values.{Name, key_of}
 use Rattle.x5_model.specs.Entries.{Named}
 use Rattle.x5_model.specs.Requests.{Request}
-use Rattle.x5_model.specs.References.{Next, Reference}
+use Rattle.x5_model.specs.References.{Next, Reference, Chained}
 use Rattle.x5_model.specs.Answers.{Source, Answer, Changed, DirError, UpdateProblem, ServiceProblem, Reply, Answered}
 use Rattle.x5_model.specs.Answers.{Failed, Referred}
 use Rattle.x5_model.specs.Statics.{fault_of}
@@ -27,7 +27,7 @@ use Rattle.x5_model_run.specs.Journal.{some_line}
 use Rattle.x5_model_run.specs.Holdings.{Held, Holdings, may_copy, known_pins, held_at, copy_at}
 use Rattle.x5_model_run.specs.Needs.{others, nssr_at, new_name, ends_here}
 use Rattle.x5_model_run.specs.History.{Point, knowledge_at, tree_at, as_of}
-use Rattle.x5_model_run.specs.Chain.{Scene, scene_at, AllLicensed}
+use Rattle.x5_model_run.specs.Chain.{Scene, opening, scene_with, scene_at, AllLicensed}
 use Rattle.x5_model_run.specs.Covers.{is_covered, are_apart, touched, mixed, is_copied, told}
 use Rattle.x5_model_run.specs.Blocked.{Asked, by_user, is_answered, hears_by, hears, IsUntried, IsLost, Blocked}
 use Rattle.x5_model_run.specs.Accepting.{carries_update, accepting, is_probed, is_done_before}
@@ -227,3 +227,10 @@ pub record IsRight (p : Point) (s : Scene) (j : Journal) (reply : Reply) : Type 
 -- a user asks this agent, over consistent knowledge
 abbrev pub AnswersRight : Point → ℕ → Request → Journal → Reply → Type 0
 AnswersRight p first r j reply = IsRight p (scene_at p first r) j reply
+
+-- He sends it a message, which may say that it comes of other agents. Then what is accepted is right all the same; and
+-- where it is a request of his, so is all.
+pub record SendsRight (p : Point) (first : ℕ) (m : Chained) (j : Journal) (reply : Reply) : Type 0 where
+  pub one : IsTrue (nat_le (length j.accepted) 1)
+  pub right : IsTrue (list_all (is_accepted_right p (scene_with p first m) j.lines) j.accepted)
+  pub answers : (r : Request) → m ≡ opening r → AnswersRight p first r j reply

@@ -20,7 +20,7 @@ agents_in (Asks to request) = to ∷ []
 agents_in (Changes change) = agents_between change
 agents_in (Drops reply k) = []
 agents_in (Updates id pushes total) = []
-agents_in (Hands to count brings) = to ∷ []
+agents_in (Hands via to count brings) = to ∷ []
 
 abbrev pub agents_of : Asked → List ℕ
 agents_of (Runs command) = agents_in command

@@ -36,7 +36,7 @@ loses_reply (Runs Blank) = false
 loses_reply (Runs (Asks to request)) = false
 loses_reply (Runs (Changes outage)) = false
 loses_reply (Runs (Updates number pushes total)) = false
-loses_reply (Runs (Hands to count brings)) = false
+loses_reply (Runs (Hands via to count brings)) = false
 loses_reply (Delivers dsp to octets) = false
 
 -- what is asked for behind so many lost replies; one too many is as a line that is too long
