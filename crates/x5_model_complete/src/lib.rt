@@ -2,7 +2,7 @@
 //! here does nothing; its clauses are the theorems.
 #![tactic(auto)]
 
-ghost use Rattle.x5_model_run.specs.Right.{AnswersRight};
+ghost use Rattle.x5_model_run.specs.Right.{SendsRight};
 ghost use Rattle.x5_model_settled.specs.Judges.{RightAndWhole};
 ghost use Rattle.x5_model_complete.specs.Complete.{LinesAreComplete, RunsAreComplete, LinesAreSpared, RunsAreSpared};
 
@@ -11,7 +11,7 @@ ghost use Rattle.x5_model_complete.specs.Complete.{LinesAreComplete, RunsAreComp
 /// to 21).
 pub fn completing()
     ensures lines { LinesAreComplete }
-    ensures runs { RunsAreComplete AnswersRight }
+    ensures runs { RunsAreComplete SendsRight }
     ensures whole { RunsAreComplete RightAndWhole }
 {}
 
@@ -19,6 +19,6 @@ pub fn completing()
 /// unableToProceed, loopDetected and administrativeLimitExceeded does (X.511, section 12.8).
 pub fn sparing()
     ensures lines { LinesAreSpared }
-    ensures runs { RunsAreSpared AnswersRight }
+    ensures runs { RunsAreSpared SendsRight }
     ensures whole { RunsAreSpared RightAndWhole }
 {}

@@ -11,7 +11,7 @@ ghost use Rattle.x5_model_refreshed.specs.Lengthening.{TotalBeginsLog, StepsLeng
 ghost use Rattle.x5_model_refreshed.specs.Acknowledging.{StampIsAcked, AckedAtPlace, NoneAcked, ElseAsBefore};
 ghost use Rattle.x5_model_refreshed.specs.Replaying.{LogCounts, MasterReplays, ConsumerReplays, RefreshReplays, LastAreLater, RunsLead};
 ghost use Rattle.x5_model_refreshed.specs.Doable.{PartsAreWhole, CopiesAreWhole, StepCanBeDone, MasterCanReplay, ConsumerCanReplay, RefreshCanReplay};
-ghost use Rattle.x5_model_run.specs.Right.{AnswersRight};
+ghost use Rattle.x5_model_run.specs.Right.{SendsRight};
 
 /// After a refresh the consumer's copy is what its supplier had as of the stamp, and all else is as it was (X.525, section 7:
 /// shadowed information).
@@ -33,7 +33,7 @@ pub fn replaying()
     ensures consumer { ConsumerReplays }
     ensures refresh { RefreshReplays }
     ensures last { LastAreLater }
-    ensures runs { RunsLead AnswersRight }
+    ensures runs { RunsLead SendsRight }
 {}
 
 /// What a supplier has of a context is whole, with each name spelled on that of the entry above; and the later steps of its log can

@@ -157,28 +157,28 @@ stamped_after judge w past (Asks first r) (Replies j reply) is =
     stamped_on w past (did_by (Asks first r) (Replies j reply)) (did_none_move (Asks first r) (Replies j reply))
     (accepts_plain r (reverse j.accepted))
 stamped_after judge w past (Asks first r) (Refreshing b) is = absurd is
-stamped_after judge w past (Asks first r) (Handed n j reply) is = absurd is
+stamped_after judge w past (Asks first r) (Handed by n j reply) is = absurd is
 stamped_after judge w past (Asks first r) (Rejected raw breach) is = absurd is
 stamped_after judge w past (Updates number pushes total) Silent is = absurd is
 stamped_after judge w past (Updates number pushes total) Set is = absurd is
 stamped_after judge w past (Updates number pushes total) (Replies j reply) is = absurd is
-stamped_after judge w past (Updates number pushes total) (Handed n j reply) is = absurd is
+stamped_after judge w past (Updates number pushes total) (Handed by n j reply) is = absurd is
 stamped_after judge w past (Updates number pushes total) (Rejected raw breach) is = absurd is
-stamped_after judge w past (Hands first count (Ok r)) Silent is = absurd is
-stamped_after judge w past (Hands first count (Ok r)) Set is = absurd is
-stamped_after judge w past (Hands first count (Ok r)) (Replies j reply) is = absurd is
-stamped_after judge w past (Hands first count (Ok r)) (Refreshing b) is = absurd is
-stamped_after judge w past (Hands first count (Ok r)) (Rejected raw breach) is = absurd is
-stamped_after judge w past (Hands first count (Ok r)) (Handed n j reply) is =
-    stamped_on w past (did_by (Hands first count (Ok r)) (Handed n j reply))
-    (did_none_move (Hands first count (Ok r)) (Handed n j reply)) (accepts_plain r (reverse j.accepted))
-stamped_after judge w past (Hands first count (Err x)) Silent is = absurd is
-stamped_after judge w past (Hands first count (Err x)) Set is = absurd is
-stamped_after judge w past (Hands first count (Err x)) (Replies j reply) is = absurd is
-stamped_after judge w past (Hands first count (Err x)) (Refreshing b) is = absurd is
-stamped_after judge w past (Hands first count (Err x)) (Handed n j reply) is = absurd is
-stamped_after judge w past (Hands first count (Err x)) (Rejected raw breach) is =
-    stamped_on w past (did_by (Hands first count (Err x)) (Rejected raw breach)) tt (λ n. refl)
+stamped_after judge w past (Hands via first count (Ok m)) Silent is = absurd is
+stamped_after judge w past (Hands via first count (Ok m)) Set is = absurd is
+stamped_after judge w past (Hands via first count (Ok m)) (Replies j reply) is = absurd is
+stamped_after judge w past (Hands via first count (Ok m)) (Refreshing b) is = absurd is
+stamped_after judge w past (Hands via first count (Ok m)) (Rejected raw breach) is = absurd is
+stamped_after judge w past (Hands via first count (Ok m)) (Handed by n j reply) is =
+    stamped_on w past (did_by (Hands via first count (Ok m)) (Handed by n j reply))
+    (did_none_move (Hands via first count (Ok m)) (Handed by n j reply)) (accepts_plain m.request (reverse j.accepted))
+stamped_after judge w past (Hands via first count (Err x)) Silent is = absurd is
+stamped_after judge w past (Hands via first count (Err x)) Set is = absurd is
+stamped_after judge w past (Hands via first count (Err x)) (Replies j reply) is = absurd is
+stamped_after judge w past (Hands via first count (Err x)) (Refreshing b) is = absurd is
+stamped_after judge w past (Hands via first count (Err x)) (Handed by n j reply) is = absurd is
+stamped_after judge w past (Hands via first count (Err x)) (Rejected raw breach) is =
+    stamped_on w past (did_by (Hands via first count (Err x)) (Rejected raw breach)) tt (λ n. refl)
 stamped_after judge w past (Updates number pushes total) (Refreshing b) is =
     λ stamped. subst (λ (x : RefreshBlock). IsStamped (line_after w (did_by (Updates number pushes total) (Refreshing x) ∷ past)))
     (sym is) (stamped_after_refresh w past number pushes total stamped)

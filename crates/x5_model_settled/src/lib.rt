@@ -2,7 +2,7 @@
 //! its clauses are the theorems.
 #![tactic(auto)]
 
-ghost use Rattle.x5_model_run.specs.Right.{AnswersRight};
+ghost use Rattle.x5_model_run.specs.Right.{SendsRight};
 ghost use Rattle.x5_model_settled.specs.Judges.{RightAndWhole};
 ghost use Rattle.x5_model_settled.specs.Settled.{LinesAreSettled, RunsAreSettled, LinesAreRight, RunsAreRight};
 ghost use Rattle.x5_model_settled.specs.Runs.{AgentsRunIsRun, AgentsPrintRun};
@@ -13,14 +13,14 @@ ghost use Rattle.x5_model_settled.specs.Held.{BySteps, HeldIsHoldings, HeldIsByS
 /// moving contexts (X.501, section 22).
 pub fn settling()
     ensures lines { LinesAreSettled }
-    ensures runs { RunsAreSettled AnswersRight }
+    ensures runs { RunsAreSettled SendsRight }
     ensures whole { RunsAreSettled RightAndWhole }
 {}
 
 /// So whatever agents do there with a request is right, and no message that it needs is left out (X.518, sections 17 to 21).
 pub fn running()
     ensures lines { LinesAreRight }
-    ensures runs { RunsAreRight AnswersRight }
+    ensures runs { RunsAreRight SendsRight }
     ensures whole { RunsAreRight RightAndWhole }
 {}
 

@@ -3,7 +3,7 @@
 #![tactic(auto)]
 
 ghost use Rattle.x5_model_updates.specs.Afterwards.{EntriesAfter, KeysAfter, PartsAfter};
-ghost use Rattle.x5_model_run.specs.Right.{AnswersRight};
+ghost use Rattle.x5_model_run.specs.Right.{SendsRight};
 ghost use Rattle.x5_model_updates.specs.Keeping.{UpdatesKeep, OrderStays, LinesStand, RunsStand};
 ghost use Rattle.x5_model_updates.specs.Standing.{TreeIsUnion, StandsAsTree, StandsConsistent, StandsGood};
 ghost use Rattle.x5_model_updates.specs.Judging.{HolderIsMaster, RefusesAlike, AcceptsAlone, ProbesNewName, AcceptsProbed, UnableMastersNone, RefusesProbed, AcceptsAbsent, RefusesPresent, JudgedAfter, HoldsItsContexts, OwnGroundHeld, OrderRefuses, OrderAccepts};
@@ -45,7 +45,7 @@ pub fn keeping()
     ensures updates { UpdatesKeep }
     ensures order { OrderStays }
     ensures lines { LinesStand }
-    ensures runs { RunsStand AnswersRight }
+    ensures runs { RunsStand SendsRight }
     ensures union { TreeIsUnion }
     ensures tree { StandsAsTree }
     ensures conditions { StandsConsistent }

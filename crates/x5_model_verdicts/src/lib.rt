@@ -5,13 +5,13 @@
 ghost use Rattle.x5_model_verdicts.specs.Committing.{CommittedIsAfter, RunsAreStamped};
 ghost use Rattle.x5_model_verdicts.specs.Verdicts.{NoneAccepted, RefusalIsRight, AloneIsRight, ProbedIsRight, MissedIsRight, TakenIsRight, BreakIsRight, ProbesAcceptNone};
 ghost use Rattle.x5_model_verdicts.specs.Growth.{LinesGrow, NoErrorAfter, AcceptedMeanwhile, TriedInVain};
-ghost use Rattle.x5_model_run.specs.Right.{AnswersRight};
+ghost use Rattle.x5_model_run.specs.Right.{SendsRight};
 
 /// What the agents hold at the line after an accepted update is what they held, changed at the agent that accepted it, in the
 /// context that holds the target (X.511, section 11).
 pub fn committing()
     ensures after { CommittedIsAfter }
-    ensures stamped { RunsAreStamped AnswersRight }
+    ensures stamped { RunsAreStamped SendsRight }
 {}
 
 /// Where an update comes to its master nothing was accepted before, and nothing is while probes are sent. What the master
