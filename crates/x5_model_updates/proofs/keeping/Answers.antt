@@ -1,4 +1,4 @@
-use Rattle.x5_model_run.specs.Right.{AnswersRight}
+use Rattle.x5_model_run.specs.Right.{SendsRight}
 use Rattle.x5_model_updates.proofs.Keeps.{updates_keep, order_stays}
 use Rattle.x5_model_updates.proofs.Stood.{lines_stand, runs_stand}
 use Rattle.x5_model_updates.proofs.Goods.{tree_is_union, stands_as_tree, stands_good}
@@ -12,7 +12,7 @@ pub returns-clause-lines : goal.returns-clause-lines
 returns-clause-lines c = lines_stand
 
 pub returns-clause-runs : goal.returns-clause-runs
-returns-clause-runs c = runs_stand AnswersRight
+returns-clause-runs c = runs_stand SendsRight
 
 pub returns-clause-order : goal.returns-clause-order
 returns-clause-order c = order_stays
