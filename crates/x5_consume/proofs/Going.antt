@@ -13,7 +13,7 @@ use Rattle.x5_holdings.specs.Making.{IsLeft, room_of}
 use Rattle.x5_holdings.specs.Placed.{IsBroughtChanged, IsCopyChanged}
 use Rattle.x5_holdings.specs.State.{CopyKept, Kept, State}
 use Rattle.x5_consume.specs.declared.ready.Prepared.{Prepared}
-use Rattle.x5_consume.specs.Ready.{CanGo, CanGoOn, IsDone, IsDue, IsFindable, Stands, room_of as ready_room, steps_in, values_in}
+use Rattle.x5_consume.specs.Ready.{CanGo, CanGoOn, IsDone, IsDue, IsFindable, CopyStands, room_of as ready_room, steps_in, values_in}
 use Rattle.x5_model_refreshed.specs.Doable.{CanReplay}
 use Rattle.x5_consume.specs.Steps.{step_view, steps_view}
 use Rattle.x5_consume.specs.Taken.{AreDone, AreNoted}
@@ -22,8 +22,8 @@ use Rattle.x5_consume.proofs.Placing.{copy_inside, got_set, one_copy, one_kept, 
 
 -- ---- one step
 
-pub find_first : (s : State) (place : ℕ) (one : Prepared) → Stands s place (CanGo one)
-    → Stands s place (λ copy kept. IsFindable (entries_of kept.nodes.nodes) one.ready)
+pub find_first : (s : State) (place : ℕ) (one : Prepared) → CopyStands s place (CanGo one)
+    → CopyStands s place (λ copy kept. IsFindable (entries_of kept.nodes.nodes) one.ready)
 find_first s place one w = record {
   copy = w.copy;
   kept = w.kept;
@@ -33,8 +33,8 @@ find_first s place one w = record {
   is = findable (key_of w.copy.prefix) (entries_of w.kept.nodes.nodes) (step_view one.step) one.ready w.is.doable w.is.prepared;
 }
 
-module _ (s : State) (place : ℕ) (one : Prepared) (change : EntryChange) (w : Stands s place (CanGo one))
-    (d : Stands s place (IsDue one.ready change)) where
+module _ (s : State) (place : ℕ) (one : Prepared) (change : EntryChange) (w : CopyStands s place (CanGo one))
+    (d : CopyStands s place (IsDue one.ready change)) where
   same_copy : d.copy ≡ w.copy
   same_copy = one_copy s place (IsDue one.ready change) (CanGo one) d w
 
@@ -123,7 +123,7 @@ pub record Going (first : State) (place stamp : ℕ) (all : List Prepared) (now 
   pub subordinate : kept.subordinate ≡ old.subordinate
   pub nssrs : kept.nssrs ≡ old.nssrs
 
-pub begun : (first : State) (place stamp : ℕ) (all : List Prepared) → Stands first place (CanGoOn all)
+pub begun : (first : State) (place stamp : ℕ) (all : List Prepared) → CopyStands first place (CanGoOn all)
     → Going first place stamp all first all
 begun first place stamp all w = record {
   copy = w.copy;
@@ -160,7 +160,7 @@ module _ (first : State) (place stamp : ℕ) (all : List Prepared) (now : State)
   values_more : length (ready_room p.ready) + values_in rest ≤ g.kept.postings.spare
   values_more = g.can.room.posted
 
-  pub next_stands : Stands now place (CanGo p)
+  pub next_stands : CopyStands now place (CanGo p)
   next_stands = record {
     copy = copy_now;
     kept = g.kept;

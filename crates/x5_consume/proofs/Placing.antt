@@ -10,7 +10,7 @@ use Rattle.x5_model.proofs.Lists.{of_find}
 use Rattle.x5_model_run.specs.Holdings.{Copy, Holdings, copy_at}
 use Rattle.x5_holdings.specs.Known.{IsPlaceOf}
 use Rattle.x5_holdings.specs.State.{CopyKept, IsBrought, Kept, State, copy_view, holdings_view, stamp_of}
-use Rattle.x5_consume.specs.Ready.{Stands}
+use Rattle.x5_consume.specs.Ready.{CopyStands}
 use Rattle.x5_consume.specs.Taken.{stamp_at}
 
 pub copy_inside : {a b : CopyKept} → Some a ≡ Some b → a ≡ b
@@ -62,10 +62,10 @@ never_lacking s pin place p e =
 
 -- ---- what stands at a place
 
-pub brought : (s : State) (place : ℕ) (such : CopyKept → Kept → Type 0) (w : Stands s place such) (x : CopyKept)
+pub brought : (s : State) (place : ℕ) (such : CopyKept → Kept → Type 0) (w : CopyStands s place such) (x : CopyKept)
     (o : Option (Bor Kept)) (h : Bor Kept) → slice_get s.copies place ≡ Some x → IsBrought x.prefix x.refreshed
     → option_map (λ (b : Bor Kept). b.now) o ≡ option_map (λ (r : Kept × ℕ). r.0) x.refreshed → o ≡ Some h
-    → Stands s place (λ copy kept. (h.now ≡ kept) × (key_of kept.prefix ≡ key_of copy.prefix))
+    → CopyStands s place (λ copy kept. (h.now ≡ kept) × (key_of kept.prefix ≡ key_of copy.prefix))
 brought s place such w x o h e b held is =
     let same : x ≡ w.copy = copy_inside (sym e ∙ w.there) in
     let r : x.refreshed ≡ Some (w.kept, w.stamp) = ap (λ (c : CopyKept). c.refreshed) same ∙ w.refreshed in
@@ -84,7 +84,7 @@ brought s place such w x o h e b held is =
       );
     }
 
-pub never_unrefreshed : (s : State) (place : ℕ) (such : CopyKept → Kept → Type 0) (w : Stands s place such) (x : CopyKept)
+pub never_unrefreshed : (s : State) (place : ℕ) (such : CopyKept → Kept → Type 0) (w : CopyStands s place such) (x : CopyKept)
     (o : Option (Bor Kept)) → slice_get s.copies place ≡ Some x
     → option_map (λ (b : Bor Kept). b.now) o ≡ option_map (λ (r : Kept × ℕ). r.0) x.refreshed → o ≡ None → ⊥
 never_unrefreshed s place such w x o e held is =
@@ -94,11 +94,11 @@ never_unrefreshed s place such w x o e held is =
     ap (option_map (λ (b : Bor Kept). b.now)) (sym is) ∙ held ∙ ap (option_map (λ (r : Kept × ℕ). r.0)) r in cc
 
 -- two that stand at one place are one
-pub one_copy : (s : State) (place : ℕ) (f g : CopyKept → Kept → Type 0) (v : Stands s place f) (w : Stands s place g)
+pub one_copy : (s : State) (place : ℕ) (f g : CopyKept → Kept → Type 0) (v : CopyStands s place f) (w : CopyStands s place g)
     → v.copy ≡ w.copy
 one_copy s place f g v w = copy_inside (sym v.there ∙ w.there)
 
-pub one_kept : (s : State) (place : ℕ) (f g : CopyKept → Kept → Type 0) (v : Stands s place f) (w : Stands s place g)
+pub one_kept : (s : State) (place : ℕ) (f g : CopyKept → Kept → Type 0) (v : CopyStands s place f) (w : CopyStands s place g)
     → v.kept ≡ w.kept
 one_kept s place f g v w =
     ap (λ (r : Kept × ℕ). r.0)

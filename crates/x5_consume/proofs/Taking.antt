@@ -19,7 +19,7 @@ use Rattle.x5_holdings.specs.Making.{HasRoomFor}
 use Rattle.x5_holdings.specs.Placed.{IsBroughtChanged, IsCopyChanged}
 use Rattle.x5_holdings.specs.State.{CopyKept, Kept, State, brought_entries, copy_view, holdings_view, stamp_of}
 use Rattle.x5_consume.specs.declared.ready.Prepared.{Prepared}
-use Rattle.x5_consume.specs.Ready.{ArePrepared, CanGoOn, Stands, steps_in, values_in}
+use Rattle.x5_consume.specs.Ready.{ArePrepared, CanGoOn, CopyStands, steps_in, values_in}
 use Rattle.x5_model_refreshed.specs.Doable.{CanReplay}
 use Rattle.x5_consume.specs.Steps.{steps_view}
 use Rattle.x5_consume.specs.Taken.{AreDone, AreNoted, CanTake, IsAdvanced, IsContent, IsReplaced, IsTaken}
@@ -106,7 +106,7 @@ module _ (s : State) (pin : Key) (place : ℕ) (at : At s pin place) (given : Li
         subst (λ (es : List Named). CanReplay pin es (steps_view (steps_in all))) seen
         (subst (λ (l : List Step). CanReplay pin can.copy.held.entries (steps_view l)) (sym told) can.doable)
 
-    pub stands : Stands t place (CanGoOn all)
+    pub stands : CopyStands t place (CanGoOn all)
     stands = record {
       copy = room.after;
       kept = kept;

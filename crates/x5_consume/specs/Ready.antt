@@ -81,7 +81,7 @@ IsChangeFor nodes (ready.Rename name rdn entry room) (changes.Rename id x e r) =
 IsChangeFor nodes given change = ⊥
 
 -- a refreshed copy is at the place, and it is so
-pub record Stands (s : State) (place : ℕ) (such : CopyKept → Kept → Type 0) : Type 0 where
+pub record CopyStands (s : State) (place : ℕ) (such : CopyKept → Kept → Type 0) : Type 0 where
   pub copy : CopyKept
   pub kept : Kept
   pub stamp : ℕ

@@ -5,7 +5,7 @@ ghost use Rattle.x5_model.specs.Values.{key_of};
 ghost use Rattle.x5_model_tree.specs.Tree.{is_there};
 ghost use Rattle.x5_dse.specs.Linked.{entries_of};
 ghost use Rattle.x5_holdings.specs.Placed.{IsBroughtChanged, IsCopyChanged};
-ghost use Rattle.x5_consume.specs.Ready.{CanGo, CanGoOn, IsChangeFor, IsDone, IsDue, IsFindable, IsNodeOf, Stands, steps_in};
+ghost use Rattle.x5_consume.specs.Ready.{CanGo, CanGoOn, IsChangeFor, IsDone, IsDue, IsFindable, IsNodeOf, CopyStands, steps_in};
 ghost use Rattle.x5_consume.specs.Taken.{AreDone};
 
 use crate::ready::{Prepared, Ready};
@@ -57,8 +57,8 @@ fn change_of(tree: &DseTree, ready: Ready) -> EntryChange
 
 /// What refreshes brought of the copy of this place. No memory.
 fn brought_at(state: &Holdings, place: usize) -> &Held
-    requires { Stands state.now place (λ copy kept. ⊤) }
-    ensures { Stands state.now place (λ copy kept. (result.now ≡ kept) × (key_of kept.prefix ≡ key_of copy.prefix)) }
+    requires { CopyStands state.now place (λ copy kept. ⊤) }
+    ensures { CopyStands state.now place (λ copy kept. (result.now ≡ kept) × (key_of kept.prefix ≡ key_of copy.prefix)) }
 {
     let copy = &state.copies()[place];
     let _ = copy.prefix();
@@ -70,8 +70,8 @@ fn brought_at(state: &Holdings, place: usize) -> &Held
 
 /// The change that the step makes of the entries of the copy of this place. No memory.
 fn change_at(state: &Holdings, place: usize, ready: Ready) -> EntryChange
-    requires { Stands state.now place (λ copy kept. IsFindable (entries_of kept.nodes.nodes) ready) }
-    ensures { Stands state.now place (IsDue ready result) }
+    requires { CopyStands state.now place (λ copy kept. IsFindable (entries_of kept.nodes.nodes) ready) }
+    ensures { CopyStands state.now place (IsDue ready result) }
 {
     let held = brought_at(state, place);
     let tree = held.tree();
@@ -81,7 +81,7 @@ fn change_at(state: &Holdings, place: usize, ready: Ready) -> EntryChange
 
 /// Does a step on the copy of this place, and notes it at the stamp. No memory.
 fn do_one(state: &mut Holdings, place: usize, one: Prepared, stamp: Moment)
-    requires { Stands state.old place (CanGo one) }
+    requires { CopyStands state.old place (CanGo one) }
     ensures { IsCopyChanged state.old place (IsBroughtChanged (IsDone one stamp)) state.new }
 {
     let Prepared { ready, step } = one;
@@ -92,7 +92,7 @@ fn do_one(state: &mut Holdings, place: usize, one: Prepared, stamp: Moment)
 
 /// Does the steps on the copy of this place one after another, and notes them at the stamp. No memory.
 pub(crate) fn do_all(state: &mut Holdings, place: usize, all: Vec<Prepared>, stamp: Moment)
-    requires { Stands state.old place (CanGoOn all.items) }
+    requires { CopyStands state.old place (CanGoOn all.items) }
     ensures { IsCopyChanged state.old place (IsBroughtChanged (AreDone (steps_in all.items) stamp)) state.new }
 {
     for one in all {

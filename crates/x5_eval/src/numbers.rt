@@ -76,7 +76,7 @@ pub(crate) fn has_entry(state: &Holdings, number: usize, name: &Name) -> bool
 }
 
 /// The places of these rows.
-fn places(alloc: Global, rows: &[Row]) -> Result<Vec<usize>, NoMemory>
+pub(crate) fn places(alloc: Global, rows: &[Row]) -> Result<Vec<usize>, NoMemory>
     ensures { IfOk result (λ places. places.items ≡ map own_place rows.now) }
 {
     let mut places = Vec::new(alloc);

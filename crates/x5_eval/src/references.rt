@@ -19,16 +19,16 @@ ghost use Rattle.x5_ops.specs.ReferenceViews.{chained_view, kind_view, reference
 ghost use Rattle.x5_ops.specs.RequestViews.{request_view, subset_view};
 ghost use Rattle.x5_dse.specs.Linked.{entries_of};
 ghost use Rattle.x5_holdings.specs.State.{held_view, holdings_view};
-ghost use Rattle.x5_eval.specs.Numbers.{own_place};
 ghost use Rattle.x5_model_heard.specs.Told.{are_agents};
 ghost use Rattle.x5_eval.specs.Rest.{AreAlike, AreKnown, at_place, context_needs, depth_in, entry_needs, nssr_needs, pin_needs, places_to, root_needs, taken_cmp, unnamed, wide_by, wide_to};
 
 use crate::exclusions::exclusions;
+use crate::numbers::places;
 use crate::subsets::{is_in_scope, is_in_subset};
 use std::alloc::Global;
 use std::cmp::Ordering;
 use x5_access::{one, usable};
-use x5_holdings::{Held, Holdings, Row};
+use x5_holdings::{Held, Holdings};
 use x5_know::AgentNames;
 use x5_memory::NoMemory;
 use x5_names::{Name, Rdn};
@@ -143,17 +143,6 @@ fn add_all(
     Ok(())
 }
 
-/// The places of these rows.
-fn places_of(alloc: Global, rows: &[Row]) -> Result<Vec<usize>, NoMemory>
-    ensures { IfOk result (λ places. places.items ≡ map own_place rows.now) }
-{
-    let mut places = Vec::new(alloc);
-    for row in rows {
-        places.push(row.place())?;
-    }
-    Ok(places)
-}
-
 /// The places of the context's subordinate references to pins that may be in the subset.
 fn pins_below(
     alloc: Global,
@@ -166,7 +155,7 @@ fn pins_below(
     match subset {
         Subset::Base => held.subordinate_at_depth(alloc, base.rdns(), base.len()),
         Subset::One => held.subordinate_at_depth(alloc, base.rdns(), base.len() + 1),
-        Subset::Tree => places_of(alloc, held.subordinate_under(base.rdns())),
+        Subset::Tree => places(alloc, held.subordinate_under(base.rdns())),
     }
 }
 
@@ -241,7 +230,7 @@ fn add_root(
     if !answers_root(state, message) {
         return Ok(());
     }
-    let places = places_of(alloc, state.root_under(message.target.rdns()))?;
+    let places = places(alloc, state.root_under(message.target.rdns()))?;
     add_all(
         alloc,
         names,
@@ -431,7 +420,7 @@ fn add_wide(
     requires known { AreKnown (length names.now) (wide_needs (holdings_view state.now) (chained_view names.now message.now) (subset_view subset) (held_view held.now)) }
     ensures { OnOk result (AreAlike (map (reference_view names.now) found.new) (map (reference_view names.now) found.old ++ wide_needs (holdings_view state.now) (chained_view names.now message.now) (subset_view subset) (held_view held.now))) }
 {
-    let places = places_of(alloc, held.nssrs_under(message.target.rdns()))?;
+    let places = places(alloc, held.nssrs_under(message.target.rdns()))?;
     add_nssrs(alloc, names, state, message, subset, held, &places, found)
 }
 

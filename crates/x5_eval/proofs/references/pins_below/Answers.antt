@@ -16,4 +16,4 @@ returns-in-Tree c =
     ∙ ap (λ (n : Name). run_of (map (λ k. key_of k.pin) c.args.held.now.subordinate) (key_of n)) c.rdns-in-Tree.ensures)
     ∙ places_all (map (λ k. key_of k.pin) c.args.held.now.subordinate) (key_of c.args.base.now)
     ∙ ap (λ (d : Subset). places_to (map (λ k. key_of k.pin) c.args.held.now.subordinate) (key_of c.args.base.now) (depth_in (subset_view d) (length c.args.base.now))) (sym c.in-Tree.is))
-    c.places_of.result c.places_of.ensures
+    c.places.result c.places.ensures
