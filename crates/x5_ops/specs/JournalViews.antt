@@ -1,9 +1,10 @@
 -- What journals stand for, given the names of the world's agents.
-use Rattle.std.specs.Prelude.{ℕ, List, [], ◌∷◌}
+use Rattle.std.specs.Prelude.{ℕ, Bool, true, false, List, [], ◌∷◌}
 use Rattle.std.specs.List.{flat_map}
 use Rattle.std.specs.Option.{option_map}
 use Rattle.x5_model_run.specs.Network as network
 use Rattle.x5_model_run.specs.Journal as model
+use Rattle.x5_model_run.specs.Run.{Protocol, Dap, Dsp}
 use Rattle.x5_ops.specs.AgentNames.{agent_of}
 use Rattle.x5_ops.specs.ReferenceViews.{progress_view}
 use Rattle.x5_ops.specs.declared.journal.Fate.{Fate}
@@ -30,6 +31,11 @@ abbrev pub fate_view : Fate → network.Fate
 fate_view Lost = network.Lost
 fate_view NoReply = network.NoReply
 fate_view Sent = network.Sent
+
+-- the protocol of octets that are handed over, by whether they are as another agent's message (X.519, section 7)
+abbrev pub protocol_view : Bool → Protocol
+protocol_view false = Dap
+protocol_view true = Dsp
 
 -- what a line prints, where it's a message of a request
 abbrev pub printed_view : List (List ℕ) → Line → List model.Printed
