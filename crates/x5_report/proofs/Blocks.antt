@@ -59,14 +59,14 @@ module _ (names : List (List ℕ)) (start : Start) where
       let w = both_true (journal_known names j) (outcome_known names NotConsistent) h in
       λ command b lines outcome.
       e ∙ sym (λ i. concat (print.number_line line ∷ (ap (flat_map (print.shadow_line (names_with names start))) lines ∙ shadows_are names start j w.0) i ∷ print.refresh_line (names_with names start) (print.number_of command) (outcome i) ∷ []))
-  block_is line j (Handed count reply) text e h =
-      let w = both_true (journal_known names j) (outcome_known names (Handed count reply)) h in
+  block_is line j (Handed dsp count reply) text e h =
+      let w = both_true (journal_known names j) (outcome_known names (Handed dsp count reply)) h in
       λ command m same.
-      e ∙ sym (ap (λ t. print.number_line line ++ t) (handed_is names start count j m reply w.0 w.1 same.0 same.1))
-  block_is line j (Rejected to count fate breach) text e h =
-      let w = both_true (journal_known names j) (outcome_known names (Rejected to count fate breach)) h in
+      e ∙ sym (ap (λ t. print.number_line line ++ t) (handed_is names start dsp count j m reply w.0 w.1 same.0 same.1))
+  block_is line j (Rejected dsp to count fate breach) text e h =
+      let w = both_true (journal_known names j) (outcome_known names (Rejected dsp to count fate breach)) h in
       λ command.
-      e ∙ sym (ap (λ t. print.number_line line ++ t) (rejected_is names start to count fate breach w.1))
+      e ∙ sym (ap (λ t. print.number_line line ++ t) (rejected_is names start dsp to count fate breach w.1))
 
 -- ---- in a world
 

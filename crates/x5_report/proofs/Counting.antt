@@ -50,11 +50,11 @@ of_block names j (Answered reply) b w =
 of_block names j (Plain reply) b w = absurd w
 of_block names j (Refreshed number f heard) b w = ap refresh_counts (sym w.1) ∙ ap block_counts (sym w.2)
 of_block names j NotConsistent b w = ap refresh_counts (sym w.1) ∙ ap block_counts (sym w.2)
-of_block names j (Handed count reply) b w =
+of_block names j (Handed dsp count reply) b w =
     ap (λ n. counts_for (first_message j.lines) n (reply_view names reply)) (as_many names j w.0 w.1)
     ∙ handed_as names (length w.0.accepted) reply (reverse w.0.lines) j.lines w.1.0
     ∙ ap block_counts (sym w.2)
-of_block names j (Rejected to count fate breach) b e = ap block_counts (sym e)
+of_block names j (Rejected dsp to count fate breach) b e = ap block_counts (sym e)
 
 pub of_run : OneMoreAdds → CappedOnTheWay → (names : List (List ℕ)) (j : Journal) (o : LineOutcome) (old new : Counts)
     → new ≡ capped_counts (both old (told_counts names j o)) → (b : run.Block) (blocks : List run.Block)

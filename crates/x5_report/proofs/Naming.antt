@@ -21,7 +21,7 @@ use Rattle.x5_model_output.specs.Output.{Names}
 use Rattle.x5_model_output.specs.Plain.{plain_info, plain_sub, plain_answer_lines, plain_reply_lines}
 use Rattle.x5_ops.specs.AgentNames.{agent_of}
 use Rattle.x5_ops.specs.AnswerViews.{shown_view, info_view, sub_view, source_view, outcome_view, answer_view, error_view, reply_view}
-use Rattle.x5_ops.specs.JournalViews.{fate_view, code_view, printed_view, messages_view}
+use Rattle.x5_ops.specs.JournalViews.{fate_view, protocol_view, code_view, printed_view, messages_view}
 use Rattle.x5_ops.specs.ReferenceViews.{progress_view, kind_view, access_view, reference_view, item_view}
 use Rattle.x5_ops.specs.declared.journal.Line.{Line}
 use Rattle.x5_ops.specs.declared.journal.Line.TheVariants.{Msg, Dis, Raw}
@@ -237,20 +237,20 @@ module _ (names : List (List ℕ)) (start : Start) where
 
   -- ---- octets
 
-  raw_is : (to : List ℕ) (count : ℕ) (fate : Fate) (to' : ℕ) (fate' : network.Fate) → is_known names to ≡ true → to' ≡ agent_of names to → fate' ≡ fate_view fate → print.raw_line (names_with names start) (record { receiver = to'; count = count; fate = fate' }) ≡ spelled.raw_text to count fate
-  raw_is to count fate to' fate' h a f =
-      λ i. concat (codes "raw " ∷ (ap (names_with names start).agent a ∙ agent_is to h) i ∷ codes " dap " ∷ decimal count ∷ codes " " ∷ print.fate_word (f i) ∷ codes "\n" ∷ [])
+  raw_is : (dsp : Bool) (to : List ℕ) (count : ℕ) (fate : Fate) (to' : ℕ) (fate' : network.Fate) → is_known names to ≡ true → to' ≡ agent_of names to → fate' ≡ fate_view fate → print.raw_line (names_with names start) (record { protocol = protocol_view dsp; receiver = to'; count = count; fate = fate' }) ≡ spelled.raw_text dsp to count fate
+  raw_is dsp to count fate to' fate' h a f =
+      λ i. concat (codes "raw " ∷ (ap (names_with names start).agent a ∙ agent_is to h) i ∷ codes " " ∷ print.protocol_word (protocol_view dsp) ∷ codes " " ∷ decimal count ∷ codes " " ∷ print.fate_word (f i) ∷ codes "\n" ∷ [])
 
   -- the first message that is printed stands for the octets
-  module _ (count : ℕ) (agents : List ℕ) (accepted : List (List ℕ)) (reply : Reply) where
-    handed_as : (ls : List journal.Line) (lines : List Line) → flat_map (print.accepted_line (names_with names start)) agents ≡ flat_map spelled.accepted_text accepted → reply_known names reply ≡ true → ((l : Line) → In l lines → line_known names l ≡ true) → map journal.printed_line ls ≡ messages_view names lines → print.handed_text (names_with names start) count ls agents (reply_view names reply) ≡ spelled.handed_for start count (spelled.first_message lines) accepted reply
+  module _ (dsp : Bool) (count : ℕ) (agents : List ℕ) (accepted : List (List ℕ)) (reply : Reply) where
+    handed_as : (ls : List journal.Line) (lines : List Line) → flat_map (print.accepted_line (names_with names start)) agents ≡ flat_map spelled.accepted_text accepted → reply_known names reply ≡ true → ((l : Line) → In l lines → line_known names l ≡ true) → map journal.printed_line ls ≡ messages_view names lines → print.handed_text (names_with names start) (protocol_view dsp) count ls agents (reply_view names reply) ≡ spelled.handed_for start dsp count (spelled.first_message lines) accepted reply
     handed_as [] [] e r h same = e
     handed_as (l ∷ ls) [] e r h same = cc
     handed_as [] (Msg from to operation progress t target fate ∷ more) e r h same = cc
     handed_as (l ∷ ls) (Msg from to operation progress t target fate ∷ more) e r h same =
         let both = cons_same _ _ (map journal.printed_line ls) (messages_view names more) same in
         let known = both_true (in_option true (is_known names) from) (is_known names to) (h (Msg from to operation progress t target fate) here) in
-        λ i. concat (raw_is to count fate l.receiver l.fate known.1 (ap (λ (p : journal.Printed). p.receiver) both.0) (ap (λ (p : journal.Printed). p.fate) both.0) i
+        λ i. concat (raw_is dsp to count fate l.receiver l.fate known.1 (ap (λ (p : journal.Printed). p.receiver) both.0) (ap (λ (p : journal.Printed). p.fate) both.0) i
         ∷ (sym (flat_map-map (spelled.printed_message (names_with names start)) journal.printed_line ls)
         ∙ ap (flat_map (spelled.printed_message (names_with names start))) both.1
         ∙ messages_are more (λ k j. h k (there j))) i
@@ -258,15 +258,15 @@ module _ (names : List (List ℕ)) (start : Start) where
     handed_as ls (Dis from to operation agreement fate ∷ more) e r h same = handed_as ls more e r (λ k j. h k (there j)) same
     handed_as ls (Raw to dsp n fate ∷ more) e r h same = handed_as ls more e r (λ k j. h k (there j)) same
 
-  pub handed_is : (count : ℕ) (j : Journal) (m : journal.Journal) (reply : Reply) → journal_known names j ≡ true → reply_known names reply ≡ true → map journal.printed_line (reverse m.lines) ≡ messages_view names j.lines → reverse m.accepted ≡ map (agent_of names) j.accepted → print.handed_text (names_with names start) count (reverse m.lines) (reverse m.accepted) (reply_view names reply) ≡ spelled.handed_text start count j reply
-  handed_is count j m reply h r lines agents =
+  pub handed_is : (dsp : Bool) (count : ℕ) (j : Journal) (m : journal.Journal) (reply : Reply) → journal_known names j ≡ true → reply_known names reply ≡ true → map journal.printed_line (reverse m.lines) ≡ messages_view names j.lines → reverse m.accepted ≡ map (agent_of names) j.accepted → print.handed_text (names_with names start) (protocol_view dsp) count (reverse m.lines) (reverse m.accepted) (reply_view names reply) ≡ spelled.handed_text start dsp count j reply
+  handed_is dsp count j m reply h r lines agents =
       let w = both_true (list_all (line_known names) j.lines) (list_all (is_known names) j.accepted) h in
-      handed_as count (reverse m.accepted) j.accepted reply (reverse m.lines) j.lines
+      handed_as dsp count (reverse m.accepted) j.accepted reply (reverse m.lines) j.lines
       (ap (flat_map (print.accepted_line (names_with names start))) agents
       ∙ accepted_are j.accepted (λ a i. of_all (is_known names) a j.accepted w.1 i))
       r (λ l i. of_all (line_known names) l j.lines w.0 i) lines
 
-  pub rejected_is : (to : List ℕ) (count : ℕ) (fate : Fate) (breach : Breach) → is_known names to ≡ true → print.rejected_text (names_with names start) (raw_of names to count fate) (breach_view breach) ≡ spelled.rejected_text to count fate breach
-  rejected_is to count fate breach h =
+  pub rejected_is : (dsp : Bool) (to : List ℕ) (count : ℕ) (fate : Fate) (breach : Breach) → is_known names to ≡ true → print.rejected_text (names_with names start) (raw_of names dsp to count fate) (breach_view breach) ≡ spelled.rejected_text dsp to count fate breach
+  rejected_is dsp to count fate breach h =
       ap (λ t. t ++ print.heard_by (fate_view fate) (print.reject_line (breach_view breach)))
-      (raw_is to count fate (agent_of names to) (fate_view fate) h refl refl)
+      (raw_is dsp to count fate (agent_of names to) (fate_view fate) h refl refl)

@@ -9,7 +9,7 @@ use Rattle.x5_model_output.specs.Output as print
 use Rattle.x5_model_output.specs.Plain.{plain_block_text}
 use Rattle.x5_ops.specs.AgentNames.{agent_of}
 use Rattle.x5_ops.specs.AnswerViews.{reply_view}
-use Rattle.x5_ops.specs.JournalViews.{messages_view, fate_view}
+use Rattle.x5_ops.specs.JournalViews.{messages_view, fate_view, protocol_view}
 use Rattle.x5_ops.specs.declared.journal.Fate.{Fate}
 use Rattle.x5_ops.specs.declared.journal.Journal.{Journal}
 use Rattle.x5_typed.specs.Breaches.{breach_view}
@@ -32,16 +32,16 @@ block_text start line j (Refreshed number f heard) =
     ∷ [])
 block_text start line j NotConsistent =
     concat (print.number_line line ∷ flat_map spelled.shadow_text j.lines ∷ codes "error shadow inconsistent\n" ∷ [])
-block_text start line j (Handed count reply) = print.number_line line ++ spelled.handed_text start count j reply
-block_text start line j (Rejected to count fate breach) =
-    print.number_line line ++ spelled.rejected_text to count fate breach
+block_text start line j (Handed dsp count reply) = print.number_line line ++ spelled.handed_text start dsp count j reply
+block_text start line j (Rejected dsp to count fate breach) =
+    print.number_line line ++ spelled.rejected_text dsp to count fate breach
 
 -- all who are named are agents of the world
 abbrev pub outcome_known : List (List ℕ) → LineOutcome → Bool
 outcome_known names (Answered reply) = reply_known names reply
 outcome_known names (Plain reply) = reply_known names reply
-outcome_known names (Handed count reply) = reply_known names reply
-outcome_known names (Rejected to count fate breach) = is_known names to
+outcome_known names (Handed dsp count reply) = reply_known names reply
+outcome_known names (Rejected dsp to count fate breach) = is_known names to
 outcome_known names other = true
 
 abbrev pub block_known : List (List ℕ) → Journal → LineOutcome → Bool
@@ -53,11 +53,16 @@ IsJournal names j m = (map model.printed_line (reverse m.lines) ≡ messages_vie
     × (reverse m.accepted ≡ map (agent_of names) j.accepted)
 
 -- octets on their way to the agent of the name
-abbrev pub raw_of : List (List ℕ) → List ℕ → ℕ → Fate → run.Raw
-raw_of names to count fate = record { receiver = agent_of names to; count = count; fate = fate_view fate }
+abbrev pub raw_of : List (List ℕ) → Bool → List ℕ → ℕ → Fate → run.Raw
+raw_of names dsp to count fate = record {
+  protocol = protocol_view dsp;
+  receiver = agent_of names to;
+  count = count;
+  fate = fate_view fate;
+}
 
 -- The text is that of the block, with these names and moments. Of a request it is so for every journal that the code's
--- stands for, and so for one that octets brought; of a refresh for every block of these messages and this outcome. A
+-- stands for, and so of a message that octets brought; of a refresh for every block of these messages and this outcome. A
 -- plain reply's is that of the one tree.
 abbrev pub IsBlockText : print.Names → List (List ℕ) → ℕ → Journal → LineOutcome → Text → Type 0
 IsBlockText printing names line j Set text = (command : run.Command) → text ≡ print.block_text printing line command run.Set
@@ -73,9 +78,9 @@ IsBlockText printing names line j NotConsistent text =
     (command : run.Command) (b : refresh.RefreshBlock) → b.lines ≡ shadows_view names j.lines → b.outcome
     ≡ refresh.NotConsistent →
     text ≡ print.block_text printing line command (run.Refreshing b)
-IsBlockText printing names line j (Handed count reply) text =
+IsBlockText printing names line j (Handed dsp count reply) text =
     (command : run.Command) (m : model.Journal) → IsJournal names j m → text
-    ≡ print.block_text printing line command (run.Handed count m (reply_view names reply))
-IsBlockText printing names line j (Rejected to count fate breach) text =
+    ≡ print.block_text printing line command (run.Handed (protocol_view dsp) count m (reply_view names reply))
+IsBlockText printing names line j (Rejected dsp to count fate breach) text =
     (command : run.Command) → text
-    ≡ print.block_text printing line command (run.Rejected (raw_of names to count fate) (breach_view breach))
+    ≡ print.block_text printing line command (run.Rejected (raw_of names dsp to count fate) (breach_view breach))

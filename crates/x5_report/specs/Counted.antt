@@ -8,7 +8,7 @@ use Rattle.x5_model_run.specs.Refresh as refresh
 use Rattle.x5_model_run.specs.Run as run
 use Rattle.x5_model_output.specs.Summary.{Counts, no_counts, request_counts, refresh_counts, heard_counts}
 use Rattle.x5_ops.specs.AnswerViews.{reply_view}
-use Rattle.x5_ops.specs.JournalViews.{fate_view}
+use Rattle.x5_ops.specs.JournalViews.{fate_view, protocol_view}
 use Rattle.x5_ops.specs.declared.journal.Fate.{Fate}
 use Rattle.x5_ops.specs.declared.journal.Line.{Line}
 use Rattle.x5_ops.specs.declared.journal.Journal.{Journal}
@@ -46,9 +46,9 @@ told_counts names j (Answered reply) = request_counts (length j.accepted) (reply
 told_counts names j (Plain reply) = request_counts 0 (reply_view names reply)
 told_counts names j (Refreshed number f heard) = refresh_counts (refreshed_view heard number f)
 told_counts names j NotConsistent = refresh_counts refresh.NotConsistent
-told_counts names j (Handed count reply) =
+told_counts names j (Handed dsp count reply) =
     counts_for (first_message j.lines) (length j.accepted) (reply_view names reply)
-told_counts names j (Rejected to count fate breach) = no_counts
+told_counts names j (Rejected dsp to count fate breach) = no_counts
 
 -- The values stand for the block of a run. Those of the one tree stand for none.
 abbrev pub IsOf : List (List ℕ) → Journal → LineOutcome → run.Block → Type 0
@@ -59,6 +59,7 @@ IsOf names j (Plain reply) b = ⊥
 IsOf names j (Refreshed number f heard) b = (r : refresh.RefreshBlock) × (r.outcome ≡ refreshed_view heard number f)
     × (b ≡ run.Refreshing r)
 IsOf names j NotConsistent b = (r : refresh.RefreshBlock) × (r.outcome ≡ refresh.NotConsistent) × (b ≡ run.Refreshing r)
-IsOf names j (Handed count reply) b = (m : model.Journal) × IsJournal names j m × (b ≡ run.Handed count m
-    (reply_view names reply))
-IsOf names j (Rejected to count fate breach) b = b ≡ run.Rejected (raw_of names to count fate) (breach_view breach)
+IsOf names j (Handed dsp count reply) b = (m : model.Journal) × IsJournal names j m
+    × (b ≡ run.Handed (protocol_view dsp) count m (reply_view names reply))
+IsOf names j (Rejected dsp to count fate breach) b =
+    b ≡ run.Rejected (raw_of names dsp to count fate) (breach_view breach)

@@ -19,7 +19,7 @@ use Rattle.x5_syntax.specs.TypeView.{type_view}
 use Rattle.x5_syntax.specs.ValueView.{value_view}
 use Rattle.x5_syntax.specs.declared.values.Value.{Value}
 use Rattle.x5_ops.specs.AnswerViews.{sub_view}
-use Rattle.x5_ops.specs.JournalViews.{fate_view, code_view}
+use Rattle.x5_ops.specs.JournalViews.{fate_view, protocol_view, code_view}
 use Rattle.x5_ops.specs.ReferenceViews.{progress_view, kind_view}
 use Rattle.x5_ops.specs.declared.journal.Line.{Line}
 use Rattle.x5_ops.specs.declared.journal.Line.TheVariants.{Msg, Dis, Raw}
@@ -253,10 +253,10 @@ refreshed_text start number (refreshes.Failed problem held given) heard = proble
 
 -- ---- octets
 
-abbrev pub raw_text : List ℕ → ℕ → Fate → Text
-raw_text to count fate =
-    concat (codes "raw " ∷ to ∷ codes " dap " ∷ decimal count ∷ codes " " ∷ print.fate_word (fate_view fate)
-    ∷ codes "\n" ∷ [])
+abbrev pub raw_text : Bool → List ℕ → ℕ → Fate → Text
+raw_text dsp to count fate =
+    concat (codes "raw " ∷ to ∷ codes " " ∷ print.protocol_word (protocol_view dsp) ∷ codes " " ∷ decimal count
+    ∷ codes " " ∷ print.fate_word (fate_view fate) ∷ codes "\n" ∷ [])
 
 -- the first message of a request: whom it goes to, what became of it, and the lines behind it; other lines aren't some
 abbrev pub first_message : List Line → Option (List ℕ × Fate × List Line)
@@ -266,15 +266,15 @@ first_message (Dis from to operation agreement fate ∷ more) = first_message mo
 first_message (Raw to dsp count fate ∷ more) = first_message more
 
 -- so many octets stand for it
-abbrev pub handed_for : Start → ℕ → Option (List ℕ × Fate × List Line) → List (List ℕ) → Reply → Text
-handed_for start count None accepted reply = flat_map accepted_text accepted
-handed_for start count (Some first) accepted reply =
-    concat (raw_text first.0 count first.1 ∷ flat_map message_text first.2 ∷ flat_map accepted_text accepted
+abbrev pub handed_for : Start → Bool → ℕ → Option (List ℕ × Fate × List Line) → List (List ℕ) → Reply → Text
+handed_for start dsp count None accepted reply = flat_map accepted_text accepted
+handed_for start dsp count (Some first) accepted reply =
+    concat (raw_text dsp first.0 count first.1 ∷ flat_map message_text first.2 ∷ flat_map accepted_text accepted
     ∷ print.heard_by (fate_view first.1) (reply_text start reply) ∷ [])
 
-abbrev pub handed_text : Start → ℕ → Journal → Reply → Text
-handed_text start count j reply = handed_for start count (first_message j.lines) j.accepted reply
+abbrev pub handed_text : Start → Bool → ℕ → Journal → Reply → Text
+handed_text start dsp count j reply = handed_for start dsp count (first_message j.lines) j.accepted reply
 
-abbrev pub rejected_text : List ℕ → ℕ → Fate → Breach → Text
-rejected_text to count fate breach =
-    raw_text to count fate ++ print.heard_by (fate_view fate) (print.reject_line (breach_view breach))
+abbrev pub rejected_text : Bool → List ℕ → ℕ → Fate → Breach → Text
+rejected_text dsp to count fate breach =
+    raw_text dsp to count fate ++ print.heard_by (fate_view fate) (print.reject_line (breach_view breach))

@@ -4,7 +4,7 @@ ghost use Rattle.std.specs.Prelude.{◌≡◌, IfOk, string_bytes};
 ghost use Rattle.std.specs.Option.{option_map};
 ghost use Rattle.x5_ber.specs.Views.{fault_view};
 ghost use Rattle.x5_model_output.specs.Output as print;
-ghost use Rattle.x5_ops.specs.JournalViews.{fate_view};
+ghost use Rattle.x5_ops.specs.JournalViews.{fate_view, protocol_view};
 ghost use Rattle.x5_report.specs.Spelled as spelled;
 ghost use Rattle.x5_typed.specs.Breaches.{breach_view};
 
@@ -30,13 +30,27 @@ pub(crate) fn first_message(lines: &[Line]) -> Option<(&AgentName, Fate, &[Line]
     None
 }
 
+/// The word of a protocol.
+fn protocol_word(dsp: bool) -> &'static str
+    ensures { result.now ≡ print.protocol_word (protocol_view dsp) }
+{
+    if dsp { "dsp" } else { "dap" }
+}
+
 /// The line of octets on their way to an agent.
-fn raw(alloc: Global, to: &AgentName, count: u64, fate: Fate) -> Result<String, NoMemory>
-    ensures { IfOk result (λ text. string_bytes text ≡ spelled.raw_text to.now count fate) }
+fn raw(
+    alloc: Global,
+    dsp: bool,
+    to: &AgentName,
+    count: u64,
+    fate: Fate,
+) -> Result<String, NoMemory>
+    ensures { IfOk result (λ text. string_bytes text ≡ spelled.raw_text dsp to.now count fate) }
 {
     let to = to.as_str();
+    let protocol = protocol_word(dsp);
     let fate = fate_word(fate);
-    Ok(format!(in alloc; "raw {to} dap {count} {fate}\n")?)
+    Ok(format!(in alloc; "raw {to} {protocol} {count} {fate}\n")?)
 }
 
 /// What the user hears of the reply: nothing where a message was lost.
@@ -49,21 +63,22 @@ fn heard(alloc: Global, start: &Start, fate: Fate, answer: &Reply) -> Result<Str
     }
 }
 
-/// What is printed of a request that octets brought.
+/// What is printed of a message that octets brought.
 pub(crate) fn handed(
     alloc: Global,
     start: &Start,
+    dsp: bool,
     count: u64,
     journal: &Journal,
     answer: &Reply,
 ) -> Result<String, NoMemory>
-    ensures { IfOk result (λ text. string_bytes text ≡ spelled.handed_text start.now count journal.now answer.now) }
+    ensures { IfOk result (λ text. string_bytes text ≡ spelled.handed_text start.now dsp count journal.now answer.now) }
 {
     let accepted = accepted(alloc, journal.accepted.as_slice())?;
     match first_message(journal.lines.as_slice()) {
         None => Ok(accepted),
         Some((to, fate, more)) => {
-            let raw = raw(alloc, to, count, fate)?;
+            let raw = raw(alloc, dsp, to, count, fate)?;
             let messages = messages(alloc, more)?;
             let told = heard(alloc, start, fate, answer)?;
             Ok(format!(in alloc; "{raw}{messages}{accepted}{told}")?)
@@ -121,17 +136,18 @@ fn reject_heard(alloc: Global, fate: Fate, breach: &Breach) -> Result<String, No
     }
 }
 
-/// What is printed of octets that brought no request.
+/// What is printed of octets that brought none.
 pub(crate) fn rejected(
     alloc: Global,
+    dsp: bool,
     to: &AgentName,
     count: u64,
     fate: Fate,
     breach: &Breach,
 ) -> Result<String, NoMemory>
-    ensures { IfOk result (λ text. string_bytes text ≡ spelled.rejected_text to.now count fate breach.now) }
+    ensures { IfOk result (λ text. string_bytes text ≡ spelled.rejected_text dsp to.now count fate breach.now) }
 {
-    let mut text = raw(alloc, to, count, fate)?;
+    let mut text = raw(alloc, dsp, to, count, fate)?;
     let told = reject_heard(alloc, fate, breach)?;
     text.push_str(told.as_str())?;
     Ok(text)

@@ -23,8 +23,9 @@ use x5_typed::Breach;
 
 /// What came of a command: a changed network; the reply to a request, of agents or (`Plain`) of the one tree; what became of
 /// the refresh of the agreement with the number, true where the supplier knows that it was taken; that knowledge doesn't
-/// hold together, so that there are no refreshes; the reply to a request that so many octets brought, for which the first
-/// message of the journal stands; or the first breach of octets that brought none.
+/// hold together, so that there are no refreshes; the reply to a message that so many octets brought, for which the first
+/// message of the journal stands; or the first breach of octets that brought none. Octets are handed over as a user's message, or
+/// as another agent's (`dsp`).
 #[derive(Debug, Drop)]
 pub enum LineOutcome {
     Set,
@@ -32,8 +33,13 @@ pub enum LineOutcome {
     Plain(Reply),
     Refreshed(u32, Refreshed, bool),
     NotConsistent,
-    Handed(u64, Reply),
+    Handed {
+        dsp: bool,
+        count: u64,
+        reply: Reply,
+    },
     Rejected {
+        dsp: bool,
         to: AgentName,
         count: u64,
         fate: Fate,
@@ -120,17 +126,18 @@ fn block_string(
         LineOutcome::NotConsistent => {
             refreshing(alloc, &number, journal, "error shadow inconsistent\n")
         }
-        LineOutcome::Handed(count, answer) => {
-            let told = handed(alloc, start, *count, journal, answer)?;
+        LineOutcome::Handed { dsp, count, reply } => {
+            let told = handed(alloc, start, *dsp, *count, journal, reply)?;
             behind(number, told.as_str())
         }
         LineOutcome::Rejected {
+            dsp,
             to,
             count,
             fate,
             breach,
         } => {
-            let told = rejected(alloc, to, *count, *fate, breach)?;
+            let told = rejected(alloc, *dsp, to, *count, *fate, breach)?;
             behind(number, told.as_str())
         }
     }

@@ -93,7 +93,7 @@ fn of_heard(fate: Fate, reply: &Reply) -> Totals
     }
 }
 
-/// What is counted of a request that octets brought.
+/// What is counted of a message that octets brought.
 fn of_handed(journal: &Journal, reply: &Reply) -> Totals
     ensures { (names : List (List ℕ)) → totals_view result
         ≡ counts_for (spelled.first_message journal.now.lines) (length journal.now.accepted) (reply_view names reply.now) }
@@ -136,7 +136,7 @@ fn of_block(journal: &Journal, outcome: &LineOutcome) -> Totals
             errors: 1,
             ..Totals::new()
         },
-        LineOutcome::Handed(_, reply) => of_handed(journal, reply),
+        LineOutcome::Handed { reply, .. } => of_handed(journal, reply),
         LineOutcome::Rejected { .. } => Totals::new(),
     }
 }

@@ -295,6 +295,7 @@ fn a_refresh_prints_its_messages_and_what_became_of_it(rt: HostRuntime) -> Resul
 fn rejected(alloc: Global, fate: Fate, breach: Breach) -> Result<Text, Fail> {
     let to = agent(alloc, "Alpha")?;
     let outcome = LineOutcome::Rejected {
+        dsp: false,
         to,
         count: 26,
         fate,
@@ -351,7 +352,11 @@ fn handed(alloc: Global, fate: Fate) -> Result<Text, Fail> {
         lines: Listed::from_vec(lines),
         accepted: Listed::from_vec(vec![in alloc; beta]?),
     };
-    let outcome = LineOutcome::Handed(50, Reply::Done(Answer::Changed));
+    let outcome = LineOutcome::Handed {
+        dsp: false,
+        count: 50,
+        reply: Reply::Done(Answer::Changed),
+    };
     printed(alloc, &journal, &outcome)
 }
 

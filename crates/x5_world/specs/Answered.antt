@@ -1,11 +1,11 @@
--- What a user's request was answered with, and by which messages (X.518, sections 17 to 21).
+-- What a user's message was answered with, and by which messages (X.518, sections 17 to 21).
 use Rattle.std.specs.Prelude.{◌≡◌, ℕ, nat_lt, Bool, true, ◌&&◌, List, length, map, reverse}
 use Rattle.std.specs.List.{list_all}
 use Rattle.x5_model.specs.Words.{in_option}
-use Rattle.x5_model.specs.Requests.{Request}
+use Rattle.x5_model.specs.References.{Chained}
 use Rattle.x5_model_run.specs.Journal as model
 use Rattle.x5_model_run.specs.History.{Point}
-use Rattle.x5_model_run.specs.Run.{Asks, Replies, did_by}
+use Rattle.x5_model_run.specs.Run.{accepted_by}
 use Rattle.x5_model_settled.specs.Held.{BySteps}
 use Rattle.x5_model_known.specs.Replying.{reply_agents}
 use Rattle.x5_ops.specs.AgentNames.{agent_of}
@@ -27,16 +27,16 @@ line_names_agents names (Msg from to operation progress t target fate) =
 line_names_agents names (Dis from to operation agreement fate) = is_agent names from && is_agent names to
 line_names_agents names (Raw to dsp count fate) = is_agent names to
 
--- A request at an agent of the network of this line: the reply, the messages and who accepted the update are those of
--- the relation of agents' steps, by what agents hold, which a journal of whole messages tells; and afterwards it's the
--- network of the next line.
-pub record IsAnswered (old new : Net) (p : Point) (first : ℕ) (r : Request) (reply : Reply) (journal : Journal) : Type 0
+-- A message of the user at an agent of the network of this line: the reply, the messages and who accepted the update are
+-- those of the relation of agents' steps, by what agents hold, which a journal of whole messages tells; and afterwards
+-- it's the network of the next line.
+pub record IsAnswered (old new : Net) (p : Point) (first : ℕ) (m : Chained) (reply : Reply) (journal : Journal) : Type 0
   where
     pub whole : model.Journal
-    pub asked : BySteps p first r whole (reply_view old.names reply)
+    pub asked : BySteps p first m whole (reply_view old.names reply)
     pub lines : map model.printed_line (reverse whole.lines) ≡ messages_view old.names journal.lines
     pub accepted : reverse whole.accepted ≡ map (agent_of old.names) journal.accepted
-    pub stands : StandsAt new (after (did_by (Asks first r) (Replies whole (reply_view old.names reply))) p)
+    pub stands : StandsAt new (after (record { deed = accepted_by m.request whole; sent = length whole.lines }) p)
 
 -- whom they name, in any network
 pub record NamesAgents (names : List (List ℕ)) (told : Reply) (journal : Journal) : Type 0 where

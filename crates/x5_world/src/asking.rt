@@ -1,4 +1,4 @@
-//! A user's request from its first message to its reply.
+//! A user's message and what comes of it, up to its reply.
 
 ghost use Rattle.std.specs.Prelude.{◌≡◌, ℕ, List, ◌<◌, ◌≤◌, ◌+◌, true, length, IfOk};
 ghost use Rattle.std.specs.List.{list_all};
@@ -47,7 +47,7 @@ fn target(alloc: Global, body: &Body) -> Result<Name, NoMemory>
 }
 
 /// What a user asks: nothing is resolved, and nobody passed it on.
-fn opening(alloc: Global, request: &Request) -> Result<Chained, NoMemory>
+pub(crate) fn opening(alloc: Global, request: &Request) -> Result<Chained, NoMemory>
     ensures { IfOk result (λ message. (names : List (List ℕ)) → chained_view names message ≡ chain.opening (request_view request.now)) }
 {
     Ok(Chained {
@@ -92,33 +92,32 @@ fn user_served<N: Network>(
     serve(alloc, net, first, message)
 }
 
-/// A user's request in the network, which begins as it stands: what it comes to, with the reply, the messages that it takes, and the
+/// A user's message in the network, which begins as it stands: what it comes to, with the reply, the messages that it takes, and the
 /// agents that accept its update, which hold it then.
 pub(crate) fn asked<B: Begun>(
     alloc: Global,
     world: World,
     first: AgentId,
-    request: &Request,
+    message: &Chained,
     most: usize,
 ) -> Result<Told, NoMemory>
     requires begun { world ≡ B.net }
     requires there { first < length B.net.names }
-    requires short { HasShortNames (body_view request.now.body) }
+    requires short { HasShortNames (body_view message.now.request.body) }
     requires net { IsNet B.net }
     requires room { B.net.sent + most ≤ 18446744073709551615 }
     requires some { 0 < most }
-    ensures asked { IfOk result (λ told. IsRequest (scene_of B.net first (chain.opening (request_view request.now))) most (journal_of B.net.names told.lines.items told.accepted.items) (reply_view B.net.names told.reply)) }
-    ensures held { IfOk result (λ told. IsChanged B.net told.world (request_view request.now) told.accepted.items) }
+    ensures asked { IfOk result (λ told. IsRequest (scene_of B.net first (chained_view B.net.names message.now)) most (journal_of B.net.names told.lines.items told.accepted.items) (reply_view B.net.names told.reply)) }
+    ensures held { IfOk result (λ told. IsChanged B.net told.world (request_view message.now.request) told.accepted.items) }
     ensures within { IfOk result (λ told. length told.lines.items ≤ most) }
     ensures counted { IfOk result (λ told. list_all (is_counted B.net.names) told.lines.items ≡ true) }
     ensures accepted { IfOk result (λ told. are_agents (length B.net.names) told.accepted.items ≡ true) }
     ensures named { IfOk result (λ told. reply_agents (length B.net.names) (reply_view B.net.names told.reply) ≡ true) }
 {
-    let message = opening(alloc, request)?;
-    let mut exchange = Exchange::<B>::new(alloc, world, first, &message, most);
-    let reply = match exchange.send(alloc, None, first, &message)? {
+    let mut exchange = Exchange::<B>::new(alloc, world, first, message, most);
+    let reply = match exchange.send(alloc, None, first, message)? {
         Carried::Spent => unreachable!(),
-        Carried::Undelivered => user_in_vain(alloc, exchange.names(), first, &message)?,
+        Carried::Undelivered => user_in_vain(alloc, exchange.names(), first, message)?,
         Carried::Unheard(taken) => served_in_vain(alloc, &mut exchange, first, &taken)?,
         Carried::Taken(taken) => user_served(alloc, &mut exchange, first, &taken)?,
     };

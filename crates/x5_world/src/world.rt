@@ -4,9 +4,10 @@ ghost use Rattle.std.specs.Prelude.{◌≡◌, ℕ, ◌<◌, ◌+◌, ◌≤◌,
 ghost use Rattle.std.specs.List.{filter, list_all, position};
 ghost use Rattle.std.specs.Option.{option_map};
 ghost use Rattle.x5_know.specs.WorldView.{world_view};
+ghost use Rattle.x5_model_run.specs.Chain as chain;
 ghost use Rattle.x5_model_run.specs.Network as network;
 ghost use Rattle.x5_model_run.specs.History.{Point};
-ghost use Rattle.x5_model_run.specs.Run.{Changes, Drops, Blank, Set, Silent, did_by};
+ghost use Rattle.x5_model_run.specs.Run.{Protocol, Dap, Dsp, Changes, Drops, Blank, Set, Silent, did_by};
 ghost use Rattle.x5_model_run.specs.Stage.{once_each};
 ghost use Rattle.x5_model.specs.Values.{key_of};
 ghost use Rattle.x5_model_tree.specs.Consistent.{IsConsistent};
@@ -14,20 +15,21 @@ ghost use Rattle.x5_model_tree.specs.Described.{IsDescribed};
 ghost use Rattle.x5_refresh.specs.Joined.{is_of_supplier};
 ghost use Rattle.x5_refresh.specs.Sent.{CanAccept, count_in};
 ghost use Rattle.x5_holdings.specs.State.{holdings_view};
-ghost use Rattle.x5_ops.specs.JournalViews.{fate_view, outage_view};
+ghost use Rattle.x5_ops.specs.JournalViews.{fate_view, outage_view, protocol_view};
 ghost use Rattle.x5_ops.specs.ReferenceViews.{chained_view};
 ghost use Rattle.x5_ops.specs.RequestViews.{body_view, request_view};
 ghost use Rattle.x5_update.specs.Judging.{IsReady};
 ghost use Rattle.x5_world.specs.Answered.{IsAnswered, NamesAgents, line_names_agents};
 ghost use Rattle.x5_typed.specs.Breaches.{breach_view};
-ghost use Rattle.x5_world.specs.Delivered.{IsDelivered, IsDeliveredAt, NamesAgentsIn};
+ghost use Rattle.x5_typed.specs.declared.fault.Breach as typed;
+ghost use Rattle.x5_world.specs.Delivered.{IsDelivered, IsDeliveredAt, NamesAgentsIn, breach_in};
 ghost use Rattle.x5_world.specs.Refreshes.{IsRefreshedAt, IsSound};
 ghost use Rattle.x5_world.specs.Refreshing.{IsKnown, IsSupplied, IsTakenAt, acknowledging, is_known_in, problem_in};
 ghost use Rattle.x5_world.specs.Sent.{IsCommittedAt, IsHolder, no_net};
-ghost use Rattle.x5_world.specs.State.{StandsAt, HasRoom, HasShortNames, after, holdings_in, most_messages};
+ghost use Rattle.x5_world.specs.State.{StandsAt, HasRoom, HasShortNames, IsShort, after, holdings_in, most_messages};
 ghost use Rattle.x5_model_tree.specs.World.{names_of_agents};
 
-use crate::asking::asked;
+use crate::asking::{asked, opening};
 use crate::counts::{contexts, pairs};
 use crate::delivered::{Delivered, breach_of, receiver};
 use crate::journal;
@@ -40,7 +42,8 @@ use std::alloc::Global;
 use std::marker::{Brand, Model};
 use std::mem::replace;
 use x5_agents::agents_of;
-use x5_dapber::decode_request;
+use x5_dapber::{WireFault, decode_request};
+use x5_dspber::decode_chained;
 use x5_holdings::Holdings;
 use x5_know::{AgentNames, Agreement, AgreementList, Described};
 use x5_memory::NoMemory;
@@ -287,6 +290,34 @@ impl World {
         Ok(((self.contexts + 34) * (self.names.len() + 9) + self.pairs) * (1 + losses))
     }
 
+    /// What a message of the user is answered by this agent, the messages that it takes, in their order, and who accepts its update.
+    /// What an agent accepted it holds afterwards. After want of memory nobody is left in the network.
+    fn send(
+        &mut self,
+        alloc: Global,
+        first: AgentId,
+        message: &Chained,
+    ) -> Result<(Reply, Journal), NoMemory>
+        requires there { first < length self.old.names }
+        requires short { IsShort (chained_view self.old.names message.now) }
+        requires room { (lines : ℕ) × (HasRoom self.old lines × (lines < 100000)) }
+        ensures names { IfOk result (λ _. self.new.names ≡ self.old.names) }
+        ensures answered { IfOk result (λ out. (p : Point) → StandsAt self.old p → IsAnswered self.old self.new p first (chained_view self.old.names message.now) out.0 out.1) }
+        ensures named { IfOk result (λ out. NamesAgents self.old.names out.0 out.1) }
+        ensures room_after { IfOk result (λ _. (lines : ℕ) → HasRoom self.old lines → HasRoom self.new (lines + 1)) }
+    {
+        let most = self.budget(alloc)?;
+        let before = replace(self, World::nobody(alloc));
+        let told = asked::<Brand>(alloc, before, first, message, most)?;
+        let names = told.world.names();
+        let lines = journal::lines(alloc, names, &told.lines)?;
+        let journal = journal::journal(alloc, names, lines, &told.accepted)?;
+        let messages = told.lines.len();
+        *self = told.world;
+        self.count(messages);
+        Ok((told.reply, journal))
+    }
+
     /// What a user's request is answered by this agent, the messages that it takes, in their order, and who accepts the update.
     /// What an agent accepted it holds afterwards. After want of memory nobody is left in the network.
     pub fn ask(
@@ -299,20 +330,12 @@ impl World {
         requires short { HasShortNames (body_view request.now.body) }
         requires room { (lines : ℕ) × (HasRoom self.old lines × (lines < 100000)) }
         ensures names { IfOk result (λ _. self.new.names ≡ self.old.names) }
-        ensures answered { IfOk result (λ out. (p : Point) → StandsAt self.old p → IsAnswered self.old self.new p first (request_view request.now) out.0 out.1) }
+        ensures answered { IfOk result (λ out. (p : Point) → StandsAt self.old p → IsAnswered self.old self.new p first (chain.opening (request_view request.now)) out.0 out.1) }
         ensures named { IfOk result (λ out. NamesAgents self.old.names out.0 out.1) }
         ensures room_after { IfOk result (λ _. (lines : ℕ) → HasRoom self.old lines → HasRoom self.new (lines + 1)) }
     {
-        let most = self.budget(alloc)?;
-        let before = replace(self, World::nobody(alloc));
-        let told = asked::<Brand>(alloc, before, first, request, most)?;
-        let names = told.world.names();
-        let lines = journal::lines(alloc, names, &told.lines)?;
-        let journal = journal::journal(alloc, names, lines, &told.accepted)?;
-        let messages = told.lines.len();
-        *self = told.world;
-        self.count(messages);
-        Ok((told.reply, journal))
+        let message = opening(alloc, request)?;
+        self.send(alloc, first, &message)
     }
 
     /// A message of the user to this agent that is none: what becomes of it. No memory.
@@ -327,23 +350,44 @@ impl World {
         fate
     }
 
-    /// Octets that have this first breach on their way to this agent.
-    fn reject(&mut self, to: AgentId, breach: Breach) -> Result<Delivered, NoMemory>
+    /// Octets on their way to this agent that are no message: they have this first breach, or memory ran out in reading.
+    fn reject(&mut self, to: AgentId, fault: WireFault) -> Result<Delivered, NoMemory>
         requires there { to < length self.old.names }
         requires room { (lines : ℕ) × (HasRoom self.old lines × (lines < 100000)) }
-        ensures names { self.new.names ≡ self.old.names }
-        ensures rejected { IfOk result (λ d. (p : Point) (count : ℕ) → StandsAt self.old p → IsDelivered self.old self.new p to count (Err (breach_view breach)) d) }
+        ensures names { IfOk result (λ _. self.new.names ≡ self.old.names) }
+        ensures rejected { IfOk result (λ d. (breach : typed.Breach) × (breach_in fault ≡ Some breach) × ((p : Point) (via : Protocol) (count : ℕ) → StandsAt self.old p → IsDelivered self.old self.new p via to count (Err (breach_view breach)) d)) }
         ensures named { IfOk result (λ d. NamesAgentsIn self.old.names d) }
         ensures room_after { IfOk result (λ _. (lines : ℕ) → HasRoom self.old lines → HasRoom self.new (lines + 1)) }
     {
+        let Some(breach) = breach_of(fault) else {
+            return Err(NoMemory);
+        };
         let name = receiver(&self.names, to)?;
         let fate = self.spoil(to);
         Ok(Delivered::Rejected(name, fate, breach))
     }
 
-    /// Hands octets to this agent as a user's message (X.519, section 7): the request that they spell is answered as any other;
-    /// others are told by their first breach, and nothing changes. After want of memory the network isn't used again.
-    pub fn deliver(
+    /// Hands a message that octets spell to this agent.
+    fn take(
+        &mut self,
+        alloc: Global,
+        to: AgentId,
+        message: &Chained,
+    ) -> Result<Delivered, NoMemory>
+        requires there { to < length self.old.names }
+        requires short { IsShort (chained_view self.old.names message.now) }
+        requires room { (lines : ℕ) × (HasRoom self.old lines × (lines < 100000)) }
+        ensures names { IfOk result (λ _. self.new.names ≡ self.old.names) }
+        ensures taken { IfOk result (λ d. (p : Point) (via : Protocol) (count : ℕ) → StandsAt self.old p → IsDelivered self.old self.new p via to count (Ok (chained_view self.old.names message.now)) d) }
+        ensures named { IfOk result (λ d. NamesAgentsIn self.old.names d) }
+        ensures room_after { IfOk result (λ _. (lines : ℕ) → HasRoom self.old lines → HasRoom self.new (lines + 1)) }
+    {
+        let (reply, journal) = self.send(alloc, to, message)?;
+        Ok(Delivered::Answered(reply, journal))
+    }
+
+    /// Hands octets to this agent as a user's message (X.519, section 7: DAP).
+    fn deliver_request(
         &mut self,
         alloc: Global,
         to: AgentId,
@@ -352,19 +396,60 @@ impl World {
         requires there { to < length self.old.names }
         requires room { (lines : ℕ) × (HasRoom self.old lines × (lines < 100000)) }
         ensures names { IfOk result (λ _. self.new.names ≡ self.old.names) }
-        ensures delivered { IfOk result (λ d. (p : Point) → StandsAt self.old p → IsDeliveredAt self.old self.new p to octets.now d) }
+        ensures delivered { IfOk result (λ d. (p : Point) → StandsAt self.old p → IsDeliveredAt self.old self.new p Dap to octets.now d) }
         ensures named { IfOk result (λ d. NamesAgentsIn self.old.names d) }
         ensures room_after { IfOk result (λ _. (lines : ℕ) → HasRoom self.old lines → HasRoom self.new (lines + 1)) }
     {
         match decode_request(alloc, octets) {
             Ok((_, request)) => {
-                let (reply, journal) = self.ask(alloc, to, &request)?;
-                Ok(Delivered::Answered(reply, journal))
+                let message = opening(alloc, &request)?;
+                self.take(alloc, to, &message)
             }
-            Err(fault) => match breach_of(fault) {
-                Some(breach) => self.reject(to, breach),
-                None => Err(NoMemory),
-            },
+            Err(fault) => self.reject(to, fault),
+        }
+    }
+
+    /// Hands octets to this agent as another agent's message (X.519, section 7: DSP).
+    fn deliver_chained(
+        &mut self,
+        alloc: Global,
+        to: AgentId,
+        octets: &[u8],
+    ) -> Result<Delivered, NoMemory>
+        requires there { to < length self.old.names }
+        requires room { (lines : ℕ) × (HasRoom self.old lines × (lines < 100000)) }
+        ensures names { IfOk result (λ _. self.new.names ≡ self.old.names) }
+        ensures delivered { IfOk result (λ d. (p : Point) → StandsAt self.old p → IsDeliveredAt self.old self.new p Dsp to octets.now d) }
+        ensures named { IfOk result (λ d. NamesAgentsIn self.old.names d) }
+        ensures room_after { IfOk result (λ _. (lines : ℕ) → HasRoom self.old lines → HasRoom self.new (lines + 1)) }
+    {
+        match decode_chained(alloc, octets) {
+            Ok((_, message)) => self.take(alloc, to, &message),
+            Err(fault) => self.reject(to, fault),
+        }
+    }
+
+    /// Hands octets to this agent as a user's message, or as another agent's (`dsp`; X.519, section 7): the message that they spell is
+    /// answered as any other that comes to the agent; others are told by their first breach, and nothing changes. After want of memory
+    /// the network isn't used again.
+    pub fn deliver(
+        &mut self,
+        alloc: Global,
+        dsp: bool,
+        to: AgentId,
+        octets: &[u8],
+    ) -> Result<Delivered, NoMemory>
+        requires there { to < length self.old.names }
+        requires room { (lines : ℕ) × (HasRoom self.old lines × (lines < 100000)) }
+        ensures names { IfOk result (λ _. self.new.names ≡ self.old.names) }
+        ensures delivered { IfOk result (λ d. (p : Point) → StandsAt self.old p → IsDeliveredAt self.old self.new p (protocol_view dsp) to octets.now d) }
+        ensures named { IfOk result (λ d. NamesAgentsIn self.old.names d) }
+        ensures room_after { IfOk result (λ _. (lines : ℕ) → HasRoom self.old lines → HasRoom self.new (lines + 1)) }
+    {
+        if dsp {
+            self.deliver_chained(alloc, to, octets)
+        } else {
+            self.deliver_request(alloc, to, octets)
         }
     }
 
