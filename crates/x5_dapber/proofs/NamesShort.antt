@@ -19,7 +19,7 @@ use Rattle.x5_model_typed.specs.Rules.{rdn_in, name_in}
 use Rattle.x5_dapber.specs.Sayable.{IsShortName, BeginShort, IsRequest}
 use Rattle.x5_dapber.specs.ShortNames.{HasShortNames}
 
-short_name : (n : Node) → IsShortName n → length (name_of n) ≤ most_rdns
+pub short_name : (n : Node) → IsShortName n → length (name_of n) ≤ most_rdns
 short_name n h = omega (arith, h, length-map (name_in n) stored_rdn, length-map (parts n) rdn_in)
 
 short_above : (name : Name) → length name ≤ most_rdns → length (name_above name) ≤ most_rdns
@@ -120,11 +120,14 @@ body_short code ns h =
     (one_of (code == 8) _ _ (of_three _ (λ a b k. short_name a k) ns h)
     (of_four _ (λ a b c k. short_name a k) ns h)))))))
 
+pub argument_short : (code : ℕ) (ns : List Node) → BeginShort ns → HasShortNames (body_in code ns)
+argument_short code ns h = short_body (body_in code ns) (body_short code ns h)
+
 -- ---- messages
 
 pub names_short : (n : Node) → IsRequest n → HasShortNames (request_in n).1.body
 names_short (Chosen tag (Many (More id (More code (More argument Nil))))) h =
-    short_body _ (body_short (in_option 0 (λ k. k) (number_in code)) (parts argument) h.2.2)
+    argument_short (in_option 0 (λ k. k) (number_in code)) (parts argument) h.2.2
 names_short (Chosen tag (Many (More id (More code (More argument (More more ns)))))) h = absurd h
 names_short (Chosen tag (Many (More id (More code Nil)))) h = absurd h
 names_short (Chosen tag (Many (More id Nil))) h = absurd h

@@ -2,4 +2,5 @@ mod Carried
 mod ChainedIsSayable
 mod ChainedSpelled
 mod Five
+mod MessagesShort
 mod ResultIsSayable

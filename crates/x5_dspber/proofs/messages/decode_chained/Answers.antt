@@ -1,29 +1,37 @@
 -- What the octets spell is a value for whose parts the code has types, so what it says is decoded.
-use Rattle.std.proofs.Common.{ℕ, arith}
+use Rattle.std.proofs.Common.{◌≡◌, ℕ, true, List, sym, subst, arith}
+use Rattle.std.specs.List.{list_all}
 use Rattle.std.proofs.lemmas.Result.{err_from_is_err_and}
 use Rattle.std.specs.declared.result.Result.TheVariants.{Ok}
 use Rattle.x5_model_messages.specs.Chained as chains
 use Rattle.x5_model_messages.specs.Chained.{chained_in, chained_node}
 use Rattle.x5_model_messages.proofs.Chained.{chained_back}
 use Rattle.x5_model_typed.specs.Named as named
+use Rattle.x5_model_typed.specs.Nodes.{Node}
+use Rattle.x5_model_typed.specs.Typed.{Spells}
+use Rattle.x5_model_typed_laws.specs.Said.{is_octet}
 use Rattle.x5_model_typed_laws.proofs.Closed.{messages_spelled_fit}
 use Rattle.x5_ops.specs.declared.references.Chained.{Chained}
-use Rattle.x5_types.specs.FormView.{nowhere}
+use Rattle.x5_types.specs.FormView.{nowhere, table}
 use Rattle.x5_types.specs.NodeView.{node_view}
 use Rattle.x5_dapber.proofs.Decoding.{value_decodes, fault_decodes, memory_decodes, known_read}
 use Rattle.x5_dapber.proofs.Octets.{are_octets, spelled_comes}
 use Rattle.x5_dspber.specs.ChainedViews.{told_chained}
+use Rattle.x5_dspber.specs.Sayable.{IsChained}
 use Rattle.x5_dspber.proofs.ChainedIsSayable.{chained_fits}
+use Rattle.x5_dspber.proofs.MessagesShort.{IsShort, message_short}
 use Rattle.x5_dspber.proofs.messages.decode_chained.Goals as goal
 
 abbrev seen : ℕ × Chained → ℕ × chains.Chained
 seen p = (p.0, told_chained p.1)
 
+sayable : (octets : List ℕ) (n : Node) → list_all is_octet octets ≡ true → Spells table named.DspRequest octets n → IsChained n
+sayable octets n are spells = chained_fits n (messages_spelled_fit nowhere named.DspRequest octets n are spells)
+
 pub chained_in-requires : goal.chained_in-requires
 chained_in-requires c =
-    chained_fits (node_view c.in_ok-node.node)
-    (messages_spelled_fit nowhere named.DspRequest c.args.octets.now (node_view c.in_ok-node.node)
-    (are_octets c.args.octets.now (λ k. omega (arith, c.type_inv.octets k))) c.in_ok-node.ensures.spelled)
+    sayable c.args.octets.now (node_view c.in_ok-node.node)
+    (are_octets c.args.octets.now (λ k. omega (arith, c.type_inv.octets k))) c.in_ok-node.ensures.spelled
 
 -- a breach, or want of memory while octets are read
 pub returns-in_err-node-clause-decodes : goal.returns-in_err-node-clause-decodes
@@ -82,3 +90,9 @@ returns-clause-back c = λ id m is_chained spells.
 
 pub returns-clause-spelled : goal.returns-clause-spelled
 returns-clause-spelled c = (node_view c.in_ok-node.node, c.in_ok-node.ensures.spelled, c.in_ok-chained_in.ensures)
+
+pub returns-clause-short : goal.returns-clause-short
+returns-clause-short c =
+    subst (λ (p : ℕ × chains.Chained). IsShort p.1) (sym c.in_ok-chained_in.ensures)
+    (message_short (node_view c.in_ok-node.node) (sayable c.args.octets.now (node_view c.in_ok-node.node)
+    (are_octets c.args.octets.now (λ k. omega (arith, c.type_inv.octets k))) c.in_ok-node.ensures.spelled))
