@@ -6,6 +6,7 @@ use Rattle.std.specs.Prelude.{nat_lt, if◌then◌else◌}
 use Rattle.std.proofs.lemmas.List.{length-map}
 use mathlib.Core.Path.{fun_ext}
 use Rattle.x5_model.specs.Words.{has}
+use Rattle.x5_model.specs.References.{Chained}
 use Rattle.x5_model.specs.Requests.{Request}
 use Rattle.x5_model.specs.Answers.{Reply}
 use Rattle.x5_model_tree.specs.World.{Agent, Agreement, Network, World}
@@ -16,9 +17,9 @@ use Rattle.x5_model_run.specs.Holdings.{Holdings}
 use Rattle.x5_model_run.specs.Journal.{Journal}
 use Rattle.x5_model_run.specs.History.{Point, knowledge_at, network_at, sent_before}
 use Rattle.x5_model_run.specs.Stage.{budget, nssr_pairs, once_each}
-use Rattle.x5_model_run.specs.Chain.{Scene, opening}
-use Rattle.x5_model_run.specs.Run.{Asks, Command, Changes, Drops, Block, Blank, Silent, Set, Replies, IsBlock, did_by}
-use Rattle.x5_model_run.specs.Right.{AnswersRight}
+use Rattle.x5_model_run.specs.Chain.{Scene}
+use Rattle.x5_model_run.specs.Run.{Dsp, Command, Changes, Drops, Hands, Block, Blank, Silent, Set, Handed, IsBlock, did_by}
+use Rattle.x5_model_run.specs.Right.{SendsRight}
 use Rattle.x5_model_serve.specs.Committed.{committed}
 use Rattle.x5_model_serve.specs.Serving.{IsRequest}
 use Rattle.x5_model_held.specs.Theorems.{is_still}
@@ -26,28 +27,27 @@ use Rattle.x5_model_settled.specs.Settled.{HasAgent}
 use Rattle.x5_model_settled.specs.Held.{BySteps, held_at, scene_held}
 use Rattle.x5_model_settled.proofs.After.{network_stays, moved_none_after, knows_as_described}
 use Rattle.x5_model_settled.proofs.Held.{held_on, held_after_line, scene_is as settled_scene_is}
-use Rattle.x5_model_settled.proofs.Settled.{lines_are_right}
+use Rattle.x5_model_settled.proofs.Settled.{lines_send_right}
 use Rattle.x5_model_refreshed.specs.Growing.{IsQuiet}
 use Rattle.x5_model_refreshed.proofs.Running.{did_happen}
 use Rattle.x5_model_settled.proofs.Stamped.{stamped_after}
 use Rattle.x5_world.specs.Logs.{AreNoted, Logs}
-use Rattle.x5_world.specs.State.{Net, StandsAt, HasShortNames, after, holdings_in, logs_in}
+use Rattle.x5_world.specs.State.{Net, StandsAt, IsShort, after, holdings_in, logs_in}
 use Rattle.x5_world.specs.Sent.{held_since, scene_of}
 use Rattle.x5_world.proofs.Keeping.{logs_stay}
 use Rattle.x5_world.proofs.Logging.{logs_after, quiet_acked, quiet_happens, request_acked}
 
 -- ---- what a line is judged by
 
-pub scene_is : (n : Net) (p : Point) (first : ℕ) (r : Request) → StandsAt n p
-    → scene_of n first (opening r) ≡ scene_held p first r
-scene_is n p first r s =
+pub scene_is : (n : Net) (p : Point) (first : ℕ) (m : Chained) → StandsAt n p → scene_of n first m ≡ scene_held p first m
+scene_is n p first m s =
     let held : holdings_in n ≡ held_at p = fun_ext s.holds in
     λ i. record {
       holdings = held i;
       network = s.network i;
       sent = s.sent i;
       first = first;
-      message = opening r;
+      message = m;
       follows = false;
     }
 
@@ -187,31 +187,39 @@ agent_there n p first s there =
     (let e = ap length s.names ∙ agents_are p.described in omega (arith, e, there)) in
     at_agent p.described.agents first few
 
--- over consistent knowledge what is done with the request is right
-right : (n : Net) (p : Point) (first : ℕ) (r : Request) (j : Journal) (reply : Reply) → StandsAt n p
-    → first < length n.names → HasShortNames r.body → BySteps p first r j reply → IsConsistent p.described
-    → AnswersRight p first r j reply
-right n p first r j reply s there short asked consistent =
-    (lines_are_right p.described p.past first r s.described consistent s.unmoved (agent_there n p first s there) j reply
-    short.target short.new_name
-    (subst (λ (x : Scene). IsRequest x (budget p) j reply) (settled_scene_is p first r consistent) asked)).0
+-- a message that the user sends, as a command of a run and its block
+abbrev sends : ℕ → Chained → Command
+sends first m = Hands Dsp first 0 (Ok m)
 
-pub after_request : (old new : Net) (p : Point) (first : ℕ) (r : Request) (j : Journal) (reply : Reply)
+abbrev answers : Journal → Reply → Block
+answers j reply = Handed Dsp 0 j reply
+
+-- over consistent knowledge what is done with it is right
+right : (n : Net) (p : Point) (first : ℕ) (m : Chained) (j : Journal) (reply : Reply) → StandsAt n p
+    → first < length n.names → IsShort m → BySteps p first m j reply → IsConsistent p.described
+    → SendsRight p first m j reply
+right n p first m j reply s there short asked consistent =
+    lines_send_right p.described p.past first m s.described consistent s.unmoved (agent_there n p first s there) j reply
+    short.target short.names.target short.names.new_name
+    (subst (λ (x : Scene). IsRequest x (budget p) j reply) (settled_scene_is p first m consistent) asked)
+
+pub after_message : (old new : Net) (p : Point) (first : ℕ) (m : Chained) (j : Journal) (reply : Reply)
     (accepted : List ℕ)
-    → StandsAt old p → first < length old.names → HasShortNames r.body → BySteps p first r j reply
+    → StandsAt old p → first < length old.names → IsShort m → BySteps p first m j reply
     → ((a : ℕ) → has ◌==◌ j.accepted a ≡ has ◌==◌ accepted a)
-    → IsAfter old new r accepted (old.sent + length j.lines)
-    → StandsAt new (after (did_by (Asks first r) (Replies j reply)) p)
-after_request old new p first r j reply accepted s there short asked same q = record {
+    → IsAfter old new m.request accepted (old.sent + length j.lines)
+    → StandsAt new (after (did_by (sends first m) (answers j reply)) p)
+after_message old new p first m j reply accepted s there short asked same q = record {
   described = s.described;
-  unmoved = moved_none_after p.past (Asks first r) (Replies j reply) s.unmoved;
-  stamped = λ consistent. stamped_after BySteps p.described p.past (Asks first r) (Replies j reply) asked (s.stamped consistent);
+  unmoved = moved_none_after p.past (sends first m) (answers j reply) s.unmoved;
+  stamped = λ consistent. stamped_after BySteps p.described p.past (sends first m) (answers j reply) (refl, refl, asked)
+      (s.stamped consistent);
   names = q.names ∙ s.names;
-  holds = λ a. q.holds a ∙ ap (held_since accepted r a) (s.holds a)
-      ∙ ap (λ (b : Bool). if b then committed r (held_at p a) else held_at p a) (sym (same a))
-      ∙ sym (held_after_line p.described p.past first r j reply a s.described s.unmoved s.stamped
-      (agent_there old p first s there) short.target short.new_name asked);
-  network = q.network ∙ s.network ∙ sym (network_stays p.described p.past first r j reply);
+  holds = λ a. q.holds a ∙ ap (held_since accepted m.request a) (s.holds a)
+      ∙ ap (λ (b : Bool). if b then committed m.request (held_at p a) else held_at p a) (sym (same a))
+      ∙ sym (held_after_line p.described p.past first m j reply a s.described s.unmoved s.stamped
+      (agent_there old p first s there) short.target short.names.target short.names.new_name asked);
+  network = q.network ∙ s.network ∙ sym (network_stays p.described p.past first m j reply);
   sent = q.sent ∙ ap (λ (k : ℕ). k + length j.lines) s.sent
       ∙ (let z : sent_before p.past + length j.lines ≡ length j.lines + sent_before p.past = omega arith in z);
   contexts = q.contexts ∙ s.contexts;
@@ -219,12 +227,12 @@ after_request old new p first r j reply accepted s there short asked same q = re
   agreements = q.agreements ∙ s.agreements;
   acked = q.acked ∙ s.acked
       ∙ ap (λ (known : Agreement → Option ℕ). map known p.described.agreements)
-      (fun_ext (λ g. sym (request_acked p r (reverse j.accepted) (length j.lines) g.number)));
+      (fun_ext (λ g. sym (request_acked p m.request (reverse j.accepted) (length j.lines) g.number)));
   line = next_line new.line old.line (length p.past) q.line s.line;
   happened = λ consistent. (
-    did_happen p (Asks first r) (Replies j reply) (right old p first r j reply s there short asked consistent),
+    did_happen p (sends first m) (answers j reply) (refl, refl, right old p first m j reply s there short asked consistent),
     s.happened consistent,
   );
-  logs = λ consistent a. logs_after old new p r s consistent accepted q.notes q.others j.accepted (length j.lines)
-      (right old p first r j reply s there short asked consistent).accepts.one same a;
+  logs = λ consistent a. logs_after old new p m.request s consistent accepted q.notes q.others j.accepted (length j.lines)
+      (right old p first m j reply s there short asked consistent).one same a;
 }

@@ -1,10 +1,10 @@
--- A user's request from its first message to its reply is one of the three of the relation: the message is lost, the reply
+-- A user's message from its first line to its reply is one of the three of the relation: the message is lost, the reply
 -- is lost, or he has the reply.
 use Rattle.std.proofs.Common.{◌≡◌, ℕ, ◌+◌, ◌<◌, ◌≤◌, true, false, List, [], length, refl, sym, ap, subst, ◌∙◌, arith, None}
 use Rattle.x5_model.specs.References.{Chained}
 use Rattle.x5_model.specs.Requests.{Request}
 use Rattle.x5_model.specs.Answers.{Reply}
-use Rattle.x5_model_run.specs.Chain.{Scene, opening}
+use Rattle.x5_model_run.specs.Chain.{Scene}
 use Rattle.x5_model_run.specs.Journal.{Journal}
 use Rattle.x5_model_serve.specs.Serving.{Act, Serves, Does, IsRequest, not_heard, not_told, answers, hand, nothing_yet, user_line, with_line, user_in_vain}
 use Rattle.x5_ops.specs.ReferenceViews.{chained_view}
@@ -20,12 +20,10 @@ nobody_yet : false ≡ true → ⊥
 nobody_yet e = cc
 
 -- before its first message
-pub begun : (n now : Net) (first most : ℕ) (r : Request) (m : Chained) → now ≡ n → m ≡ opening r → IsNet n
-    → first < length n.names → HasShortNames r.body → n.sent + most ≤ 18446744073709551615
-    → IsUnderWay n now first m most [] []
-begun n now first most r m same e net there short room =
-    subst (λ (x : Chained). IsUnderWay n now first x most [] []) (sym e)
-    (record {
+pub begun : (n now : Net) (first most : ℕ) (m : Chained) → now ≡ n → IsNet n → first < length n.names
+    → HasShortNames m.request.body → n.sent + most ≤ 18446744073709551615 → IsUnderWay n now first m most [] []
+begun n now first most m same net there short room =
+    record {
       net = net;
       changed = record {
         rest = same ∙ (λ i. record n { agents = (sym same i).agents; logs = (sym same i).logs });
@@ -41,7 +39,7 @@ begun n now first most r m same e net there short room =
       within = (let z : 0 ≤ most = omega arith in z);
       counted = refl;
       agents = refl;
-    })
+    }
 
 -- what became of the user's message, which was the first
 abbrev pub IsFirst : Scene → ℕ → List (List ℕ) → Journal → Carried → Type 0

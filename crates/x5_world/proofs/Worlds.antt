@@ -3,13 +3,14 @@
 use Rattle.std.proofs.Common.{◌≡◌, ℕ, zero, ◌+◌, ◌*◌, ◌<◌, ◌≤◌, ◌==◌, Bool, true, false, List, [], ◌∷◌, length, map, refl, sym, ap, subst, ◌∙◌, arith}
 use Rattle.std.proofs.Math.Nat.{le-mul_of_pos_right}
 use Rattle.std.proofs.lemmas.List.{reverse-reverse}
+use Rattle.x5_model.specs.References.{Chained}
 use Rattle.x5_model.specs.Requests.{Request}
 use Rattle.x5_model_tree.specs.World.{Network}
 use Rattle.x5_model_run.specs.Network.{Outage, Down, Up, Cut, Join, Refuse, Willing, after_outage, after_loss}
 use Rattle.x5_model_run.specs.History.{Point}
 use Rattle.x5_model_run.specs.Journal as model
 use Rattle.x5_model_run.specs.Stage.{budget}
-use Rattle.x5_model_run.specs.Chain.{Scene, opening}
+use Rattle.x5_model_run.specs.Chain.{Scene}
 use Rattle.x5_model_serve.specs.Serving.{IsRequest}
 use Rattle.x5_model_settled.specs.Held.{BySteps}
 use Rattle.x5_ops.specs.AgentNames.{agent_of}
@@ -20,12 +21,12 @@ use Rattle.x5_ops.specs.declared.journal.Journal.{Journal}
 use Rattle.x5_world.specs.Answered.{IsAnswered}
 use Rattle.x5_model.specs.Words.{has}
 use Rattle.x5_world.specs.Logs.{AreNoted, Logs}
-use Rattle.x5_world.specs.State.{Net, StandsAt, HasRoom, HasShortNames, holdings_in, logs_in}
+use Rattle.x5_world.specs.State.{Net, StandsAt, HasRoom, IsShort, holdings_in, logs_in}
 use Rattle.x5_world.specs.Sent.{IsChanged, line_view, journal_of, scene_of}
 use Rattle.x5_world.specs.declared.journal.Sent.{Sent}
 use Rattle.x5_world.proofs.Holding.{has_reverse}
 use Rattle.x5_world.proofs.Sending.{many}
-use Rattle.x5_world.proofs.Standing.{scene_is, budget_is, most_of, IsAfter, after_request}
+use Rattle.x5_world.proofs.Standing.{scene_is, budget_is, most_of, IsAfter, after_message}
 
 -- ---- room
 
@@ -73,7 +74,7 @@ positive c n p l =
     (le-mul_of_pos_right (c + 34) (let h : zero < n + 9 = omega arith in h))
     (le-mul_of_pos_right ((c + 34) * (n + 9) + p) (let h : zero < 1 + l = omega arith in h))
 
--- ---- what was asked
+-- ---- what was sent
 
 map_both : {A B C : Type 0} (f : A → B) (g : B → C) (xs : List A) → map g (map f xs) ≡ map (λ x. g (f x)) xs
 map_both f g [] = refl
@@ -98,18 +99,18 @@ is_after old mid inside r accepted count many changed same e = record {
   others = λ a h. ap (λ (n : Net). logs_in n a) same ∙ changed.others a h;
 }
 
-pub answered : (old new : Net) (p : Point) (first most : ℕ) (r : Request) (lines : List Sent) (accepted : List ℕ)
+pub answered : (old new : Net) (p : Point) (first most : ℕ) (m : Chained) (lines : List Sent) (accepted : List ℕ)
     (reply : Reply) (journal : Journal)
-    → IsRequest (scene_of old first (opening r)) most (journal_of old.names lines accepted) (reply_view old.names reply)
+    → IsRequest (scene_of old first m) most (journal_of old.names lines accepted) (reply_view old.names reply)
     → most ≡ most_of old
     → messages_view old.names journal.lines ≡ map (λ l. model.printed_line (line_view old.names l)) lines
-    → map (agent_of old.names) journal.accepted ≡ accepted → IsAfter old new r accepted (old.sent + length lines)
-    → first < length old.names → HasShortNames r.body → StandsAt old p → IsAnswered old new p first r reply journal
-answered old new p first most r lines accepted reply journal asked limit printed named q there short s =
+    → map (agent_of old.names) journal.accepted ≡ accepted → IsAfter old new m.request accepted (old.sent + length lines)
+    → first < length old.names → IsShort m → StandsAt old p → IsAnswered old new p first m reply journal
+answered old new p first most m lines accepted reply journal asked limit printed named q there short s =
     let j : model.Journal = journal_of old.names lines accepted in
-    let at_line : BySteps p first r j (reply_view old.names reply) =
-    subst (λ (x : Scene). IsRequest x (budget p) j (reply_view old.names reply)) (scene_is old p first r s)
-    (subst (λ (k : ℕ). IsRequest (scene_of old first (opening r)) k j (reply_view old.names reply))
+    let at_line : BySteps p first m j (reply_view old.names reply) =
+    subst (λ (x : Scene). IsRequest x (budget p) j (reply_view old.names reply)) (scene_is old p first m s)
+    (subst (λ (k : ℕ). IsRequest (scene_of old first m) k j (reply_view old.names reply))
     (limit ∙ budget_is old p s) asked) in
     record {
       whole = j;
@@ -118,7 +119,7 @@ answered old new p first most r lines accepted reply journal asked limit printed
           ∙ map_both (line_view old.names) model.printed_line lines
           ∙ sym printed;
       accepted = reverse-reverse accepted ∙ sym named;
-      stands = after_request old new p first r j (reply_view old.names reply) accepted s there short at_line
+      stands = after_message old new p first m j (reply_view old.names reply) accepted s there short at_line
           (λ a. has_reverse accepted a)
           (record {
             names = q.names;

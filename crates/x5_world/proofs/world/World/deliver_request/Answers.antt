@@ -1,0 +1,45 @@
+-- What octets come to is what is done with them: the request that they say is asked, a first breach is told.
+use Rattle.std.proofs.Common.{◌≡◌, ◌∙◌, List, ℕ, Ok, length, ap, sym, subst}
+use Rattle.std.proofs.lemmas.Result.{IfOk-weaker}
+use Rattle.x5_model.specs.References.{Chained}
+use Rattle.x5_model_messages.specs.Requests.{request_in}
+use Rattle.x5_model_run.specs.Run.{Dap}
+use Rattle.x5_ops.specs.ReferenceViews.{chained_view}
+use Rattle.x5_world.specs.Delivered.{spelled}
+use Rattle.x5_world.specs.State.{IsShort}
+use Rattle.x5_world.proofs.Delivering.{seen, request_so, breach_so, breach_told, message_told, opening_short}
+use Rattle.x5_world.proofs.world.World.deliver_request.Goals as goal
+
+pub take-requires-clause-short : goal.take-requires-clause-short
+take-requires-clause-short c =
+    subst IsShort (sym (c.in_ok-message.ensures c.args.self.now.names)) (opening_short _ c.in-Ok.ensures.short)
+
+pub returns-in_ok-message-clause-delivered : goal.returns-in_ok-message-clause-delivered
+returns-in_ok-message-clause-delivered c =
+    let names = c.args.self.now.names in
+    let found = c.in-Ok.ensures.comes in
+    let opened = c.in_ok-message.ensures names in
+    IfOk-weaker c.take.result _ _ (λ d is p s.
+    message_told c.args.self.now c.take.new.self p Dap c.args.to c.args.octets.now d
+    (chained_view names c.in_ok-message.message)
+    (record {
+      node = found.0;
+      comes = found.1;
+      is = ap (λ (m : Chained). Ok m) opened
+          ∙ request_so names found.0 (c.in-Ok.field-0-0, c.in-Ok.request) (c.in-Ok.ensures.decodes found.0 found.1);
+    })
+    (subst IsShort (sym opened) (opening_short _ c.in-Ok.ensures.short))
+    (is p Dap (length c.args.octets.now) s)) c.take.ensures.taken
+
+pub returns-in_Err-clause-delivered : goal.returns-in-Err-clause-delivered
+returns-in_Err-clause-delivered c =
+    let names = c.args.self.now.names in
+    let found = c.in-Err.ensures.comes in
+    IfOk-weaker c.reject.result _ _ (λ d told p s.
+    breach_told c.args.self.now c.reject.new.self p Dap c.args.to c.args.octets.now d _
+    (record {
+      node = found.0;
+      comes = found.1;
+      is = ap (spelled names Dap) (breach_so seen request_in found.0 c.in-Err.fault told.0 (c.in-Err.ensures.decodes found.0 found.1) told.1);
+    })
+    (told.2 p Dap (length c.args.octets.now) s)) c.reject.ensures.rejected
