@@ -19,7 +19,7 @@ use Rattle.x5_model_typed.specs.Rules.{rdn_in, name_in}
 use Rattle.x5_dapber.specs.Sayable.{IsShortName, BeginShort, IsRequest}
 use Rattle.x5_dapber.specs.ShortNames.{HasShortNames}
 
-pub short_name : (n : Node) → IsShortName n → length (name_of n) ≤ most_rdns
+short_name : (n : Node) → IsShortName n → length (name_of n) ≤ most_rdns
 short_name n h = omega (arith, h, length-map (name_in n) stored_rdn, length-map (parts n) rdn_in)
 
 short_above : (name : Name) → length name ≤ most_rdns → length (name_above name) ≤ most_rdns

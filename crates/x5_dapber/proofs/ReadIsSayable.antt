@@ -334,7 +334,7 @@ controls_last ns f =
     let a = optional_in table layouts.no_controls 30 named.Controls [] AreControls no_count controls_fit ns f in
     record { first = a.first; split = a.split ∙ ap (More a.first) (no_more table a.others a.rest); is = a.is }
 
-pub name_fits : (n : Node) → Fits table (table named.Name) n → IsShortName n
+name_fits : (n : Node) → Fits table (table named.Name) n → IsShortName n
 name_fits n f =
     let settled = only_settles table (ruled name_rule (layouts.sequence_of named.Rdn)) n refl f in
     leb-true (length (nodes.parts n)) most_rdns (so (nat_le (length (nodes.parts n)) most_rdns) n n settled)

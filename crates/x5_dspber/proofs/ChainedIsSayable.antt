@@ -10,9 +10,9 @@ use Rattle.x5_model_typed.specs.Layouts as layouts
 use Rattle.x5_model_typed.specs.Written.{can_hold, is_marked}
 use Rattle.x5_model_typed_laws.specs.Fits.{Fits, FitsIn, whole, made, chosen, chosen_made}
 use Rattle.x5_types.specs.FormView.{table}
-use Rattle.x5_dapber.specs.Sayable.{IsCount, IsArgument, IsShortName}
+use Rattle.x5_dapber.specs.Sayable.{IsCount, IsArgument}
 use Rattle.x5_dapber.proofs.Fitting.{only, only_made, pair_in, sequence_in, set_in, found_is, required_in, optional_in, no_more}
-use Rattle.x5_dapber.proofs.ReadIsSayable.{many_of, name_fits, count_fits, small_count, code_below, number_or_zero, is_sequence, sequence_explicit, read_fits, compare_fits, list_fits, search_fits, add_fits, remove_fits, modify_fits, rename_fits}
+use Rattle.x5_dapber.proofs.ReadIsSayable.{many_of, count_fits, small_count, code_below, number_or_zero, is_sequence, sequence_explicit, read_fits, compare_fits, list_fits, search_fits, add_fits, remove_fits, modify_fits, rename_fits}
 use Rattle.x5_dapreply.specs.Sayable.{IsProgress, IsItem}
 use Rattle.x5_dapreply.proofs.ReplyIsSayable.{progress_fits, item_fits, kind_fits, coded_in}
 use Rattle.x5_dapreply.proofs.Sequences.{first_in}
@@ -28,7 +28,7 @@ trace_fits n f = many_of named.TraceItem IsItem item_fits n (only_made table _ n
 chaining_fits : (n : Node) → Fits table (table named.Chaining) n → IsChaining n
 chaining_fits n f =
     let m = only_made table _ n refl (λ x. refl) f in
-    let a = required_in table 0 named.Name _ IsShortName name_fits m.members (set_in table _ m.members m.within) in
+    let a = required_in table 0 named.Name _ anything (λ x g. tt) m.members (set_in table _ m.members m.within) in
     let b = required_in table 1 named.Progress _ IsProgress progress_fits a.others a.rest in
     let c = required_in table 2 named.Trace _ (λ x. All IsItem (parts x)) trace_fits b.others b.rest in
     let d = required_in table 3 named.RefType _ IsCount kind_fits c.others c.rest in
@@ -36,7 +36,7 @@ chaining_fits n f =
     let is : n ≡ Many (More a.first (More b.first (More c.first (More d.first (More e.first Nil))))) =
     m.is_many ∙ ap Many (a.split ∙ ap (More a.first) (b.split ∙ ap (More b.first) (c.split ∙ ap (More c.first)
     (d.split ∙ ap (More d.first) (e.split ∙ ap (More e.first) (no_more table e.others e.rest)))))) in
-    subst IsChaining (sym is) (b.is, c.is, d.is, a.is)
+    subst IsChaining (sym is) (b.is, c.is, d.is)
 
 -- with the argument of the operation
 carried_fits : (o : named.Operation) (k : ℕ) → ((n : Node) → Fits table (table (named.Argument o)) n → IsArgument k n) → (n : Node)

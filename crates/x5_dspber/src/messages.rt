@@ -1,11 +1,10 @@
 //! Whole messages between agents (X.519, section 7), as octets.
-ghost use Rattle.std.specs.Prelude.{◌≡◌, ◌≤◌, ℕ, IfOk, Result, Ok, length};
+ghost use Rattle.std.specs.Prelude.{◌≡◌, ℕ, IfOk, Result, Ok};
 ghost use Rattle.x5_dapber.specs.Results.{IsWritten, Decodes, IsRead};
 ghost use Rattle.x5_dapber.specs.ShortNames.{HasShortNames};
 ghost use Rattle.x5_dapreply.specs.ReplyViews.{told_reply, heard, heard_in, unnumbered};
 ghost use Rattle.x5_dapreply.specs.Told.{IsTold};
 ghost use Rattle.x5_dspber.specs.ChainedViews.{told_chained};
-ghost use Rattle.x5_model.specs.Normal.{most_rdns};
 ghost use Rattle.x5_model_messages.specs.Chained as chains;
 ghost use Rattle.x5_model_messages.specs.ChainedLaws.{IsChained};
 ghost use Rattle.x5_model_messages.specs.Replies as replies;
@@ -72,8 +71,8 @@ pub fn decode_chained(alloc: Global, octets: &[u8]) -> Result<(u32, Chained), Wi
     // Octets that spell what is written of a message whose parts are as they are spelled give it back, with its id.
     ensures back { (id : ℕ) (m : chains.Chained) → IsChained m → Spells table named.DspRequest octets.now (chains.chained_node id m)
         → IsRead {Y = ℕ × chains.Chained} (λ p. (p.0, told_chained p.1)) (id, m) result }
-    // The names of what they spell have no more RDNs than names may have.
-    ensures short { IfOk result (λ p. (length p.1.target ≤ most_rdns) × HasShortNames (request_view p.1.request).body) }
+    // The names that its request leads agents to have no more RDNs than names may have.
+    ensures short { IfOk result (λ p. HasShortNames (request_view p.1.request).body) }
 {
     let node = read(alloc, Named::DspRequest, octets)?;
     Ok(chained_in(alloc, &node)?)

@@ -30,7 +30,7 @@ use Rattle.x5_typed.specs.Breaches.{breach_view}
 use Rattle.x5_typed.specs.declared.fault.Breach as typed
 use Rattle.x5_typed.specs.declared.fault.Breach.TheVariants as breaches
 use Rattle.x5_world.specs.Delivered.{Comes, IsDelivered, IsDeliveredAt, breach_in, item_at, placed, spelled}
-use Rattle.x5_world.specs.State.{Net, StandsAt, HasShortNames, IsShort}
+use Rattle.x5_world.specs.State.{Net, StandsAt, HasShortNames}
 use Rattle.x5_world.specs.declared.delivered.Delivered.{Delivered}
 use Rattle.x5_world.specs.declared.delivered.Delivered.TheVariants.{Rejected}
 use Rattle.x5_world.proofs.Onward.{after_nothing}
@@ -64,10 +64,6 @@ message_so names (Ok n) x d =
     ap (λ (m : Chained). Ok m) (message_placed names x.1) ∙ ap (λ (q : ℕ × chains.Chained). Ok (placed names q.1)) d
 message_so names (Err (Ber fault)) x d = absurd d
 message_so names (Err (Unrecognised code)) x d = absurd d
-
--- its names are short where the request's are
-pub opening_short : (r : model.Request) → HasShortNames r.body → IsShort (opening r)
-opening_short r short = record { target = short.target; names = short }
 
 -- or a first breach
 module _ {X Y : Type 0} (view : X → Y) (said : Node → Y) where
@@ -111,13 +107,13 @@ breach_told old new p via to octets d b comes is =
 -- ---- those that bring one
 
 pub message_told : (old new : Net) (p : Point) (via : Protocol) (to : ℕ) (octets : List ℕ) (d : Delivered) (m : Chained)
-    → Comes old.names via octets (Ok m) → IsShort m → IsDelivered old new p via to (length octets) (Ok m) d
+    → Comes old.names via octets (Ok m) → HasShortNames m.request.body → IsDelivered old new p via to (length octets) (Ok m) d
     → IsDeliveredAt old new p via to octets d
 message_told old new p via to octets d m comes short is = record {
   read = Ok m;
   comes = comes;
   short = λ q e.
       let same : m ≡ q = cc in
-      subst IsShort same short;
+      subst (λ (x : Chained). HasShortNames x.request.body) same short;
   delivered = is;
 }

@@ -27,12 +27,12 @@ use Rattle.x5_model_settled.specs.Settled.{HasAgent}
 use Rattle.x5_model_settled.specs.Held.{BySteps, held_at, scene_held}
 use Rattle.x5_model_settled.proofs.After.{network_stays, moved_none_after, knows_as_described}
 use Rattle.x5_model_settled.proofs.Held.{held_on, held_after_line, scene_is as settled_scene_is}
-use Rattle.x5_model_settled.proofs.Settled.{lines_send_right}
+use Rattle.x5_model_settled.proofs.Settled.{lines_handle_right}
 use Rattle.x5_model_refreshed.specs.Growing.{IsQuiet}
 use Rattle.x5_model_refreshed.proofs.Running.{did_happen}
 use Rattle.x5_model_settled.proofs.Stamped.{stamped_after}
 use Rattle.x5_world.specs.Logs.{AreNoted, Logs}
-use Rattle.x5_world.specs.State.{Net, StandsAt, IsShort, after, holdings_in, logs_in}
+use Rattle.x5_world.specs.State.{Net, StandsAt, HasShortNames, after, holdings_in, logs_in}
 use Rattle.x5_world.specs.Sent.{held_since, scene_of}
 use Rattle.x5_world.proofs.Keeping.{logs_stay}
 use Rattle.x5_world.proofs.Logging.{logs_after, quiet_acked, quiet_happens, request_acked}
@@ -196,16 +196,16 @@ answers j reply = Handed Dsp 0 j reply
 
 -- over consistent knowledge what is done with it is right
 right : (n : Net) (p : Point) (first : ℕ) (m : Chained) (j : Journal) (reply : Reply) → StandsAt n p
-    → first < length n.names → IsShort m → BySteps p first m j reply → IsConsistent p.described
+    → first < length n.names → HasShortNames m.request.body → BySteps p first m j reply → IsConsistent p.described
     → SendsRight p first m j reply
 right n p first m j reply s there short asked consistent =
-    lines_send_right p.described p.past first m s.described consistent s.unmoved (agent_there n p first s there) j reply
-    short.target short.names.target short.names.new_name
-    (subst (λ (x : Scene). IsRequest x (budget p) j reply) (settled_scene_is p first m consistent) asked)
+    (lines_handle_right p.described p.past first m s.described consistent s.unmoved (agent_there n p first s there) j reply
+    short.target short.new_name
+    (subst (λ (x : Scene). IsRequest x (budget p) j reply) (settled_scene_is p first m consistent) asked)).sends
 
 pub after_message : (old new : Net) (p : Point) (first : ℕ) (m : Chained) (j : Journal) (reply : Reply)
     (accepted : List ℕ)
-    → StandsAt old p → first < length old.names → IsShort m → BySteps p first m j reply
+    → StandsAt old p → first < length old.names → HasShortNames m.request.body → BySteps p first m j reply
     → ((a : ℕ) → has ◌==◌ j.accepted a ≡ has ◌==◌ accepted a)
     → IsAfter old new m.request accepted (old.sent + length j.lines)
     → StandsAt new (after (did_by (sends first m) (answers j reply)) p)
@@ -217,9 +217,8 @@ after_message old new p first m j reply accepted s there short asked same q = re
   names = q.names ∙ s.names;
   holds = λ a. q.holds a ∙ ap (held_since accepted m.request a) (s.holds a)
       ∙ ap (λ (b : Bool). if b then committed m.request (held_at p a) else held_at p a) (sym (same a))
-      ∙ sym (held_after_line p.described p.past first m j reply a s.described s.unmoved s.stamped
-      (agent_there old p first s there) short.target short.names.target short.names.new_name asked);
-  network = q.network ∙ s.network ∙ sym (network_stays p.described p.past first m j reply);
+      ∙ sym (held_after_line p.described p.past first m j reply a s.described s.unmoved s.stamped asked);
+  network = q.network ∙ s.network ∙ sym (network_stays p.described p.past m j);
   sent = q.sent ∙ ap (λ (k : ℕ). k + length j.lines) s.sent
       ∙ (let z : sent_before p.past + length j.lines ≡ length j.lines + sent_before p.past = omega arith in z);
   contexts = q.contexts ∙ s.contexts;

@@ -21,7 +21,7 @@ use Rattle.x5_ops.specs.declared.journal.Journal.{Journal}
 use Rattle.x5_world.specs.Answered.{IsAnswered}
 use Rattle.x5_model.specs.Words.{has}
 use Rattle.x5_world.specs.Logs.{AreNoted, Logs}
-use Rattle.x5_world.specs.State.{Net, StandsAt, HasRoom, IsShort, holdings_in, logs_in}
+use Rattle.x5_world.specs.State.{Net, StandsAt, HasRoom, HasShortNames, holdings_in, logs_in}
 use Rattle.x5_world.specs.Sent.{IsChanged, line_view, journal_of, scene_of}
 use Rattle.x5_world.specs.declared.journal.Sent.{Sent}
 use Rattle.x5_world.proofs.Holding.{has_reverse}
@@ -105,7 +105,7 @@ pub answered : (old new : Net) (p : Point) (first most : ℕ) (m : Chained) (lin
     → most ≡ most_of old
     → messages_view old.names journal.lines ≡ map (λ l. model.printed_line (line_view old.names l)) lines
     → map (agent_of old.names) journal.accepted ≡ accepted → IsAfter old new m.request accepted (old.sent + length lines)
-    → first < length old.names → IsShort m → StandsAt old p → IsAnswered old new p first m reply journal
+    → first < length old.names → HasShortNames m.request.body → StandsAt old p → IsAnswered old new p first m reply journal
 answered old new p first most m lines accepted reply journal asked limit printed named q there short s =
     let j : model.Journal = journal_of old.names lines accepted in
     let at_line : BySteps p first m j (reply_view old.names reply) =

@@ -22,7 +22,7 @@ use Rattle.x5_typed.specs.Comes.{ComesTo}
 use Rattle.x5_typed.specs.declared.fault.Breach as typed
 use Rattle.x5_typed.specs.declared.fault.Breach.TheVariants as breaches
 use Rattle.x5_world.specs.Answered.{IsAnswered, NamesAgents, is_agent}
-use Rattle.x5_world.specs.State.{Net, StandsAt, IsShort, after}
+use Rattle.x5_world.specs.State.{Net, StandsAt, HasShortNames, after}
 use Rattle.x5_world.specs.declared.delivered.Delivered.{Delivered}
 use Rattle.x5_world.specs.declared.delivered.Delivered.TheVariants.{Answered, Rejected}
 
@@ -71,7 +71,7 @@ pub record IsDeliveredAt (old new : Net) (p : Point) (via : Protocol) (to : ℕ)
     Type 0 where
   pub read : Result Chained Breach
   pub comes : Comes old.names via octets read
-  pub short : (m : Chained) → read ≡ Ok m → IsShort m
+  pub short : (m : Chained) → read ≡ Ok m → HasShortNames m.request.body
   pub delivered : IsDelivered old new p via to (length octets) read d
 
 -- whom it names, in any network

@@ -2,8 +2,6 @@
 -- Directory as a distributed system).
 use Rattle.std.specs.Prelude.{◌≡◌, ℕ, ◌+◌, ◌*◌, ◌≤◌, List, ◌∷◌, length, map, slice_get, Some}
 use Rattle.std.specs.declared.option.Option.{Option}
-use Rattle.x5_model.specs.Normal.{most_rdns}
-use Rattle.x5_model.specs.References.{Chained}
 use Rattle.x5_model.specs.Words.{in_option}
 use Rattle.x5_model_tree.specs.World.{Agreement, Network, World, names_of_agents}
 use Rattle.x5_model_tree.specs.Masters.{mastered}
@@ -18,11 +16,6 @@ use Rattle.x5_model_refreshed.specs.Replaying.{AllHappen}
 use Rattle.x5_model_settled.specs.Held.{held_at}
 pub use Rattle.x5_dapber.specs.ShortNames.{HasShortNames}
 use Rattle.x5_world.specs.Logs.{Logs, logs_at, no_logs}
-
--- the names of a message are no longer than names may be
-pub record IsShort (m : Chained) : Type 0 where
-  pub target : length m.target ≤ most_rdns
-  pub names : HasShortNames m.request.body
 
 -- The agents' names, what each holds and keeps of its changes, in their order; how the network stands; how many messages
 -- were sent; what says how many messages a request may take: how many contexts are mastered, and the agents of all

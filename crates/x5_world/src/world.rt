@@ -26,7 +26,7 @@ ghost use Rattle.x5_world.specs.Delivered.{IsDelivered, IsDeliveredAt, NamesAgen
 ghost use Rattle.x5_world.specs.Refreshes.{IsRefreshedAt, IsSound};
 ghost use Rattle.x5_world.specs.Refreshing.{IsKnown, IsSupplied, IsTakenAt, acknowledging, is_known_in, problem_in};
 ghost use Rattle.x5_world.specs.Sent.{IsCommittedAt, IsHolder, no_net};
-ghost use Rattle.x5_world.specs.State.{StandsAt, HasRoom, HasShortNames, IsShort, after, holdings_in, most_messages};
+ghost use Rattle.x5_world.specs.State.{StandsAt, HasRoom, HasShortNames, after, holdings_in, most_messages};
 ghost use Rattle.x5_model_tree.specs.World.{names_of_agents};
 
 use crate::asking::{asked, opening};
@@ -299,7 +299,7 @@ impl World {
         message: &Chained,
     ) -> Result<(Reply, Journal), NoMemory>
         requires there { first < length self.old.names }
-        requires short { IsShort (chained_view self.old.names message.now) }
+        requires short { HasShortNames (body_view message.now.request.body) }
         requires room { (lines : ℕ) × (HasRoom self.old lines × (lines < 100000)) }
         ensures names { IfOk result (λ _. self.new.names ≡ self.old.names) }
         ensures answered { IfOk result (λ out. (p : Point) → StandsAt self.old p → IsAnswered self.old self.new p first (chained_view self.old.names message.now) out.0 out.1) }
@@ -375,7 +375,7 @@ impl World {
         message: &Chained,
     ) -> Result<Delivered, NoMemory>
         requires there { to < length self.old.names }
-        requires short { IsShort (chained_view self.old.names message.now) }
+        requires short { HasShortNames (body_view message.now.request.body) }
         requires room { (lines : ℕ) × (HasRoom self.old lines × (lines < 100000)) }
         ensures names { IfOk result (λ _. self.new.names ≡ self.old.names) }
         ensures taken { IfOk result (λ d. (p : Point) (via : Protocol) (count : ℕ) → StandsAt self.old p → IsDelivered self.old self.new p via to count (Ok (chained_view self.old.names message.now)) d) }

@@ -14,12 +14,13 @@ use Rattle.x5_model_typed_laws.proofs.Closed.{messages_spelled_fit}
 use Rattle.x5_ops.specs.declared.references.Chained.{Chained}
 use Rattle.x5_types.specs.FormView.{nowhere, table}
 use Rattle.x5_types.specs.NodeView.{node_view}
+use Rattle.x5_dapber.specs.ShortNames.{HasShortNames}
 use Rattle.x5_dapber.proofs.Decoding.{value_decodes, fault_decodes, memory_decodes, known_read}
 use Rattle.x5_dapber.proofs.Octets.{are_octets, spelled_comes}
 use Rattle.x5_dspber.specs.ChainedViews.{told_chained}
 use Rattle.x5_dspber.specs.Sayable.{IsChained}
 use Rattle.x5_dspber.proofs.ChainedIsSayable.{chained_fits}
-use Rattle.x5_dspber.proofs.MessagesShort.{IsShort, message_short}
+use Rattle.x5_dspber.proofs.MessagesShort.{message_short}
 use Rattle.x5_dspber.proofs.messages.decode_chained.Goals as goal
 
 abbrev seen : ℕ × Chained → ℕ × chains.Chained
@@ -93,6 +94,6 @@ returns-clause-spelled c = (node_view c.in_ok-node.node, c.in_ok-node.ensures.sp
 
 pub returns-clause-short : goal.returns-clause-short
 returns-clause-short c =
-    subst (λ (p : ℕ × chains.Chained). IsShort p.1) (sym c.in_ok-chained_in.ensures)
+    subst (λ (p : ℕ × chains.Chained). HasShortNames p.1.request.body) (sym c.in_ok-chained_in.ensures)
     (message_short (node_view c.in_ok-node.node) (sayable c.args.octets.now (node_view c.in_ok-node.node)
     (are_octets c.args.octets.now (λ k. omega (arith, c.type_inv.octets k))) c.in_ok-node.ensures.spelled))

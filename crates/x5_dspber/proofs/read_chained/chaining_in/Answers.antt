@@ -4,14 +4,13 @@ use Rattle.std.specs.Prelude.{All}
 use Rattle.x5_model_typed.specs.Nodes as nodes
 use Rattle.x5_ops.specs.RequestViews.{request_view}
 use Rattle.x5_types.specs.NodeView.{node_view}
-use Rattle.x5_dapber.specs.Sayable.{IsCount, IsShortName}
+use Rattle.x5_dapber.specs.Sayable.{IsCount}
 use Rattle.x5_dapreply.specs.Sayable.{IsProgress, IsItem}
 use Rattle.x5_dspber.proofs.Five.{Five, all_five, chaining_said}
 use Rattle.x5_dspber.proofs.read_chained.chaining_in.Goals as goal
 
 AreSo : Five
-AreSo target progress trace kind exclusions =
-    IsProgress progress × All IsItem (nodes.parts trace) × IsCount kind × IsShortName target
+AreSo target progress trace kind exclusions = IsProgress progress × All IsItem (nodes.parts trace) × IsCount kind
 
 pub places_in-requires : goal.places_in-requires
 unfolding AreSo
@@ -27,7 +26,7 @@ kind_in-requires c =
     let five = all_five AreSo c.parts.result.now _ c.target-item.result c.progress-item.result c.trace-item.result
     c.kind-item.result c.exclusions-item.result c.parts.ensures c.target-item.is c.progress-item.is c.trace-item.is
     c.kind-item.is c.exclusions-item.is c.requires in
-    five.are.2.0
+    five.are.2
 
 pub returns : goal.returns
 unfolding AreSo

@@ -3,13 +3,12 @@ use Rattle.std.proofs.Common.{◌≡◌, sym, subst}
 use Rattle.std.proofs.lemmas.Result.{IfOk-weaker}
 use Rattle.x5_model.specs.References.{Chained}
 use Rattle.x5_world.specs.Answered.{IsAnswered}
-use Rattle.x5_world.specs.State.{IsShort}
-use Rattle.x5_world.proofs.Delivering.{opening_short}
+use Rattle.x5_world.specs.State.{HasShortNames}
 use Rattle.x5_world.proofs.world.World.ask.Goals as goal
 
 pub send-requires-clause-short : goal.send-requires-clause-short
 send-requires-clause-short c =
-    subst IsShort (sym (c.in_ok-message.ensures c.args.self.now.names)) (opening_short _ c.requires.short)
+    subst (λ (m : Chained). HasShortNames m.request.body) (sym (c.in_ok-message.ensures c.args.self.now.names)) c.requires.short
 
 pub returns-clause-answered : goal.returns-clause-answered
 returns-clause-answered c =

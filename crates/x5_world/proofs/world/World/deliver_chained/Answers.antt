@@ -8,9 +8,6 @@ use Rattle.x5_world.specs.Delivered.{spelled}
 use Rattle.x5_world.proofs.Delivering.{told, message_so, breach_so, breach_told, message_told}
 use Rattle.x5_world.proofs.world.World.deliver_chained.Goals as goal
 
-pub take-requires-clause-short : goal.take-requires-clause-short
-take-requires-clause-short c = record { target = c.in-Ok.ensures.short.0; names = c.in-Ok.ensures.short.1 }
-
 pub returns-in-Ok-clause-delivered : goal.returns-in-Ok-clause-delivered
 returns-in-Ok-clause-delivered c =
     let names = c.args.self.now.names in
@@ -22,7 +19,7 @@ returns-in-Ok-clause-delivered c =
       comes = found.1;
       is = message_so names found.0 (c.in-Ok.field-0-0, c.in-Ok.message) (c.in-Ok.ensures.decodes found.0 found.1);
     })
-    (record { target = c.in-Ok.ensures.short.0; names = c.in-Ok.ensures.short.1 })
+    c.in-Ok.ensures.short
     (is p Dsp (length c.args.octets.now) s)) c.take.ensures.taken
 
 pub returns-in-Err-clause-delivered : goal.returns-in-Err-clause-delivered

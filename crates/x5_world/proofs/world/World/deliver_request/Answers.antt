@@ -6,13 +6,13 @@ use Rattle.x5_model_messages.specs.Requests.{request_in}
 use Rattle.x5_model_run.specs.Run.{Dap}
 use Rattle.x5_ops.specs.ReferenceViews.{chained_view}
 use Rattle.x5_world.specs.Delivered.{spelled}
-use Rattle.x5_world.specs.State.{IsShort}
-use Rattle.x5_world.proofs.Delivering.{seen, request_so, breach_so, breach_told, message_told, opening_short}
+use Rattle.x5_world.specs.State.{HasShortNames}
+use Rattle.x5_world.proofs.Delivering.{seen, request_so, breach_so, breach_told, message_told}
 use Rattle.x5_world.proofs.world.World.deliver_request.Goals as goal
 
 pub take-requires-clause-short : goal.take-requires-clause-short
 take-requires-clause-short c =
-    subst IsShort (sym (c.in_ok-message.ensures c.args.self.now.names)) (opening_short _ c.in-Ok.ensures.short)
+    subst (λ (m : Chained). HasShortNames m.request.body) (sym (c.in_ok-message.ensures c.args.self.now.names)) c.in-Ok.ensures.short
 
 pub returns-in_ok-message-clause-delivered : goal.returns-in_ok-message-clause-delivered
 returns-in_ok-message-clause-delivered c =
@@ -28,7 +28,7 @@ returns-in_ok-message-clause-delivered c =
       is = ap (λ (m : Chained). Ok m) opened
           ∙ request_so names found.0 (c.in-Ok.field-0-0, c.in-Ok.request) (c.in-Ok.ensures.decodes found.0 found.1);
     })
-    (subst IsShort (sym opened) (opening_short _ c.in-Ok.ensures.short))
+    (subst (λ (m : Chained). HasShortNames m.request.body) (sym opened) c.in-Ok.ensures.short)
     (is p Dap (length c.args.octets.now) s)) c.take.ensures.taken
 
 pub returns-in_Err-clause-delivered : goal.returns-in-Err-clause-delivered

@@ -10,7 +10,7 @@ use Rattle.x5_ops.specs.JournalViews.{messages_view}
 use Rattle.x5_ops.specs.ReferenceViews.{chained_view}
 use Rattle.x5_ops.specs.RequestViews.{request_view}
 use Rattle.x5_world.specs.Answered.{IsAnswered, NamesAgents, is_agent, line_names_agents}
-use Rattle.x5_world.specs.State.{Net, StandsAt, IsShort}
+use Rattle.x5_world.specs.State.{Net, StandsAt}
 use Rattle.x5_world.specs.Sent.{line_view}
 use Rattle.x5_world.specs.declared.journal.Sent.{Sent}
 use Rattle.x5_world.proofs.Standing.{most_of}
@@ -55,7 +55,7 @@ returns-clause-answered c =
     (is_after old mid mid (request_view c.args.message.now.request) c.in_ok-told.told.accepted.items
     c.len-messages.result (length sent) c.in_ok-told.ensures.held refl count)
     (subst (λ (n : Net). c.args.first < length n.names) (sym was) c.requires.there)
-    (subst (λ (n : Net). IsShort (chained_view n.names c.args.message.now)) (sym was) c.requires.short)
+    c.requires.short
     (subst (λ (n : Net). StandsAt n p) (sym was) s)))
 
 pub returns-clause-named : goal.returns-clause-named
