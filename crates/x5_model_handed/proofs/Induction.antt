@@ -95,11 +95,10 @@ module _ (p : Point) (s : Scene) (most : ℕ) (whole : StandsWhole p) (held : s.
   safe _ _ _ (not_done x e) of may good = (good, tt)
   safe _ _ _ (does {k} {j} mine e f) of may good = (alone p s k j whole held may.1 of may.0 good mine e f, tt)
   safe _ _ _ (probes_all {k} {i} {j} mine r e f d) of may good =
-      let cleared = (safe _ _ _ d of may.1 good).1 in
-      (
+      let cleared = (safe _ _ _ d of may.1 good).1 in (
         probed p s k i whole held may.1 of may.0 good mine e r f j
-        (probes_accept_none s most k r r.agents [] (holds_now s i k) i j f d) (probes_done d may.0.reached)
-        (λ a m. cleared a m (λ n. elim n [ ])),
+            (probes_accept_none s most k r r.agents [] (holds_now s i k) i j f d) (probes_done d may.0.reached)
+            (λ a m. cleared a m (λ n. elim n [ ])),
         tt,
       )
   safe _ _ _ (misses mine r a noted e f d) of may good = ((safe _ _ _ d of may.1 good).0, tt)
@@ -110,8 +109,7 @@ module _ (p : Point) (s : Scene) (most : ℕ) (whole : StandsWhole p) (held : s.
   safe _ _ _ no_probe of may good = (good, λ a m n. elim m [ ])
   safe _ _ _ (clear {k} {r} {i} {j} {l} {before} {noted} a y e d u) of may good =
       let first = safe _ _ _ d of may good in
-      let last = unable_sends_nothing replies_able s most _ _ _ u e in
-      (
+      let last = unable_sends_nothing replies_able s most _ _ _ u e in (
         (safe _ _ _ u of may first.0).0,
         λ b m n. elim (in_either b before (a ∷ []) m) [
           | inl old ↦ first.1 b old n
@@ -122,8 +120,7 @@ module _ (p : Point) (s : Scene) (most : ℕ) (whole : StandsWhole p) (held : s.
         ],
       )
   safe _ _ _ (unsure {k} {r} {i} {j} {l} {before} {noted} a y e d u) of may good =
-      let first = safe _ _ _ d of may good in
-      (
+      let first = safe _ _ _ d of may good in (
         (safe _ _ _ u of may first.0).0,
         λ b m n. elim (in_either b before (a ∷ []) m) [
           | inl old ↦ first.1 b old (λ w. n (in_left b noted (a ∷ []) w))
@@ -131,8 +128,7 @@ module _ (p : Point) (s : Scene) (most : ℕ) (whole : StandsWhole p) (held : s.
         ],
       )
   safe _ _ _ (silent {k} {r} {i} {j} {l} {before} {noted} a d u) of may good =
-      let first = safe _ _ _ d of may good in
-      (
+      let first = safe _ _ _ d of may good in (
         (safe _ _ _ u of may first.0).0,
         λ b m n. elim (in_either b before (a ∷ []) m) [
           | inl old ↦ first.1 b old (λ w. n (in_left b noted (a ∷ []) w))
@@ -142,10 +138,9 @@ module _ (p : Point) (s : Scene) (most : ℕ) (whole : StandsWhole p) (held : s.
   safe _ _ _ (spent a e) of may good = (good, tt)
   safe _ _ _ (lost {from} {o} {r} {j} a e f) of may good = (line_good p s (next_line s j from o r a) j good, tt)
   safe _ _ _ (dropped {from} {o} {r} {i} {j} a y e f d) of may good =
-      let l = next_line s i from o r a in
-      (
+      let l = next_line s i from o r a in (
         (safe _ _ _ d (updates_are_carried s from o r of) (reached_now l i _ f refl, λ q. may)
-        (line_good p s l i good)).0,
+            (line_good p s l i good)).0,
         tt,
       )
   safe _ _ _ (sends {from} {o} {r} {i} {j} {l} a y z e f d u) of may good =

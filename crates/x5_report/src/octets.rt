@@ -38,13 +38,7 @@ fn protocol_word(dsp: bool) -> &'static str
 }
 
 /// The line of octets on their way to an agent.
-fn raw(
-    alloc: Global,
-    dsp: bool,
-    to: &AgentName,
-    count: u64,
-    fate: Fate,
-) -> Result<String, NoMemory>
+fn raw(alloc: Global, dsp: bool, to: &AgentName, count: u64, fate: Fate) -> Result<String, NoMemory>
     ensures { IfOk result (λ text. string_bytes text ≡ spelled.raw_text dsp to.now count fate) }
 {
     let to = to.as_str();
