@@ -33,7 +33,7 @@ use Rattle.x5_model_rows.proofs.Parting as parting
 use Rattle.x5_model_rows.proofs.Parting.{less_answer, less_served, twice_served, all_names, list_served, country_refused, jan_of_all, smit_served, gears_taken, copy_served, new_reply, master_served, new_served, found_by_copy, below_served, unknown_reply, unknown_served, unmastered, master_unserved}
 
 -- a moment is a second after the start
-abbrev moment : ℕ → Text
+abbrev pub moment : ℕ → Text
 moment m = codes "1993010100000" ++ decimal m ++ codes "Z"
 
 -- answers that the steps don't name
