@@ -86,7 +86,6 @@ fn line_reason(reason: &str) -> &'static str {
         "filter" => "this is no filter",
         "hex" => "these are no octets in hexadecimal digits",
         "long" => "this line has more than 4,096 octets, or stands behind line 100,000",
-        "notYet" => "run takes no octets as another agent's message yet",
         _ => "",
     }
 }
