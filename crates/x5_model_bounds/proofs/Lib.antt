@@ -1,4 +1,5 @@
 pub mod Parting
+pub mod AsFar
 pub mod Unables
 pub mod Costing
 pub mod Walk

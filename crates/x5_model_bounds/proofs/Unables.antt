@@ -16,6 +16,7 @@ use Rattle.x5_model_serve.specs.Serving.{Hand, asked_by, stuck_problem, next_lin
 use Rattle.x5_model_serve.specs.Following.{IsFinalHeard}
 use Rattle.x5_model_serve.proofs.Finals.{leaves}
 use Rattle.x5_model_bounds.specs.Unable.{IsUnable, AllDone, LeavesParts, HeardUnable, NeverBroken, Unables, RepliesAble, UnableSendsNothing}
+use Rattle.x5_model_bounds.proofs.AsFar.{stuck_short}
 use Rattle.x5_model_bounds.proofs.Parting.{rest_part, local_whole, left_parts, told_final}
 
 pub false_true : false ≡ true → ⊥
@@ -75,13 +76,13 @@ middle : (before after : List Reference) (r : Reference) → In r (before ++ r �
 middle before after r = in_right r before (r ∷ after) here
 
 module _ (able : RepliesAble) (s : Scene) (most : ℕ) where
-  pub unables : (x : Act) (i j : Journal) → Does s most x i j → Unables x i j
+  pub unables : (x : Act) (i j : Journal) → Does s most x i j → Unables s x i j
   unables _ _ _ (loops e) = (tt, λ u. absurd (false_true u))
   unables _ _ _ (is_long e f) = (tt, λ u. absurd (false_true u))
   unables _ _ _ (done_before e f g) = (λ r i. elim i [ ], λ u. absurd (false_true u))
   unables _ _ _ (refused {k} x e f g h) = (tt, λ u. absurd (able.faults k.message.request.body x h u))
   unables _ _ _ (unfit e f g h i) = (tt, λ u. absurd (false_true u))
-  unables _ _ _ (stuck {k} {j} a e) = (tt, λ u. (refl, stuck_wide k u, stuck_early (holds_now s j k) k.message e (stuck_wide k u)))
+  unables _ _ _ (stuck {k} {j} a e) = (tt, λ u. (refl, stuck_wide k u, stuck_early (holds_now s j k) k.message e (stuck_wide k u), stuck_short s k j e (stuck_wide k u)))
   unables _ _ _ (nowhere n a e) = (tt, λ u. absurd (false_true u))
   unables _ _ _ (refers r a e f) = (tt, λ u. absurd (false_true u))
   unables _ _ _ (goes r h a e f g d) = (heard_leaves (in_vain r) h (leaves s most _ _ _ d), λ u. absurd (heard_able (in_vain r) r h g (unables _ _ _ d) u))
@@ -122,7 +123,7 @@ module _ (able : RepliesAble) (s : Scene) (most : ℕ) where
       λ v.
       let same = then first.0 v in
       let mine = first.1 (subst IsUnable (sym same.0) v) in
-      (next_line s i from o r a, same.1 ∙ mine.0, (mine.1, mine.2))
+      (next_line s i from o r a, same.1 ∙ mine.0, (mine.1, mine.2), mine.3)
   unables _ _ _ (final y e) = λ p u. (refl, refl)
   unables _ _ _ (referral r h e d) = λ p u. absurd (heard_able (in_vain r) r h e (unables _ _ _ d) u)
   unables _ _ _ (wide_referral r y e d) = λ p u. absurd (unables _ _ _ d u)

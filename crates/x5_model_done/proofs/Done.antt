@@ -1,4 +1,4 @@
--- What agents hold in a setting is in order, so at every line of a run a request is carried through; and it has one
+-- What agents hold in a setting is in order, so at every line of a run a message is carried through; and it has one
 -- outcome, since what is done is determined.
 use Rattle.std.proofs.Common.{◌≡◌, ℕ, Bool, true, false, List, [], refl, sym, subst}
 use Rattle.x5_model.specs.Members.{In}
@@ -11,7 +11,7 @@ use Rattle.x5_model_theory.proofs.Views.{there_decides}
 use Rattle.x5_model_theory.proofs.Holding.{by_agent}
 use Rattle.x5_model_run.specs.Holdings.{Held, Holdings, may_copy, served}
 use Rattle.x5_model_run.specs.History.{no_holdings}
-use Rattle.x5_model_run.specs.Chain.{opening, scene_at}
+use Rattle.x5_model_run.specs.Chain.{opening, scene_with}
 use Rattle.x5_model_parts.proofs.Copying.{all_serving}
 use Rattle.x5_model_find.proofs.Orderly.{holdings_orderly}
 use Rattle.x5_model_determined.proofs.Once.{request_is_determined}
@@ -62,5 +62,5 @@ requests_have_outcomes s most =
     }
 
 pub lines_have_outcomes : LinesHaveOutcomes
-lines_have_outcomes w past first most r =
-    requests_have_outcomes (scene_at (record { described = w; past = past }) first r) most
+lines_have_outcomes w past first most m =
+    requests_have_outcomes (scene_with (record { described = w; past = past }) first m) most

@@ -4,13 +4,14 @@ use Rattle.std.specs.Prelude.{◌≡◌, ℕ, true, List}
 use Rattle.x5_model.specs.Members.{In}
 use Rattle.x5_model.specs.Values.{key_of}
 use Rattle.x5_model.specs.Requests.{Request}
+use Rattle.x5_model.specs.References.{Chained}
 use Rattle.x5_model.specs.Answers.{Reply}
 use Rattle.x5_model_tree.specs.World.{World}
 use Rattle.x5_model_tree.specs.Tree.{is_there}
 use Rattle.x5_model_run.specs.Journal.{Journal}
 use Rattle.x5_model_run.specs.Holdings.{Held, Holdings, served}
 use Rattle.x5_model_run.specs.History.{Did, Point}
-use Rattle.x5_model_run.specs.Chain.{Scene, scene_at}
+use Rattle.x5_model_run.specs.Chain.{Scene, scene_with}
 use Rattle.x5_model_find.specs.Finds.{Orderly}
 use Rattle.x5_model_serve.specs.Serving.{Hand, Serves, Does, IsRequest}
 use Rattle.x5_model_serve.specs.Claims.{Setting}
@@ -45,8 +46,9 @@ pub record UniqueResult (s : Scene) (most : ℕ) : Type 0 where
 abbrev pub RequestsHaveOutcomes : Type 0
 RequestsHaveOutcomes = (s : Scene) (most : ℕ) → UniqueResult s most
 
--- 5. at every line, whatever the world and whatever was done before, so over knowledge that isn't consistent too.
+-- 5. and so has any message at every line, whatever the world and whatever was done before, so over knowledge that isn't
+-- consistent too.
 abbrev pub LinesHaveOutcomes : Type 0
 LinesHaveOutcomes =
-    (w : World) (past : List Did) (first most : ℕ) (r : Request)
-    → UniqueResult (scene_at (record { described = w; past = past }) first r) most
+    (w : World) (past : List Did) (first most : ℕ) (m : Chained)
+    → UniqueResult (scene_with (record { described = w; past = past }) first m) most

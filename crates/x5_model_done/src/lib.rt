@@ -15,7 +15,8 @@ pub fn serving()
     ensures requests { RequestsAreDone }
 {}
 
-/// So a request has one journal and one reply, and there are no others: at every line, whatever agents hold and know.
+/// So a request has one journal and one reply, and there are no others; and so has any message at every line, whatever agents
+/// hold and know.
 pub fn one_of_each()
     ensures outcomes { RequestsHaveOutcomes }
     ensures lines { LinesHaveOutcomes }

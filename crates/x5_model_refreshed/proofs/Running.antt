@@ -7,6 +7,7 @@ use Rattle.std.specs.Result.{is_ok}
 use Rattle.std.specs.Option.{is_some}
 use Rattle.x5_model.specs.Values.{key_of}
 use Rattle.x5_model.specs.Requests.{Request}
+use Rattle.x5_model.specs.References.{Chained}
 use Rattle.x5_model.proofs.Lists.{of_find, both_true, not_false}
 use Rattle.x5_model.proofs.Decide.{nat_same_decides}
 use Rattle.x5_model_tree.specs.World.{Agreement, World}
@@ -18,8 +19,8 @@ use Rattle.x5_model_run.specs.Network.{is_lost, is_unheard, is_sent}
 use Rattle.x5_model_run.specs.Journal.{Line, is_reached}
 use Rattle.x5_model_run.specs.Refresh.{RequestShadowUpdate, UpdateShadow, CoordinateShadowUpdate, ShadowLine, RefreshOutcome, Done, Unheard, Problem, Missed, NotConsistent, RefreshBlock, inactive_agreement, full_update_required, invalid_agreement_id, supplied, peer_moment, same_moment, needs_total, count_of, shadow_line, ended, updates_with, refresh_with, pull, push, refresh_block}
 use Rattle.x5_model_run.specs.History.{Refreshed, Deed, Nothing, Accepts, Did, Point, tree_at, knowledge_at, as_of, acked}
-use Rattle.x5_model_run.specs.Chain.{scene_at}
-use Rattle.x5_model_run.specs.Right.{is_accepted_right, is_master_at, AnswersRight}
+use Rattle.x5_model_run.specs.Chain.{opening, scene_with}
+use Rattle.x5_model_run.specs.Right.{is_accepted_right, is_master_at, SendsRight}
 use Rattle.x5_model_run.specs.Run.{Command, Blank, Asks, Changes, Drops, Updates, Hands, Block, Silent, Set, Replies, Refreshing, Handed, Rejected, IsBlock, refreshed_by, did_by, IsRun, begin, next}
 use Rattle.x5_model_refreshed.specs.Replaying.{GoesOn, IsBrought, Happens, AllHappen, RunsLead}
 
@@ -33,16 +34,16 @@ abbrev accepted_deed : Request → List ℕ → Deed
 accepted_deed r [] = Nothing
 accepted_deed r (a ∷ more) = Accepts (map (λ x. record { agent = x; request = r }) (a ∷ more))
 
-module _ (p : Point) (first : ℕ) (r : Request) (lines : List Line) where
-  taken : (accepted : List ℕ) → nat_le (length accepted) 1 ≡ true → list_all (is_accepted_right p (scene_at p first r) lines) accepted ≡ true
-      → Happens p (accepted_deed r (reverse accepted))
+module _ (p : Point) (first : ℕ) (m : Chained) (lines : List Line) where
+  taken : (accepted : List ℕ) → nat_le (length accepted) 1 ≡ true → list_all (is_accepted_right p (scene_with p first m) lines) accepted ≡ true
+      → Happens p (accepted_deed m.request (reverse accepted))
   taken [] one right = tt
   taken (a ∷ []) one right =
-      let w = (both_true (is_accepted_right p (scene_at p first r) lines a) true right).0 in
-      let u = both_true (is_update r.body) _ w in
+      let w = (both_true (is_accepted_right p (scene_with p first m) lines a) true right).0 in
+      let u = both_true (is_update m.request.body) _ w in
       let v = both_true (is_reached lines a) _ u.1 in
-      let m = both_true (is_master_at p (key_of (scene_at p first r).message.target) a) (is_ok (apply (tree_at p) r)) v.1 in
-      (u.0, took (apply (tree_at p) r) m.1, tt)
+      let x = both_true (is_master_at p (key_of m.target) a) (is_ok (apply (tree_at p) m.request)) v.1 in
+      (u.0, took (apply (tree_at p) m.request) x.1, tt)
   taken (a ∷ b ∷ more) one right = absurd (too_many (length more) one)
     where
       too_many : (n : ℕ) → nat_le (suc (suc n)) 1 ≡ true → ⊥
@@ -168,13 +169,13 @@ module _ (p : Point) where
 
   -- ---- a command
 
-  pub did_happen : (command : Command) (block : Block) → IsBlock AnswersRight p command block → Happens p (did_by command block).deed
+  pub did_happen : (command : Command) (block : Block) → IsBlock SendsRight p command block → Happens p (did_by command block).deed
   did_happen Blank block is = tt
   did_happen (Changes o) block is = tt
   did_happen (Drops reply n) block is = tt
   did_happen (Asks to r) Silent is = tt
   did_happen (Asks to r) Set is = tt
-  did_happen (Asks to r) (Replies j reply) is = taken p to r j.lines j.accepted is.accepts.one is.accepts.right
+  did_happen (Asks to r) (Replies j reply) is = taken p to (opening r) j.lines j.accepted is.one is.right
   did_happen (Asks to r) (Refreshing b) is = tt
   did_happen (Asks to r) (Handed by n j reply) is = tt
   did_happen (Asks to r) (Rejected raw breach) is = tt
@@ -187,7 +188,7 @@ module _ (p : Point) where
   did_happen (Hands via to count (Ok m)) Set is = tt
   did_happen (Hands via to count (Ok m)) (Replies j reply) is = tt
   did_happen (Hands via to count (Ok m)) (Refreshing b) is = tt
-  did_happen (Hands via to count (Ok m)) (Handed by n j reply) is = taken p to r j.lines j.accepted is.1.accepts.one is.1.accepts.right
+  did_happen (Hands via to count (Ok m)) (Handed by n j reply) is = taken p to m j.lines j.accepted is.2.one is.2.right
   did_happen (Hands via to count (Ok m)) (Rejected raw breach) is = tt
   did_happen (Hands via to count (Err x)) Silent is = tt
   did_happen (Hands via to count (Err x)) Set is = tt
@@ -198,11 +199,11 @@ module _ (p : Point) where
   did_happen (Updates number pushes total) (Refreshing b) is =
       outcome_happens b.outcome (subst (λ (x : RefreshBlock). Fits p x.outcome) (sym is) (block_fits number pushes total))
 
-run_happens : (w : World) (commands : List Command) (blocks : List Block) (past : List Did) → IsRun AnswersRight w commands blocks past → AllHappen w past
+run_happens : (w : World) (commands : List Command) (blocks : List Block) (past : List Did) → IsRun SendsRight w commands blocks past → AllHappen w past
 run_happens w commands blocks past begin = tt
 run_happens w commands blocks past (next {commands = cs} {blocks = bs} {past = before} command block run is) =
     (did_happen (record { described = w; past = before }) command block is, run_happens w cs bs before run)
 
-pub runs_lead : RunsLead AnswersRight
+pub runs_lead : RunsLead SendsRight
 runs_lead w commands blocks past described consistent run =
     record { described = described; consistent = consistent; happened = run_happens w commands blocks past run }

@@ -139,7 +139,7 @@ unable_too_right p s most from o r i j l before noted a reply g un d spreads e s
     sent_of (inl w) = w.4
     sent_of (inr w) = absurd (not_unable reply most l w.0 un)
 
-    same_accepted : {X : Type 0} → (y : Line) × (l ≡ record j { lines = y ∷ j.lines }) × X → (length l.accepted ≡ length j.accepted) ⊎ (heard_whole l.lines ≡ false)
+    same_accepted : {X Y : Type 0} → (y : Line) × (l ≡ record j { lines = y ∷ j.lines }) × X × Y → (length l.accepted ≡ length j.accepted) ⊎ (heard_whole l.lines ≡ false)
     same_accepted w = inl (ap (λ (q : Journal). length q.accepted) w.1)
 
 pub silent_too_right : SilentToo

@@ -30,7 +30,7 @@ use Rattle.x5_model_run.specs.Right.{same_phase}
 use Rattle.x5_model_run.specs.Placed as placed
 use Rattle.x5_model_run.specs.Placed.{Placed, fits, is_query_below, RightReply, usual}
 use Rattle.x5_model_run.specs.Thorough.{is_taken, sends_itself}
-use Rattle.x5_model_serve.specs.Committed.{holds_target, with_outcome, alone_at, changed_at, committed_if, committed}
+use Rattle.x5_model_serve.specs.Committed.{committed}
 use Rattle.x5_model_serve.specs.Finding.{Onward, Below, Stuck, find}
 use Rattle.x5_model_serve.specs.Serving.{Hand, Arrives, holds_now, found_at, is_spent, asked_by, stuck_problem}
 use Rattle.x5_model_serve.specs.Claims.{AtHand, serving_of}
@@ -42,6 +42,7 @@ use Rattle.x5_model_joins.proofs.Backs.{own_back, own_answered}
 use Rattle.x5_model_joins.proofs.Following.{no_update_below}
 use Rattle.x5_model_verdicts.proofs.At.{each_of_update, each_off, fit_key}
 use Rattle.x5_model_passing.proofs.Same.{the_way, way_phase}
+use Rattle.x5_model_bounds.proofs.AsFar.{holds_as_far}
 use Rattle.x5_model_right.specs.Kept.{Ground, Comes}
 use Rattle.x5_model_right.specs.Journeys.{NeededAgents}
 use Rattle.x5_model_right.specs.Served.{DoneBefore, IsStuck, Refers, CarriesOut}
@@ -62,34 +63,6 @@ final_right p s most from k j reply g last stood at m rests = record {
   within = m.within;
   served = elim m.own [ inl w ↦ inl w | inr w ↦ inr (w.1 last) ];
 }
-
--- ---- what an agent holds goes as far after an update as before
-
-kept_prefix : (r : Request) (h : Holdings) (c : Held) → (changed_at r h c).prefix ≡ c.prefix
-kept_prefix r h c = by (holds_target r h c) (apply_over (alone_at r h c) r.body)
-  where
-    by : (b : Bool) (o : UpdatedEntries) → (if b then with_outcome r h c o else c).prefix ≡ c.prefix
-    by true (Ok es) = refl
-    by true (Err x) = refl
-    by false o = refl
-
-map_kept : (f : Held → Held) → ((c : Held) → (f c).prefix ≡ c.prefix) → (cs : List Held) → map (λ (c : Held). c.prefix) (map f cs) ≡ map (λ (c : Held). c.prefix) cs
-map_kept f e [] = refl
-map_kept f e (c ∷ cs) = λ i. e c i ∷ map_kept f e cs i
-
-committed_prefixes : (r : Request) (h : Holdings) → prefixes (committed r h) ≡ prefixes h
-committed_prefixes r h = by (apply_over (ground_at r h) r.body)
-  where
-    by : (o : UpdatedEntries) → prefixes (committed_if r h o) ≡ prefixes h
-    by (Ok es) = ap (λ (xs : List Name). xs ++ map (λ (c : Copy). c.held.prefix) h.copies) (map_kept (changed_at r h) (kept_prefix r h) h.own)
-    by (Err x) = refl
-
-pub holds_as_far : (s : Scene) (k : Hand) (j : Journal) (n : Key) (a : ℕ) → holds_within (holds_now s j k) n a ≡ holds_within (s.holdings k.receiver) n a
-holds_as_far s k j n a = by (has ◌==◌ j.accepted k.receiver)
-  where
-    by : (b : Bool) → holds_within (if b then committed s.message.request (s.holdings k.receiver) else s.holdings k.receiver) n a ≡ holds_within (s.holdings k.receiver) n a
-    by true = ap (list_any (λ x. is_prefix (key_of x) n && nat_le a (length x))) (committed_prefixes s.message.request (s.holdings k.receiver))
-    by false = refl
 
 -- ---- an update that its agent did before
 

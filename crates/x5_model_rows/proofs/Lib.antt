@@ -26,3 +26,4 @@ pub mod Stepping
 pub mod Parting
 pub mod Refusals
 pub mod Texts
+pub mod Handing

@@ -28,12 +28,12 @@ use Rattle.x5_model_rows.proofs.Running.{the_pull, the_script, the_blocks}
 use Rattle.x5_model_rows.proofs.Serving as serving
 use Rattle.x5_model_rows.proofs.Serving.{at_nl, nl_served}
 use Rattle.x5_model_rows.proofs.Stepping as stepping
-use Rattle.x5_model_rows.proofs.Stepping.{IsServed, jan_reply, jan_served, absent_served, of_all, root_served, lab_reply, shop_reply, shop_served, name_reply, followed_served, referred_served, unchained_served, again_served, gears_served, acme_unserved}
+use Rattle.x5_model_rows.proofs.Stepping.{IsHandled, IsServed, jan_reply, jan_served, absent_served, of_all, root_served, lab_reply, shop_reply, shop_served, name_reply, followed_served, referred_served, unchained_served, again_served, gears_served, acme_unserved}
 use Rattle.x5_model_rows.proofs.Parting as parting
 use Rattle.x5_model_rows.proofs.Parting.{less_answer, less_served, twice_served, all_names, list_served, country_refused, jan_of_all, smit_served, gears_taken, copy_served, new_reply, master_served, new_served, found_by_copy, below_served, unknown_reply, unknown_served, unmastered, master_unserved}
 
 -- a moment is a second after the start
-abbrev moment : ℕ → Text
+abbrev pub moment : ℕ → Text
 moment m = codes "1993010100000" ++ decimal m ++ codes "Z"
 
 -- answers that the steps don't name
@@ -66,7 +66,7 @@ gears_read =
     (reads _ (record { unlooped = refl; short = refl; fresh = refl; unrefused = refl; fit = refl }) refl refl refl)
 
 -- an empty script
-pub nothing_printed : PrintsRun IsServed base_world moment [] (codes "knowledge consistent\n")
+pub nothing_printed : PrintsRun IsHandled base_world moment [] (codes "knowledge consistent\n")
 unfolding digits
 nothing_printed = record { blocks = []; past = []; runs = begin; octets_are = refl }
 
@@ -83,7 +83,7 @@ acme_text = concat
     ∷ codes "source /C=NL/O=Acme Beta now\n"
     ∷ [])
 
-pub acme_printed : PrintsRun IsServed base_world moment (Asks 1 read_acme ∷ []) acme_text
+pub acme_printed : PrintsRun IsHandled base_world moment (Asks 1 read_acme ∷ []) acme_text
 unfolding digits
 acme_printed = record {
   blocks = Replies acme_journal acme_reply ∷ [];
@@ -105,7 +105,7 @@ jan_text = concat
     ∷ codes "source /C=NL/O=Acme/OU=Lab Gamma now\n"
     ∷ [])
 
-pub jan_printed : PrintsRun IsServed base_world moment (Asks 3 read_jan ∷ []) jan_text
+pub jan_printed : PrintsRun IsHandled base_world moment (Asks 3 read_jan ∷ []) jan_text
 unfolding digits
 jan_printed = record {
   blocks = Replies jan_journal jan_reply ∷ [];
@@ -125,7 +125,7 @@ absent_text = concat
     ∷ codes "error name noSuchObject /C=NL/O=Acme\n"
     ∷ [])
 
-pub absent_printed : PrintsRun IsServed base_world moment (Asks 1 read_absent ∷ []) absent_text
+pub absent_printed : PrintsRun IsHandled base_world moment (Asks 1 read_absent ∷ []) absent_text
 unfolding digits
 absent_printed = record {
   blocks = Replies absent_journal (Failed (NoSuchObject acme)) ∷ [];
@@ -159,7 +159,7 @@ root_text = concat
     ∷ codes "source /C=NL/O=Acme/OU=Shop Delta now\n"
     ∷ [])
 
-pub root_printed : PrintsRun IsServed base_world moment (Asks 2 from_root ∷ []) root_text
+pub root_printed : PrintsRun IsHandled base_world moment (Asks 2 from_root ∷ []) root_text
 unfolding digits
 root_printed = record {
   blocks = Replies root_journal (Answered of_all) ∷ [];
@@ -191,7 +191,7 @@ nl_text = concat
     ∷ codes "unexplored nonSpecific /C=NL/O=Acme done Gamma tried\n"
     ∷ [])
 
-pub nl_printed : PrintsRun IsServed base_world moment (Changes (Down 2) ∷ Asks 0 from_nl ∷ []) nl_text
+pub nl_printed : PrintsRun IsHandled base_world moment (Changes (Down 2) ∷ Asks 0 from_nl ∷ []) nl_text
 unfolding digits
 nl_printed = record {
   blocks = Set ∷ Replies nl_journal (Answered at_nl) ∷ [];
@@ -222,7 +222,7 @@ lab_text = concat
     ∷ codes "source /C=NL/O=Acme/OU=Shop Delta now\n"
     ∷ [])
 
-pub lab_printed : PrintsRun IsServed base_world moment
+pub lab_printed : PrintsRun IsHandled base_world moment
     (Changes (Down 2) ∷ Asks 0 read_lab ∷ Asks 0 read_shop ∷ []) lab_text
 unfolding digits
 lab_printed = record {
@@ -247,7 +247,7 @@ followed_text = concat
     ∷ codes "source /C=NL/O=Acme/OU=Lab Gamma now\n"
     ∷ [])
 
-pub followed_printed : PrintsRun IsServed base_world moment (Changes (Refuse 1) ∷ Asks 0 name_lab ∷ []) followed_text
+pub followed_printed : PrintsRun IsHandled base_world moment (Changes (Refuse 1) ∷ Asks 0 name_lab ∷ []) followed_text
 unfolding digits
 followed_printed = record {
   blocks = Set ∷ Replies followed_journal name_reply ∷ [];
@@ -267,7 +267,7 @@ referred_text = concat
     ∷ codes "referral subordinate /C=NL/O=Acme/OU=Lab next=2 Beta,Epsilon\n"
     ∷ [])
 
-pub referred_printed : PrintsRun IsServed base_world moment (Changes (Refuse 0) ∷ Asks 0 read_lab ∷ []) referred_text
+pub referred_printed : PrintsRun IsHandled base_world moment (Changes (Refuse 0) ∷ Asks 0 read_lab ∷ []) referred_text
 unfolding digits
 referred_printed = record {
   blocks = Set ∷ Replies (journal (lab_at_alpha ∷ [])) (Referred to_beta) ∷ [];
@@ -288,7 +288,7 @@ unchained_text = concat
     ∷ codes "unexplored subordinate /C=NL/O=Acme done Beta,Epsilon\n"
     ∷ [])
 
-pub unchained_printed : PrintsRun IsServed base_world moment (Asks 0 unchained ∷ []) unchained_text
+pub unchained_printed : PrintsRun IsHandled base_world moment (Asks 0 unchained ∷ []) unchained_text
 unfolding digits
 unchained_printed = record {
   blocks = Replies (journal (asks 1 0 unchained Sent ∷ [])) (Answered nl_alone) ∷ [];
@@ -314,7 +314,7 @@ added_text = concat
     ∷ codes "error service unavailable nonSpecific /C=NL/O=Acme/OU=lab next=3 Gamma tried\n"
     ∷ [])
 
-pub added_printed : PrintsRun IsServed base_world moment
+pub added_printed : PrintsRun IsHandled base_world moment
     (Asks 1 add_lab ∷ Changes (Down 2) ∷ Asks 1 add_lab ∷ []) added_text
 unfolding digits
 added_printed = record {
@@ -343,7 +343,7 @@ gears_text = concat
     ∷ codes "source /C=NL/O=Acme Beta now\n"
     ∷ [])
 
-pub gears_printed : PrintsRun IsServed base_world moment
+pub gears_printed : PrintsRun IsHandled base_world moment
     (Drops true 1 ∷ Asks 1 put_gears ∷ Asks 1 read_gears ∷ []) gears_text
 unfolding digits
 gears_printed = record {
@@ -374,7 +374,7 @@ less_text = concat
     ∷ codes "unexplored nonSpecific /C=NL/O=Acme done Gamma less OU=Shop tried\n"
     ∷ [])
 
-pub less_printed : PrintsRun IsServed shop_known moment (Changes (Down 2) ∷ Asks 1 below_acme ∷ []) less_text
+pub less_printed : PrintsRun IsHandled shop_known moment (Changes (Down 2) ∷ Asks 1 below_acme ∷ []) less_text
 unfolding digits
 less_printed = record {
   blocks = Set ∷ Replies less_journal (Answered less_answer) ∷ [];
@@ -409,7 +409,7 @@ pull_text = concat
     ∷ codes "source /C=NL/O=Acme Beta now\n"
     ∷ [])
 
-pub pull_printed : PrintsRun IsServed base_world moment the_script pull_text
+pub pull_printed : PrintsRun IsHandled base_world moment the_script pull_text
 unfolding digits
 pull_printed = record {
   blocks = the_blocks;
@@ -467,7 +467,7 @@ copied_text = concat
     ∷ codes "error service unavailable subordinate /C=NL/O=Acme next=2 Beta tried\n"
     ∷ [])
 
-pub copied_printed : PrintsRun IsServed base_world moment copy_script copied_text
+pub copied_printed : PrintsRun IsHandled base_world moment copy_script copied_text
 unfolding digits
 copied_printed = record {
   blocks =
@@ -504,7 +504,7 @@ listed_text = concat
     ∷ codes "error attribute invalidAttributeSyntax C\n"
     ∷ [])
 
-pub listed_printed : PrintsRun IsServed base_world moment (Asks 1 list_acme ∷ Asks 0 compare_country ∷ []) listed_text
+pub listed_printed : PrintsRun IsHandled base_world moment (Asks 1 list_acme ∷ Asks 0 compare_country ∷ []) listed_text
 unfolding digits
 listed_printed = record {
   blocks =
@@ -535,7 +535,7 @@ smit_text = concat
     ∷ codes "source /C=NL/O=Acme/OU=Shop Delta now\n"
     ∷ [])
 
-pub smit_printed : PrintsRun IsServed base_world moment (Asks 4 (smit_below []) ∷ []) smit_text
+pub smit_printed : PrintsRun IsHandled base_world moment (Asks 4 (smit_below []) ∷ []) smit_text
 unfolding digits
 smit_printed = record {
   blocks = Replies smit_journal (Answered jan_of_all) ∷ [];
@@ -555,7 +555,7 @@ down_text = concat
     ∷ codes "error service unavailable self /C=NL/O=Acme start Beta tried\n"
     ∷ [])
 
-pub down_printed : PrintsRun IsServed base_world moment (Changes (Down 1) ∷ Asks 1 read_acme ∷ []) down_text
+pub down_printed : PrintsRun IsHandled base_world moment (Changes (Down 1) ∷ Asks 1 read_acme ∷ []) down_text
 unfolding digits
 down_printed = record {
   blocks = Set ∷ Replies (journal (asks 1 1 read_acme Lost ∷ [])) acme_unheard ∷ [];
@@ -591,7 +591,7 @@ twice_text = concat
     ∷ codes "source /C=NL/O=Acme/OU=Shop Delta now\n"
     ∷ [])
 
-pub twice_printed : PrintsRun IsServed gamma_consumes moment (Changes (Cut 0 1) ∷ Asks 0 from_nl ∷ []) twice_text
+pub twice_printed : PrintsRun IsHandled gamma_consumes moment (Changes (Cut 0 1) ∷ Asks 0 from_nl ∷ []) twice_text
 unfolding digits
 twice_printed = record {
   blocks = Set ∷ Replies twice_journal (Answered of_all) ∷ [];

@@ -16,7 +16,8 @@ use Rattle.x5_model_run.specs.Journal.{Line, Journal}
 use Rattle.x5_model_run.specs.Needs.{reference}
 use Rattle.x5_model_run.specs.History.{Point}
 use Rattle.x5_model_run.specs.Stage.{budget}
-use Rattle.x5_model_run.specs.Chain.{Scene, scene_at, probe_request}
+use Rattle.x5_model_run.specs.Chain.{Scene, opening, scene_with, scene_at, probe_request}
+use Rattle.x5_model_run.specs.Run.{Judge}
 use Rattle.x5_model_serve.specs.Serving.{Hand, hand, hand_of, Serves, Does, Hears, Whole, IsRequest, asked_by, answers, not_told, not_heard, refused, stuck, refers, goes, casts, reads, gives_parts, asks_parts, updates, does, misses, done_before, no_probe, clear, silent, lost, dropped, sends, final, wide_referral, none_yet, heard, none_asked, unable_too, silent_too, answered, nobody_has, some_silent, no_part, part_answered}
 use Rattle.x5_model_determined.proofs.Once.{request_is_determined}
 use Rattle.x5_model_rows.proofs.BaseWorld.{nl, acme, desk, jan, lab, shop, ada}
@@ -30,9 +31,12 @@ use Rattle.x5_model_rows.proofs.Probing.{new_lab, add_lab, again_at_beta, again_
 use Rattle.x5_model_rows.proofs.Losing.{losing_first, losing_second, losing_shadowed, put_lab, put_at_beta, put_journal, twice_journal}
 use Rattle.x5_model_rows.proofs.Shadowing.{put_gears}
 
--- a request at a line of a run
+-- a message at a line of a run, and a user's request
+abbrev pub IsHandled : Judge
+IsHandled p first m j reply = IsRequest (scene_with p first m) (budget p) j reply
+
 abbrev pub IsServed : Point → ℕ → Request → Journal → Reply → Type 0
-IsServed p first r j reply = IsRequest (scene_at p first r) (budget p) j reply
+IsServed p first r j reply = IsHandled p first (opening r) j reply
 
 -- what an agent of an NSSR answers that can't go on
 abbrev pub unable : Line → Reply

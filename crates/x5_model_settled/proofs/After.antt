@@ -1,15 +1,18 @@
--- What is held at the line after. A request over consistent knowledge is right, so one agent at most accepted, it is the
--- judge of the update, and the tree doesn't refuse: then the next line is one after an accepted update. Where none did,
+-- What is held at the line after. What is accepted over consistent knowledge is right, so one agent at most accepted, it is
+-- the judge of the update, and the tree doesn't refuse: then the next line is one after an accepted update. Where none did,
 -- the line did nothing; then tree, knowledge and stamps stay, and with them what is held.
-use Rattle.std.proofs.Common.{◌≡◌, ℕ, suc, ◌-◌, ◌≤◌, ◌==◌, nat_le, Bool, true, inl, inr, List, [], ◌∷◌, ◌++◌, map, length, reverse, refl, sym, ap, subst, ◌∙◌, arith, Option, Some, None, Ok, Err, if◌then◌else◌}
+use Rattle.std.proofs.Common.{◌≡◌, ℕ, suc, ◌-◌, ◌≤◌, ◌==◌, nat_le, Bool, true, ◌||◌, inl, inr, List, [], ◌∷◌, ◌++◌, map, length, reverse, refl, sym, ap, subst, ◌∙◌, arith, Option, Some, None, Ok, Err, if◌then◌else◌}
 use Rattle.std.specs.List.{list_all}
 use Rattle.std.specs.Result.{is_ok}
 use Rattle.std.proofs.lemmas.Bool.Decides.{leb_tells}
-use Rattle.x5_model.specs.Words.{has, first_of, in_option, some_and}
+use Rattle.x5_model.specs.Words.{has, is_empty, first_of, in_option, some_and}
 use Rattle.x5_model.specs.Members.{In}
+use Rattle.x5_model.specs.Keys.{Key}
 use Rattle.x5_model.specs.Values.{key_of}
 use Rattle.x5_model.specs.Entries.{Named}
 use Rattle.x5_model.specs.Requests.{Request}
+use Rattle.x5_model.specs.References.{Chained}
+use Rattle.x5_model.proofs.KeyLaws.{key_decides}
 use Rattle.x5_model.proofs.Decide.{nat_same_decides}
 use Rattle.x5_model.proofs.Lists.{both_true, true_or_false}
 use Rattle.x5_model_tree.specs.World.{Agent, Agreement, Network, World}
@@ -19,11 +22,11 @@ use Rattle.x5_model_tree.specs.Consistent.{IsConsistent}
 use Rattle.x5_model_tree.specs.Described.{IsDescribed}
 use Rattle.x5_model_tree.specs.Ask.{is_update}
 use Rattle.x5_model_tree.specs.Apply.{Applied, apply}
-use Rattle.x5_model_run.specs.Journal.{Line, is_reached}
+use Rattle.x5_model_run.specs.Journal.{Line, same_name, is_reached}
 use Rattle.x5_model_run.specs.Holdings.{Held, Copy}
 use Rattle.x5_model_run.specs.Needs.{target_of}
 use Rattle.x5_model_run.specs.History.{Deed, Nothing, Outs, Loses, Accepts, Refreshes, Splits, Unsplits, Did, Point, Refreshed, network_after, network_at, tree_by, tree_after, tree_at, knowledge_by, knowledge_after, knowledge_at, tree_of_moment, refresh_of, refreshes_of, stamp_of, as_of, sent_references, mastered_at, copy_as_of, copy_by, own_context, agreements_of, agent_holdings, holdings_at, no_holdings, sent_before}
-use Rattle.x5_model_run.specs.Chain.{opening, scene_at}
+use Rattle.x5_model_run.specs.Chain.{opening, scene_with}
 use Rattle.x5_model_run.specs.Right.{master_at, is_master_at, is_accepted_right}
 use Rattle.x5_model_updates.specs.Keeping.{MovesNone, NoneMoved}
 use Rattle.x5_model_updates.specs.Judging.{IsJudge}
@@ -33,7 +36,7 @@ use Rattle.x5_model_verdicts.proofs.Committed.{committed_is_after}
 use Rattle.x5_model_serve.specs.Committed.{committed}
 use Rattle.x5_model_held.specs.Theorems.{is_still}
 use Rattle.x5_model_settled.specs.Afterwards.{HoldsAfter, HoldsOn, NetworkStays, MovedNoneAfter, KnowsAsDescribed, StampedAtFirst, StampedOn}
-use Rattle.x5_model_settled.proofs.Settled.{accepted_deed, knowledge_stays, did_none_move, lines_are_right}
+use Rattle.x5_model_settled.proofs.Settled.{accepted_deed, knowledge_stays, did_none_move, lines_take_right}
 
 -- ---- knowledge
 
@@ -164,7 +167,7 @@ stamped_on w past d none plain stamped g moment i e =
     let same = ap (λ (fs : List Refreshed). stamp_of (first_of (fs ++ refreshes_of past g.number))) (plain g.number) in
     let l : moment ≤ length past = stamped g moment there (sym same ∙ e) in omega arith
 
--- ---- a request
+-- ---- a message
 
 network_same : (r : Request) (accepted : List ℕ) (sent : ℕ) (net : Network)
     → network_after (accepted_deed r accepted) sent net ≡ net
@@ -172,8 +175,8 @@ network_same r [] sent net = refl
 network_same r (a ∷ more) sent net = refl
 
 pub network_stays : NetworkStays
-network_stays w past first r j reply =
-    network_same r (reverse j.accepted) (sent_before past) (network_at (record { described = w; past = past }))
+network_stays w past m j =
+    network_same m.request (reverse j.accepted) (sent_before past) (network_at (record { described = w; past = past }))
 
 that_one : (o : Option ℕ) (a : ℕ) → some_and (λ m. m == a) o ≡ true → o ≡ Some a
 that_one None a e = cc
@@ -192,42 +195,47 @@ is_member o a = elim (true_or_false (a == o)) [
   ]
 ]
 
-module _ (w : World) (past : List Did) (first : ℕ) (r : Request) (lines : List Line) (described : IsDescribed w) (consistent : IsConsistent w) (none : NoneMoved past) (stamped : IsStamped (record { described = w; past = past })) where
+module _ (w : World) (past : List Did) (first : ℕ) (m : Chained) (lines : List Line) (described : IsDescribed w) (consistent : IsConsistent w) (none : NoneMoved past) (stamped : IsStamped (record { described = w; past = past })) where
   abbrev here : Point
   here = record { described = w; past = past }
 
   abbrev next : List ℕ → Point
-  next xs = record { described = w; past = record { deed = accepted_deed r (reverse xs); sent = length lines } ∷ past }
+  next xs = record { described = w; past = record { deed = accepted_deed m.request (reverse xs); sent = length lines } ∷ past }
 
-  judge : (o : ℕ) → is_update r.body ≡ true → is_master_at here (key_of (target_of r.body)) o ≡ true
-      → IsJudge here o (opening r)
+  judge : (o : ℕ) → is_update m.request.body ≡ true → is_master_at here (key_of (target_of m.request.body)) o ≡ true
+      → IsJudge here o (opening m.request)
   judge o up at = record {
     stands = lines_stand w past described consistent none;
     update = up;
     target = refl;
     resolving = refl;
-    master = that_one (master_at here (key_of (target_of r.body))) o at;
+    master = that_one (master_at here (key_of (target_of m.request.body))) o at;
   }
 
-  after_one : (o a : ℕ) → is_accepted_right here (scene_at here first r) lines o ≡ true
-      → holdings_at (next (o ∷ [])) a ≡ (if has ◌==◌ (o ∷ []) a then committed r (holdings_at here a) else holdings_at here a)
-  after_one o a e =
-      let up = both_true (is_update r.body) _ e in
+  after_one : (o a : ℕ) → same_name (target_of m.request.body) m.target ≡ true
+      → is_accepted_right here (scene_with here first m) lines o ≡ true
+      → holdings_at (next (o ∷ [])) a ≡ (if has ◌==◌ (o ∷ []) a then committed m.request (holdings_at here a) else holdings_at here a)
+  after_one o a fit e =
+      let up = both_true (is_update m.request.body) _ e in
       let reached = both_true (is_reached lines o) _ up.1 in
-      let at = both_true (is_master_at here (key_of (target_of r.body)) o) _ reached.1 in
-      let u = accepted_tree (apply (tree_at here) r) at.1 in
-      committed_is_after here o a (opening r) u.0 (length lines) (judge o up.0 at.0) stamped u.1
-      ∙ ap (λ (b : Bool). if b then committed r (holdings_at here a) else holdings_at here a) (is_member o a)
+      let at = both_true (is_master_at here (key_of m.target) o) _ reached.1 in
+      let u = accepted_tree (apply (tree_at here) m.request) at.1 in
+      let same = (key_decides (key_of (target_of m.request.body)) (key_of m.target)).0 fit in
+      let master : is_master_at here (key_of (target_of m.request.body)) o ≡ true =
+      ap (λ (x : Key). is_master_at here x o) same ∙ at.0 in
+      committed_is_after here o a (opening m.request) u.0 (length lines) (judge o up.0 master) stamped u.1
+      ∙ ap (λ (b : Bool). if b then committed m.request (holdings_at here a) else holdings_at here a) (is_member o a)
 
   after_any : (xs : List ℕ) (a : ℕ) → nat_le (length xs) 1 ≡ true
-      → list_all (is_accepted_right here (scene_at here first r) lines) xs ≡ true
-      → holdings_at (next xs) a ≡ (if has ◌==◌ xs a then committed r (holdings_at here a) else holdings_at here a)
-  after_any [] a one all = holds_on w past (record { deed = Nothing; sent = length lines }) a refl
-  after_any (o ∷ []) a one all =
-      after_one o a (both_true (is_accepted_right here (scene_at here first r) lines o) true all).0
-  after_any (o ∷ x ∷ more) a one all = grind arith
+      → list_all (is_accepted_right here (scene_with here first m) lines) xs ≡ true
+      → (is_empty xs || same_name (target_of m.request.body) m.target) ≡ true
+      → holdings_at (next xs) a ≡ (if has ◌==◌ xs a then committed m.request (holdings_at here a) else holdings_at here a)
+  after_any [] a one all fit = holds_on w past (record { deed = Nothing; sent = length lines }) a refl
+  after_any (o ∷ []) a one all fit =
+      after_one o a fit (both_true (is_accepted_right here (scene_with here first m) lines o) true all).0
+  after_any (o ∷ x ∷ more) a one all fit = grind arith
 
 pub holds_after : HoldsAfter
-holds_after w past first r j reply a described consistent none stamped agent short fresh is =
-    let accepts = (lines_are_right w past first r described consistent none agent j reply short fresh is).0.accepts in
-    after_any w past first r j.lines described consistent none stamped j.accepted a accepts.one accepts.right
+holds_after w past first m most j reply a described consistent none stamped is =
+    let take = lines_take_right w past first m described consistent none most j reply is in
+    after_any w past first m j.lines described consistent none stamped j.accepted a take.one take.right take.fit

@@ -6,6 +6,7 @@ use Rattle.std.proofs.lemmas.Grind.{reverse_onto}
 use mathlib.Core.Path.{fun_ext}
 use Rattle.x5_model.specs.Words.{has}
 use Rattle.x5_model.specs.Requests.{Request}
+use Rattle.x5_model.specs.References.{Chained}
 use Rattle.x5_model.proofs.Lists.{true_or_false}
 use Rattle.x5_model_tree.specs.World.{World}
 use Rattle.x5_model_tree.specs.Consistent.{Inconsistency, IsConsistent, first_breach}
@@ -13,13 +14,12 @@ use Rattle.x5_model_tree.proofs.FirstBreach.{consistent_has_none, none_is_consis
 use Rattle.x5_model_run.specs.Holdings.{Holdings}
 use Rattle.x5_model_run.specs.History.{Deed, Nothing, Outs, Loses, Accepts, Refreshes, Splits, Unsplits, Point, holdings_at}
 use Rattle.x5_model_run.specs.Stage.{budget}
-use Rattle.x5_model_run.specs.Chain.{Scene, scene_at}
-use Rattle.x5_model_run.specs.Run.{Asks, Replies, did_by}
+use Rattle.x5_model_run.specs.Chain.{Scene, scene_with}
 use Rattle.x5_model_held.specs.Theorems.{is_still}
 use Rattle.x5_model_held.proofs.Begun.{held_as_described}
 use Rattle.x5_model_serve.specs.Committed.{committed}
 use Rattle.x5_model_serve.specs.Serving.{IsRequest}
-use Rattle.x5_model_settled.specs.Afterwards.{line_after}
+use Rattle.x5_model_settled.specs.Afterwards.{line_after, did_with}
 use Rattle.x5_model_settled.specs.Held.{held_accepting, held_after, held_by, held_at, scene_held, HeldIsHoldings, HeldIsByStep, HeldAtFirst, HeldOn, HeldAfterLine}
 use Rattle.x5_model_settled.proofs.Settled.{accepted_deed}
 use Rattle.x5_model_settled.proofs.After.{holds_after, holds_on}
@@ -47,11 +47,11 @@ held_is_by_step p a other = elim (sound_or_not p.described) [
   | inr e ↦ step_by_step p a e
 ]
 
--- so over consistent knowledge a request's scene is the line's
-pub scene_is : (p : Point) (first : ℕ) (r : Request) → IsConsistent p.described → scene_held p first r ≡ scene_at p first r
-scene_is p first r consistent =
+-- so over consistent knowledge a message's scene is the line's
+pub scene_is : (p : Point) (first : ℕ) (m : Chained) → IsConsistent p.described → scene_held p first m ≡ scene_with p first m
+scene_is p first m consistent =
     let held : held_at p ≡ holdings_at p = fun_ext (λ a. held_is_holdings p a consistent) in
-    ap (λ (hs : ℕ → Holdings). record (scene_at p first r) { holdings = hs }) held
+    ap (λ (hs : ℕ → Holdings). record (scene_with p first m) { holdings = hs }) held
 
 -- ---- the first line, and one that changes nothing
 
@@ -82,7 +82,7 @@ held_on w past d a still = elim (sound_or_not w) [
       ∙ sym (step_by_step (line_after w past) a e)
 ]
 
--- ---- a request
+-- ---- a message
 
 accepting_is : (r : Request) (xs : List ℕ) (a : ℕ) (h : Holdings)
     → held_accepting (map (λ x. record { agent = x; request = r }) xs) a h
@@ -121,16 +121,16 @@ request_step r accepted a h =
     deed_is r (reverse accepted) a h ∙ ap (λ (b : Bool). if b then committed r h else h) (has_reverse accepted a)
 
 pub held_after_line : HeldAfterLine
-held_after_line w past first r j reply a described none stamped agent short fresh is = elim (sound_or_not w) [
+held_after_line w past first m j reply a described none stamped is = elim (sound_or_not w) [
   | inl consistent ↦
-      held_is_holdings (line_after w (did_by (Asks first r) (Replies j reply) ∷ past)) a consistent
-      ∙ holds_after w past first r j reply a described consistent none (stamped consistent) agent short fresh
-      (subst (λ (s : Scene). IsRequest s (budget (line_after w past)) j reply) (scene_is (line_after w past) first r consistent) is)
-      ∙ ap (λ (h : Holdings). if has ◌==◌ j.accepted a then committed r h else h)
+      held_is_holdings (line_after w (did_with m j ∷ past)) a consistent
+      ∙ holds_after w past first m (budget (line_after w past)) j reply a described consistent none (stamped consistent)
+      (subst (λ (s : Scene). IsRequest s (budget (line_after w past)) j reply) (scene_is (line_after w past) first m consistent) is)
+      ∙ ap (λ (h : Holdings). if has ◌==◌ j.accepted a then committed m.request h else h)
       (sym (held_is_holdings (line_after w past) a consistent))
   | inr e ↦
-      step_by_step (line_after w (did_by (Asks first r) (Replies j reply) ∷ past)) a e
-      ∙ request_step r j.accepted a (held_by w past a)
-      ∙ ap (λ (h : Holdings). if has ◌==◌ j.accepted a then committed r h else h)
+      step_by_step (line_after w (did_with m j ∷ past)) a e
+      ∙ request_step m.request j.accepted a (held_by w past a)
+      ∙ ap (λ (h : Holdings). if has ◌==◌ j.accepted a then committed m.request h else h)
       (sym (step_by_step (line_after w past) a e))
 ]

@@ -1,32 +1,33 @@
--- A script that agents carry out is a run: block by block, each request by what holds at every line of a run,
+-- A script that agents carry out is a run: block by block, each message by what holds at every line of a run,
 -- whatever its judge; all other blocks are judged alike.
 use Rattle.std.proofs.Common.{◌≡◌, ℕ, List, [], ◌∷◌, ◌++◌, refl, Some, Ok, Err}
 use Rattle.std.specs.List.{AllByRecursion}
-use Rattle.x5_model.specs.Requests.{Request}
+use Rattle.x5_model.specs.References.{Chained}
 use Rattle.x5_model.specs.Answers.{Reply}
 use Rattle.x5_model_tree.specs.World.{World}
 use Rattle.x5_model_tree.specs.Consistent.{IsConsistent}
 use Rattle.x5_model_tree.specs.Described.{IsDescribed}
 use Rattle.x5_model_run.specs.Journal.{Journal}
 use Rattle.x5_model_run.specs.History.{Did, Point}
-use Rattle.x5_model_run.specs.Run.{Command, Blank, Asks, Changes, Drops, Updates, Hands, asked_of, Block, Silent, Set, Replies, Refreshing, Handed, Rejected, Judge, IsBlock, IsRun, begin, next}
+use Rattle.x5_model_run.specs.Chain.{opening}
+use Rattle.x5_model_run.specs.Run.{Command, Blank, Asks, Changes, Drops, Updates, Hands, sent_by, Block, Silent, Set, Replies, Refreshing, Handed, Rejected, Judge, IsBlock, IsRun, begin, next}
 use Rattle.x5_model_settled.specs.Judges.{RightAndWhole}
 use Rattle.x5_model_settled.specs.Runs.{ByAgents, IsAskable, AgentsRunIsRun, AgentsPrintRun}
-use Rattle.x5_model_settled.proofs.Settled.{runs_are_right}
+use Rattle.x5_model_settled.proofs.Settled.{runs_handle_right}
 
 pub before_last : {A : Type 0} (P : A → Type 0) (xs : List A) (x : A) → AllByRecursion P (xs ++ x ∷ [])
     → AllByRecursion P xs × P x
 before_last P [] x f = (tt, f.0)
 before_last P (y ∷ ys) x f = (let w = before_last P ys x f.1 in ((f.0, w.0), w.1))
 
--- a block is judged by another judge, where that holds of requests; all other blocks are judged alike
+-- a block is judged by another judge, where that holds of messages; all other blocks are judged alike
 pub block_more : (judge other : Judge) (p : Point) (command : Command) (block : Block)
-    → ((first : ℕ) (r : Request) (j : Journal) (reply : Reply) → asked_of command ≡ Some (first, r)
-    → judge p first r j reply → other p first r j reply)
+    → ((first : ℕ) (m : Chained) (j : Journal) (reply : Reply) → sent_by command ≡ Some (first, m)
+    → judge p first m j reply → other p first m j reply)
     → IsBlock judge p command block → IsBlock other p command block
 block_more judge other p (Asks first r) Silent more is = absurd is
 block_more judge other p (Asks first r) Set more is = absurd is
-block_more judge other p (Asks first r) (Replies j reply) more is = more first r j reply refl is
+block_more judge other p (Asks first r) (Replies j reply) more is = more first (opening r) j reply refl is
 block_more judge other p (Asks first r) (Refreshing b) more is = absurd is
 block_more judge other p (Asks first r) (Handed by n j reply) more is = absurd is
 block_more judge other p (Asks first r) (Rejected raw breach) more is = absurd is
@@ -58,7 +59,8 @@ block_more judge other p (Hands via first count (Ok m)) Silent more is = absurd 
 block_more judge other p (Hands via first count (Ok m)) Set more is = absurd is
 block_more judge other p (Hands via first count (Ok m)) (Replies j reply) more is = absurd is
 block_more judge other p (Hands via first count (Ok m)) (Refreshing b) more is = absurd is
-block_more judge other p (Hands via first count (Ok m)) (Handed by n j reply) more is = (is.0, more first r j reply refl is.1)
+block_more judge other p (Hands via first count (Ok m)) (Handed by n j reply) more is =
+    (is.0, is.1, more first m j reply refl is.2)
 block_more judge other p (Hands via first count (Ok m)) (Rejected raw breach) more is = absurd is
 block_more judge other p (Hands via first count (Err x)) Silent more is = absurd is
 block_more judge other p (Hands via first count (Err x)) Set more is = absurd is
@@ -73,9 +75,9 @@ module _ (w : World) (described : IsDescribed w) (consistent : IsConsistent w) w
       → IsBlock ByAgents (record { described = w; past = past }) command block
       → IsBlock RightAndWhole (record { described = w; past = past }) command block
   alike commands blocks past command block run may =
-      block_more ByAgents RightAndWhole (record { described = w; past = past }) command block (λ first r j reply e is.
-      let asked = may first r e in
-      runs_are_right ByAgents w commands blocks past first r described consistent run asked.0 j reply asked.1 asked.2 is)
+      block_more ByAgents RightAndWhole (record { described = w; past = past }) command block (λ first m j reply e is.
+      let sent = may first m e in
+      runs_handle_right ByAgents w commands blocks past first m described consistent run sent.0 j reply sent.1 sent.2 is)
 
   runs : (commands : List Command) (blocks : List Block) (past : List Did) → AllByRecursion (IsAskable w) commands
       → IsRun ByAgents w commands blocks past → IsRun RightAndWhole w commands blocks past

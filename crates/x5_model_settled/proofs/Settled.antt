@@ -1,9 +1,18 @@
 -- The setting of a user's request, part by part: what lines find and copies stand by is shown for lines that moved no
 -- context, a user's message is placed wherever it is, and the agents are those of the described world. A run moves none,
 -- by its commands. In a setting, what agents do is right by the one induction over all that is done.
-use Rattle.std.proofs.Common.{◌≡◌, ℕ, List, [], ◌∷◌, map, reverse, refl, sym, subst, Ok, Err}
+use Rattle.std.proofs.Common.{◌≡◌, ◌≤◌, ℕ, List, [], ◌∷◌, map, length, reverse, refl, sym, subst, Some, Ok, Err}
+use Rattle.x5_model.specs.Values.{Name}
 use Rattle.x5_model.specs.Requests.{Request}
+use Rattle.x5_model.specs.References.{Chained}
+use Rattle.x5_model.specs.Answers.{Reply}
 use Rattle.x5_model_tree.specs.World.{World}
+use Rattle.x5_model_run.specs.Journal.{Journal}
+use Rattle.x5_model_run.specs.Needs.{target_of, new_name}
+use Rattle.x5_model_run.specs.Stage.{budget}
+use Rattle.x5_model_run.specs.Chain.{opening, scene_with, scene_at}
+use Rattle.x5_model_run.specs.Right.{AnswersRight}
+use Rattle.x5_model_run.specs.Thorough.{Thorough}
 use Rattle.x5_model_run.specs.Refresh.{RefreshOutcome, Done, Unheard, Problem, Missed, NotConsistent}
 use Rattle.x5_model_run.specs.History.{Deed, Nothing, Outs, Loses, Accepts, Refreshes, Splits, Unsplits, Did, knowledge_by, knowledge_after}
 use Rattle.x5_model_run.specs.Run.{Command, Blank, Asks, Changes, Drops, Updates, Hands, Block, Silent, Set, Replies, Refreshing, Handed, Rejected, Judge, refreshed_by, did_by, IsRun, begin, next}
@@ -12,8 +21,11 @@ use Rattle.x5_model_updates.specs.Keeping.{MovesNone, NoneMoved}
 use Rattle.x5_model_updates.specs.Standing as updates
 use Rattle.x5_model_updates.proofs.Stood.{lines_stand}
 use Rattle.x5_model_find.proofs.Standings.{stand_alike, copies_always}
+use Rattle.x5_model_serve.specs.Serving.{IsRequest}
 use Rattle.x5_model_right.proofs.Whole.{requests_are_right}
-use Rattle.x5_model_settled.specs.Settled.{HasAgent, LinesAreSettled, RunsAreSettled, LinesAreRight, RunsAreRight}
+use Rattle.x5_model_handed.proofs.Induction.{any_is_right}
+use Rattle.x5_model_settled.specs.Judges.{RightAndWhole}
+use Rattle.x5_model_settled.specs.Settled.{HasAgent, LinesAreSettled, RunsAreSettled, LinesAreRight, RunsAreRight, LinesTakeRight, RunsTakeRight, LinesHandleRight, RunsHandleRight}
 
 -- agents stay
 pub knowledge_stays : (w : World) (past : List Did) → NoneMoved past → knowledge_by w past ≡ w
@@ -46,6 +58,28 @@ pub lines_are_right : LinesAreRight
 lines_are_right w past first r described consistent none agent j reply short fresh is =
     requests_are_right (record { described = w; past = past }) first r j reply
     (lines_are_settled w past first r described consistent none agent) short fresh is
+
+-- ---- any message
+
+pub lines_take_right : LinesTakeRight
+lines_take_right w past first m described consistent none most j reply is =
+    any_is_right (record { described = w; past = past }) first m most j reply (lines_stand w past described consistent none) is
+
+pub lines_handle_right : LinesHandleRight
+lines_handle_right w past first m described consistent none agent j reply short fresh is =
+    let take = lines_take_right w past first m described consistent none (budget (record { described = w; past = past })) j reply is in
+    record {
+      sends = record { one = take.one; right = take.right; answers = λ r e. (serves r e).0 };
+      whole = λ r e. (serves r e).1;
+    }
+  where
+    serves : (r : Request) → m ≡ opening r
+        → AnswersRight (record { described = w; past = past }) first r j reply × Thorough (scene_at (record { described = w; past = past }) first r) j
+    serves r e =
+        lines_are_right w past first r described consistent none agent j reply
+        (subst (λ (x : Chained). length (target_of x.request.body) ≤ 16) e short)
+        (subst (λ (x : Chained). (name : Name) → new_name x.request.body ≡ Some name → length name ≤ 16) e fresh)
+        (subst (λ (x : Chained). IsRequest (scene_with (record { described = w; past = past }) first x) (budget (record { described = w; past = past })) j reply) e is)
 
 -- ---- runs move no contexts
 
@@ -106,3 +140,11 @@ runs_are_settled judge w commands blocks past first r described consistent run a
 pub runs_are_right : (judge : Judge) → RunsAreRight judge
 runs_are_right judge w commands blocks past first r described consistent run agent =
     lines_are_right w past first r described consistent (run_none_moved judge w commands blocks past run) agent
+
+pub runs_take_right : (judge : Judge) → RunsTakeRight judge
+runs_take_right judge w commands blocks past first m described consistent run =
+    lines_take_right w past first m described consistent (run_none_moved judge w commands blocks past run)
+
+pub runs_handle_right : (judge : Judge) → RunsHandleRight judge
+runs_handle_right judge w commands blocks past first m described consistent run agent =
+    lines_handle_right w past first m described consistent (run_none_moved judge w commands blocks past run) agent

@@ -1,4 +1,4 @@
--- Step by step along a run: over consistent knowledge the scene of each request is its line's, so what agents do with it
+-- Step by step along a run: over consistent knowledge the scene of each message is its line's, so what agents do with it
 -- is what holds there.
 use Rattle.std.proofs.Common.{List, subst}
 use Rattle.std.specs.List.{AllByRecursion}
@@ -14,7 +14,7 @@ use Rattle.x5_model_settled.specs.Judges.{RightAndWhole}
 use Rattle.x5_model_settled.specs.Runs.{ByAgents, IsAskable}
 use Rattle.x5_model_settled.specs.Afterwards.{line_after}
 use Rattle.x5_model_settled.specs.Held.{BySteps, StepsAreAgents, StepsAreRight, StepsPrintRun, Performed, StepsArePerformed, StepsPrintPerformed, PerformedIsRight}
-use Rattle.x5_model_settled.proofs.Settled.{runs_are_right}
+use Rattle.x5_model_settled.proofs.Settled.{runs_handle_right}
 use Rattle.x5_model_settled.proofs.Held.{scene_is}
 use Rattle.x5_model_settled.proofs.Runs.{before_last, block_more, agents_run_is_run}
 
@@ -26,9 +26,9 @@ module _ (w : World) (consistent : IsConsistent w) where
   agents _ _ _ begin = begin
   agents _ _ _ (next {commands = cs} {blocks = bs} {past = before} command block run is) =
       next command block (agents cs bs before run)
-      (block_more BySteps ByAgents (line_after w before) command block (λ first r j reply e.
+      (block_more BySteps ByAgents (line_after w before) command block (λ first m j reply e.
       subst (λ (s : Scene). IsRequest s (budget (line_after w before)) j reply)
-      (scene_is (line_after w before) first r consistent)) is)
+      (scene_is (line_after w before) first m consistent)) is)
 
 pub steps_are_agents : StepsAreAgents
 steps_are_agents w commands blocks past consistent run = agents w consistent commands blocks past run
@@ -54,13 +54,13 @@ module _ (w : World) (described : IsDescribed w) where
       → IsAskable w command → IsRun BySteps w commands blocks past
       → IsBlock BySteps (line_after w past) command block → IsBlock Performed (line_after w past) command block
   right_too commands blocks past command block asked run =
-      block_more BySteps Performed (line_after w past) command block (λ first r j reply e is. (
+      block_more BySteps Performed (line_after w past) command block (λ first m j reply e is. (
         is,
         λ consistent.
-            let may = asked first r e in
-            runs_are_right BySteps w commands blocks past first r described consistent run may.0 j reply may.1 may.2
+            let may = asked first m e in
+            runs_handle_right BySteps w commands blocks past first m described consistent run may.0 j reply may.1 may.2
             (subst (λ (s : Scene). IsRequest s (budget (line_after w past)) j reply)
-            (scene_is (line_after w past) first r consistent) is),
+            (scene_is (line_after w past) first m consistent) is),
       ))
 
   performed : (commands : List Command) (blocks : List Block) (past : List Did) → AllByRecursion (IsAskable w) commands
@@ -85,4 +85,4 @@ pub performed_is_right : PerformedIsRight
 performed_is_right w _ _ _ consistent begin = begin
 performed_is_right w _ _ _ consistent (next {commands = cs} {blocks = bs} {past = before} command block run is) =
     next command block (performed_is_right w cs bs before consistent run)
-    (block_more Performed RightAndWhole (line_after w before) command block (λ first r j reply e p. p.1 consistent) is)
+    (block_more Performed RightAndWhole (line_after w before) command block (λ first m j reply e p. p.1 consistent) is)

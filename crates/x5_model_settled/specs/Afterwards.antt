@@ -1,42 +1,40 @@
--- What agents hold at the line after a request, or after a line that changes nothing that they hold: so whoever keeps
+-- What agents hold at the line after a message, or after a line that changes nothing that they hold: so whoever keeps
 -- their holdings from line to line has those of the next one.
 use Rattle.std.specs.Prelude.{◌≡◌, ◌≤◌, ◌==◌, ℕ, Bool, true, if◌then◌else◌, List, [], ◌∷◌, length}
 use Rattle.std.specs.declared.option.Option.TheVariants.{Some}
 use Rattle.x5_model.specs.Words.{has}
-use Rattle.x5_model.specs.Values.{Name}
-use Rattle.x5_model.specs.Requests.{Request}
+use Rattle.x5_model.specs.References.{Chained}
 use Rattle.x5_model.specs.Answers.{Reply}
 use Rattle.x5_model_tree.specs.World.{World}
 use Rattle.x5_model_tree.specs.Consistent.{IsConsistent}
 use Rattle.x5_model_tree.specs.Described.{IsDescribed}
 use Rattle.x5_model_run.specs.Journal.{Journal}
-use Rattle.x5_model_run.specs.Needs.{target_of, new_name}
 use Rattle.x5_model_run.specs.History.{Did, Point, knowledge_at, network_at, holdings_at, refresh_of}
-use Rattle.x5_model_run.specs.Stage.{budget}
-use Rattle.x5_model_run.specs.Chain.{scene_at}
+use Rattle.x5_model_run.specs.Chain.{scene_with}
 use Rattle.x5_model_run.specs.Refresh.{refresh_block}
-use Rattle.x5_model_run.specs.Run.{Command, Asks, Updates, Block, Replies, Refreshing, Judge, IsBlock, did_by}
+use Rattle.x5_model_run.specs.Run.{Command, Updates, Block, Refreshing, Judge, IsBlock, accepted_by, did_by}
 use Rattle.x5_model_updates.specs.Keeping.{MovesNone, NoneMoved}
 use Rattle.x5_model_verdicts.specs.Committing.{IsStamped}
 use Rattle.x5_model_serve.specs.Committed.{committed}
 use Rattle.x5_model_serve.specs.Serving.{IsRequest}
 use Rattle.x5_model_held.specs.Theorems.{is_still}
-use Rattle.x5_model_settled.specs.Settled.{HasAgent}
 
 -- the line of this world after these
 abbrev pub line_after : World → List Did → Point
 line_after w past = record { described = w; past = past }
 
--- 1. What agents do with a request leaves each agent with what it held, changed where it accepted the update. Names
--- have 16 RDNs at most, as all that are read have.
+-- what a line did at which this message was sent
+abbrev pub did_with : Chained → Journal → Did
+did_with m j = record { deed = accepted_by m.request j; sent = length j.lines }
+
+-- 1. What agents do with a message leaves each agent with what it held, changed where it accepted the message's update.
 abbrev pub HoldsAfter : Type 0
 HoldsAfter =
-    (w : World) (past : List Did) (first : ℕ) (r : Request) (j : Journal) (reply : Reply) (a : ℕ)
-    → IsDescribed w → IsConsistent w → NoneMoved past → IsStamped (line_after w past) → HasAgent w first
-    → length (target_of r.body) ≤ 16 → ((name : Name) → new_name r.body ≡ Some name → length name ≤ 16)
-    → IsRequest (scene_at (line_after w past) first r) (budget (line_after w past)) j reply
-    → holdings_at (line_after w (did_by (Asks first r) (Replies j reply) ∷ past)) a
-    ≡ (if has ◌==◌ j.accepted a then committed r (holdings_at (line_after w past) a)
+    (w : World) (past : List Did) (first : ℕ) (m : Chained) (most : ℕ) (j : Journal) (reply : Reply) (a : ℕ)
+    → IsDescribed w → IsConsistent w → NoneMoved past → IsStamped (line_after w past)
+    → IsRequest (scene_with (line_after w past) first m) most j reply
+    → holdings_at (line_after w (did_with m j ∷ past)) a
+    ≡ (if has ◌==◌ j.accepted a then committed m.request (holdings_at (line_after w past) a)
     else holdings_at (line_after w past) a)
 
 -- A line at which nothing is accepted, refreshed or moved leaves it with just that.
@@ -45,11 +43,11 @@ HoldsOn =
     (w : World) (past : List Did) (d : Did) (a : ℕ) → is_still d.deed ≡ true
     → holdings_at (line_after w (d ∷ past)) a ≡ holdings_at (line_after w past) a
 
--- 2. A request leaves the network as it is, whatever was accepted.
+-- 2. A message leaves the network as it is, whatever was accepted.
 abbrev pub NetworkStays : Type 0
 NetworkStays =
-    (w : World) (past : List Did) (first : ℕ) (r : Request) (j : Journal) (reply : Reply)
-    → network_at (line_after w (did_by (Asks first r) (Replies j reply) ∷ past)) ≡ network_at (line_after w past)
+    (w : World) (past : List Did) (m : Chained) (j : Journal)
+    → network_at (line_after w (did_with m j ∷ past)) ≡ network_at (line_after w past)
 
 -- 3. What these theorems ask of a line holds at the next one. No command moves a context, so knowledge is what the file
 -- describes;
@@ -76,7 +74,7 @@ StampedAfterRefresh =
     → IsStamped (line_after w (did_by (Updates number pushes total)
     (Refreshing (refresh_block (line_after w past) number pushes total)) ∷ past))
 
--- and so after each command of a run, however requests are judged.
+-- and so after each command of a run, however messages are judged.
 abbrev pub StampedAfter : Judge → Type 0
 StampedAfter judge =
     (w : World) (past : List Did) (command : Command) (block : Block)

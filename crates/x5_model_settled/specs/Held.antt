@@ -8,19 +8,18 @@ use Rattle.std.specs.Option.{is_none}
 use Rattle.std.specs.declared.option.Option.TheVariants.{Some}
 use Rattle.x5_model.specs.Words.{has}
 use Rattle.x5_model.specs.Values.{Name, Text}
-use Rattle.x5_model.specs.Requests.{Request}
+use Rattle.x5_model.specs.References.{Chained}
 use Rattle.x5_model.specs.Answers.{Reply}
 use Rattle.x5_model_tree.specs.World.{World}
 use Rattle.x5_model_tree.specs.Consistent.{IsConsistent, first_breach}
 use Rattle.x5_model_tree.specs.Described.{IsDescribed}
 use Rattle.x5_model_run.specs.Journal.{Journal}
 use Rattle.x5_model_run.specs.Holdings.{Holdings}
-use Rattle.x5_model_run.specs.Needs.{target_of, new_name}
 use Rattle.x5_model_run.specs.History.{Acceptance, Deed, Nothing, Outs, Loses, Accepts, Refreshes, Splits, Unsplits}
 use Rattle.x5_model_run.specs.History.{Did, Point, holdings_at}
 use Rattle.x5_model_run.specs.Stage.{budget}
-use Rattle.x5_model_run.specs.Chain.{Scene, scene_at}
-use Rattle.x5_model_run.specs.Run.{Command, Asks, Block, Replies, Judge, IsRun, did_by}
+use Rattle.x5_model_run.specs.Chain.{Scene, scene_with}
+use Rattle.x5_model_run.specs.Run.{Command, Block, Judge, IsRun}
 use Rattle.x5_model_output.specs.Output.{PrintsRun}
 use Rattle.x5_model_updates.specs.Keeping.{NoneMoved}
 use Rattle.x5_model_verdicts.specs.Committing.{IsStamped}
@@ -29,9 +28,8 @@ use Rattle.x5_model_held.specs.Theorems.{is_still}
 use Rattle.x5_model_serve.specs.Committed.{committed}
 use Rattle.x5_model_serve.specs.Serving.{IsRequest}
 use Rattle.x5_model_settled.specs.Judges.{RightAndWhole}
-use Rattle.x5_model_settled.specs.Settled.{HasAgent}
 use Rattle.x5_model_settled.specs.Runs.{ByAgents, IsAskable}
-use Rattle.x5_model_settled.specs.Afterwards.{line_after}
+use Rattle.x5_model_settled.specs.Afterwards.{line_after, did_with}
 
 -- what this agent holds once these accepted: an agent accepts once in a line, since it answers `changed` at once when
 -- the update comes again
@@ -58,18 +56,19 @@ held_by w (d ∷ before) a = held_after d.deed a (held_by w before a)
 abbrev pub held_at : Point → ℕ → Holdings
 held_at p a = if is_none (first_breach p.described) then holdings_at p a else held_by p.described p.past a
 
--- a request of a user who doesn't follow, to agents that hold this
-abbrev pub scene_held : Point → ℕ → Request → Scene
-scene_held p first r = record (scene_at p first r) { holdings = held_at p }
+-- a message of a user who doesn't follow, to agents that hold this
+abbrev pub scene_held : Point → ℕ → Chained → Scene
+scene_held p first m = record (scene_with p first m) { holdings = held_at p }
 
--- A request's block is what agents do with it, step by step, by what they hold.
+-- A message's block is what agents do with it, step by step, by what they hold.
 abbrev pub BySteps : Judge
-BySteps p first r j reply = IsRequest (scene_held p first r) (budget p) j reply
+BySteps p first m j reply = IsRequest (scene_held p first m) (budget p) j reply
 
--- And over consistent knowledge it's also right by the one tree, and no message that it needs is left out.
+-- And over consistent knowledge what is accepted is also right by the one tree, and so is what a user's request is
+-- answered, and no message that it needs is left out.
 abbrev pub Performed : Judge
-Performed p first r j reply =
-    BySteps p first r j reply × (IsConsistent p.described → RightAndWhole p first r j reply)
+Performed p first m j reply =
+    BySteps p first m j reply × (IsConsistent p.described → RightAndWhole p first m j reply)
 
 -- 1. Over consistent knowledge agents hold their part of the one tree, over other knowledge what each step leaves them;
 abbrev pub HeldIsHoldings : Type 0
@@ -89,16 +88,15 @@ HeldOn =
     (w : World) (past : List Did) (d : Did) (a : ℕ) → is_still d.deed ≡ true
     → held_at (line_after w (d ∷ past)) a ≡ held_at (line_after w past) a
 
--- 4. and after a request that they carried out what they held, changed where they accepted the update. Names have 16
--- RDNs at most, as all that are read have.
+-- 4. and after a message what they held, changed where they accepted its update.
 abbrev pub HeldAfterLine : Type 0
 HeldAfterLine =
-    (w : World) (past : List Did) (first : ℕ) (r : Request) (j : Journal) (reply : Reply) (a : ℕ)
-    → IsDescribed w → NoneMoved past → (IsConsistent w → IsStamped (line_after w past)) → HasAgent w first
-    → length (target_of r.body) ≤ 16 → ((name : Name) → new_name r.body ≡ Some name → length name ≤ 16)
-    → BySteps (line_after w past) first r j reply
-    → held_at (line_after w (did_by (Asks first r) (Replies j reply) ∷ past)) a
-    ≡ (if has ◌==◌ j.accepted a then committed r (held_at (line_after w past) a) else held_at (line_after w past) a)
+    (w : World) (past : List Did) (first : ℕ) (m : Chained) (j : Journal) (reply : Reply) (a : ℕ)
+    → IsDescribed w → NoneMoved past → (IsConsistent w → IsStamped (line_after w past))
+    → BySteps (line_after w past) first m j reply
+    → held_at (line_after w (did_with m j ∷ past)) a
+    ≡ (if has ◌==◌ j.accepted a then committed m.request (held_at (line_after w past) a)
+    else held_at (line_after w past) a)
 
 -- 5. So over consistent knowledge a script that is carried out step by step is one that agents carry out,
 abbrev pub StepsAreAgents : Type 0
@@ -106,7 +104,7 @@ StepsAreAgents =
     (w : World) (commands : List Command) (blocks : List Block) (past : List Did)
     → IsConsistent w → IsRun BySteps w commands blocks past → IsRun ByAgents w commands blocks past
 
--- 6. each answer is right, no message is left out,
+-- 6. what is accepted is right, each request is answered right, and no message of it is left out,
 abbrev pub StepsAreRight : Type 0
 StepsAreRight =
     (w : World) (commands : List Command) (blocks : List Block) (past : List Did)

@@ -4,7 +4,7 @@
 
 ghost use Rattle.x5_model_run.specs.Right.{SendsRight};
 ghost use Rattle.x5_model_settled.specs.Judges.{RightAndWhole};
-ghost use Rattle.x5_model_settled.specs.Settled.{LinesAreSettled, RunsAreSettled, LinesAreRight, RunsAreRight};
+ghost use Rattle.x5_model_settled.specs.Settled.{LinesAreSettled, RunsAreSettled, LinesAreRight, RunsAreRight, LinesTakeRight, RunsTakeRight, LinesHandleRight, RunsHandleRight};
 ghost use Rattle.x5_model_settled.specs.Runs.{AgentsRunIsRun, AgentsPrintRun};
 ghost use Rattle.x5_model_settled.specs.Afterwards.{HoldsAfter, HoldsOn, NetworkStays, MovedNoneAfter, KnowsAsDescribed, StampedAtFirst, StampedOn, StampedAfterRefresh, StampedAfter};
 ghost use Rattle.x5_model_settled.specs.Held.{BySteps, HeldIsHoldings, HeldIsByStep, HeldAtFirst, HeldOn, HeldAfterLine, StepsAreAgents, StepsAreRight, StepsPrintRun, StepsArePerformed, StepsPrintPerformed, PerformedIsRight};
@@ -17,11 +17,16 @@ pub fn settling()
     ensures whole { RunsAreSettled RightAndWhole }
 {}
 
-/// So whatever agents do there with a request is right, and no message that it needs is left out (X.518, sections 17 to 21).
+/// So whatever agents do there with a request is right, and no message that it needs is left out (X.518, sections 17 to 21). And
+/// whatever message a user hands to an agent there, what is accepted of it is right.
 pub fn running()
     ensures lines { LinesAreRight }
     ensures runs { RunsAreRight SendsRight }
     ensures whole { RunsAreRight RightAndWhole }
+    ensures takes { LinesTakeRight }
+    ensures taken { RunsTakeRight RightAndWhole }
+    ensures handles { LinesHandleRight }
+    ensures handled { RunsHandleRight RightAndWhole }
 {}
 
 /// A script that agents carry out is a run: each answer is right, and no message is left out; and what is printed of it is the
@@ -31,7 +36,7 @@ pub fn carrying_out()
     ensures prints { AgentsPrintRun }
 {}
 
-/// What agents hold at the next line is what they held, changed where a request's update was accepted (X.511, section 11); the
+/// What agents hold at the next line is what they held, changed where a message's update was accepted (X.511, section 11); the
 /// network is as it was; and what these theorems ask of a line holds at the next one.
 pub fn afterwards()
     ensures holds { HoldsAfter }
