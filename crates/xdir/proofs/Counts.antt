@@ -35,7 +35,7 @@ silent_adds_none : (blocks : List Block) → counts_of blocks ≡ counts_of (blo
 silent_adds_none [] = refl
 silent_adds_none (x ∷ xs) = ap (both (block_counts x)) (silent_adds_none xs)
 
-pub comment_adds : (p : Point) (a : Asked) (command : Command) (net : Net) (counts : Counts) → IsCommand a command
+pub comment_adds : (p : Point) (a : Asked) (command : Command) (net : Net) (counts : Counts) → IsCommand (names_of_agents p.described) a command
     → IsAskable p.described command → Gives p command net Silent → AddsBlock p a net counts counts
 comment_adds p a command net counts is askable gives blocks before = record {
   command = command;
@@ -53,10 +53,10 @@ told_of names command j (Answered reply) b t = t
 told_of names command j (Plain reply) b t = absurd t
 told_of names command j (Refreshed number f heard) b t = (t.refreshing, t.outcome, t.is)
 told_of names command j NotConsistent b t = (refresh.ended [] refresh.NotConsistent, refl, t.1)
-told_of names command j (Handed count reply) b t = t
-told_of names command j (Rejected to count fate breach) b t = t
+told_of names command j (Handed dsp count reply) b t = t
+told_of names command j (Rejected dsp to count fate breach) b t = t
 
-pub course_adds : (p : Point) (a : Asked) (command : Command) (net : Net) (c : Course) (old new : Counts) → IsCommand a command
+pub course_adds : (p : Point) (a : Asked) (command : Command) (net : Net) (c : Course) (old new : Counts) → IsCommand (names_of_agents p.described) a command
     → IsAskable p.described command → IsCourse p command net c
     → ((b : Block) (blocks : List Block) → IsOf (names_of_agents p.described) c.journal c.outcome b → old ≡ capped_counts (counts_of blocks)
     → new ≡ capped_counts (counts_of (blocks ++ b ∷ [])))
@@ -77,7 +77,7 @@ counted_more f asked net later old new far a adds =
     let m : CountsOneMore (point f.world far.past) a later far.blocks new = adds far.past far.stands far.blocks far.counted in
     record {
       commands = far.commands ++ m.command ∷ [];
-      are = commands_more asked far.commands a m.command far.are m.is;
+      are = commands_more (names_of_agents f.world) asked far.commands a m.command far.are m.is;
       blocks = far.blocks ++ m.block ∷ [];
       past = did_by m.command m.block ∷ far.past;
       runs = next m.command m.block far.runs m.gives.is;

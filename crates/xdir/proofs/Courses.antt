@@ -3,6 +3,7 @@
 use Rattle.std.proofs.Common.{◌≡◌, ◌≤◌, ◌<◌, ℕ, zero, suc, Bool, true, false, is_some, List, [], ◌∷◌, length, map, slice_get, refl, sym, ap, subst, ◌∙◌, Some, None, Option, Result, Ok, Err, append-nil, arith}
 use Rattle.std.specs.List.{list_all}
 use Rattle.x5_model.specs.Words.{in_option}
+use Rattle.x5_model.specs.References.{Chained}
 use Rattle.x5_model.specs.Requests.{Request}
 use Rattle.x5_model.specs.Values.{Name}
 use Rattle.x5_model.proofs.Lists.{both_true, and_true}
@@ -11,7 +12,8 @@ use Rattle.x5_model_output.specs.Output as print
 use Rattle.x5_model_output.specs.Output.{names_of}
 use Rattle.x5_model_run.specs.History.{Did, Point}
 use Rattle.x5_model_run.specs.Refresh as refresh
-use Rattle.x5_model_run.specs.Run.{Command, Blank, Asks, Changes, Drops, Updates, asked_of, Block, Silent, did_by}
+use Rattle.x5_model_run.specs.Run.{Command, Blank, Asks, Changes, Drops, Updates, sent_by, Block, Silent, did_by}
+use Rattle.x5_model_run.specs.Chain.{opening}
 use Rattle.x5_model_run.specs.Needs.{target_of, new_name}
 use Rattle.x5_model_run.specs.Network.{Outage}
 use Rattle.x5_model_script.specs.Lines.{Asked}
@@ -23,6 +25,7 @@ use Rattle.x5_model_run.specs.Run as model
 use Rattle.x5_model_tree.specs.Consistent.{first_breach, IsConsistent}
 use Rattle.x5_model_world.specs.WorldFile.{File}
 use Rattle.x5_ops.specs.AnswerViews.{reply_view}
+use Rattle.x5_ops.specs.JournalViews.{protocol_view}
 use Rattle.x5_ops.specs.declared.answers.Reply.{Reply}
 use Rattle.x5_ops.specs.declared.journal.Line.{Line as Message}
 use Rattle.x5_ops.specs.declared.journal.Line.TheVariants.{Msg, Dis, Raw}
@@ -43,11 +46,10 @@ use Rattle.x5_world.specs.Delivered.{Comes, IsDelivered, IsDeliveredAt}
 use Rattle.x5_world.specs.declared.delivered.Delivered.TheVariants as delivered
 use Rattle.x5_world.specs.Refreshes.{IsRefreshedAt}
 use Rattle.x5_world.specs.declared.refreshment.Refreshment.{Refreshment}
-use Rattle.x5_world.specs.State.{Net, StandsAt, HasShortNames, after}
+use Rattle.x5_world.specs.State.{Net, StandsAt, HasShortNames, IsShort, after}
 use Rattle.x5_model_tree.specs.World.{Agent, World, names_of_agents}
-use Rattle.xdir.specs.Blocks.{Gives, IsTold, IsCourse, IsCarriedOut, IsDelivery, IsDone, IsTextOf, IsAskedText, WritesCourse, WritesBlock}
-use Rattle.x5_script.specs.declared.command.Command.TheVariants as lines
-use Rattle.xdir.specs.Taken.{IsCommand, IsTaken, point}
+use Rattle.xdir.specs.Blocks.{Gives, IsTold, IsCourse, IsCarriedOut, IsDone, IsTextOf, IsAskedText, WritesCourse, WritesBlock}
+use Rattle.xdir.specs.Taken.{IsCommand, point}
 use Rattle.xdir.specs.declared.lines.Course.{Course}
 use Rattle.xdir.specs.declared.top.Status.{Status}
 use Rattle.xdir.specs.declared.top.Status.TheVariants.{Done, Refused, Usage, ReadFault, WriteFault, NoMemory, Inconsistent, TooLong}
@@ -94,7 +96,7 @@ abbrev answered : Journal → Reply → Course
 answered journal reply = record { journal = journal; outcome = Answered reply }
 
 pub course_of : (old new : Net) (p : Point) (to : ℕ) (r : Request) (reply : Reply) (journal : Journal) → StandsAt old p
-    → IsAnswered old new p to r reply journal → NamesAgents old.names reply journal
+    → IsAnswered old new p to (opening r) reply journal → NamesAgents old.names reply journal
     → IsCourse p (Asks to r) new (answered journal reply)
 course_of old new p to r reply journal stands a n =
     let told : IsTold old.names (Asks to r) journal (Answered reply) (model.Replies a.whole (reply_view old.names reply)) =
@@ -194,119 +196,121 @@ agent_there [] a l = absurd (omega (arith, l))
 agent_there (x ∷ more) zero l = (x, refl)
 agent_there (x ∷ more) (suc a) l = agent_there more a (omega (arith, l))
 
-abbrev both : ℕ → Request → ℕ × Request
-both to r = (to, r)
-
--- what is asked of an agent of the world may be asked
-asks_one : (w : World) (to : ℕ) (r : Request) → to < length (names_of_agents w) → HasShortNames r.body
-    → (first : ℕ) (q : Request) → Some (both to r) ≡ Some (both first q)
-    → HasAgent w first × (length (target_of q.body) ≤ 16) × ((name : Name) → new_name q.body ≡ Some name → length name ≤ 16)
-asks_one w to r there short first q e =
-    let same : both to r ≡ both first q = ap (λ (o : Option (ℕ × Request)). in_option (both to r) (λ x. x) o) e in
-    subst (λ (x : ℕ × Request). HasAgent w x.0 × (length (target_of x.1.body) ≤ 16)
-    × ((name : Name) → new_name x.1.body ≡ Some name → length name ≤ 16)) same
-    (agent_there w.agents to there, short.target, short.new_name)
+abbrev both : ℕ → Chained → ℕ × Chained
+both to m = (to, m)
 
 -- of the network of a line
 there_in : (net : Net) (p : Point) (to : ℕ) → StandsAt net p → to < length net.names → to < length (names_of_agents p.described)
 there_in net p to s l = subst (λ (names : List (List ℕ)). to < length names) s.names l
 
--- a command of a run that is none of a user's requests
-module _ (p : Point) (command : Command) (none : asked_of command ≡ None) (net : Net) (o : Option Course) where
-  pub done_as : IsCarriedOut p command net o → IsDone p (script.Runs command) net o
-  done_as carried = record {
-    command = command;
-    is = refl;
-    askable = λ first r e. (let no : None ≡ Some (first, r) = sym none ∙ e in cc);
-    carried = carried;
-  }
+-- a message with short names may be sent to an agent of the world
+may_send : (w : World) (command : Command) (to : ℕ) (m : Chained) → sent_by command ≡ Some (both to m)
+    → to < length (names_of_agents w) → IsShort m → IsAskable w command
+may_send w command to m sends there short = λ first q e.
+    let same : both to m ≡ both first q =
+    ap (λ (o : Option (ℕ × Chained)). in_option (both to m) (λ x. x) o) (sym sends ∙ e) in
+    subst (λ (x : ℕ × Chained). HasAgent w x.0 × (length (target_of x.1.request.body) ≤ 16)
+    × ((name : Name) → new_name x.1.request.body ≡ Some name → length name ≤ 16)) same
+    (agent_there w.agents to there, short.names.target, short.names.new_name)
+
+-- a command of a run that sends no message of the user
+may_send_none : (w : World) (command : Command) → sent_by command ≡ None → IsAskable w command
+may_send_none w command none = λ first m e. (let no : None ≡ Some (first, m) = sym none ∙ e in cc)
+
+pub done_as : (p : Point) (command : Command) → sent_by command ≡ None → (net : Net) (o : Option Course)
+    → IsCarriedOut p command net o → IsDone p (script.Runs command) net o
+done_as p command none net o carried = record {
+  command = command;
+  is = refl;
+  askable = may_send_none p.described command none;
+  carried = carried;
+}
 
 pub done_asking : (p : Point) (to : ℕ) (r : Request) (old net : Net) (o : Option Course) → StandsAt old p → to < length old.names
     → HasShortNames r.body → IsCarriedOut p (Asks to r) net o → IsDone p (script.Runs (Asks to r)) net o
 done_asking p to r old net o s there short carried = record {
   command = Asks to r;
   is = refl;
-  askable = asks_one p.described to r (there_in old p to s there) short;
+  askable = may_send p.described (Asks to r) to (opening r) refl (there_in old p to s there)
+      (record { target = short.target; names = short });
   carried = carried;
 }
 
-done_handing : (p : Point) (to : ℕ) (octets : List ℕ) (net : Net) (c : Course) → IsDelivery p to octets net c
-    → IsDone p (script.Delivers false to octets) net (Some c)
-done_handing p to octets net c d = record {
-  command = model.Hands to (length octets) d.read;
-  is = (d.read, d.comes, refl);
-  askable = d.askable;
-  carried = d.course;
-}
-
-pub done_delivering : (p : Point) (agents : ℕ) (dsp : Bool) (to : ℕ) (octets : List ℕ) (net : Net) (c : Course) → IsTaken agents (lines.Deliver dsp to octets)
-    → IsDelivery p to octets net c → IsDone p (script.Delivers dsp to octets) net (Some c)
-done_delivering p agents true to octets net c taken d = absurd taken
-done_delivering p agents false to octets net c taken d = done_handing p to octets net c d
-
 -- ---- what came of octets
 
-abbrev handed : Journal → ℕ → Reply → Course
-handed journal count reply = record { journal = journal; outcome = Handed count reply }
+abbrev handed : Bool → Journal → ℕ → Reply → Course
+handed dsp journal count reply = record { journal = journal; outcome = Handed dsp count reply }
 
-abbrev rejected : List ℕ → ℕ → Fate → typed.Breach → Course
-rejected name count fate breach = record {
+abbrev rejected : Bool → List ℕ → ℕ → Fate → typed.Breach → Course
+rejected dsp name count fate breach = record {
   journal = record { lines = []; accepted = [] };
-  outcome = Rejected name count fate breach;
+  outcome = Rejected dsp name count fate breach;
 }
 
-module _ (old new : Net) (p : Point) (to : ℕ) (octets : List ℕ) (s : StandsAt old p) (there : to < length old.names) where
+module _ (old new : Net) (p : Point) (dsp : Bool) (to : ℕ) (octets : List ℕ) (s : StandsAt old p) (there : to < length old.names) where
   abbrev n : ℕ
   n = length octets
 
-  handed_command : (reply : Reply) (journal : Journal) (r : Request) → IsAnswered old new p to r reply journal
-      → NamesAgents old.names reply journal → IsCourse p (model.Hands to n (Ok r)) new (handed journal n reply)
-  handed_command reply journal r a named =
-      let told : IsTold old.names (model.Hands to n (Ok r)) journal (Handed n reply) (model.Handed n a.whole (reply_view old.names reply)) =
+  abbrev via : model.Protocol
+  via = protocol_view dsp
+
+  abbrev hands : Result Chained Breach → Command
+  hands e = model.Hands via to n e
+
+  -- what is done of them, by what they come to
+  done_handing : (e : Result Chained Breach) (c : Course) → Comes old.names via octets e → IsAskable p.described (hands e)
+      → IsCourse p (hands e) new c → IsDone p (script.Delivers dsp to octets) new (Some c)
+  done_handing e c comes askable course = record {
+    command = hands e;
+    is = (e, subst (λ (names : List (List ℕ)). Comes names via octets e) s.names comes, refl);
+    askable = askable;
+    carried = course;
+  }
+
+  handed_command : (reply : Reply) (journal : Journal) (m : Chained) → IsAnswered old new p to m reply journal
+      → NamesAgents old.names reply journal → IsCourse p (hands (Ok m)) new (handed dsp journal n reply)
+  handed_command reply journal m a named =
+      let told : IsTold old.names (hands (Ok m)) journal (Handed dsp n reply) (model.Handed via n a.whole (reply_view old.names reply)) =
       (a.whole, (a.lines, a.accepted), refl) in
       record {
-        block = model.Handed n a.whole (reply_view old.names reply);
-        gives = record { is = (refl, a.asked); stands = a.stands };
-        told = subst (λ (ns : List (List ℕ)). IsTold ns (model.Hands to n (Ok r)) journal (Handed n reply) (model.Handed n a.whole (reply_view old.names reply))) s.names told;
+        block = model.Handed via n a.whole (reply_view old.names reply);
+        gives = record { is = (refl, refl, a.asked); stands = a.stands };
+        told = subst (λ (ns : List (List ℕ)). IsTold ns (hands (Ok m)) journal (Handed dsp n reply) (model.Handed via n a.whole (reply_view old.names reply))) s.names told;
         known = subst (λ (ns : List (List ℕ)). block_known ns journal (Answered reply) ≡ true) s.names (answer_known old.names reply journal named);
       }
 
-  pub handed_course : (reply : Reply) (journal : Journal) → IsDeliveredAt old new p to octets (delivered.Answered reply journal)
-      → NamesAgents old.names reply journal → IsDelivery p to octets new (handed journal n reply)
+  pub handed_course : (reply : Reply) (journal : Journal) → IsDeliveredAt old new p via to octets (delivered.Answered reply journal)
+      → NamesAgents old.names reply journal → IsDone p (script.Delivers dsp to octets) new (Some (handed dsp journal n reply))
   handed_course reply journal d named = by d.read d.comes d.short d.delivered
     where
-      by : (e : Result Request Breach) → Comes octets e → ((r : Request) → e ≡ Ok r → HasShortNames r.body)
-          → IsDelivered old new p to n e (delivered.Answered reply journal) → IsDelivery p to octets new (handed journal n reply)
-      by (Ok r) comes short a = record {
-        read = Ok r;
-        comes = comes;
-        askable = asks_one p.described to r (there_in old p to s there) (short r refl);
-        course = handed_command reply journal r a named;
-      }
+      by : (e : Result Chained Breach) → Comes old.names via octets e → ((m : Chained) → e ≡ Ok m → IsShort m)
+          → IsDelivered old new p via to n e (delivered.Answered reply journal)
+          → IsDone p (script.Delivers dsp to octets) new (Some (handed dsp journal n reply))
+      by (Ok m) comes short a =
+          done_handing (Ok m) (handed dsp journal n reply) comes
+          (may_send p.described (hands (Ok m)) to m refl (there_in old p to s there) (short m refl))
+          (handed_command reply journal m a named)
       by (Err b) comes short a = absurd a
 
-  pub rejected_course : (name : List ℕ) (fate : Fate) (breach : typed.Breach) → IsDeliveredAt old new p to octets (delivered.Rejected name fate breach)
-      → is_agent old.names name ≡ true → IsDelivery p to octets new (rejected name n fate breach)
+  pub rejected_course : (name : List ℕ) (fate : Fate) (breach : typed.Breach) → IsDeliveredAt old new p via to octets (delivered.Rejected name fate breach)
+      → is_agent old.names name ≡ true → IsDone p (script.Delivers dsp to octets) new (Some (rejected dsp name n fate breach))
   rejected_course name fate breach d is = by d.read d.comes d.delivered
     where
-      by : (e : Result Request Breach) → Comes octets e → IsDelivered old new p to n e (delivered.Rejected name fate breach)
-          → IsDelivery p to octets new (rejected name n fate breach)
-      by (Ok r) comes a = absurd a
-      by (Err b) comes a = record {
-        read = Err b;
-        comes = comes;
-        askable = λ first r e. cc;
-        course = record {
-          block = model.Rejected (model.raw_to p to n) b;
-          gives = record { is = (refl, refl); stands = a.3 };
-          told = (λ i. model.Rejected (record {
-            receiver = (sym a.0 ∙ ap (λ (ns : List (List ℕ)). agent_of ns name) s.names) i;
-            count = n;
-            fate = sym a.1 i;
-          }) (sym a.2 i));
-          known = subst (λ (ns : List (List ℕ)). is_known ns name ≡ true) s.names (named old.names name is);
-        };
-      }
+      by : (e : Result Chained Breach) → Comes old.names via octets e → IsDelivered old new p via to n e (delivered.Rejected name fate breach)
+          → IsDone p (script.Delivers dsp to octets) new (Some (rejected dsp name n fate breach))
+      by (Ok m) comes a = absurd a
+      by (Err b) comes a =
+          done_handing (Err b) (rejected dsp name n fate breach) comes (may_send_none p.described (hands (Err b)) refl) (record {
+            block = model.Rejected (model.raw_to p via to n) b;
+            gives = record { is = (refl, refl); stands = a.3 };
+            told = (λ i. model.Rejected (record {
+              protocol = via;
+              receiver = (sym a.0 ∙ ap (λ (ns : List (List ℕ)). agent_of ns name) s.names) i;
+              count = n;
+              fate = sym a.1 i;
+            }) (sym a.2 i));
+            known = subst (λ (ns : List (List ℕ)). is_known ns name ≡ true) s.names (named old.names name is);
+          })
 
 -- ---- what is printed of it
 
@@ -328,10 +332,10 @@ is_text_of f line c text prints = record { prints = λ command b told known. by 
     by j (outcomes.Refreshed number g heard) command b told is =
         is command told.refreshing told.agreement told.lines told.outcome
         ∙ ap (λ (x : Block). print.block_text (names_of f.world (moment_text f.start)) line command x) (sym told.is)
-    by j (Handed count reply) command b told is =
+    by j (Handed dsp count reply) command b told is =
         is command told.0 told.1
         ∙ ap (λ (x : Block). print.block_text (names_of f.world (moment_text f.start)) line command x) (sym told.2)
-    by j (Rejected to count fate breach) command b told is =
+    by j (Rejected dsp to count fate breach) command b told is =
         is command ∙ ap (λ (x : Block). print.block_text (names_of f.world (moment_text f.start)) line command x) (sym told)
     by j NotConsistent command b told is =
         is command (refresh.ended [] refresh.NotConsistent) (sym (ap (λ (ls : List Message). shadows_view (names_of_agents f.world) ls) told.0)) refl
@@ -343,7 +347,7 @@ pub is_text_at : (f : File) (line : ℕ) (c : Course) (text shown : List ℕ) �
     → IsTextOf f line c shown
 is_text_at f line c text shown e prints = subst (IsTextOf f line c) (sym e) (is_text_of f line c text prints)
 
-module _ (f : File) (past : List Did) (line : ℕ) (a : Asked) (command : Command) (net : Net) (is : IsCommand a command)
+module _ (f : File) (past : List Did) (line : ℕ) (a : Asked) (command : Command) (net : Net) (is : IsCommand (names_of_agents f.world) a command)
     (askable : IsAskable f.world command) where
   block_text_of : (c : Course) → IsCourse (point f.world past) command net c → (text : List ℕ) → IsTextOf f line c text
       → IsAskedText f past line a net text

@@ -21,22 +21,16 @@ use Rattle.xdir.specs.declared.top.Status.{Status}
 use Rattle.xdir.specs.declared.top.Status.TheVariants.{Done, Refused, Usage, ReadFault, WriteFault, NoMemory, Inconsistent, TooLong}
 use Rattle.xdir.specs.Faults.{IsWorldLine, IsScriptLine, IsRefusalLine}
 use Rattle.xdir.specs.Outcomes.{IsReadable, most_octets}
-use Rattle.xdir.specs.Run.{lost_in, AsksFor, Runs, RunsSoFar, RefusesFile, no_json, faulty, RefusesWorld, RefusesScript, faulty_line, not_yet, Refuses, Writes, TakesWorld, FilesRead}
+use Rattle.xdir.specs.Run.{lost_in, AsksFor, Runs, RunsSoFar, RefusesFile, no_json, faulty, RefusesWorld, RefusesScript, Refuses, Writes, TakesWorld, FilesRead}
 use Rattle.x5_model_tree.specs.World.{names_of_agents}
-use Rattle.xdir.specs.Steps.{WritesSuchLine, WritesRun, IsAskedOutput, IsFirstAskedOutput, IsNotYet, WritesAsked, IsScriptOutput, IsFirstScriptOutput, WritesScript, OfScript, WritesScriptFile, ReadsFile}
+use Rattle.xdir.specs.Steps.{WritesSuchLine, WritesRun, IsAskedOutput, IsFirstAskedOutput, IsScriptOutput, IsFirstScriptOutput, WritesScript, OfScript, WritesScriptFile, ReadsFile}
 use Rattle.xdir.proofs.Ends.{ends_more, rose_later, wrote_more, broke_more, such_ends}
 
--- ---- what is asked for, as it is run
-
-module _ (f : File) (asked : List Asked) where
-  pub nothing : (text : List ℕ) → ⊥ → IsNotYet asked text
-  nothing text p = absurd p
-
-  pub runs_asked : (status : Status) (old new : Option (List ℕ)) (before after : ℕ) → WritesRun status f asked old new before after
-      → WritesAsked status f asked old new before after
-  runs_asked status old new before after w = ends_more (λ text p. p) (λ text p. p) nothing status old new before after w
-
 -- ---- a script over a world
+
+-- no line of a script that reads is refused
+pub no_line : (f : File) (octets text : List ℕ) → ⊥ → RefusesScript f.world octets text
+no_line f octets text p = absurd p
 
 module _ (f : File) (octets : List ℕ) (asked : List Asked) (asks : AsksFor f.world octets asked) where
   script_output : (text : List ℕ) → IsAskedOutput f asked text → IsScriptOutput f octets text
@@ -45,12 +39,9 @@ module _ (f : File) (octets : List ℕ) (asked : List Asked) (asks : AsksFor f.w
   first_script : (text : List ℕ) → IsFirstAskedOutput f asked text → IsFirstScriptOutput f octets text
   first_script text p = record { asked = asked; asks = asks; first = p }
 
-  pub other_line : (text : List ℕ) → IsNotYet asked text → RefusesScript f.world octets text
-  other_line text p = not_yet asked p.before asks p.first p.is_line
-
-  pub runs_script : (status : Status) (old new : Option (List ℕ)) (before after : ℕ) → WritesAsked status f asked old new before after
+  pub runs_script : (status : Status) (old new : Option (List ℕ)) (before after : ℕ) → WritesRun status f asked old new before after
       → WritesScript status f octets old new before after
-  runs_script status old new before after w = ends_more script_output first_script other_line status old new before after w
+  runs_script status old new before after w = ends_more script_output first_script (no_line f octets) status old new before after w
 
 -- as it was read, given the names of the agents and how many replies are lost
 pub asked_for : (f : File) (names : List (List ℕ)) (lost : ℕ) (octets : List ℕ) (cs items : List Line) → names ≡ names_of_agents f.world → lost ≡ lost_in f.world
@@ -69,11 +60,16 @@ refused_for f names lost octets refusal same_names same_lost h =
 -- the line of a script's first line that is refused
 refuses_as : (f : File) (octets : List ℕ) (number : ℕ) (fault : ScriptFault) → IsLineFault number fault (script_of (names_of_agents f.world) (lost_in f.world) octets)
     → (text : List ℕ) → IsScriptLine number fault text → RefusesScript f.world octets text
-refuses_as f octets number (script.BadWord column) h text is = faulty_line number (words.BadWord column) h is
-refuses_as f octets number (script.BadName column) h text is = faulty_line number (words.BadName column) h is
-refuses_as f octets number (script.BadFilter column) h text is = faulty_line number (words.BadFilter column) h is
-refuses_as f octets number (script.BadHex column) h text is = faulty_line number (words.BadHex column) h is
-refuses_as f octets number script.LineTooLong h text is = faulty_line number words.Long h is
+refuses_as f octets number (script.BadWord column) h text is =
+    record { number = number; fault = words.BadWord column; refused = h; is_line = is }
+refuses_as f octets number (script.BadName column) h text is =
+    record { number = number; fault = words.BadName column; refused = h; is_line = is }
+refuses_as f octets number (script.BadFilter column) h text is =
+    record { number = number; fault = words.BadFilter column; refused = h; is_line = is }
+refuses_as f octets number (script.BadHex column) h text is =
+    record { number = number; fault = words.BadHex column; refused = h; is_line = is }
+refuses_as f octets number script.LineTooLong h text is =
+    record { number = number; fault = words.Long; refused = h; is_line = is }
 refuses_as f octets number script.NoMemory h text is = absurd is
 
 -- and of a script that is refused, by how it is
@@ -162,7 +158,7 @@ module _ (told : Option (List outside.File)) (names : FileNames) (octets : List 
         → Writes status told names old new before after
     of_files status old new before after w = ends_more run_of first_of refusal_of status old new before after w
 
-    takes : IsReadable told names.world → TakesWorld told names.world
+    pub takes : IsReadable told names.world → TakesWorld told names.world
     takes r = record { readable = r; world = octets; world_is = octets_is; file = f; described = described }
 
     pub reads_both : (status : Status) (first before after : ℕ) (failed old new : Option (List ℕ)) → IsReadable told names.world → first ≤ before

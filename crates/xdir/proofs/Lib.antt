@@ -16,3 +16,4 @@ pub mod Telling
 pub mod Trees
 pub mod TreeEnds
 pub mod Named
+pub mod Keeping

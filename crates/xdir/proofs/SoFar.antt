@@ -12,6 +12,7 @@ use Rattle.x5_model_settled.proofs.Steps.{steps_print_performed}
 use Rattle.x5_port.specs.Outside.{with_octets}
 use Rattle.x5_port.proofs.Octets.{with_octets-with_octets}
 use Rattle.x5_know.specs.Moments.{moment_text}
+use Rattle.x5_model_tree.specs.World.{names_of_agents}
 use Rattle.x5_model_world.specs.WorldFile.{File}
 use Rattle.x5_model_script.specs.Lines.{Asked}
 use Rattle.x5_script.specs.declared.command.Command.{Command as Line}
@@ -105,24 +106,25 @@ taken_at agents commands i c within is all =
 
 -- ---- lines as commands
 
-pub commands_more : (asked : List Asked) (commands : List Command) (a : Asked) (c : Command) → AreCommands asked commands → IsCommand a c
-    → AreCommands (asked ++ a ∷ []) (commands ++ c ∷ [])
-commands_more [] [] a c are is = (is, tt)
-commands_more [] (d ∷ ds) a c are is = absurd are
-commands_more (b ∷ bs) [] a c are is = absurd are
-commands_more (b ∷ bs) (d ∷ ds) a c are is = (are.0, commands_more bs ds a c are.1 is)
+module _ (names : List (List ℕ)) where
+  pub commands_more : (asked : List Asked) (commands : List Command) (a : Asked) (c : Command) → AreCommands names asked commands
+      → IsCommand names a c → AreCommands names (asked ++ a ∷ []) (commands ++ c ∷ [])
+  commands_more [] [] a c are is = (is, tt)
+  commands_more [] (d ∷ ds) a c are is = absurd are
+  commands_more (b ∷ bs) [] a c are is = absurd are
+  commands_more (b ∷ bs) (d ∷ ds) a c are is = (are.0, commands_more bs ds a c are.1 is)
 
-as_many_commands : (asked : List Asked) (commands : List Command) → AreCommands asked commands → length asked ≡ length commands
-as_many_commands [] [] are = refl
-as_many_commands [] (d ∷ ds) are = absurd are
-as_many_commands (b ∷ bs) [] are = absurd are
-as_many_commands (b ∷ bs) (d ∷ ds) are = ap suc (as_many_commands bs ds are.1)
+  as_many_commands : (asked : List Asked) (commands : List Command) → AreCommands names asked commands → length asked ≡ length commands
+  as_many_commands [] [] are = refl
+  as_many_commands [] (d ∷ ds) are = absurd are
+  as_many_commands (b ∷ bs) [] are = absurd are
+  as_many_commands (b ∷ bs) (d ∷ ds) are = ap suc (as_many_commands bs ds are.1)
 
 -- ---- the output so far, of which the text was written
 
 pub record IsSoFar (f : File) (asked : List Asked) (net : Net) (old now : Option (List ℕ)) : Type 0 where
   pub commands : List Command
-  pub are : AreCommands asked commands
+  pub are : AreCommands (names_of_agents f.world) asked commands
   pub text : List ℕ
   pub is_text : IsText f commands net text
   pub whole : now ≡ with_octets text old
@@ -139,13 +141,13 @@ module _ (f : File) (asked : List Asked) (net : Net) (old now : Option (List ℕ
   line_more later block b =
       one_more f far.commands net far.text far.is_text b.command later block b.askable
       (subst (λ (n : ℕ). IsBlockText f far.is_text.past (n + 1) b.command later block)
-      (as_many_commands asked far.commands far.are) b.text_is)
+      (as_many_commands (names_of_agents f.world) asked far.commands far.are) b.text_is)
 
   pub output_more : (later : Net) (block : List ℕ) → IsAskedText f far.is_text.past (length asked + 1) a later block
       → IsAskedOutput f (asked ++ a ∷ []) (far.text ++ block)
   output_more later block b = record {
     commands = far.commands ++ b.command ∷ [];
-    are = commands_more asked far.commands a b.command far.are b.is;
+    are = commands_more (names_of_agents f.world) asked far.commands a b.command far.are b.is;
     prints = is_output f (far.commands ++ b.command ∷ []) later (far.text ++ block) (line_more later block b);
   }
 
@@ -160,7 +162,7 @@ so_far_more f asked a net later old mid new before after far writes =
     let wrote = writes far.is_text.past far.is_text.stands in
     record {
       commands = far.commands ++ wrote.is.command ∷ [];
-      are = commands_more asked far.commands a wrote.is.command far.are wrote.is.is;
+      are = commands_more (names_of_agents f.world) asked far.commands a wrote.is.command far.are wrote.is.is;
       text = far.text ++ wrote.text;
       is_text = line_more f asked net old mid far a later wrote.text wrote.is;
       whole = wrote.whole ∙ ap (λ (taken : Option (List ℕ)). with_octets wrote.text taken) far.whole ∙ with_octets-with_octets far.text wrote.text old;

@@ -15,9 +15,9 @@ use Rattle.xdir.specs.Faults.{IsWorldLine, IsRefusalLine}
 use Rattle.xdir.specs.Run.{lost_in, AsksFor}
 use Rattle.x5_model_tree.specs.World.{names_of_agents}
 use Rattle.xdir.specs.Steps.{WritesSuchLine, OfScript}
-use Rattle.xdir.specs.Summed.{Sums, EndsAtOnce, WritesSummed, SumsRun, IsAskedSummary, SumsAsked, IsScriptSummary, SumsScript, SumsScriptFile}
+use Rattle.xdir.specs.Summed.{Sums, EndsAtOnce, WritesSummed, SumsRun, IsAskedSummary, IsScriptSummary, SumsScript, SumsScriptFile}
 use Rattle.xdir.proofs.Ends.{wrote_more, broke_more}
-use Rattle.xdir.proofs.Files.{nothing, other_line, refused_as, refusal_of, wrong_as}
+use Rattle.xdir.proofs.Files.{no_line, refused_as, refusal_of, wrong_as}
 
 -- what is said of the texts may say less
 module _ {output refusal output' refusal' : List ℕ → Type 0} (out : (text : List ℕ) → output text → output' text) (refuse : (text : List ℕ) → refusal text → refusal' text) where
@@ -49,22 +49,16 @@ module _ {P Q : List ℕ → Type 0} (more : (text : List ℕ) → P text → Q 
   such_at_once output Usage old new before after w = absurd w
   such_at_once output Inconsistent old new before after w = w
 
--- ---- what is asked for, and a script
-
-module _ (f : File) (asked : List Asked) where
-  pub sums_asked : (status : Status) (old new : Option (List ℕ)) (before after : ℕ) → SumsRun status f asked old new before after
-      → SumsAsked status f asked old new before after
-  sums_asked status old new before after w =
-      at_once_more (λ text s. s) (nothing f asked) status old new before after w
+-- ---- a script
 
 module _ (f : File) (octets : List ℕ) (asked : List Asked) (asks : AsksFor f.world octets asked) where
   script_summary : (text : List ℕ) → IsAskedSummary f asked text → IsScriptSummary f octets text
   script_summary text s = record { asked = asked; asks = asks; sums = s }
 
-  pub sums_script : (status : Status) (old new : Option (List ℕ)) (before after : ℕ) → SumsAsked status f asked old new before after
+  pub sums_script : (status : Status) (old new : Option (List ℕ)) (before after : ℕ) → SumsRun status f asked old new before after
       → SumsScript status f octets old new before after
   sums_script status old new before after w =
-      at_once_more script_summary (other_line f octets asked asks) status old new before after w
+      at_once_more script_summary (no_line f octets) status old new before after w
 
 pub sums_refused : (f : File) (octets : List ℕ) (refusal : ScriptRefusal) → ReadsScript (Err refusal) (names_of_agents f.world) (lost_in f.world) octets
     → (status : Status) (old new : Option (List ℕ)) (before after : ℕ) → WritesSuchLine status (IsRefusalLine refusal) old new before after

@@ -2,30 +2,24 @@
 use Rattle.std.proofs.Common.{◌≡◌, ◌≤◌, ◌⊎◌, inl, inr, ℕ, List, Option, Ok, Err}
 use Rattle.x5_load.specs.Views.{Loads}
 use Rattle.x5_model_script.specs.Lines.{Asked}
-use Rattle.x5_model_script.specs.Script.{script_of}
-use Rattle.x5_model_script.specs.Words as words
 use Rattle.x5_model_world.specs.WorldFile.{File, Describes}
 use Rattle.x5_port.specs.Outside as outside
 use Rattle.x5_port.specs.Outside.{IsContent, Rose, with_octets, TookPrefix}
-use Rattle.x5_script.specs.Views.{IsLineFault, ReadsScript}
-use Rattle.x5_script.specs.declared.command.ScriptFault.{ScriptFault}
-use Rattle.x5_script.specs.declared.command.ScriptFault.TheVariants as script
+use Rattle.x5_script.specs.Views.{ReadsScript}
 use Rattle.x5_script.specs.declared.script.ScriptRefusal.{ScriptRefusal}
-use Rattle.x5_script.specs.declared.script.ScriptRefusal.TheVariants as refusals
 use Rattle.x5_world_members.specs.declared.fault.LoadFault.{LoadFault}
 use Rattle.x5_words.specs.Forms.{FileNames}
 use Rattle.xdir.specs.declared.top.Status.{Status}
 use Rattle.xdir.specs.declared.top.Status.TheVariants.{Done, Refused, Usage, ReadFault, WriteFault, NoMemory, Inconsistent, TooLong}
 use Rattle.xdir.specs.Checked.{knowledge_text, IsInconsistent, ReadsChecked}
-use Rattle.xdir.specs.Faults.{IsWorldLine, IsScriptLine, IsRefusalLine}
+use Rattle.xdir.specs.Faults.{IsWorldLine, IsRefusalLine}
 use Rattle.xdir.specs.Outcomes.{IsReadable}
-use Rattle.xdir.specs.Run.{lost_in, AsksFor}
+use Rattle.xdir.specs.Run.{lost_in, AsksFor, RefusesWorld}
 use Rattle.x5_model_tree.specs.World.{names_of_agents}
 use Rattle.xdir.specs.Steps.{WritesSuchLine, OfScript}
-use Rattle.xdir.specs.Text.{refused_line_text}
-use Rattle.xdir.specs.Tree.{TakesBoth, Tells, TellsSoFar, TellsNone, RefusesFirst, RefusesALine, RefusesEither, EndsTree, WritesTree, TakesFirst, ReadsTree, IsTold, IsToldSoFar, IsNoTree, TellsLines, OfLines, TellsScript, TellsFile}
+use Rattle.xdir.specs.Tree.{TakesBoth, Tells, TellsSoFar, TellsNone, EndsTree, WritesTree, ReadsTree, IsTold, IsToldSoFar, IsNoTree, TellsLines, OfLines, TellsScript, TellsFile}
 use Rattle.xdir.proofs.Ends.{rose_later, wrote_more, broke_more}
-use Rattle.xdir.proofs.Files.{wrong}
+use Rattle.xdir.proofs.Files.{no_line, refused_as, refusal_of, takes, wrong_as}
 
 -- ---- in general
 
@@ -78,41 +72,18 @@ module _ (f : File) (asked : List Asked) (inconsistent : IsInconsistent f.world)
 
 -- ---- a script
 
-nothing : (f : File) (octets text : List ℕ) → ⊥ → RefusesALine f.world octets text
-nothing f octets text p = absurd p
-
 pub tells_script : (f : File) (octets : List ℕ) (asked : List Asked) → AsksFor f.world octets asked
     → (status : Status) (old new : Option (List ℕ)) (before after : ℕ) → TellsLines status f asked old new before after
     → TellsScript status f octets old new before after
 tells_script f octets asked asks status old new before after w =
-    tree_more (λ text p. (asked, asks, p)) (λ text p. (asked, asks, p)) (λ text p. (asked, asks, p)) (nothing f octets) status old new
+    tree_more (λ text p. (asked, asks, p)) (λ text p. (asked, asks, p)) (λ text p. (asked, asks, p)) (no_line f octets) status old new
     before after w
-
-a_line : (f : File) (octets : List ℕ) (number : ℕ) (fault : words.Fault)
-    → script_of (names_of_agents f.world) (lost_in f.world) octets ≡ Err (number, fault) → (text : List ℕ)
-    → text ≡ refused_line_text number fault → RefusesALine f.world octets text
-a_line f octets number fault h text is = record { number = number; fault = fault; refused = h; is_line = is }
-
-line_as : (f : File) (octets : List ℕ) (number : ℕ) (fault : ScriptFault)
-    → IsLineFault number fault (script_of (names_of_agents f.world) (lost_in f.world) octets) → (text : List ℕ) → IsScriptLine number fault text
-    → RefusesALine f.world octets text
-line_as f octets number (script.BadWord column) h text is = a_line f octets number (words.BadWord column) h text is
-line_as f octets number (script.BadName column) h text is = a_line f octets number (words.BadName column) h text is
-line_as f octets number (script.BadFilter column) h text is = a_line f octets number (words.BadFilter column) h text is
-line_as f octets number (script.BadHex column) h text is = a_line f octets number (words.BadHex column) h text is
-line_as f octets number script.LineTooLong h text is = a_line f octets number words.Long h text is
-line_as f octets number script.NoMemory h text is = absurd is
-
-refusal_as : (f : File) (octets : List ℕ) (refusal : ScriptRefusal) → ReadsScript (Err refusal) (names_of_agents f.world) (lost_in f.world) octets
-    → (text : List ℕ) → IsRefusalLine refusal text → RefusesALine f.world octets text
-refusal_as f octets (refusals.Line number fault) h text is = line_as f octets number fault h text is
-refusal_as f octets refusals.NoMemory h text is = absurd is
 
 pub refuses_line : (f : File) (octets : List ℕ) (refusal : ScriptRefusal) → ReadsScript (Err refusal) (names_of_agents f.world) (lost_in f.world) octets
     → (status : Status) (old new : Option (List ℕ)) (before after : ℕ) → WritesSuchLine status (IsRefusalLine refusal) old new before after
     → TellsScript status f octets old new before after
 refuses_line f octets refusal h status old new before after w =
-    such_ends_tree (refusal_as f octets refusal h) (OfLines f IsTold octets) (OfLines f IsToldSoFar octets) (OfLines f IsNoTree octets)
+    such_ends_tree (refused_as f octets refusal h) (OfLines f IsTold octets) (OfLines f IsToldSoFar octets) (OfLines f IsNoTree octets)
     status old new before after w
 
 pub tells_file : (told : Option (List outside.File)) (name octets : List ℕ) (f : File) → IsContent told name octets
@@ -155,23 +126,9 @@ module _ (told : Option (List outside.File)) (names : FileNames) (octets : List 
     none_as : (text : List ℕ) → OfScript told names.script (OfLines f IsNoTree) text → TellsNone told names text
     none_as text p = record { both = taken p.0 p.1 p.2.0 p.2.1; inconsistent = p.2.2.inconsistent; is_line = p.2.2.is_line }
 
-    second_as : (text : List ℕ) → OfScript told names.script (RefusesALine f.world) text → RefusesEither told names text
-    second_as text p = inr (record {
-      world = octets;
-      script = p.0;
-      world_is = octets_is;
-      script_is = p.1;
-      file = f;
-      described = described;
-      refuses = p.2;
-    })
-
     pub writes_tree : (status : Status) (old new : Option (List ℕ)) (before after : ℕ) → TellsFile status told names.script f old new before after
         → WritesTree status told names old new before after
-    writes_tree status old new before after w = tree_more told_as first_as none_as second_as status old new before after w
-
-    takes : IsReadable told names.world → TakesFirst told names.world
-    takes r = record { readable = r; world = octets; world_is = octets_is; file = f; described = described }
+    writes_tree status old new before after w = tree_more told_as first_as none_as (refusal_of told names octets octets_is f described) status old new before after w
 
     pub reads_tree : (status : Status) (first before after : ℕ) (failed old new : Option (List ℕ)) → IsReadable told names.world
         → first ≤ before → ReadsChecked status names.script told before after failed → ReadsTree status names told first after failed old new
@@ -180,25 +137,25 @@ module _ (told : Option (List outside.File)) (names : FileNames) (octets : List 
     reads_tree Refused first before after failed old new r le o = (r, inr o)
     reads_tree WriteFault first before after failed old new r le o = (r, inr o)
     reads_tree NoMemory first before after failed old new r le o = tt
-    reads_tree ReadFault first before after failed old new r le o = (rose_later first before after le o.0, inr (o.1, takes r))
-    reads_tree TooLong first before after failed old new r le o = inr (o, takes r)
+    reads_tree ReadFault first before after failed old new r le o = (rose_later first before after le o.0, inr (o.1, takes told names octets octets_is f described r))
+    reads_tree TooLong first before after failed old new r le o = inr (o, takes told names octets octets_is f described r)
     reads_tree Usage first before after failed old new r le o = absurd o
 
   -- one that isn't
   module _ (fault : LoadFault) (faults : Loads (Err fault) octets) where
-    wrong_as : (text : List ℕ) → IsWorldLine fault text → RefusesFirst told names.world text
-    wrong_as text is = record { world = octets; world_is = octets_is; refuses = wrong octets fault faults text is }
+    abbrev line_as : (text : List ℕ) → IsWorldLine fault text → RefusesWorld told names.world text
+    line_as = wrong_as told names octets octets_is fault faults
 
     pub writes_refused : (status : Status) (old new : Option (List ℕ)) (before after : ℕ) → WritesSuchLine status (IsWorldLine fault) old new before after
         → WritesTree status told names old new before after
     writes_refused status old new before after w =
-        such_ends_tree (λ text p. inl (wrong_as text p)) (Tells told names) (TellsSoFar told names) (TellsNone told names) status old new
+        such_ends_tree (λ text p. inl (line_as text p)) (Tells told names) (TellsSoFar told names) (TellsNone told names) status old new
         before after w
 
     pub reads_refused : (status : Status) (first after rising risen : ℕ) (failed old new : Option (List ℕ)) → IsReadable told names.world
         → WritesSuchLine status (IsWorldLine fault) old new rising risen → ReadsTree status names told first after failed old new
-    reads_refused Refused first after rising risen failed old new r w = (r, inl (wrote_more wrong_as old new w))
-    reads_refused WriteFault first after rising risen failed old new r w = (r, inl (broke_more wrong_as old new w.1))
+    reads_refused Refused first after rising risen failed old new r w = (r, inl (wrote_more line_as old new w))
+    reads_refused WriteFault first after rising risen failed old new r w = (r, inl (broke_more line_as old new w.1))
     reads_refused NoMemory first after rising risen failed old new r w = tt
     reads_refused Done first after rising risen failed old new r w = absurd w
     reads_refused ReadFault first after rising risen failed old new r w = absurd w

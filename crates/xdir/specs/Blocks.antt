@@ -1,8 +1,6 @@
--- What comes of one command of a run, by what agents do with a request (X.518, sections 17 to 21), and what is written
+-- What comes of one command of a run, by what agents do with a message (X.518, sections 17 to 21), and what is written
 -- of it.
-use Rattle.std.specs.Prelude.{◌≡◌, ℕ, Bool, true, List, [], length, Option, None, Some}
-use Rattle.std.specs.declared.result.Result.{Result}
-use Rattle.x5_model.specs.Requests.{Request}
+use Rattle.std.specs.Prelude.{◌≡◌, ℕ, Bool, true, List, [], Option, None, Some}
 use Rattle.x5_know.specs.Moments.{moment_text}
 use Rattle.x5_model_output.specs.Output.{names_of, number_of, block_text}
 use Rattle.x5_model_run.specs.History.{Did, Point}
@@ -13,9 +11,9 @@ use Rattle.x5_model_run.specs.Refresh as refresh
 use Rattle.x5_model_script.specs.Lines.{Asked}
 use Rattle.x5_model_settled.specs.Held.{BySteps}
 use Rattle.x5_model_settled.specs.Runs.{IsAskable}
-use Rattle.x5_model_typed.specs.Judged.{Breach}
 use Rattle.x5_model_world.specs.WorldFile.{File}
 use Rattle.x5_ops.specs.AnswerViews.{reply_view}
+use Rattle.x5_ops.specs.JournalViews.{protocol_view}
 use Rattle.x5_ops.specs.RefreshViews.{shadows_view, refreshed_view}
 use Rattle.x5_ops.specs.declared.journal.Journal.{Journal}
 use Rattle.x5_ops.specs.declared.journal.Refreshed.{Refreshed}
@@ -25,7 +23,6 @@ use Rattle.x5_report.specs.declared.report.LineOutcome.{LineOutcome}
 use Rattle.x5_report.specs.declared.report.LineOutcome.TheVariants.{Set, Answered, Plain, NotConsistent, Handed, Rejected}
 use Rattle.x5_report.specs.declared.report.LineOutcome.TheVariants as outcomes
 use Rattle.x5_typed.specs.Breaches.{breach_view}
-use Rattle.x5_world.specs.Delivered.{Comes}
 use Rattle.x5_world.specs.State.{Net, StandsAt, after}
 use Rattle.x5_model_tree.specs.World.{names_of_agents}
 use Rattle.xdir.specs.Outcomes.{Wrote, Broke}
@@ -59,10 +56,11 @@ IsTold names command j (Plain reply) b = ⊥
 IsTold names command j (outcomes.Refreshed number f heard) b = IsRefresh names command j number f heard b
 IsTold names command j NotConsistent b =
     (j.lines ≡ []) × (b ≡ model.Refreshing (refresh.ended [] refresh.NotConsistent))
-IsTold names command j (Handed count reply) b =
-    (m : messages.Journal) × IsJournal names j m × (b ≡ model.Handed count m (reply_view names reply))
-IsTold names command j (Rejected to count fate breach) b =
-    b ≡ model.Rejected (raw_of names to count fate) (breach_view breach)
+IsTold names command j (Handed dsp count reply) b =
+    (m : messages.Journal) × IsJournal names j m
+    × (b ≡ model.Handed (protocol_view dsp) count m (reply_view names reply))
+IsTold names command j (Rejected dsp to count fate breach) b =
+    b ≡ model.Rejected (raw_of names dsp to count fate) (breach_view breach)
 
 -- what came of a command: of a comment nothing is told
 pub record IsCourse (p : Point) (command : Command) (net : Net) (c : Course) : Type 0 where
@@ -75,17 +73,10 @@ abbrev pub IsCarriedOut : Point → Command → Net → Option Course → Type 0
 IsCarriedOut p command net None = Gives p command net Silent
 IsCarriedOut p command net (Some c) = IsCourse p command net c
 
--- what came of octets that are handed to an agent, by what they come to
-pub record IsDelivery (p : Point) (to : ℕ) (octets : List ℕ) (net : Net) (c : Course) : Type 0 where
-  pub read : Result Request Breach
-  pub comes : Comes octets read
-  pub askable : IsAskable p.described (model.Hands to (length octets) read)
-  pub course : IsCourse p (model.Hands to (length octets) read) net c
-
 -- what a line asks for was done, as this command
 pub record IsDone (p : Point) (asked : Asked) (net : Net) (o : Option Course) : Type 0 where
   pub command : Command
-  pub is : IsCommand asked command
+  pub is : IsCommand (names_of_agents p.described) asked command
   pub askable : IsAskable p.described command
   pub carried : IsCarriedOut p command net o
 
@@ -117,7 +108,7 @@ pub record IsBlockText (f : File) (past : List Did) (line : ℕ) (command : Comm
 pub record IsAskedText (f : File) (past : List Did) (line : ℕ) (asked : Asked) (net : Net) (text : List ℕ) : Type 0
   where
     pub command : Command
-    pub is : IsCommand asked command
+    pub is : IsCommand (names_of_agents f.world) asked command
     pub askable : IsAskable f.world command
     pub text_is : IsBlockText f past line command net text
 

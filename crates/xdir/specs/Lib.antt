@@ -1,5 +1,7 @@
 pub mod Words
 pub mod Text
+pub mod Explained
+pub mod Told
 pub mod Outcomes
 pub mod Run
 pub mod Steps

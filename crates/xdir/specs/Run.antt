@@ -1,12 +1,9 @@
 -- What `run WORLD SCRIPT` reads and writes, by how it ends. The headline is `Runs`.
-use Rattle.std.specs.Prelude.{◌≡◌, ℕ, ◌+◌, ◌⊎◌, Bool, false, List, [], ◌++◌, length, Option, Some, Ok}
-use Rattle.std.specs.Prelude.{Err, ⊤}
-use Rattle.std.specs.List.{position}
+use Rattle.std.specs.Prelude.{◌≡◌, ℕ, ◌⊎◌, List, [], ◌++◌, length, Option, Some, Ok, Err, ⊤}
 use Rattle.x5_know.specs.Moments.{moment_text}
 use Rattle.x5_model_output.specs.Output.{PrintsRun}
 use Rattle.x5_model_run.specs.Run.{Command}
-use Rattle.x5_model_script.specs.Lines.{Asked, Delivers}
-use Rattle.x5_model_script.specs.Lines as lines
+use Rattle.x5_model_script.specs.Lines.{Asked}
 use Rattle.x5_model_script.specs.Script.{script_of}
 use Rattle.x5_model_script.specs.Words.{Fault}
 use Rattle.x5_model_settled.specs.Held.{Performed}
@@ -18,7 +15,7 @@ use Rattle.x5_port.specs.Outside.{IsContent, IsLonger, Rose}
 use Rattle.x5_words.specs.Forms.{FileNames}
 use Rattle.xdir.specs.Outcomes.{most_octets, Wrote, Broke, Ends, IsReadable}
 use Rattle.xdir.specs.Taken.{AreCommands}
-use Rattle.xdir.specs.Text.{not_json_text, refused_world_text, refused_line_text, not_yet_text}
+use Rattle.xdir.specs.Text.{not_json_text, refused_world_text, refused_line_text}
 use Rattle.xdir.specs.declared.top.Status.{Status}
 use Rattle.xdir.specs.declared.top.Status.TheVariants.{Done, Refused, Usage, ReadFault, WriteFault, NoMemory}
 use Rattle.xdir.specs.declared.top.Status.TheVariants.{Inconsistent, TooLong}
@@ -30,12 +27,6 @@ lost_in w = length w.network.lost_replies
 -- what the lines of a script ask for, or the first that is refused, over this world
 abbrev pub AsksFor : World → List ℕ → List Asked → Type 0
 AsksFor w script asked = script_of (names_of_agents w) (lost_in w) script ≡ Ok asked
-
--- A comment, a request, an outage, a loss, a refresh or octets of a user are for every run. Octets of another agent are
--- for no run so far.
-abbrev pub is_other : Asked → Bool
-is_other (lines.Runs command) = false
-is_other (Delivers dsp to octets) = dsp
 
 -- The text is the output of a run of these commands over the world of this file: the line on knowledge, and for each
 -- command one block, in order: what agents do with it, by what they hold, at the point that the blocks before it lead
@@ -57,7 +48,7 @@ pub record Runs (told : Option (List outside.File)) (names : FileNames) (rest : 
   pub asked : List Asked
   pub asks : AsksFor file.world script (asked ++ rest)
   pub commands : List Command
-  pub are : AreCommands asked commands
+  pub are : AreCommands (names_of_agents file.world) asked commands
   pub prints : IsOutput file commands text
 
 -- the output of the script's first commands
@@ -75,14 +66,12 @@ pub record RefusesWorld (told : Option (List outside.File)) (name text : List �
   pub world_is : IsContent told name world
   pub refuses : RefusesFile world text
 
--- the script has a line that is refused, or, where it has none, one that asks for what no run does so far; the first is
--- told
-pub data RefusesScript (w : World) (script text : List ℕ) : Type 0 where
-  faulty_line : (number : ℕ) (fault : Fault) → script_of (names_of_agents w) (lost_in w) script ≡ Err (number, fault)
-      → text ≡ refused_line_text number fault → RefusesScript w script text
-  not_yet : (asked : List Asked) (before : ℕ) → AsksFor w script asked
-      → position is_other asked ≡ Some before
-      → text ≡ not_yet_text (before + 1) → RefusesScript w script text
+-- the script has a line that is refused, and the text is the line of the first one
+pub record RefusesScript (w : World) (script text : List ℕ) : Type 0 where
+  pub number : ℕ
+  pub fault : Fault
+  pub refused : script_of (names_of_agents w) (lost_in w) script ≡ Err (number, fault)
+  pub is_line : text ≡ refused_line_text number fault
 
 -- over the world that the file describes
 pub record RefusesLine (told : Option (List outside.File)) (names : FileNames) (text : List ℕ) : Type 0 where

@@ -1,15 +1,14 @@
 -- What the steps of a run read and write, from the described world on; and of a file that is read, by how that ends.
-use Rattle.std.specs.Prelude.{◌≡◌, ℕ, ◌+◌, List, ◌++◌, Option, Some, ⊤}
-use Rattle.std.specs.List.{position}
+use Rattle.std.specs.Prelude.{◌≡◌, ℕ, List, ◌++◌, Option, Some, ⊤}
 use Rattle.x5_model_run.specs.Run.{Command}
 use Rattle.x5_model_script.specs.Lines.{Asked}
+use Rattle.x5_model_tree.specs.World.{names_of_agents}
 use Rattle.x5_model_world.specs.WorldFile.{File}
 use Rattle.x5_port.specs.Outside as outside
 use Rattle.x5_port.specs.Outside.{IsContent, IsLonger, Rose, with_octets, TookPrefix}
 use Rattle.xdir.specs.Outcomes.{most_octets, Wrote, Broke, Ends, IsReadable}
-use Rattle.xdir.specs.Run.{AsksFor, is_other, IsOutput, RefusesScript}
+use Rattle.xdir.specs.Run.{AsksFor, IsOutput, RefusesScript}
 use Rattle.xdir.specs.Taken.{AreCommands}
-use Rattle.xdir.specs.Text.{not_yet_text}
 use Rattle.xdir.specs.declared.top.Status.{Status}
 use Rattle.xdir.specs.declared.top.Status.TheVariants.{Done, Refused, Usage, ReadFault, WriteFault, NoMemory}
 use Rattle.xdir.specs.declared.top.Status.TheVariants.{Inconsistent, TooLong}
@@ -17,7 +16,7 @@ use Rattle.xdir.specs.declared.top.Status.TheVariants.{Inconsistent, TooLong}
 -- the output of a run of what these lines ask for, and of the first of them
 pub record IsAskedOutput (f : File) (asked : List Asked) (text : List ℕ) : Type 0 where
   pub commands : List Command
-  pub are : AreCommands asked commands
+  pub are : AreCommands (names_of_agents f.world) asked commands
   pub prints : IsOutput f commands text
 
 pub record IsFirstAskedOutput (f : File) (asked : List Asked) (text : List ℕ) : Type 0 where
@@ -48,21 +47,10 @@ WritesSuchLine TooLong P old new before after = ⊥
 WritesSuchLine Usage P old new before after = ⊥
 WritesSuchLine Inconsistent P old new before after = ⊥
 
--- what a run of these lines over the world of this file writes, where each is taken
+-- what a run of these lines over the world of this file writes: no line of a script that reads is refused
 abbrev pub WritesRun : Status → File → List Asked → Option (List ℕ) → Option (List ℕ) → ℕ → ℕ → Type 0
 WritesRun status f asked old new before after =
     Ends (IsAskedOutput f asked) (IsFirstAskedOutput f asked) (λ text. ⊥) status old new before after
-
--- the line of what no run does so far
-pub record IsNotYet (asked : List Asked) (text : List ℕ) : Type 0 where
-  pub before : ℕ
-  pub first : position is_other asked ≡ Some before
-  pub is_line : text ≡ not_yet_text (before + 1)
-
--- what a run of what is asked for writes
-abbrev pub WritesAsked : Status → File → List Asked → Option (List ℕ) → Option (List ℕ) → ℕ → ℕ → Type 0
-WritesAsked status f asked old new before after =
-    Ends (IsAskedOutput f asked) (IsFirstAskedOutput f asked) (IsNotYet asked) status old new before after
 
 -- the output of the script's lines over this world, and of the first of them
 pub record IsScriptOutput (f : File) (script text : List ℕ) : Type 0 where

@@ -4,13 +4,14 @@ use Rattle.x5_know.specs.Moments.{moment_text}
 use Rattle.x5_model_output.specs.Summary.{summary_text}
 use Rattle.x5_model_run.specs.Run.{Command}
 use Rattle.x5_model_script.specs.Lines.{Asked}
+use Rattle.x5_model_tree.specs.World.{names_of_agents}
 use Rattle.x5_model_world.specs.WorldFile.{File}
 use Rattle.x5_port.specs.Outside as outside
 use Rattle.x5_port.specs.Outside.{Rose}
 use Rattle.x5_words.specs.Forms.{FileNames}
 use Rattle.xdir.specs.Outcomes.{Wrote, Broke}
 use Rattle.xdir.specs.Run.{AsksFor, IsOutput, Runs, RefusesScript, Refuses}
-use Rattle.xdir.specs.Steps.{IsNotYet, OfScript}
+use Rattle.xdir.specs.Steps.{OfScript}
 use Rattle.xdir.specs.Taken.{AreCommands}
 use Rattle.xdir.specs.declared.top.Status.{Status}
 use Rattle.xdir.specs.declared.top.Status.TheVariants.{Done, Refused, Usage, ReadFault, WriteFault, NoMemory}
@@ -55,17 +56,13 @@ WritesSummed status told names old new before after =
 -- the summary of what these lines ask for
 pub record IsAskedSummary (f : File) (asked : List Asked) (text : List ℕ) : Type 0 where
   pub commands : List Command
-  pub are : AreCommands asked commands
+  pub are : AreCommands (names_of_agents f.world) asked commands
   pub sums : IsSummary f commands text
 
--- what a summary of these lines over the world of this file writes, where each is taken
+-- what a summary of these lines over the world of this file writes
 abbrev pub SumsRun : Status → File → List Asked → Option (List ℕ) → Option (List ℕ) → ℕ → ℕ → Type 0
 SumsRun status f asked old new before after =
     EndsAtOnce (IsAskedSummary f asked) (λ text. ⊥) status old new before after
-
-abbrev pub SumsAsked : Status → File → List Asked → Option (List ℕ) → Option (List ℕ) → ℕ → ℕ → Type 0
-SumsAsked status f asked old new before after =
-    EndsAtOnce (IsAskedSummary f asked) (IsNotYet asked) status old new before after
 
 -- of the script's lines over this world
 pub record IsScriptSummary (f : File) (script text : List ℕ) : Type 0 where

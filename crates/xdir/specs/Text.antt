@@ -31,7 +31,3 @@ refused_line_text number (words.BadWord column) = at_column_text number (codes "
 refused_line_text number (words.BadName column) = at_column_text number (codes "name") column
 refused_line_text number (words.BadFilter column) = at_column_text number (codes "filter") column
 refused_line_text number (words.BadHex column) = at_column_text number (codes "hex") column
-
--- of one that asks for what no run does so far
-abbrev pub not_yet_text : ℕ → List ℕ
-not_yet_text number = concat (codes "refused line " ∷ decimal number ∷ codes " notYet\n" ∷ [])

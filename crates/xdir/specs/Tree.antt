@@ -1,6 +1,6 @@
 -- What `tree WORLD SCRIPT` reads and writes, by how it ends: the script's requests, answered without agents on the one
 -- tree of the world (X.501, section 7: the directory information tree). The headline is `Tells`.
-use Rattle.std.specs.Prelude.{◌≡◌, ℕ, ◌⊎◌, List, ◌++◌, map, Option, Some, Ok, Err, ⊤}
+use Rattle.std.specs.Prelude.{◌≡◌, ℕ, ◌⊎◌, List, ◌++◌, map, Option, Some, Ok, ⊤}
 use Rattle.x5_know.specs.Moments.{moment_text}
 use Rattle.x5_model.specs.Answers.{Source}
 use Rattle.x5_model.specs.Requests.{Request}
@@ -9,12 +9,9 @@ use Rattle.x5_model_run.specs.Network.{Up}
 use Rattle.x5_model_run.specs.Run.{Command, Changes}
 use Rattle.x5_model_script.specs.Lines.{Asked, Delivers}
 use Rattle.x5_model_script.specs.Lines as lines
-use Rattle.x5_model_script.specs.Script.{script_of}
-use Rattle.x5_model_script.specs.Words.{Fault}
 use Rattle.x5_model_tree.specs.Ask.{ask}
 use Rattle.x5_model_tree.specs.Consistent.{IsConsistent}
 use Rattle.x5_model_tree.specs.Tree.{Tree}
-use Rattle.x5_model_tree.specs.World.{World}
 use Rattle.x5_model_world.specs.WorldFile.{File, Describes}
 use Rattle.x5_one.specs.Replies.{reply_of}
 use Rattle.x5_ops.specs.AnswerViews.{reply_view}
@@ -26,10 +23,8 @@ use Rattle.x5_script.specs.declared.command.Command.{Command as Line}
 use Rattle.x5_words.specs.Forms.{FileNames}
 use Rattle.xdir.specs.Checked.{knowledge_text, IsInconsistent}
 use Rattle.xdir.specs.Outcomes.{most_octets, Wrote, Broke, IsReadable}
-use Rattle.xdir.specs.Run.{lost_in, AsksFor, RefusesFile}
-use Rattle.x5_model_tree.specs.World.{names_of_agents}
+use Rattle.xdir.specs.Run.{AsksFor, RefusesScript, RefusesWorld, Refuses, TakesWorld}
 use Rattle.xdir.specs.Steps.{OfScript}
-use Rattle.xdir.specs.Text.{refused_line_text}
 use Rattle.xdir.specs.declared.top.Status.{Status}
 use Rattle.xdir.specs.declared.top.Status.TheVariants.{Done, Refused, Usage, ReadFault, WriteFault, NoMemory}
 use Rattle.xdir.specs.declared.top.Status.TheVariants.{Inconsistent, TooLong}
@@ -81,32 +76,6 @@ pub record TellsNone (told : Option (List outside.File)) (names : FileNames) (te
   pub inconsistent : IsInconsistent both.file.world
   pub is_line : text ≡ knowledge_text both.file.world
 
--- the file is no JSON, or something is wrong in it, and the text is its line
-pub record RefusesFirst (told : Option (List outside.File)) (name text : List ℕ) : Type 0 where
-  pub world : List ℕ
-  pub world_is : IsContent told name world
-  pub refuses : RefusesFile world text
-
--- the text is the line of the script's first line that is refused, over this world
-pub record RefusesALine (w : World) (script text : List ℕ) : Type 0 where
-  pub number : ℕ
-  pub fault : Fault
-  pub refused : script_of (names_of_agents w) (lost_in w) script ≡ Err (number, fault)
-  pub is_line : text ≡ refused_line_text number fault
-
--- over the world that the file describes
-pub record RefusesSecond (told : Option (List outside.File)) (names : FileNames) (text : List ℕ) : Type 0 where
-  pub world : List ℕ
-  pub script : List ℕ
-  pub world_is : IsContent told names.world world
-  pub script_is : IsContent told names.script script
-  pub file : File
-  pub described : Describes world (Ok file)
-  pub refuses : RefusesALine file.world script text
-
-abbrev pub RefusesEither : Option (List outside.File) → FileNames → List ℕ → Type 0
-RefusesEither told names text = RefusesFirst told names.world text ⊎ RefusesSecond told names text
-
 -- What is written, by how it ends: the whole output, the line on knowledge or of a refusal, a first part of one of
 -- these, or the output for the lines before memory ran out; before both files are read nothing is, but the line of a
 -- refused world.
@@ -126,15 +95,7 @@ abbrev pub WritesTree : Status → Option (List outside.File) → FileNames → 
     Type 0
 WritesTree status told names old new before after =
     EndsTree (Tells told names) (TellsSoFar told names) (TellsNone told names)
-    (RefusesEither told names) status old new before after
-
--- the world file is there, isn't too long, and describes a world
-pub record TakesFirst (told : Option (List outside.File)) (name : List ℕ) : Type 0 where
-  pub readable : IsReadable told name
-  pub world : List ℕ
-  pub world_is : IsContent told name world
-  pub file : File
-  pub described : Describes world (Ok file)
+    (Refuses told names) status old new before after
 
 -- What is known of the two files, by how it ends. The script is read unless the world file is refused, whose line is
 -- then what was written; so a fault of the script is told only where the world file describes a world.
@@ -144,14 +105,14 @@ ReadsTree Done names told before after failed old new = IsReadable told names.wo
 ReadsTree Inconsistent names told before after failed old new =
     IsReadable told names.world × IsReadable told names.script
 ReadsTree Refused names told before after failed old new =
-    IsReadable told names.world × (Wrote (RefusesFirst told names.world) old new ⊎ IsReadable told names.script)
+    IsReadable told names.world × (Wrote (RefusesWorld told names.world) old new ⊎ IsReadable told names.script)
 ReadsTree WriteFault names told before after failed old new =
-    IsReadable told names.world × (Broke (RefusesFirst told names.world) old new ⊎ IsReadable told names.script)
+    IsReadable told names.world × (Broke (RefusesWorld told names.world) old new ⊎ IsReadable told names.script)
 ReadsTree NoMemory names told before after failed old new = ⊤
 ReadsTree ReadFault names told before after failed old new =
-    Rose before after × ((failed ≡ Some names.world) ⊎ (failed ≡ Some names.script) × TakesFirst told names.world)
+    Rose before after × ((failed ≡ Some names.world) ⊎ (failed ≡ Some names.script) × TakesWorld told names.world)
 ReadsTree TooLong names told before after failed old new =
-    IsLonger told names.world most_octets ⊎ IsLonger told names.script most_octets × TakesFirst told names.world
+    IsLonger told names.world most_octets ⊎ IsLonger told names.script most_octets × TakesWorld told names.world
 ReadsTree Usage names told before after failed old new = ⊥
 
 -- ---- the steps, from the described world on
@@ -184,7 +145,7 @@ OfLines f P script text = (asked : List Asked) × AsksFor f.world script asked �
 abbrev pub TellsScript : Status → File → List ℕ → Option (List ℕ) → Option (List ℕ) → ℕ → ℕ → Type 0
 TellsScript status f script old new before after =
     EndsTree (OfLines f IsTold script) (OfLines f IsToldSoFar script) (OfLines f IsNoTree script)
-    (RefusesALine f.world script)
+    (RefusesScript f.world script)
     status old new before after
 
 -- for the script in a file
@@ -192,7 +153,7 @@ abbrev pub TellsFile : Status → Option (List outside.File) → List ℕ → Fi
     Type 0
 TellsFile status told name f old new before after =
     EndsTree (OfScript told name (OfLines f IsTold)) (OfScript told name (OfLines f IsToldSoFar))
-    (OfScript told name (OfLines f IsNoTree)) (OfScript told name (RefusesALine f.world)) status old new before after
+    (OfScript told name (OfLines f IsNoTree)) (OfScript told name (RefusesScript f.world)) status old new before after
 
 -- ---- one line
 

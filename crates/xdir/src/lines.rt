@@ -1,14 +1,15 @@
 //! What the lines of a script do to the network, and what comes of them.
-ghost use Rattle.std.specs.Prelude.{◌≡◌, ◌↔◌, ℕ, ◌<◌, ◌+◌, [], IfOk, IsTrue, length};
+ghost use Rattle.std.specs.Prelude.{◌≡◌, ◌↔◌, ℕ, ◌<◌, ◌+◌, [], IfOk, IsTrue, Some, length};
 ghost use Rattle.x5_model_run.specs.History.{Point};
 ghost use Rattle.x5_model_run.specs.Run.{Asks, Updates};
+ghost use Rattle.x5_model_script.specs.Lines.{Delivers};
 ghost use Rattle.x5_model_tree.specs.Consistent.{IsConsistent};
 ghost use Rattle.x5_ops.specs.RequestViews.{body_view, request_view};
 ghost use Rattle.x5_report.specs.declared.report.LineOutcome.TheVariants.{NotConsistent, Set};
 ghost use Rattle.x5_world.specs.Refreshes.{IsSound};
 ghost use Rattle.x5_world.specs.State.{HasRoom, HasShortNames, StandsAt};
 ghost use Rattle.x5_script.specs.Views.{command_view};
-ghost use Rattle.xdir.specs.Blocks.{IsCourse, IsDelivery, IsDone};
+ghost use Rattle.xdir.specs.Blocks.{IsCourse, IsDone};
 ghost use Rattle.xdir.specs.Taken.{IsTaken};
 
 use std::alloc::Global;
@@ -104,26 +105,27 @@ fn refresh(
     })
 }
 
-/// What comes of octets that are handed to an agent as a user's message: the answer to the request that they spell, or their first
-/// breach.
+/// What comes of octets that are handed to an agent as a user's message, or as another agent's (`dsp`): the answer to the message that
+/// they spell, or their first breach.
 fn deliver(
     alloc: Global,
     network: &mut World,
+    dsp: bool,
     to: AgentId,
     octets: &[u8],
 ) -> Result<Course, NoMemory>
     requires there { to < length network.old.names }
     requires room { (lines : ℕ) × (HasRoom network.old lines × (lines < 100000)) }
-    ensures course { IfOk result (λ course. (p : Point) → StandsAt network.old p → IsDelivery p to octets.now network.new course) }
+    ensures course { IfOk result (λ course. (p : Point) → StandsAt network.old p → IsDone p (Delivers dsp to octets.now) network.new (Some course)) }
     ensures names { IfOk result (λ _. network.new.names ≡ network.old.names) }
     ensures room_after { IfOk result (λ _. (lines : ℕ) → HasRoom network.old lines → HasRoom network.new (lines + 1)) }
 {
     let count = octets.len() as u64;
-    let told = network.deliver(alloc, to, octets)?;
+    let told = network.deliver(alloc, dsp, to, octets)?;
     match told {
         Delivered::Answered(reply, messages) => Ok(Course {
             journal: messages,
-            outcome: LineOutcome::Handed(count, reply),
+            outcome: LineOutcome::Handed { dsp, count, reply },
         }),
         Delivered::Rejected(to, fate, breach) => Ok(Course {
             journal: Journal {
@@ -131,6 +133,7 @@ fn deliver(
                 accepted: Listed::new(alloc),
             },
             outcome: LineOutcome::Rejected {
+                dsp,
                 to,
                 count,
                 fate,
@@ -173,9 +176,13 @@ pub fn carry_out(
             *push,
             *total,
         )?)),
-        Command::Deliver { to, octets, .. } => {
-            Ok(Some(deliver(alloc, network, *to, octets.as_slice())?))
-        }
+        Command::Deliver { dsp, to, octets } => Ok(Some(deliver(
+            alloc,
+            network,
+            *dsp,
+            *to,
+            octets.as_slice(),
+        )?)),
         Command::Nothing => {
             network.pass();
             Ok(None)

@@ -1,5 +1,5 @@
 //! The line of a file that isn't taken (docs/FORMATS.md, output).
-ghost use Rattle.std.specs.Prelude.{◌≡◌, ◌∷◌, ◌+◌, ◌<◌, [], codes, IfOk, string_bytes};
+ghost use Rattle.std.specs.Prelude.{◌≡◌, ◌∷◌, [], codes, IfOk, string_bytes};
 ghost use Rattle.std.specs.Fmt.{decimal};
 ghost use Rattle.std.specs.List.{concat};
 ghost use Rattle.xdir.specs.Faults.{IsRefusalLine, IsScriptLine, IsWorldLine};
@@ -74,13 +74,6 @@ fn script_line(alloc: Global, number: usize, fault: ScriptFault) -> Result<Strin
     }
 }
 
-/// The line of a script's line, by its number, that asks for what no run does so far.
-fn not_yet_line(alloc: Global, number: usize) -> Result<String, AllocError>
-    ensures { IfOk result (λ line. string_bytes line ≡ shown.not_yet_text number) }
-{
-    format!(in alloc; "refused line {number} notYet\n")
-}
-
 /// Prints the line of a file that isn't taken.
 fn put_refusal<K: Sink>(line: &str, out: &mut K) -> Status
     ensures { WritesLine result line.now (K.octets out.old) (K.octets out.new) (K.fault_count out.old) (K.fault_count out.new) }
@@ -118,16 +111,5 @@ pub fn refuse_script<K: Sink>(alloc: Global, refusal: ScriptRefusal, out: &mut K
     match refusal {
         ScriptRefusal::Line { number, fault } => refuse_line(alloc, number, fault, out),
         ScriptRefusal::NoMemory => Status::NoMemory,
-    }
-}
-
-/// Prints that the script's line behind so many others asks for what no run does so far.
-pub fn refuse_other<K: Sink>(alloc: Global, before: usize, out: &mut K) -> Status
-    requires { before < 100000 }
-    ensures { WritesSuchLine result (λ text. text ≡ shown.not_yet_text (before + 1)) (K.octets out.old) (K.octets out.new) (K.fault_count out.old) (K.fault_count out.new) }
-{
-    match not_yet_line(alloc, before + 1) {
-        Ok(line) => put_refusal(&line, out),
-        Err(_) => Status::NoMemory,
     }
 }

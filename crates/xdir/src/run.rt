@@ -1,24 +1,20 @@
 //! A run of a script's commands: the line on knowledge, and a block for each command.
 ghost use Rattle.std.specs.Prelude.{◌≡◌, ◌↔◌, ℕ, ◌<◌, ◌≤◌, ◌+◌, List, All, IsTrue, length, map, string_bytes};
-ghost use Rattle.std.specs.List.{position};
 ghost use Rattle.x5_know.specs.WorldView.{world_view};
 ghost use Rattle.x5_load.specs.Views.{file_view};
 ghost use Rattle.x5_model_run.specs.History.{Did};
-ghost use Rattle.x5_model_script.specs.Named.{AreNamed};
 ghost use Rattle.x5_model_tree.specs.Consistent.{IsConsistent};
 ghost use Rattle.x5_script.specs.Views.{command_view};
 ghost use Rattle.x5_world.specs.Refreshes.{IsSound};
 ghost use Rattle.x5_world.specs.State.{HasRoom, StandsAt};
 ghost use Rattle.xdir.specs.Blocks.{WritesBlock, WritesCourse};
 ghost use Rattle.xdir.specs.Checked.{knowledge_text};
-ghost use Rattle.xdir.specs.Run.{is_other};
-ghost use Rattle.xdir.specs.Steps.{Prints, WritesAsked, WritesRun};
-ghost use Rattle.xdir.specs.Summed.{SumsAsked, SumsRun};
-ghost use Rattle.xdir.specs.Taken.{AsksShortNames, IsBegun, IsTaken, point};
+ghost use Rattle.xdir.specs.Steps.{Prints, WritesRun};
+ghost use Rattle.xdir.specs.Summed.{SumsRun};
+ghost use Rattle.xdir.specs.Taken.{IsBegun, IsTaken, point};
 
 use crate::check::{Told, line_of};
 use crate::lines::{Course, carry_out};
-use crate::refusals::refuse_other;
 use crate::summed::print_summary;
 use crate::top::Status;
 use std::alloc::Global;
@@ -42,24 +38,7 @@ pub enum Printed {
     Summary,
 }
 
-/// Whether a line asks for what no run does so far: it hands octets to an agent as another agent's. No memory.
-fn is_other_line(command: &Command) -> bool
-    ensures { result ≡ is_other (command_view command.now) }
-{
-    match command {
-        Command::Deliver { dsp, .. } => *dsp,
-        _ => false,
-    }
-}
-
-/// How many lines stand before the first that asks for what no run does so far.
-fn first_other(commands: &[Command]) -> Option<usize>
-    ensures { result ≡ position (λ c. is_other (command_view c)) commands.now }
-{
-    commands.iter().position(|command| is_other_line(command))
-}
-
-/// Runs what a script's lines ask for, or prints the line of the first that asks for what no run does so far.
+/// Runs what a script's lines ask for.
 pub fn run_commands<K: Sink>(
     alloc: Global,
     printed: Printed,
@@ -70,44 +49,18 @@ pub fn run_commands<K: Sink>(
 ) -> Status
     requires begun { IsBegun described.now network.old }
     requires few { length commands.now ≤ 100000 }
-    requires named { All (AreNamed network.old.names) (map command_view commands.now) }
-    requires short { All AsksShortNames (map command_view commands.now) }
-    ensures prints { Prints result }
-    ensures writes { printed ≡ Printed.Blocks → WritesAsked result (file_view described.now) (map command_view commands.now) (K.octets out.old) (K.octets out.new) (K.fault_count out.old) (K.fault_count out.new) }
-    ensures sums { printed ≡ Printed.Summary → SumsAsked result (file_view described.now) (map command_view commands.now) (K.octets out.old) (K.octets out.new) (K.fault_count out.old) (K.fault_count out.new) }
-{
-    let told = match line_of(alloc, described) {
-        Ok(told) => told,
-        Err(NoMemory) => return Status::NoMemory,
-    };
-    match first_other(commands) {
-        Some(before) => refuse_other(alloc, before, out),
-        None => run_taken(alloc, printed, described, network, &told, commands, out),
-    }
-}
-
-/// Runs commands that are all taken, behind what is told of knowledge.
-fn run_taken<K: Sink>(
-    alloc: Global,
-    printed: Printed,
-    described: &Described,
-    network: &mut World,
-    told: &Told,
-    commands: &[Command],
-    out: &mut K,
-) -> Status
-    requires begun { IsBegun described.now network.old }
-    requires knowledge { string_bytes told.now.line ≡ knowledge_text (world_view described.now) }
-    requires consistent { IsTrue told.now.is_consistent ↔ IsConsistent (world_view described.now) }
-    requires few { length commands.now ≤ 100000 }
     requires taken { All (IsTaken (length network.old.names)) commands.now }
     ensures prints { Prints result }
     ensures writes { printed ≡ Printed.Blocks → WritesRun result (file_view described.now) (map command_view commands.now) (K.octets out.old) (K.octets out.new) (K.fault_count out.old) (K.fault_count out.new) }
     ensures sums { printed ≡ Printed.Summary → SumsRun result (file_view described.now) (map command_view commands.now) (K.octets out.old) (K.octets out.new) (K.fault_count out.old) (K.fault_count out.new) }
 {
+    let told = match line_of(alloc, described) {
+        Ok(told) => told,
+        Err(NoMemory) => return Status::NoMemory,
+    };
     match printed {
-        Printed::Blocks => print_run(alloc, described, network, told, commands, out),
-        Printed::Summary => print_summary(alloc, described, network, told, commands, out),
+        Printed::Blocks => print_run(alloc, described, network, &told, commands, out),
+        Printed::Summary => print_summary(alloc, described, network, &told, commands, out),
     }
 }
 

@@ -1,13 +1,14 @@
 use Rattle.std.proofs.Common.{ℕ, List, length, Some, refl, sym, subst}
 use Rattle.x5_model_run.specs.Run.{Changes, Drops, Updates}
+use Rattle.x5_model_script.specs.Lines.{Delivers}
 use Rattle.x5_ops.specs.JournalViews.{outage_view}
 use Rattle.x5_ops.specs.RequestViews.{request_view}
 use Rattle.x5_script.specs.Views.{command_view}
 use Rattle.x5_script.specs.declared.command.Command.{Command as Line}
-use Rattle.x5_script.specs.declared.command.Command.TheVariants.{Ask, Deliver}
-use Rattle.xdir.specs.Blocks.{IsDelivery, IsDone}
+use Rattle.x5_script.specs.declared.command.Command.TheVariants.{Ask}
+use Rattle.xdir.specs.Blocks.{IsDone}
 use Rattle.xdir.specs.Taken.{IsTaken}
-use Rattle.xdir.proofs.Courses.{changed_course, lost_course, done_as, done_asking, done_delivering}
+use Rattle.xdir.proofs.Courses.{changed_course, lost_course, done_as, done_asking}
 use Rattle.xdir.proofs.lines.carry_out.Goals as goal
 
 pub returns-in_ok-change-in-Outage-clause-carried : goal.returns-in_ok-change-in-Outage-clause-carried
@@ -40,10 +41,6 @@ returns-in_ok-refresh-in-Refresh-clause-carried c = λ p stands told.
 
 pub returns-in_ok-deliver-in-Deliver-clause-carried : goal.returns-in_ok-deliver-in-Deliver-clause-carried
 returns-in_ok-deliver-in-Deliver-clause-carried c = λ p stands told.
-    let taken : IsTaken (length c.args.network.now.names) (Deliver c.in-Deliver.dsp c.in-Deliver.to c.in-Deliver.octets) =
-    subst (IsTaken (length c.args.network.now.names)) c.in-Deliver.is c.requires.taken in
     subst (λ (line : Line). IsDone p (command_view line) c.deliver.new.network (Some c.in_ok-deliver-in-Deliver.field-0)) (sym c.in-Deliver.is)
-    (done_delivering p (length c.args.network.now.names) c.in-Deliver.dsp c.in-Deliver.to c.in-Deliver.octets c.deliver.new.network c.in_ok-deliver-in-Deliver.field-0
-    taken
-    (subst (λ (octets : List ℕ). IsDelivery p c.in-Deliver.to octets c.deliver.new.network c.in_ok-deliver-in-Deliver.field-0) c.as_slice.ensures
-    (c.in_ok-deliver-in-Deliver.ensures.course p stands)))
+    (subst (λ (octets : List ℕ). IsDone p (Delivers c.in-Deliver.dsp c.in-Deliver.to octets) c.deliver.new.network (Some c.in_ok-deliver-in-Deliver.field-0))
+    c.as_slice.ensures (c.in_ok-deliver-in-Deliver.ensures.course p stands))

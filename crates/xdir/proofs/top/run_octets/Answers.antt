@@ -6,11 +6,12 @@ use Rattle.x5_model_script.specs.Named.{AreNamed}
 use Rattle.x5_model_script.proofs.NamedLaws.{script_named}
 use Rattle.x5_script.specs.Views.{command_view}
 use Rattle.x5_script.specs.declared.command.Command.{Command}
-use Rattle.xdir.specs.Taken.{AsksShortNames}
+use Rattle.xdir.specs.Taken.{AsksShortNames, IsTaken}
 use Rattle.xdir.proofs.Ends.{such_prints}
 use Rattle.xdir.proofs.Few.{few}
 use Rattle.xdir.proofs.Files.{runs_script, refuses_script, asked_for, refused_for}
 use Rattle.xdir.proofs.Summaries.{sums_script, sums_refused}
+use Rattle.xdir.proofs.Taken.{all_taken}
 use Rattle.xdir.proofs.Targets.{script_short}
 use Rattle.xdir.proofs.top.run_octets.Goals as goal
 
@@ -20,16 +21,15 @@ run_commands-requires-clause-few g c =
     subst (λ (cs : List Command). length cs ≤ 100000) (sym c.deref.ensures.value)
     (subst (λ (n : ℕ). n ≤ 100000) (length-map c.in-Ok.commands.items command_view) f)
 
-pub run_commands-requires-clause-named : goal.run_commands-requires-clause-named
-run_commands-requires-clause-named g c =
-    subst (λ (cs : List Command). All (AreNamed c.args.network.now.names) (map command_view cs)) (sym c.deref.ensures.value)
-    (subst (λ (names : List (List ℕ)). All (AreNamed names) (map command_view c.in-Ok.commands.items)) c.names.ensures
-    (IfOk-at_ok (All (AreNamed c.names.result.now)) c.in-Ok.ensures (script_named c.names.result.now c.len-lost_replies.result c.args.script.now)))
-
-pub run_commands-requires-clause-short : goal.run_commands-requires-clause-short
-run_commands-requires-clause-short g c =
-    subst (λ (cs : List Command). All AsksShortNames (map command_view cs)) (sym c.deref.ensures.value)
-    (IfOk-at_ok (All AsksShortNames) c.in-Ok.ensures (script_short c.names.result.now c.len-lost_replies.result c.args.script.now))
+pub run_commands-requires-clause-taken : goal.run_commands-requires-clause-taken
+run_commands-requires-clause-taken g c =
+    let names = c.names.result.now in
+    let lost = c.len-lost_replies.result in
+    subst (λ (cs : List Command). All (IsTaken (length c.args.network.now.names)) cs) (sym c.deref.ensures.value)
+    (subst (λ (ns : List (List ℕ)). All (IsTaken (length ns)) c.in-Ok.commands.items) c.names.ensures
+    (all_taken names c.in-Ok.commands.items
+    (IfOk-at_ok (All (AreNamed names)) c.in-Ok.ensures (script_named names lost c.args.script.now))
+    (IfOk-at_ok (All AsksShortNames) c.in-Ok.ensures (script_short names lost c.args.script.now))))
 
 pub returns-in-Ok-clause-writes : goal.returns-in-Ok-clause-writes
 returns-in-Ok-clause-writes g c = λ printed.
