@@ -46,7 +46,7 @@ use Rattle.x5_world.specs.Delivered.{Comes, IsDelivered, IsDeliveredAt}
 use Rattle.x5_world.specs.declared.delivered.Delivered.TheVariants as delivered
 use Rattle.x5_world.specs.Refreshes.{IsRefreshedAt}
 use Rattle.x5_world.specs.declared.refreshment.Refreshment.{Refreshment}
-use Rattle.x5_world.specs.State.{Net, StandsAt, HasShortNames, IsShort, after}
+use Rattle.x5_world.specs.State.{Net, StandsAt, HasShortNames, after}
 use Rattle.x5_model_tree.specs.World.{Agent, World, names_of_agents}
 use Rattle.xdir.specs.Blocks.{Gives, IsTold, IsCourse, IsCarriedOut, IsDone, IsTextOf, IsAskedText, WritesCourse, WritesBlock}
 use Rattle.xdir.specs.Taken.{IsCommand, point}
@@ -205,13 +205,13 @@ there_in net p to s l = subst (λ (names : List (List ℕ)). to < length names) 
 
 -- a message with short names may be sent to an agent of the world
 may_send : (w : World) (command : Command) (to : ℕ) (m : Chained) → sent_by command ≡ Some (both to m)
-    → to < length (names_of_agents w) → IsShort m → IsAskable w command
+    → to < length (names_of_agents w) → HasShortNames m.request.body → IsAskable w command
 may_send w command to m sends there short = λ first q e.
     let same : both to m ≡ both first q =
     ap (λ (o : Option (ℕ × Chained)). in_option (both to m) (λ x. x) o) (sym sends ∙ e) in
     subst (λ (x : ℕ × Chained). HasAgent w x.0 × (length (target_of x.1.request.body) ≤ 16)
     × ((name : Name) → new_name x.1.request.body ≡ Some name → length name ≤ 16)) same
-    (agent_there w.agents to there, short.names.target, short.names.new_name)
+    (agent_there w.agents to there, short.target, short.new_name)
 
 -- a command of a run that sends no message of the user
 may_send_none : (w : World) (command : Command) → sent_by command ≡ None → IsAskable w command
@@ -232,7 +232,7 @@ done_asking p to r old net o s there short carried = record {
   command = Asks to r;
   is = refl;
   askable = may_send p.described (Asks to r) to (opening r) refl (there_in old p to s there)
-      (record { target = short.target; names = short });
+      short;
   carried = carried;
 }
 
@@ -283,7 +283,7 @@ module _ (old new : Net) (p : Point) (dsp : Bool) (to : ℕ) (octets : List ℕ)
       → NamesAgents old.names reply journal → IsDone p (script.Delivers dsp to octets) new (Some (handed dsp journal n reply))
   handed_course reply journal d named = by d.read d.comes d.short d.delivered
     where
-      by : (e : Result Chained Breach) → Comes old.names via octets e → ((m : Chained) → e ≡ Ok m → IsShort m)
+      by : (e : Result Chained Breach) → Comes old.names via octets e → ((m : Chained) → e ≡ Ok m → HasShortNames m.request.body)
           → IsDelivered old new p via to n e (delivered.Answered reply journal)
           → IsDone p (script.Delivers dsp to octets) new (Some (handed dsp journal n reply))
       by (Ok m) comes short a =
