@@ -1,5 +1,5 @@
 -- A whole run: a total pull, a change at the master, a read of the copy, and a read at the master.
-use Rattle.std.specs.Prelude.{◌≡◌, ℕ, true, false, List, [], ◌∷◌}
+use Rattle.std.specs.Prelude.{ℕ, true, false, List, [], ◌∷◌}
 use Rattle.std.proofs.Common.{refl, ap, subst}
 use lib.Chars.{codes}
 use Rattle.x5_model.specs.Values.{TextValue}
@@ -43,6 +43,6 @@ pub ran : (past : _) × IsRun SendsRight base_world the_script the_blocks past
 ran = (
   _,
   next _ _
-  (next _ _ (next _ _ (next (Updates 1 false true) (Refreshing the_pull) begin refl) (sent _ _ _ _ _ gears_put)) (sent _ _ _ _ _ copy_read))
-  (sent _ _ _ _ _ master_read),
+      (next _ _ (next _ _ (next (Updates 1 false true) (Refreshing the_pull) begin refl) (sent _ _ _ _ _ gears_put)) (sent _ _ _ _ _ copy_read))
+      (sent _ _ _ _ _ master_read),
 )
