@@ -46,8 +46,8 @@ pub record UniqueResult (s : Scene) (most : ℕ) : Type 0 where
 abbrev pub RequestsHaveOutcomes : Type 0
 RequestsHaveOutcomes = (s : Scene) (most : ℕ) → UniqueResult s most
 
--- 5. and so has any message at every line, whatever the world and whatever was done before, so over knowledge that isn't
--- consistent too.
+-- 5. and so has any message at every line, whatever the world and whatever was done before, so over knowledge that
+-- isn't consistent too.
 abbrev pub LinesHaveOutcomes : Type 0
 LinesHaveOutcomes =
     (w : World) (past : List Did) (first most : ℕ) (m : Chained)

@@ -1,12 +1,13 @@
--- What is accepted is right, by one induction over all that is done: an update that is passed on stays the user's; while
--- probes are sent nothing is accepted; and an agent that is cleared by its answer holds nothing as far.
-use Rattle.std.proofs.Common.{◌≡◌, ℕ, ◌==◌, Bool, true, false, ◌&&◌, ◌||◌, inl, inr, List, [], ◌∷◌, ◌++◌, refl, sym, ap, subst, ◌∙◌, Some}
-use Rattle.std.specs.List.{list_any}
-use Rattle.x5_model.specs.Members.{In, here}
+-- What is accepted is right, by one induction over all that is done: an update that is passed on stays the user's;
+-- while probes are sent nothing is accepted; and an agent that is cleared by its answer holds nothing as far.
+use Rattle.std.proofs.Common.{◌≡◌, ℕ, ◌==◌, true, ◌&&◌, inl, inr, List, [], ◌∷◌, ◌++◌, refl, sym, ap}
+use Rattle.std.proofs.Common.{subst, ◌∙◌}
+use Rattle.x5_model.specs.Members.{In}
 use Rattle.x5_model.specs.References.{Reference}
 use Rattle.x5_model.specs.Answers.{Reply}
 use Rattle.x5_model.proofs.Decide.{nat_same_decides}
-use Rattle.x5_model.proofs.Lists.{both_true, and_true, or_left, or_right, either_true, in_left, in_right, in_first, in_either}
+use Rattle.x5_model.proofs.Lists.{both_true, and_true, or_left, or_right, in_left, in_right, in_first}
+use Rattle.x5_model.proofs.Lists.{in_either}
 use Rattle.x5_model_run.specs.Network.{Fate, arrives}
 use Rattle.x5_model_run.specs.Journal.{Line, Journal, same_name, is_reached}
 use Rattle.x5_model_run.specs.Needs.{target_of}
@@ -15,7 +16,15 @@ use Rattle.x5_model_run.specs.History.{Point, holdings_at}
 use Rattle.x5_model_run.specs.Chain.{Scene, scene_with}
 use Rattle.x5_model_updates.specs.Standing.{StandsWhole}
 use Rattle.x5_model_serve.specs.Framing.{line_at}
-use Rattle.x5_model_serve.specs.Serving.{Hand, hand, holds_now, next_line, user_line, nothing_yet, with_line, IsRequest, not_heard, not_told, answers, Hears, Act, Serves, Follows, Sends, Tries, Takes, Spreads, Casts, Gathers, Probes, Updates, Does, loops, is_long, done_before, refused, unfit, stuck, nowhere, refers, goes, casts, reads, reads_copy, gives_parts, asks_parts, updates, not_done, does, probes_all, misses, taken, breaks, no_probe, clear, unsure, silent, spent, lost, dropped, sends, final, referral, wide_referral, unexplored, none_yet, in_vain_too, heard, unheard, none_asked, unable_too, silent_too, answered, nobody_has, some_silent, no_part, part_unheard, part_unavailable, part_answered, part_breaks}
+use Rattle.x5_model_serve.specs.Serving.{Hand, holds_now, next_line, user_line, nothing_yet, with_line, IsRequest}
+use Rattle.x5_model_serve.specs.Serving.{not_heard, not_told, answers, Act, Serves, Follows, Sends, Tries, Takes}
+use Rattle.x5_model_serve.specs.Serving.{Spreads, Casts, Gathers, Probes, Updates, Does, loops, is_long, done_before}
+use Rattle.x5_model_serve.specs.Serving.{refused, unfit, stuck, nowhere, refers, goes, casts, reads, reads_copy}
+use Rattle.x5_model_serve.specs.Serving.{gives_parts, asks_parts, updates, not_done, does, probes_all, misses, taken}
+use Rattle.x5_model_serve.specs.Serving.{breaks, no_probe, clear, unsure, silent, spent, lost, dropped, sends, final}
+use Rattle.x5_model_serve.specs.Serving.{referral, wide_referral, unexplored, none_yet, in_vain_too, heard, unheard}
+use Rattle.x5_model_serve.specs.Serving.{none_asked, unable_too, silent_too, answered, nobody_has, some_silent, no_part}
+use Rattle.x5_model_serve.specs.Serving.{part_unheard, part_unavailable, part_answered, part_breaks}
 use Rattle.x5_model_heard.specs.Kept.{IsOfUser}
 use Rattle.x5_model_heard.proofs.Fresh.{updates_are_carried}
 use Rattle.x5_model_heard.proofs.Still.{probes_accept_none}
@@ -23,11 +32,11 @@ use Rattle.x5_model_bounds.specs.Unable.{IsShort}
 use Rattle.x5_model_bounds.proofs.Able.{replies_able}
 use Rattle.x5_model_bounds.proofs.Unables.{unable_sends_nothing}
 use Rattle.x5_model_verdicts.proofs.Lines.{lines_grow}
-use Rattle.x5_model_handed.specs.Handed.{AcceptedRight, AnyIsRight}
+use Rattle.x5_model_handed.specs.Handed.{AnyIsRight}
 use Rattle.x5_model_handed.proofs.Master.{Fit, Good, AtUpdate, line_good, alone, probed}
 
--- what an act begins with: a line that brought the message that is served, and once a message is looked at, a target that
--- fits
+-- what an act begins with: a line that brought the message that is served, and once a message is looked at, a target
+-- that fits
 abbrev May : Scene → Act → Journal → Type 0
 May s (Serves k reply) i = (is_reached i.lines k.receiver ≡ true) × (fits k.message ≡ true → Fit s)
 May s (Follows from k reply last) i = Fit s
@@ -68,7 +77,8 @@ reached_now l j f e a =
 -- ---- whatever is done
 
 module _ (p : Point) (s : Scene) (most : ℕ) (whole : StandsWhole p) (held : s.holdings ≡ holdings_at p) where
-  probes_done : {k : Hand} {i j : Journal} {r : Reference} {agents noted : List ℕ} → Does s most (Probes k r agents noted) i j
+  probes_done : {k : Hand} {i j : Journal} {r : Reference} {agents noted : List ℕ}
+      → Does s most (Probes k r agents noted) i j
       → is_reached i.lines k.receiver ≡ true → is_reached j.lines k.receiver ≡ true
   probes_done {k} {i} {j} {r} {agents} {noted} d e =
       let g = lines_grow s most (Probes k r agents noted) i j d in
@@ -90,8 +100,9 @@ module _ (p : Point) (s : Scene) (most : ℕ) (whole : StandsWhole p) (held : s.
   safe _ _ _ (reads_copy c a e f) of may good = (good, tt)
   safe _ _ _ (gives_parts y a e f g) of may good = (good, tt)
   safe _ _ _ (asks_parts y w a e f g d) of may good = ((safe _ _ _ d of (may.1 a.fit) good).0, tt)
-  safe _ _ _ (updates c y a e f d) of may good =
-      ((safe _ _ _ d of (record { reached = may.0; context = c; arrives = a; found = e; update = f }, may.1 a.fit) good).0, tt)
+  safe _ _ _ (updates {k} {i} c y a e f d) of may good =
+      let at : AtUpdate s k i = record { reached = may.0; context = c; arrives = a; found = e; update = f } in
+      ((safe _ _ _ d of (at, may.1 a.fit) good).0, tt)
   safe _ _ _ (not_done x e) of may good = (good, tt)
   safe _ _ _ (does {k} {j} mine e f) of may good = (alone p s k j whole held may.1 of may.0 good mine e f, tt)
   safe _ _ _ (probes_all {k} {i} {j} mine r e f d) of may good =

@@ -1,18 +1,18 @@
 -- Where an update's target is found in a context of the agent's own nothing was accepted before, since only this agent
 -- could have, and it would answer at once; and what it accepts, alone or with each probe's agent cleared, is right.
-use Rattle.std.proofs.Common.{◌≡◌, ℕ, nat_le, ◌==◌, Bool, true, false, not, ◌&&◌, ◌||◌, inl, inr, List, [], ◌∷◌, length, refl, sym, ap, subst, ◌∙◌, Some, Ok, if◌then◌else◌}
-use Rattle.std.specs.List.{list_all, list_any}
+use Rattle.std.proofs.Common.{◌≡◌, ℕ, nat_le, ◌==◌, Bool, true, false, ◌&&◌, ◌||◌, inl, inr, List, [], ◌∷◌, length}
+use Rattle.std.proofs.Common.{refl, sym, ap, subst, ◌∙◌, Some, Ok, if◌then◌else◌}
+use Rattle.std.specs.List.{list_all}
 use Rattle.std.specs.Result.{is_ok}
 use Rattle.x5_model.specs.Words.{has, is_empty, some_and}
 use Rattle.x5_model.specs.Members.{In, here}
-use Rattle.x5_model.specs.Keys.{Key}
 use Rattle.x5_model.specs.Values.{Name, key_of}
 use Rattle.x5_model.specs.Entries.{Named}
 use Rattle.x5_model.specs.Requests.{Body}
-use Rattle.x5_model.specs.References.{Progress, Next, Reference}
+use Rattle.x5_model.specs.References.{Next, Reference}
 use Rattle.x5_model.proofs.KeyLaws.{key_decides}
 use Rattle.x5_model.proofs.Decide.{nat_same_decides}
-use Rattle.x5_model.proofs.Lists.{both_true, and_true, not_true, or_left, or_right, in_first, of_all, has_in}
+use Rattle.x5_model.proofs.Lists.{both_true, and_true, not_true, or_right, in_first, of_all, has_in}
 use Rattle.x5_model_tree.specs.Tree.{Tree}
 use Rattle.x5_model_tree.specs.Masters.{masters}
 use Rattle.x5_model_tree.specs.Ask.{is_update}
@@ -20,7 +20,7 @@ use Rattle.x5_model_tree.specs.Apply.{Applied, apply, apply_over}
 use Rattle.x5_model_run.specs.Network.{arrives}
 use Rattle.x5_model_run.specs.Journal.{Line, Journal, same_name, is_reached}
 use Rattle.x5_model_run.specs.Holdings.{Held, Holdings, ground_at, holds_within}
-use Rattle.x5_model_run.specs.Needs.{target_of, falls_short, new_name, due_probes}
+use Rattle.x5_model_run.specs.Needs.{target_of, falls_short, due_probes}
 use Rattle.x5_model_run.specs.History.{Point, knowledge_at, tree_at, holdings_at}
 use Rattle.x5_model_run.specs.Chain.{Scene}
 use Rattle.x5_model_run.specs.Right.{master_at, is_master_at, is_accepted_right}
@@ -82,13 +82,15 @@ pub record AtUpdate (s : Scene) (k : Hand) (i : Journal) : Type 0 where
   pub found : found_at s i k ≡ Here context
   pub update : is_update k.message.request.body ≡ true
 
-module _ (p : Point) (s : Scene) (k : Hand) (i : Journal) (whole : StandsWhole p) (held : s.holdings ≡ holdings_at p) (fit : Fit s) (of : IsOfUser s k.message) (at : AtUpdate s k i) (good : Good p s i) where
+module _ (p : Point) (s : Scene) (k : Hand) (i : Journal) (whole : StandsWhole p) (held : s.holdings ≡ holdings_at p)
+    (fit : Fit s) (of : IsOfUser s k.message) (at : AtUpdate s k i) (good : Good p s i) where
   not_yet : has ◌==◌ i.accepted k.receiver ≡ false
   not_yet = here_is_fresh s k i at.context at.arrives at.found at.update
 
   holds_is : holds_now s i k ≡ holdings_at p k.receiver
   holds_is =
-      ap (λ (b : Bool). if b then committed s.message.request (s.holdings k.receiver) else s.holdings k.receiver) not_yet
+      ap (λ (b : Bool). if b then committed s.message.request (s.holdings k.receiver) else s.holdings k.receiver)
+      not_yet
       ∙ ap (λ (f : ℕ → Holdings). f k.receiver) held
 
   judge : IsJudge p k.receiver k.message
@@ -118,7 +120,8 @@ module _ (p : Point) (s : Scene) (k : Hand) (i : Journal) (whole : StandsWhole p
           let u = both_true (is_update s.message.request.body) _ right in
           let v = both_true (is_reached i.lines a) _ u.1 in
           let w = both_true (is_master_at p (key_of s.message.target) a) _ v.1 in
-          let m : some_and (λ (x : ℕ). x == a) (Some k.receiver) ≡ true = ap (some_and (λ (x : ℕ). x == a)) (sym master_is) ∙ w.0 in
+          let m : some_and (λ (x : ℕ). x == a) (Some k.receiver) ≡ true =
+          ap (some_and (λ (x : ℕ). x == a)) (sym master_is) ∙ w.0 in
           let same : k.receiver ≡ a = (nat_same_decides k.receiver a).0 m in
           let yes : has ◌==◌ i.accepted k.receiver ≡ true =
           has_in ◌==◌ nat_same_decides k.receiver i.accepted (subst (λ (x : ℕ). In x i.accepted) (sym same) member) in
@@ -167,19 +170,22 @@ module _ (p : Point) (s : Scene) (k : Hand) (i : Journal) (whole : StandsWhole p
       -- it goes as far as the new name
       far : r.progress ≡ Next (length r.target)
       far =
-          let one : In r (due_probes (holdings_at p k.receiver) k.message) = subst (λ (rs : List Reference). In r rs) (sym due_here) here in
+          let one : In r (due_probes (holdings_at p k.receiver) k.message) =
+          subst (λ (rs : List Reference). In r rs) (sym due_here) here in
           let x = probe_is (holdings_at p k.receiver) k.message r one in
           let w = probes_new_name p k.receiver k.message r one in
           let same : x.name ≡ w.0 = (let e : Some x.name ≡ Some w.0 = sym x.named ∙ w.1 in cc) in
           ap (λ (y : Reference). y.progress) x.is
           ∙ ap (λ (n : ℕ). Next n) (ap (λ (y : Name). length y) same ∙ sym w.3)
 
-      cleared_masters_none : (a : ℕ) → IsShort s a r.target r.progress → masters (knowledge_at p) a (key_of r.target) ≡ false
+      cleared_masters_none : (a : ℕ) → IsShort s a r.target r.progress
+          → masters (knowledge_at p) a (key_of r.target) ≡ false
       cleared_masters_none a short =
           let less : falls_short (holdings_at p a) (key_of r.target) (Next (length r.target)) ≡ true =
           ap (falls_short (holdings_at p a) (key_of r.target)) (sym far)
           ∙ ap (λ (f : ℕ → Holdings). falls_short (f a) (key_of r.target) r.progress) (sym held) ∙ short in
-          unable_masters_none p a r.target whole (not_true (holds_within (holdings_at p a) (key_of r.target) (length r.target)) less)
+          unable_masters_none p a r.target whole
+          (not_true (holds_within (holdings_at p a) (key_of r.target) (length r.target)) less)
 
       -- or each agent that a probe goes to can't go on
       pub probed : (j : Journal) → j.accepted ≡ i.accepted → is_reached j.lines k.receiver ≡ true

@@ -35,16 +35,16 @@ accepted_deed r [] = Nothing
 accepted_deed r (a ∷ more) = Accepts (map (λ x. record { agent = x; request = r }) (a ∷ more))
 
 module _ (p : Point) (first : ℕ) (m : Chained) (lines : List Line) where
-  taken : (accepted : List ℕ) → nat_le (length accepted) 1 ≡ true → list_all (is_accepted_right p (scene_with p first m) lines) accepted ≡ true
+  pub accepted_happens : (accepted : List ℕ) → nat_le (length accepted) 1 ≡ true → list_all (is_accepted_right p (scene_with p first m) lines) accepted ≡ true
       → Happens p (accepted_deed m.request (reverse accepted))
-  taken [] one right = tt
-  taken (a ∷ []) one right =
+  accepted_happens [] one right = tt
+  accepted_happens (a ∷ []) one right =
       let w = (both_true (is_accepted_right p (scene_with p first m) lines a) true right).0 in
       let u = both_true (is_update m.request.body) _ w in
       let v = both_true (is_reached lines a) _ u.1 in
       let x = both_true (is_master_at p (key_of m.target) a) (is_ok (apply (tree_at p) m.request)) v.1 in
       (u.0, took (apply (tree_at p) m.request) x.1, tt)
-  taken (a ∷ b ∷ more) one right = absurd (too_many (length more) one)
+  accepted_happens (a ∷ b ∷ more) one right = absurd (too_many (length more) one)
     where
       too_many : (n : ℕ) → nat_le (suc (suc n)) 1 ≡ true → ⊥
       too_many n e = grind arith
@@ -175,7 +175,7 @@ module _ (p : Point) where
   did_happen (Drops reply n) block is = tt
   did_happen (Asks to r) Silent is = tt
   did_happen (Asks to r) Set is = tt
-  did_happen (Asks to r) (Replies j reply) is = taken p to (opening r) j.lines j.accepted is.one is.right
+  did_happen (Asks to r) (Replies j reply) is = accepted_happens p to (opening r) j.lines j.accepted is.one is.right
   did_happen (Asks to r) (Refreshing b) is = tt
   did_happen (Asks to r) (Handed by n j reply) is = tt
   did_happen (Asks to r) (Rejected raw breach) is = tt
@@ -188,7 +188,7 @@ module _ (p : Point) where
   did_happen (Hands via to count (Ok m)) Set is = tt
   did_happen (Hands via to count (Ok m)) (Replies j reply) is = tt
   did_happen (Hands via to count (Ok m)) (Refreshing b) is = tt
-  did_happen (Hands via to count (Ok m)) (Handed by n j reply) is = taken p to m j.lines j.accepted is.2.one is.2.right
+  did_happen (Hands via to count (Ok m)) (Handed by n j reply) is = accepted_happens p to m j.lines j.accepted is.2.one is.2.right
   did_happen (Hands via to count (Ok m)) (Rejected raw breach) is = tt
   did_happen (Hands via to count (Err x)) Silent is = tt
   did_happen (Hands via to count (Err x)) Set is = tt

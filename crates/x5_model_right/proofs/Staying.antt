@@ -1,14 +1,12 @@
 -- Serving a message where nothing is sent, and something was accepted before or is left: an update that its agent did
 -- before is done; who can't go on is unable; who may not chain refers its sender on. And a reply with nothing left is
 -- followed as it is.
-use Rattle.std.proofs.Common.{◌≡◌, ℕ, nat_le, nat_lt, Bool, true, false, not, ◌&&◌, ◌||◌, ◌==◌, ◌⊎◌, if◌then◌else◌, inl, inr, List, [], ◌∷◌, ◌++◌, map, length, refl, sym, ap, subst, ◌∙◌, Some, None, Ok, Err}
+use Rattle.std.proofs.Common.{◌≡◌, ℕ, nat_le, nat_lt, Bool, true, false, not, ◌&&◌, ◌||◌, ◌==◌, ◌⊎◌, if◌then◌else◌, inl, inr, List, [], ◌∷◌, ◌++◌, length, refl, sym, ap, subst, ◌∙◌, Some, None}
 use Rattle.std.specs.Option.{is_some, is_none}
-use Rattle.std.specs.List.{list_any}
 use Rattle.x5_model.specs.Words.{has, some_and}
 use Rattle.x5_model.specs.Members.{In, here}
-use Rattle.x5_model.specs.Keys.{Key, is_prefix}
-use Rattle.x5_model.specs.Values.{Name, key_of}
-use Rattle.x5_model.specs.Requests.{Body, Request}
+use Rattle.x5_model.specs.Values.{key_of}
+use Rattle.x5_model.specs.Requests.{Body}
 use Rattle.x5_model.specs.References.{Progress, Start, Next, Done, Reference, Chained}
 use Rattle.x5_model.specs.Answers.{ServiceProblem, Failed}
 use Rattle.x5_model.specs.Problems.{unable_to_proceed, invalid_reference}
@@ -17,10 +15,9 @@ use Rattle.x5_model.specs.Statics.{fault_of}
 use Rattle.x5_model.proofs.Decide.{nat_same_decides, less_decides}
 use Rattle.x5_model.proofs.Lists.{both_true, and_true, either_true, or_left, or_right, true_or_false, in_left, in_right, in_either, any_in, of_has}
 use Rattle.x5_model_tree.specs.Ask.{is_update}
-use Rattle.x5_model_tree.specs.Apply.{UpdatedEntries, apply_over}
 use Rattle.x5_model_run.specs.Network.{arrives}
 use Rattle.x5_model_run.specs.Journal.{Journal, operation_of, same_name, is_done, is_wide}
-use Rattle.x5_model_run.specs.Holdings.{Held, Copy, Holdings, prefixes, holds_within, ground_at}
+use Rattle.x5_model_run.specs.Holdings.{Holdings, holds_within}
 use Rattle.x5_model_run.specs.Needs.{target_of, resolves, resolves_by, falls_short, is_unable, resolution_needs, part_needs, copied_needs, passing_needs, needs}
 use Rattle.x5_model_run.specs.History.{Point, holdings_at}
 use Rattle.x5_model_run.specs.Chain.{Scene}

@@ -1,6 +1,6 @@
 -- Messages that a user hands to Beta as another agent's, of an update to its own context. Beta takes what they say of how far
 -- they have come as it is: the update is accepted where it goes on from there, and nothing is where it can't.
-use Rattle.std.specs.Prelude.{ℕ, false, List, [], ◌∷◌}
+use Rattle.std.specs.Prelude.{false, [], ◌∷◌}
 use Rattle.std.specs.List.{concat}
 use Rattle.std.specs.Fmt.{digits}
 use Rattle.std.specs.declared.option.Option.TheVariants.{None, Some}
@@ -14,7 +14,7 @@ use Rattle.x5_model.specs.Problems.{invalid_reference}
 use Rattle.x5_model_run.specs.Network.{Sent}
 use Rattle.x5_model_run.specs.Journal.{Line, Journal}
 use Rattle.x5_model_run.specs.Chain.{opening}
-use Rattle.x5_model_run.specs.Run.{Dsp, Command, Hands, Handed, begin, next}
+use Rattle.x5_model_run.specs.Run.{Dsp, Hands, Handed, begin, next}
 use Rattle.x5_model_output.specs.Output.{PrintsRun}
 use Rattle.x5_model_serve.specs.Serving.{hand_of, asked_by, answers, stuck, updates, does}
 use Rattle.x5_model_rows.proofs.BaseWorld.{base_world, acme}

@@ -1,5 +1,5 @@
 -- A whole run: a total pull, a change at the master, a read of the copy, and a read at the master.
-use Rattle.std.specs.Prelude.{◌≡◌, ℕ, true, false, List, [], ◌∷◌}
+use Rattle.std.specs.Prelude.{ℕ, true, false, List, [], ◌∷◌}
 use Rattle.std.proofs.Common.{refl, ap, subst}
 use lib.Chars.{codes}
 use Rattle.x5_model.specs.Values.{TextValue}

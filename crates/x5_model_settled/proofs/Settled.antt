@@ -5,9 +5,7 @@ use Rattle.std.proofs.Common.{◌≡◌, ◌≤◌, ℕ, List, [], ◌∷◌, ma
 use Rattle.x5_model.specs.Values.{Name}
 use Rattle.x5_model.specs.Requests.{Request}
 use Rattle.x5_model.specs.References.{Chained}
-use Rattle.x5_model.specs.Answers.{Reply}
 use Rattle.x5_model_tree.specs.World.{World}
-use Rattle.x5_model_run.specs.Journal.{Journal}
 use Rattle.x5_model_run.specs.Needs.{target_of, new_name}
 use Rattle.x5_model_run.specs.Stage.{budget}
 use Rattle.x5_model_run.specs.Chain.{opening, scene_with, scene_at}
@@ -24,7 +22,6 @@ use Rattle.x5_model_find.proofs.Standings.{stand_alike, copies_always}
 use Rattle.x5_model_serve.specs.Serving.{IsRequest}
 use Rattle.x5_model_right.proofs.Whole.{requests_are_right}
 use Rattle.x5_model_handed.proofs.Induction.{any_is_right}
-use Rattle.x5_model_settled.specs.Judges.{RightAndWhole}
 use Rattle.x5_model_settled.specs.Settled.{HasAgent, LinesAreSettled, RunsAreSettled, LinesAreRight, RunsAreRight, LinesTakeRight, RunsTakeRight, LinesHandleRight, RunsHandleRight}
 
 -- agents stay

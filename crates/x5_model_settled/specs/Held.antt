@@ -2,12 +2,11 @@
 -- Over consistent knowledge that is their part of the one tree, with copies as of their refreshes (X.525, section 9).
 -- Over any other knowledge there is no one tree, and no copy is refreshed: they hold what their world's file describes,
 -- changed by each update that they accepted (X.511, section 11). So far nothing is moved.
-use Rattle.std.specs.Prelude.{◌≡◌, ◌≤◌, ℕ, ◌==◌, true, if◌then◌else◌, List, [], ◌∷◌, length}
+use Rattle.std.specs.Prelude.{◌≡◌, ℕ, ◌==◌, true, if◌then◌else◌, List, [], ◌∷◌}
 use Rattle.std.specs.List.{AllByRecursion}
 use Rattle.std.specs.Option.{is_none}
-use Rattle.std.specs.declared.option.Option.TheVariants.{Some}
 use Rattle.x5_model.specs.Words.{has}
-use Rattle.x5_model.specs.Values.{Name, Text}
+use Rattle.x5_model.specs.Values.{Text}
 use Rattle.x5_model.specs.References.{Chained}
 use Rattle.x5_model.specs.Answers.{Reply}
 use Rattle.x5_model_tree.specs.World.{World}
