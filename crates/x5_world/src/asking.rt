@@ -98,26 +98,26 @@ pub(crate) fn asked<B: Begun>(
     alloc: Global,
     world: World,
     first: AgentId,
-    message: &Chained,
+    message: Chained,
     most: usize,
 ) -> Result<Told, NoMemory>
     requires begun { world ≡ B.net }
     requires there { first < length B.net.names }
-    requires short { HasShortNames (body_view message.now.request.body) }
+    requires short { HasShortNames (body_view message.request.body) }
     requires net { IsNet B.net }
     requires room { B.net.sent + most ≤ 18446744073709551615 }
     requires some { 0 < most }
-    ensures asked { IfOk result (λ told. IsRequest (scene_of B.net first (chained_view B.net.names message.now)) most (journal_of B.net.names told.lines.items told.accepted.items) (reply_view B.net.names told.reply)) }
-    ensures held { IfOk result (λ told. IsChanged B.net told.world (request_view message.now.request) told.accepted.items) }
+    ensures asked { IfOk result (λ told. IsRequest (scene_of B.net first (chained_view B.net.names message)) most (journal_of B.net.names told.lines.items told.accepted.items) (reply_view B.net.names told.reply)) }
+    ensures held { IfOk result (λ told. IsChanged B.net told.world (request_view message.request) told.accepted.items) }
     ensures within { IfOk result (λ told. length told.lines.items ≤ most) }
     ensures counted { IfOk result (λ told. list_all (is_counted B.net.names) told.lines.items ≡ true) }
     ensures accepted { IfOk result (λ told. are_agents (length B.net.names) told.accepted.items ≡ true) }
     ensures named { IfOk result (λ told. reply_agents (length B.net.names) (reply_view B.net.names told.reply) ≡ true) }
 {
-    let mut exchange = Exchange::<B>::new(alloc, world, first, message, most);
-    let reply = match exchange.send(alloc, None, first, message)? {
+    let mut exchange = Exchange::<B>::new(alloc, world, first, &message, most);
+    let reply = match exchange.send(alloc, None, first, &message)? {
         Carried::Spent => unreachable!(),
-        Carried::Undelivered => user_in_vain(alloc, exchange.names(), first, message)?,
+        Carried::Undelivered => user_in_vain(alloc, exchange.names(), first, &message)?,
         Carried::Unheard(taken) => served_in_vain(alloc, &mut exchange, first, &taken)?,
         Carried::Taken(taken) => user_served(alloc, &mut exchange, first, &taken)?,
     };

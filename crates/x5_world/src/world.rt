@@ -296,13 +296,13 @@ impl World {
         &mut self,
         alloc: Global,
         first: AgentId,
-        message: &Chained,
+        message: Chained,
     ) -> Result<(Reply, Journal), NoMemory>
         requires there { first < length self.old.names }
-        requires short { HasShortNames (body_view message.now.request.body) }
+        requires short { HasShortNames (body_view message.request.body) }
         requires room { (lines : ℕ) × (HasRoom self.old lines × (lines < 100000)) }
         ensures names { IfOk result (λ _. self.new.names ≡ self.old.names) }
-        ensures answered { IfOk result (λ out. (p : Point) → StandsAt self.old p → IsAnswered self.old self.new p first (chained_view self.old.names message.now) out.0 out.1) }
+        ensures answered { IfOk result (λ out. (p : Point) → StandsAt self.old p → IsAnswered self.old self.new p first (chained_view self.old.names message) out.0 out.1) }
         ensures named { IfOk result (λ out. NamesAgents self.old.names out.0 out.1) }
         ensures room_after { IfOk result (λ _. (lines : ℕ) → HasRoom self.old lines → HasRoom self.new (lines + 1)) }
     {
@@ -335,7 +335,7 @@ impl World {
         ensures room_after { IfOk result (λ _. (lines : ℕ) → HasRoom self.old lines → HasRoom self.new (lines + 1)) }
     {
         let message = opening(alloc, request)?;
-        self.send(alloc, first, &message)
+        self.send(alloc, first, message)
     }
 
     /// A message of the user to this agent that is none: what becomes of it. No memory.
@@ -370,10 +370,10 @@ impl World {
     /// Hands a message that octets spell to this agent.
     fn take(&mut self, alloc: Global, to: AgentId, message: &Chained) -> Result<Delivered, NoMemory>
         requires there { to < length self.old.names }
-        requires short { HasShortNames (body_view message.now.request.body) }
+        requires short { HasShortNames (body_view message.request.body) }
         requires room { (lines : ℕ) × (HasRoom self.old lines × (lines < 100000)) }
         ensures names { IfOk result (λ _. self.new.names ≡ self.old.names) }
-        ensures taken { IfOk result (λ d. (p : Point) (via : Protocol) (count : ℕ) → StandsAt self.old p → IsDelivered self.old self.new p via to count (Ok (chained_view self.old.names message.now)) d) }
+        ensures taken { IfOk result (λ d. (p : Point) (via : Protocol) (count : ℕ) → StandsAt self.old p → IsDelivered self.old self.new p via to count (Ok (chained_view self.old.names message)) d) }
         ensures named { IfOk result (λ d. NamesAgentsIn self.old.names d) }
         ensures room_after { IfOk result (λ _. (lines : ℕ) → HasRoom self.old lines → HasRoom self.new (lines + 1)) }
     {
@@ -398,7 +398,7 @@ impl World {
         match decode_request(alloc, octets) {
             Ok((_, request)) => {
                 let message = opening(alloc, &request)?;
-                self.take(alloc, to, &message)
+                self.take(alloc, to, message)
             }
             Err(fault) => self.reject(to, fault),
         }
@@ -419,7 +419,7 @@ impl World {
         ensures room_after { IfOk result (λ _. (lines : ℕ) → HasRoom self.old lines → HasRoom self.new (lines + 1)) }
     {
         match decode_chained(alloc, octets) {
-            Ok((_, message)) => self.take(alloc, to, &message),
+            Ok((_, message)) => self.take(alloc, to, message),
             Err(fault) => self.reject(to, fault),
         }
     }

@@ -22,15 +22,15 @@ use Rattle.x5_world.proofs.asking.asked.Goals as goal
 pub new-exchange-requires : goal.new-exchange-requires
 new-exchange-requires g c =
     let n : Net = g.B.Begun.net in
-    begun n c.args.world c.args.first c.args.most (chained_view n.names c.args.message.now) c.requires.begun c.requires.net c.requires.there c.requires.short c.requires.room
+    begun n c.args.world c.args.first c.args.most (chained_view n.names c.args.message) c.requires.begun c.requires.net c.requires.there c.requires.short c.requires.room
 
 pub returns-clause-asked : goal.returns-clause-asked
 returns-clause-asked g c =
     let n : Net = g.B.Begun.net in
-    let s : Scene = scene_of n c.args.first (chained_view n.names c.args.message.now) in
+    let s : Scene = scene_of n c.args.first (chained_view n.names c.args.message) in
     let begin = c.new-exchange.ensures in
     let stays = c.send.ensures.stays in
-    let user : chained_view n.names c.args.message.now ≡ s.message = refl in
+    let user : chained_view n.names c.args.message ≡ s.message = refl in
     let scene_0 : scene_of n c.new-exchange.result.first (chained_view n.names c.new-exchange.result.message.now) ≡ s =
     (λ i. scene_of n (begin.0 i) (chained_view n.names (begin.1 i).now)) ∙ ap (scene_of n c.args.first) user in
     let scene_1 : scene_of n c.send.new.self.first (chained_view n.names c.send.new.self.message.now) ≡ s =
@@ -45,7 +45,7 @@ returns-clause-asked g c =
       names = n.names;
       before = journal_of n.names c.new-exchange.result.lines.items c.new-exchange.result.accepted.items;
       to = c.args.first;
-      message = chained_view n.names c.args.message.now;
+      message = chained_view n.names c.args.message;
       carried = c.in_ok-send.field-0;
     } in
     let sent : IsCarriedBy at.scene at.most at.names at.before j None at.to at.message at.carried =
@@ -62,7 +62,7 @@ returns-clause-asked g c =
           (λ i. journal_of n.names ((c.into_parts-world.ensures.1 ∙ (λ k. (w.exchange-is k).lines)) i).items
           ((c.into_parts-world.ensures.2 ∙ (λ k. (w.exchange-is k).accepted)) i).items)
           (subst (λ (ns : List (List ℕ)). reply_view ns c.match-branch-3.reply
-          ≡ user_in_vain_at c.args.first (chained_view ns c.args.message.now)) w.names.ensures
+          ≡ user_in_vain_at c.args.first (chained_view ns c.args.message)) w.names.ensures
           (ap (reply_view w.names.result.now) w.reply-is ∙ w.in_ok-reply-in-Undelivered.ensures)
           ∙ ap (user_in_vain_at c.args.first) user)
       | in-Unheard+in_ok-reply-in-Unheard w ↦
@@ -98,10 +98,10 @@ returns-clause-asked g c =
 pub returns-clause-held : goal.returns-clause-held
 returns-clause-held g c =
     let n : Net = g.B.Begun.net in
-    let s : Scene = scene_of n c.args.first (chained_view n.names c.args.message.now) in
+    let s : Scene = scene_of n c.args.first (chained_view n.names c.args.message) in
     let begin = c.new-exchange.ensures in
     let stays = c.send.ensures.stays in
-    let user : chained_view n.names c.args.message.now ≡ s.message = refl in
+    let user : chained_view n.names c.args.message ≡ s.message = refl in
     let scene_0 : scene_of n c.new-exchange.result.first (chained_view n.names c.new-exchange.result.message.now) ≡ s =
     (λ i. scene_of n (begin.0 i) (chained_view n.names (begin.1 i).now)) ∙ ap (scene_of n c.args.first) user in
     let scene_1 : scene_of n c.send.new.self.first (chained_view n.names c.send.new.self.message.now) ≡ s =
@@ -118,7 +118,7 @@ returns-clause-held g c =
           ∙ w.user_served.ensures.stays.scene_is ∙ scene_1
     ] in
     changed_is n c.match-branch-3.exchange.world c.into_parts-world.result.0
-    (chained_view n.names c.match-branch-3.exchange.message.now).request (request_view c.args.message.now.request)
+    (chained_view n.names c.match-branch-3.exchange.message.now).request (request_view c.args.message.request)
     c.match-branch-3.exchange.accepted.items c.into_parts-world.result.2.items c.into_parts-world.ensures.0
     (ap (λ (x : Scene). x.message.request) scene) (λ i. (c.into_parts-world.ensures.2 i).items)
     c.match-branch-3.exchange.under_way.changed
@@ -126,10 +126,10 @@ returns-clause-held g c =
 pub returns-clause-named : goal.returns-clause-named
 returns-clause-named g c =
     let n : Net = g.B.Begun.net in
-    let s : Scene = scene_of n c.args.first (chained_view n.names c.args.message.now) in
+    let s : Scene = scene_of n c.args.first (chained_view n.names c.args.message) in
     replies_name_agents (length n.names) s c.args.most
     (journal_of n.names c.into_parts-world.result.1.items c.into_parts-world.result.2.items)
     (reply_view n.names c.match-branch-3.reply)
-    (hold_agents n c.args.first (chained_view n.names c.args.message.now) c.requires.net)
-    (are_themselves n c.args.first (chained_view n.names c.args.message.now) c.requires.net)
+    (hold_agents n c.args.first (chained_view n.names c.args.message) c.requires.net)
+    (are_themselves n c.args.first (chained_view n.names c.args.message) c.requires.net)
     (lt-ltb c.args.first (length n.names) c.requires.there) (returns-clause-asked g c)

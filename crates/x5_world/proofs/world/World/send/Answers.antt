@@ -45,14 +45,14 @@ returns-clause-answered c =
     let mid : Net = c.in_ok-told.told.world in
     let after : Net = record mid { sent = mid.sent + c.len-messages.result; line = mid.line + 1 } in
     λ p s. subst (λ (n : Net). IsAnswered c.args.self.now n p c.args.first
-    (chained_view c.args.self.now.names c.args.message.now) c.in_ok-told.told.reply c.in_ok-journal.journal)
+    (chained_view c.args.self.now.names c.args.message) c.in_ok-told.told.reply c.in_ok-journal.journal)
     (sym c.count.ensures)
-    (subst (λ (n : Net). IsAnswered n after p c.args.first (chained_view n.names c.args.message.now)
+    (subst (λ (n : Net). IsAnswered n after p c.args.first (chained_view n.names c.args.message)
     c.in_ok-told.told.reply c.in_ok-journal.journal) was
-    (answered old after p c.args.first c.in_ok-most.most (chained_view old.names c.args.message.now) sent
+    (answered old after p c.args.first c.in_ok-most.most (chained_view old.names c.args.message) sent
     c.in_ok-told.told.accepted.items c.in_ok-told.told.reply c.in_ok-journal.journal
     c.in_ok-told.ensures.asked (c.in_ok-most.ensures.is ∙ ap most_of (sym was)) printed called
-    (is_after old mid mid (request_view c.args.message.now.request) c.in_ok-told.told.accepted.items
+    (is_after old mid mid (request_view c.args.message.request) c.in_ok-told.told.accepted.items
     c.len-messages.result (length sent) c.in_ok-told.ensures.held refl count)
     (subst (λ (n : Net). c.args.first < length n.names) (sym was) c.requires.there)
     c.requires.short
