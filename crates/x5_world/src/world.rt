@@ -368,7 +368,7 @@ impl World {
     }
 
     /// Hands a message that octets spell to this agent.
-    fn take(&mut self, alloc: Global, to: AgentId, message: &Chained) -> Result<Delivered, NoMemory>
+    fn take(&mut self, alloc: Global, to: AgentId, message: Chained) -> Result<Delivered, NoMemory>
         requires there { to < length self.old.names }
         requires short { HasShortNames (body_view message.request.body) }
         requires room { (lines : ℕ) × (HasRoom self.old lines × (lines < 100000)) }
