@@ -1,2 +1,5 @@
 pub mod Making
+pub mod Texts
+pub mod Names
 pub mod Terms
+pub mod Filters

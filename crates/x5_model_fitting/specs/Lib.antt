@@ -1,2 +1,4 @@
 pub mod Names
 pub mod Terms
+pub mod Filters
+pub mod Requests

@@ -42,12 +42,11 @@ pub record AssertionWithin (a : Assertion) : Type 0 where
 
 -- ---- substrings: one part at least, each a text; only the first may begin a value, and only the last may end one
 
-abbrev pub PieceWithin : Piece → Type 0
-PieceWithin p = by p.value
-  where
-    by : Value → Type 0
-    by (TextValue t) = TextWithin t
-    by v = ⊥
+abbrev pub PartWithin : Value → Type 0
+PartWithin (TextValue t) = TextWithin t
+PartWithin (OctetsValue octets) = ⊥
+PartWithin (OidValue arcs) = ⊥
+PartWithin (NameOf n) = ⊥
 
 abbrev pub stand_right : List Piece → Bool
 stand_right [] = true
@@ -58,5 +57,5 @@ pub record SubstringsWithin (s : SubstringItem) : Type 0 where
   pub type : TypeWithin s.kind
   pub some : is_empty s.pieces ≡ false
   pub places : stand_right s.pieces ≡ true
-  pub pieces : Each PieceWithin s.pieces
+  pub pieces : Each (λ p. PartWithin p.value) s.pieces
   pub normal : s.normal ≡ parts_for s.kind s.pieces
