@@ -2,3 +2,5 @@ pub mod Names
 pub mod Terms
 pub mod Filters
 pub mod Requests
+pub mod Chained
+pub mod Laws

@@ -1,3 +1,18 @@
 //! Which messages can be written: requests, messages between agents and replies that are within the limits of the types of messages, in the
 //! standard's terms. Each function here does nothing; its clauses are the theorems, which `proofs/` shows over the definitions.
 #![tactic(auto)]
+
+ghost use Rattle.x5_model_fitting.specs.Laws.{ChainedFits, ChainedIsSpelled, RequestFits, RequestIsSpelled};
+
+/// A user's request within the limits is a value of its type, and as it is spelled (X.511): so what is written of it spells it and is
+/// read back.
+pub fn requests_fit()
+    ensures fits { RequestFits }
+    ensures spelled { RequestIsSpelled }
+{}
+
+/// So is a message between agents (X.518, section 10).
+pub fn messages_fit()
+    ensures fits { ChainedFits }
+    ensures spelled { ChainedIsSpelled }
+{}

@@ -1,0 +1,28 @@
+-- What is within the limits can be written: as a value of the type of messages it fits, and it's as it is spelled.
+use Rattle.std.specs.Prelude.{ℕ}
+use Rattle.x5_model.specs.Requests.{Request}
+use Rattle.x5_model_typed.specs.Named as named
+use Rattle.x5_model_typed.specs.Layouts.{Surroundings, layout}
+use Rattle.x5_model_typed_laws.specs.Fits.{Fits}
+use Rattle.x5_model_messages.specs.Requests.{request_node}
+use Rattle.x5_model_messages.specs.Chained.{Chained, chained_node}
+use Rattle.x5_model_messages.specs.Laws.{IsBody}
+use Rattle.x5_model_messages.specs.ChainedLaws.{IsChained}
+use Rattle.x5_model_fitting.specs.Requests.{CountWithin, RequestWithin}
+use Rattle.x5_model_fitting.specs.Chained.{ChainedWithin}
+
+-- A user's request.
+abbrev pub RequestFits : Type 0
+RequestFits = (w : Surroundings) (id : ℕ) (r : Request) → CountWithin id → RequestWithin r
+    → Fits (layout w) (layout w named.DapRequest) (request_node id r)
+
+abbrev pub RequestIsSpelled : Type 0
+RequestIsSpelled = (r : Request) → RequestWithin r → IsBody r.body
+
+-- A message between agents.
+abbrev pub ChainedFits : Type 0
+ChainedFits = (w : Surroundings) (id : ℕ) (m : Chained) → CountWithin id → ChainedWithin m
+    → Fits (layout w) (layout w named.DspRequest) (chained_node id m)
+
+abbrev pub ChainedIsSpelled : Type 0
+ChainedIsSpelled = (m : Chained) → ChainedWithin m → IsChained m
