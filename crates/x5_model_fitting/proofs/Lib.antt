@@ -6,3 +6,4 @@ pub mod Filters
 pub mod Leaves
 pub mod Requests
 pub mod Chained
+pub mod Replies

@@ -6,10 +6,12 @@ use Rattle.x5_model_typed.specs.Layouts.{Surroundings, layout}
 use Rattle.x5_model_typed_laws.specs.Fits.{Fits}
 use Rattle.x5_model_messages.specs.Requests.{request_node}
 use Rattle.x5_model_messages.specs.Chained.{Chained, chained_node}
+use Rattle.x5_model_messages.specs.Replies.{Reply, reply_node, to_user, to_agent}
 use Rattle.x5_model_messages.specs.Laws.{IsBody}
 use Rattle.x5_model_messages.specs.ChainedLaws.{IsChained}
 use Rattle.x5_model_fitting.specs.Requests.{CountWithin, RequestWithin}
 use Rattle.x5_model_fitting.specs.Chained.{ChainedWithin}
+use Rattle.x5_model_fitting.specs.Replies.{ReplyWithin}
 
 -- A user's request.
 abbrev pub RequestFits : Type 0
@@ -26,3 +28,12 @@ ChainedFits = (w : Surroundings) (id : ℕ) (m : Chained) → CountWithin id →
 
 abbrev pub ChainedIsSpelled : Type 0
 ChainedIsSpelled = (m : Chained) → ChainedWithin m → IsChained m
+
+-- A reply to a user, and one to an agent.
+abbrev pub ReplyFits : Type 0
+ReplyFits = (w : Surroundings) (id : ℕ) (r : Reply) → CountWithin id → ReplyWithin r
+    → Fits (layout w) (layout w named.DapAnswer) (reply_node to_user id r)
+
+abbrev pub ReplyToAgentFits : Type 0
+ReplyToAgentFits = (w : Surroundings) (id : ℕ) (r : Reply) → CountWithin id → ReplyWithin r
+    → Fits (layout w) (layout w named.DspAnswer) (reply_node to_agent id r)

@@ -3,4 +3,5 @@ pub mod Terms
 pub mod Filters
 pub mod Requests
 pub mod Chained
+pub mod Replies
 pub mod Laws

@@ -2,7 +2,7 @@
 //! standard's terms. Each function here does nothing; its clauses are the theorems, which `proofs/` shows over the definitions.
 #![tactic(auto)]
 
-ghost use Rattle.x5_model_fitting.specs.Laws.{ChainedFits, ChainedIsSpelled, RequestFits, RequestIsSpelled};
+ghost use Rattle.x5_model_fitting.specs.Laws.{ChainedFits, ChainedIsSpelled, ReplyFits, ReplyToAgentFits, RequestFits, RequestIsSpelled};
 
 /// A user's request within the limits is a value of its type, and as it is spelled (X.511): so what is written of it spells it and is
 /// read back.
@@ -15,4 +15,10 @@ pub fn requests_fit()
 pub fn messages_fit()
     ensures fits { ChainedFits }
     ensures spelled { ChainedIsSpelled }
+{}
+
+/// A reply within the limits is a value of the type of answers, to users and between agents (X.511, sections 7, 10 and 12).
+pub fn replies_fit()
+    ensures to_user { ReplyFits }
+    ensures to_agent { ReplyToAgentFits }
 {}
