@@ -7,3 +7,5 @@ pub mod Leaves
 pub mod Requests
 pub mod Chained
 pub mod Replies
+pub mod Taking
+pub mod TextsSaid
