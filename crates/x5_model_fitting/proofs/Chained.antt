@@ -5,9 +5,8 @@ use Rattle.std.proofs.lemmas.List.{length-map}
 use Rattle.std.specs.declared.option.Option.TheVariants.{Some}
 use Rattle.x5_model.specs.Words.{has, distinct, same_octets}
 use Rattle.x5_model.specs.Members.{In, here, there}
-use Rattle.x5_model.specs.Keys.{Key, KeyRdn, KeyPair, same_key}
-use Rattle.x5_model.specs.Values.{Text, NameValue, Rdn, Name, key_of, key_of_rdn, written, written_pair}
-use Rattle.x5_model.specs.Normal.{stored, stored_rdn, normal_pair, written_key}
+use Rattle.x5_model.specs.Keys.{same_key}
+use Rattle.x5_model.specs.Values.{Rdn}
 use Rattle.x5_model.specs.References.{Progress, Start, Next, Done, RefType, Superior, Subordinate, Cross, NonSpecific, Supplier, Own}
 use Rattle.x5_model.proofs.Lists.{and_true}
 use Rattle.x5_model_run.specs.Journal.{operation_of, kind_number, same_name, same_progress}
@@ -16,7 +15,7 @@ use Rattle.x5_model_typed.specs.Nodes.{Node, Vacant, Flag, Many, Nil, same_bit, 
 use Rattle.x5_model_typed.specs.Named as named
 use Rattle.x5_model_typed.specs.Forms.{Primitive}
 use Rattle.x5_model_typed.specs.Rules as rules
-use Rattle.x5_model_typed.specs.Rules.{name_in, most_items, trace_rule}
+use Rattle.x5_model_typed.specs.Rules.{most_items, trace_rule}
 use Rattle.x5_model_typed.specs.Leaves.{where_so, one_of, number_octets}
 use Rattle.x5_model_typed.specs.Typed.{required, default}
 use Rattle.x5_model_typed.specs.Layouts as layouts
@@ -29,14 +28,12 @@ use Rattle.x5_model_messages.specs.Terms.{node_of, rdn_node, name_node}
 use Rattle.x5_model_messages.specs.Requests.{argument_node}
 use Rattle.x5_model_messages.specs.Replies.{TraceItem, progress_node, item_node}
 use Rattle.x5_model_messages.specs.Chained.{Chained, chaining_node, carried_node, chained_node}
-use Rattle.x5_model_messages.specs.Laws.{IsName}
 use Rattle.x5_model_messages.specs.ChainedLaws.{AreRdns, AreItems}
-use Rattle.x5_model_messages.proofs.Requests.{the_name}
-use Rattle.x5_model_fitting.specs.Names.{Each, RdnWithin, NameWithin}
+use Rattle.x5_model_fitting.specs.Names.{Each, RdnWithin}
 use Rattle.x5_model_fitting.specs.Chained.{ProgressWithin, ItemWithin, same_item, TraceWithin, ChainedWithin}
 use Rattle.x5_model_fitting.specs.Laws.{ChainedFits, ChainedIsSpelled}
 use Rattle.x5_model_fitting.proofs.Making.{leaf_fits, each_fits, set_or, sequence_or}
-use Rattle.x5_model_fitting.proofs.Names.{name_fits, name_is, rdns_fit, rdn_is}
+use Rattle.x5_model_fitting.proofs.Names.{name_fits, name_is, key_said, rdns_fit, rdn_is}
 use Rattle.x5_model_fitting.proofs.Leaves.{number_fits, enumeration_fits, flag_fits, agent_fits}
 use Rattle.x5_model_fitting.proofs.Requests.{operation, argument_fits, coded, code_small, invoke_fits, request_is}
 
@@ -84,26 +81,6 @@ item_fits w i h =
     refl
 
 -- ---- items are the same exactly where what is written of them is
-
-written_rdn_of : (r : List (ℕ × Text)) → map written_pair (stored_rdn r) ≡ r
-written_rdn_of [] = refl
-written_rdn_of (p ∷ r) = ap (λ (s : List (ℕ × Text)). p ∷ s) (written_rdn_of r)
-
-written_of : (n : NameValue) → written (stored n) ≡ n
-written_of [] = refl
-written_of (r ∷ n) = ap₂ (λ (s : List (ℕ × Text)) (m : NameValue). s ∷ m) (written_rdn_of r) (written_of n)
-
-rdn_key_of : (r : List (ℕ × Text)) → key_of_rdn (stored_rdn r) ≡ map normal_pair r
-rdn_key_of [] = refl
-rdn_key_of (p ∷ r) = ap (λ (s : KeyRdn). normal_pair p ∷ s) (rdn_key_of r)
-
-name_key_of : (n : NameValue) → key_of (stored n) ≡ written_key n
-name_key_of [] = refl
-name_key_of (r ∷ n) = ap₂ (λ (s : KeyRdn) (m : Key). s ∷ m) (rdn_key_of r) (name_key_of n)
-
--- the key of what is written of a name is its own
-pub key_said : (n : Name) → NameWithin n → written_key (name_in (name_node n)) ≡ key_of n
-key_said n h = sym (name_key_of (name_in (name_node n))) ∙ ap key_of (the_name n (name_is n h))
 
 progress_same : (p q : Progress) → nodes.same (progress_node p) (progress_node q) ≡ same_progress p q
 progress_same Start Start = refl

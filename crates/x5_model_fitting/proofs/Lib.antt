@@ -9,3 +9,6 @@ pub mod Chained
 pub mod Replies
 pub mod Taking
 pub mod TextsSaid
+pub mod NamesSaid
+pub mod TermsSaid
+pub mod FiltersSaid

@@ -9,9 +9,10 @@ use Rattle.std.specs.declared.option.Option.{Option}
 use Rattle.std.specs.declared.option.Option.TheVariants.{None, Some}
 use Rattle.x5_model.specs.Words.{in_option, has, distinct, insert_sorted, sorted}
 use Rattle.x5_model.specs.Members.{In, here, there}
-use Rattle.x5_model.specs.Values.{Text, TypeRef, Known, NameValue, Value, TextValue, Rdn, Name, written, written_pair}
+use Rattle.x5_model.specs.Keys.{Key, KeyRdn}
+use Rattle.x5_model.specs.Values.{Text, TypeRef, Known, NameValue, Value, TextValue, Rdn, Name, key_of, key_of_rdn, written, written_pair}
 use Rattle.x5_model.specs.Types.{Kind, TextKind, PrintableKind, CountryKind, NumericKind, TelephoneKind, OidKind, NameKind, OctetsKind, is_known, may_name, kind_of}
-use Rattle.x5_model.specs.Normal.{most_octets, most_pairs, most_rdns, is_enough, is_part_of_kind, is_text_of_kind, is_pair, ascends_from, ascends, is_rdn, first_found, over, rdn_over, written_rdn, stored}
+use Rattle.x5_model.specs.Normal.{most_octets, most_pairs, most_rdns, is_enough, is_part_of_kind, is_text_of_kind, is_pair, ascends_from, ascends, is_rdn, first_found, over, rdn_over, written_rdn, stored, stored_rdn, normal_pair, written_key}
 use Rattle.x5_model.proofs.Lists.{both_true, and_true, of_all, all_in, of_map}
 use Rattle.x5_model_text.specs.TypeText.{known_below}
 use Rattle.x5_model_typed.specs.Nodes as nodes
@@ -20,7 +21,7 @@ use Rattle.x5_model_typed.specs.Named as named
 use Rattle.x5_model_typed.specs.Forms.{ruled}
 use Rattle.x5_model_typed.specs.Leaves.{where_so}
 use Rattle.x5_model_typed.specs.Rules as rules
-use Rattle.x5_model_typed.specs.Rules.{pair_in, pair_below, same_type, pair_rule, rdn_rule, name_rule}
+use Rattle.x5_model_typed.specs.Rules.{pair_in, name_in, pair_below, same_type, pair_rule, rdn_rule, name_rule}
 use Rattle.x5_model_typed.specs.Typed.{required}
 use Rattle.x5_model_typed.specs.Layouts.{Surroundings, layout, sequence_of}
 use Rattle.x5_model_typed.proofs.Laws.{list_row}
@@ -29,6 +30,7 @@ use Rattle.x5_model_typed_laws.specs.Fits.{Fits, FitsEach}
 use Rattle.x5_model_typed_laws.proofs.Leaves.{let_through}
 use Rattle.x5_model_messages.specs.Terms.{node_of, pair_node, pairs_node, rdn_node, name_value_node, name_node}
 use Rattle.x5_model_messages.specs.Laws.{has_known_types, IsName, IsRdn}
+use Rattle.x5_model_messages.proofs.Requests.{the_name}
 use Rattle.x5_model_fitting.specs.Names.{Each, TextWithin, are_utf8, WrittenRdnWithin, WrittenNameWithin, RdnWithin, NameWithin}
 use Rattle.x5_model_fitting.proofs.Making.{each_fits}
 use Rattle.x5_model_fitting.proofs.Texts.{text_fits, known_within, naming_known, type_fits}
@@ -252,3 +254,24 @@ stored_same (r ∷ n) h = ap₂ (λ (x : Rdn) (xs : Name). x ∷ xs) (h r here).
 
 pub name_is : (n : Name) → NameWithin n → IsName n
 name_is n h = (name_types (written n) (written_within n h), stored_same n h.rdns)
+
+-- ---- the key of what is written of a name is its own
+
+pub written_rdn_of : (r : List (ℕ × Text)) → map written_pair (stored_rdn r) ≡ r
+written_rdn_of [] = refl
+written_rdn_of (p ∷ r) = ap (λ (s : List (ℕ × Text)). p ∷ s) (written_rdn_of r)
+
+written_of : (n : NameValue) → written (stored n) ≡ n
+written_of [] = refl
+written_of (r ∷ n) = ap₂ (λ (s : List (ℕ × Text)) (m : NameValue). s ∷ m) (written_rdn_of r) (written_of n)
+
+rdn_key_of : (r : List (ℕ × Text)) → key_of_rdn (stored_rdn r) ≡ map normal_pair r
+rdn_key_of [] = refl
+rdn_key_of (p ∷ r) = ap (λ (s : KeyRdn). normal_pair p ∷ s) (rdn_key_of r)
+
+pub name_key_of : (n : NameValue) → key_of (stored n) ≡ written_key n
+name_key_of [] = refl
+name_key_of (r ∷ n) = ap₂ (λ (s : KeyRdn) (m : Key). s ∷ m) (rdn_key_of r) (name_key_of n)
+
+pub key_said : (n : Name) → NameWithin n → written_key (name_in (name_node n)) ≡ key_of n
+key_said n h = sym (name_key_of (name_in (name_node n))) ∙ ap key_of (the_name n (name_is n h))

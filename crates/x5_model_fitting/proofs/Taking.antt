@@ -83,7 +83,7 @@ each_in L form P of Nil none n i = elim i [ ]
 each_in L form P of (More m ns) (more f g) n here = of m f
 each_in L form P of (More m ns) (more f g) n (there i) = each_in L form P of ns g n i
 
-members_of : (L : Layout) (form : Named) (ns : Nodes) → FitsIn L (Members form) ns → FitsEach L form ns
+pub members_of : (L : Layout) (form : Named) (ns : Nodes) → FitsIn L (Members form) ns → FitsEach L form ns
 members_of L form ns (fits.members f) = f
 
 pub many_in : (L : Layout) (a : Alternative) (form : Named) (P : Node → Type 0) → a.content ≡ Members form
