@@ -82,7 +82,7 @@ item_fits w i h =
 
 -- ---- items are the same exactly where what is written of them is
 
-progress_same : (p q : Progress) → nodes.same (progress_node p) (progress_node q) ≡ same_progress p q
+pub progress_same : (p q : Progress) → nodes.same (progress_node p) (progress_node q) ≡ same_progress p q
 progress_same Start Start = refl
 progress_same Start (Next k) = refl
 progress_same Start Done = refl

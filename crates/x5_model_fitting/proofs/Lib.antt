@@ -12,3 +12,7 @@ pub mod TextsSaid
 pub mod NamesSaid
 pub mod TermsSaid
 pub mod FiltersSaid
+pub mod LeavesSaid
+pub mod MessagesSaid
+pub mod RequestsSaid
+pub mod ChainedSaid

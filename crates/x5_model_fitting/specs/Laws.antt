@@ -1,11 +1,16 @@
--- What is within the limits can be written: as a value of the type of messages it fits, and it's as it is spelled.
-use Rattle.std.specs.Prelude.{ℕ}
+-- What is within the limits can be written: as a value of the type of messages it fits, and it's as it is spelled. And
+-- what octets spell is within the limits: so whoever reads a message may pass it on.
+use Rattle.std.specs.Prelude.{◌≡◌, ℕ, true, List}
+use Rattle.std.specs.List.{list_all}
 use Rattle.x5_model.specs.Requests.{Request}
 use Rattle.x5_model_typed.specs.Named as named
+use Rattle.x5_model_typed.specs.Nodes.{Node}
+use Rattle.x5_model_typed.specs.Typed.{Spells}
 use Rattle.x5_model_typed.specs.Layouts.{Surroundings, layout}
 use Rattle.x5_model_typed_laws.specs.Fits.{Fits}
-use Rattle.x5_model_messages.specs.Requests.{request_node}
-use Rattle.x5_model_messages.specs.Chained.{Chained, chained_node}
+use Rattle.x5_model_typed_laws.specs.Said.{is_octet}
+use Rattle.x5_model_messages.specs.Requests.{request_node, request_in}
+use Rattle.x5_model_messages.specs.Chained.{Chained, chained_node, chained_in}
 use Rattle.x5_model_messages.specs.Replies.{Reply, reply_node, to_user, to_agent}
 use Rattle.x5_model_messages.specs.Laws.{IsBody}
 use Rattle.x5_model_messages.specs.ChainedLaws.{IsChained}
@@ -37,3 +42,15 @@ ReplyFits = (w : Surroundings) (id : ℕ) (r : Reply) → CountWithin id → Rep
 abbrev pub ReplyToAgentFits : Type 0
 ReplyToAgentFits = (w : Surroundings) (id : ℕ) (r : Reply) → CountWithin id → ReplyWithin r
     → Fits (layout w) (layout w named.DspAnswer) (reply_node to_agent id r)
+
+-- ---- what octets spell
+
+abbrev pub SpelledRequestIsWithin : Type 0
+SpelledRequestIsWithin = (w : Surroundings) (octets : List ℕ) (n : Node) → list_all is_octet octets ≡ true
+    → Spells (layout w) named.DapRequest octets n
+    → CountWithin (request_in n).0 × RequestWithin (request_in n).1
+
+abbrev pub SpelledChainedIsWithin : Type 0
+SpelledChainedIsWithin = (w : Surroundings) (octets : List ℕ) (n : Node) → list_all is_octet octets ≡ true
+    → Spells (layout w) named.DspRequest octets n
+    → CountWithin (chained_in n).0 × ChainedWithin (chained_in n).1
