@@ -16,3 +16,4 @@ pub mod LeavesSaid
 pub mod MessagesSaid
 pub mod RequestsSaid
 pub mod ChainedSaid
+pub mod RepliesSaid

@@ -86,7 +86,7 @@ value_said w (Chosen tag n) f = nothing_said
 
 -- ---- attributes
 
-map_some : {X : Type 0} (f : Node → X) (ns : List Node) → not (is_empty ns) ≡ true → is_empty (map f ns) ≡ false
+pub map_some : {X : Type 0} (f : Node → X) (ns : List Node) → not (is_empty ns) ≡ true → is_empty (map f ns) ≡ false
 map_some f [] h = absurd (cc h)
 map_some f (n ∷ ns) h = refl
 

@@ -11,7 +11,7 @@ use Rattle.x5_model_typed_laws.specs.Fits.{Fits}
 use Rattle.x5_model_typed_laws.specs.Said.{is_octet}
 use Rattle.x5_model_messages.specs.Requests.{request_node, request_in}
 use Rattle.x5_model_messages.specs.Chained.{Chained, chained_node, chained_in}
-use Rattle.x5_model_messages.specs.Replies.{Reply, reply_node, to_user, to_agent}
+use Rattle.x5_model_messages.specs.Replies.{Reply, reply_node, reply_in, to_user, to_agent}
 use Rattle.x5_model_messages.specs.Laws.{IsBody}
 use Rattle.x5_model_messages.specs.ChainedLaws.{IsChained}
 use Rattle.x5_model_fitting.specs.Requests.{CountWithin, RequestWithin}
@@ -54,3 +54,13 @@ abbrev pub SpelledChainedIsWithin : Type 0
 SpelledChainedIsWithin = (w : Surroundings) (octets : List ℕ) (n : Node) → list_all is_octet octets ≡ true
     → Spells (layout w) named.DspRequest octets n
     → CountWithin (chained_in n).0 × ChainedWithin (chained_in n).1
+
+abbrev pub SpelledReplyIsWithin : Type 0
+SpelledReplyIsWithin = (w : Surroundings) (octets : List ℕ) (n : Node) → list_all is_octet octets ≡ true
+    → Spells (layout w) named.DapAnswer octets n
+    → CountWithin (reply_in n).0 × ReplyWithin (reply_in n).1
+
+abbrev pub SpelledReplyToAgentIsWithin : Type 0
+SpelledReplyToAgentIsWithin = (w : Surroundings) (octets : List ℕ) (n : Node) → list_all is_octet octets ≡ true
+    → Spells (layout w) named.DspAnswer octets n
+    → CountWithin (reply_in n).0 × ReplyWithin (reply_in n).1

@@ -2,7 +2,7 @@
 //! standard's terms. Each function here does nothing; its clauses are the theorems, which `proofs/` shows over the definitions.
 #![tactic(auto)]
 
-ghost use Rattle.x5_model_fitting.specs.Laws.{ChainedFits, ChainedIsSpelled, ReplyFits, ReplyToAgentFits, RequestFits, RequestIsSpelled, SpelledChainedIsWithin, SpelledRequestIsWithin};
+ghost use Rattle.x5_model_fitting.specs.Laws.{ChainedFits, ChainedIsSpelled, ReplyFits, ReplyToAgentFits, RequestFits, RequestIsSpelled, SpelledChainedIsWithin, SpelledReplyIsWithin, SpelledReplyToAgentIsWithin, SpelledRequestIsWithin};
 
 /// A user's request within the limits is a value of its type, and as it is spelled (X.511): so what is written of it spells it and is
 /// read back.
@@ -23,8 +23,10 @@ pub fn replies_fit()
     ensures to_agent { ReplyToAgentFits }
 {}
 
-/// What octets spell of a user's request, or of a message between agents, is within the limits.
+/// What octets spell of a user's request, of a message between agents, or of a reply to either is within the limits.
 pub fn what_is_spelled_is_within()
     ensures requests { SpelledRequestIsWithin }
     ensures messages { SpelledChainedIsWithin }
+    ensures to_user { SpelledReplyIsWithin }
+    ensures to_agent { SpelledReplyToAgentIsWithin }
 {}
