@@ -171,15 +171,15 @@ update_result : (w : Surroundings) (code : ℕ) → In code (6 ∷ 7 ∷ 8 ∷ 9
 update_result w code i = elim (in_first code 6 (7 ∷ 8 ∷ 9 ∷ []) i) [
   | inl e ↦ by 6 (named.Outcome named.AddEntry) (omega arith) refl nothing e
   | inr j ↦ elim (in_first code 7 (8 ∷ 9 ∷ []) j) [
-      | inl e ↦ by 7 (named.Outcome named.RemoveEntry) (omega arith) refl nothing e
-      | inr k ↦ elim (in_first code 8 (9 ∷ []) k) [
-          | inl e ↦ by 8 (named.Outcome named.ModifyEntry) (omega arith) refl nothing e
-          | inr l ↦ elim (in_first code 9 [] l) [
-              | inl e ↦ by 9 (named.Outcome named.ModifyDn) (omega arith) refl nothing e
-              | inr m ↦ elim m [ ]
-            ]
-        ]
+    | inl e ↦ by 7 (named.Outcome named.RemoveEntry) (omega arith) refl nothing e
+    | inr k ↦ elim (in_first code 8 (9 ∷ []) k) [
+      | inl e ↦ by 8 (named.Outcome named.ModifyEntry) (omega arith) refl nothing e
+      | inr l ↦ elim (in_first code 9 [] l) [
+        | inl e ↦ by 9 (named.Outcome named.ModifyDn) (omega arith) refl nothing e
+        | inr m ↦ elim m [ ]
+      ]
     ]
+  ]
 ]
   where
     nothing : Fits (layout w) (universal 5 (Primitive null) ∷ []) Vacant
@@ -258,7 +258,6 @@ record AreErrors (rows : List (ℕ × named.Named)) (referral : ℕ) : Type 0 wh
 
 module _ (w : Surroundings) (inner : named.Named) (is_inner : layout w inner ≡ layouts.is (layouts.result_inner (operation_codes named.Outcome)))
     (rows : List (ℕ × named.Named)) (referral : ℕ) (errors : AreErrors rows referral) (id : ℕ) (small : CountWithin id) where
-
   answered_fits : (code : ℕ) (answer : Answer) → IsResult w code answer
       → Fits (layout w) (layouts.result inner ∷ layouts.error rows ∷ []) (result_node id code (answer_node answer))
   answered_fits code answer h =

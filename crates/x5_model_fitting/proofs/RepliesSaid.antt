@@ -342,7 +342,6 @@ inner_result = layouts.result_inner (operation_codes named.Outcome)
 
 module _ (w : Surroundings) (inner : named.Named) (is_inner : layout w inner ≡ layouts.is inner_result) (rows : List (ℕ × named.Named))
     (errors : (k : ℤ) (form : named.Named) (n : Node) → named_by rows k ≡ Some form → Fits (layout w) (layout w form) n → ErrorSaid (number_or_zero k) n) where
-
   inner_said : (id : ℕ) → CountWithin id → (tag : ℕ) (n : Node) → Fits (layout w) (layout w inner) n
       → ReplySaid (Chosen tag (Many (More (whole id) (More n Nil))))
   inner_said id small tag n f =
