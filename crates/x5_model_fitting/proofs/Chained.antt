@@ -39,7 +39,8 @@ use Rattle.x5_model_fitting.proofs.Requests.{operation, argument_fits, coded, co
 
 -- ---- progress and kinds of references
 
-pub progress_fits : (w : Surroundings) (p : Progress) → ProgressWithin p → Fits (layout w) (layout w named.Progress) (progress_node p)
+pub progress_fits : (w : Surroundings) (p : Progress) → ProgressWithin p
+    → Fits (layout w) (layout w named.Progress) (progress_node p)
 progress_fits w Start h =
     fits.made _ refl refl refl
     (fits.sequence (fits.given refl (enumeration_fits w 1 3 1 (omega arith) (omega arith) (omega arith)) required
@@ -59,7 +60,8 @@ progress_fits w Done h =
 kind_leaf : (w : Surroundings) (k : ℕ) (octets : List ℕ)
     → (Rattle.x5_model_typed.specs.Leaves.number (one_of (1 ∷ 2 ∷ 3 ∷ 4 ∷ 5 ∷ 8 ∷ []))).writes (whole k) ≡ Some octets
     → Fits (layout w) (layout w named.RefType) (whole k)
-kind_leaf w k octets h = leaf_fits (layout w) (layouts.integer (one_of (1 ∷ 2 ∷ 3 ∷ 4 ∷ 5 ∷ 8 ∷ []))) (whole k) octets refl refl h refl
+kind_leaf w k octets h =
+    leaf_fits (layout w) (layouts.integer (one_of (1 ∷ 2 ∷ 3 ∷ 4 ∷ 5 ∷ 8 ∷ []))) (whole k) octets refl refl h refl
 
 pub kind_fits : (w : Surroundings) (k : RefType) → Fits (layout w) (layout w named.RefType) (whole (kind_number k))
 kind_fits w Superior = kind_leaf w 1 (1 ∷ []) refl
@@ -71,7 +73,8 @@ kind_fits w Own = kind_leaf w 8 (8 ∷ []) refl
 
 -- ---- items
 
-pub item_fits : (w : Surroundings) (i : TraceItem) → ItemWithin i → Fits (layout w) (layout w named.TraceItem) (item_node i)
+pub item_fits : (w : Surroundings) (i : TraceItem) → ItemWithin i
+    → Fits (layout w) (layout w named.TraceItem) (item_node i)
 item_fits w i h =
     fits.made _ refl refl refl
     (fits.sequence (fits.given refl (agent_fits w i.agent h.agent) required
@@ -97,13 +100,15 @@ progress_same Done Start = refl
 progress_same Done (Next j) = refl
 progress_same Done Done = refl
 
-pub item_same : (a b : TraceItem) → ItemWithin a → ItemWithin b → rules.same_item (item_node a) (item_node b) ≡ same_item a b
+pub item_same : (a b : TraceItem) → ItemWithin a → ItemWithin b
+    → rules.same_item (item_node a) (item_node b) ≡ same_item a b
 item_same a b h k =
     ap₂ (λ (x y : Bool). same_octets a.agent b.agent && x && y && same_bit a.wide b.wide)
     (ap₂ same_key (key_said a.target h.target) (key_said b.target k.target)) (progress_same a.progress b.progress)
 
 module _ {X Y : Type 0} (f : X → Y) (same : X → X → Bool) (other : Y → Y → Bool) where
-  has_kept : (x : X) (xs : List X) → ((y : X) → In y xs → other (f y) (f x) ≡ same y x) → has other (map f xs) (f x) ≡ has same xs x
+  has_kept : (x : X) (xs : List X) → ((y : X) → In y xs → other (f y) (f x) ≡ same y x)
+      → has other (map f xs) (f x) ≡ has same xs x
   has_kept x [] h = refl
   has_kept x (y ∷ xs) h = ap₂ (λ (a b : Bool). a || b) (h y here) (has_kept x xs (λ z i. h z (there i)))
 
@@ -114,43 +119,53 @@ module _ {X Y : Type 0} (f : X → Y) (same : X → X → Bool) (other : Y → Y
       ap₂ (λ (a b : Bool). not a && b) (has_kept x xs (λ y i. h y x (there i) here))
       (distinct_kept xs (λ y z i j. h y z (there i) (there j)))
 
-trace_kept : (trace : List TraceItem) → TraceWithin trace → trace_rule (node_of (map item_node trace)) ≡ Some (node_of (map item_node trace))
+trace_kept : (trace : List TraceItem) → TraceWithin trace → trace_rule (node_of (map item_node trace)) ≡ Some
+    (node_of (map item_node trace))
 trace_kept trace h =
-    ap (λ (l : List Node). where_so (nat_le (length l) most_items && distinct rules.same_item l) (node_of (map item_node trace)))
+    ap (λ (l : List Node). where_so (nat_le (length l) most_items && distinct rules.same_item l)
+    (node_of (map item_node trace)))
     (list_row (map item_node trace))
-    ∙ let_through (nat_le (length (map item_node trace)) most_items && distinct rules.same_item (map item_node trace)) (node_of (map item_node trace))
+    ∙ let_through (nat_le (length (map item_node trace)) most_items && distinct rules.same_item (map item_node trace))
+    (node_of (map item_node trace))
     (and_true (nat_le (length (map item_node trace)) most_items) (distinct rules.same_item (map item_node trace))
     (le-leb (length (map item_node trace)) most_items (omega (arith, h.few, length-map trace item_node)))
-    (distinct_kept item_node same_item rules.same_item trace (λ x y i j. item_same x y (h.items x i) (h.items y j)) ∙ h.once))
+    (distinct_kept item_node same_item rules.same_item trace (λ x y i j. item_same x y (h.items x i) (h.items y j)) ∙
+    h.once))
 
-trace_fits : (w : Surroundings) (trace : List TraceItem) → TraceWithin trace → Fits (layout w) (layout w named.Trace) (node_of (map item_node trace))
+trace_fits : (w : Surroundings) (trace : List TraceItem) → TraceWithin trace
+    → Fits (layout w) (layout w named.Trace) (node_of (map item_node trace))
 trace_fits w trace h =
     fits.made _ refl refl refl
-    (fits.members (each_fits (layout w) named.TraceItem item_node trace (λ i j. item_fits w i (h.items i j)))) (trace_kept trace h)
+    (fits.members (each_fits (layout w) named.TraceItem item_node trace (λ i j. item_fits w i (h.items i j))))
+    (trace_kept trace h)
 
 -- ---- messages
 
-chaining_fits : (w : Surroundings) (m : Chained) → ChainedWithin m → Fits (layout w) (layout w named.Chaining) (chaining_node m)
+chaining_fits : (w : Surroundings) (m : Chained) → ChainedWithin m
+    → Fits (layout w) (layout w named.Chaining) (chaining_node m)
 chaining_fits w m h =
     fits.made _ refl refl refl
     (fits.set (fits.present refl (name_fits w m.target h.target) required
     (fits.present refl (progress_fits w m.progress h.progress) required
     (fits.present refl (trace_fits w m.trace h.trace) required
     (fits.present refl (kind_fits w m.kind) required
-    (set_or (layout w) (Many Nil) (node_of (map rdn_node m.exclusions)) 4 named.Rdns [] Nil (rdns_fit w m.exclusions h.exclusions) fits.all))))))
+    (set_or (layout w) (Many Nil) (node_of (map rdn_node m.exclusions)) 4 named.Rdns [] Nil
+    (rdns_fit w m.exclusions h.exclusions) fits.all))))))
     refl
 
 carried_fits : (w : Surroundings) (m : Chained) → ChainedWithin m
     → Fits (layout w) (layout w (named.Chained (operation m.request.body))) (carried_node m)
 carried_fits w m h =
     fits.made _ refl refl refl
-    (fits.sequence (fits.given refl (chaining_fits w m h) required (fits.given refl (argument_fits w m.request h.request) required fits.over)))
+    (fits.sequence (fits.given refl (chaining_fits w m h) required
+    (fits.given refl (argument_fits w m.request h.request) required fits.over)))
     refl
 
 pub chained_fits : ChainedFits
 chained_fits w id m small h =
     fits.chosen_made (layouts.invoke (operation_codes named.Chained)) 1 refl
-    (fits.sequence (invoke_fits w (operation_codes named.Chained) id (operation_of m.request.body) (named.Chained (operation m.request.body))
+    (fits.sequence (invoke_fits w (operation_codes named.Chained) id (operation_of m.request.body)
+    (named.Chained (operation m.request.body))
     (carried_node m) small (code_small m.request.body) (coded named.Chained m.request.body) (carried_fits w m h)))
     refl
 
@@ -165,5 +180,10 @@ items_are [] h = tt
 items_are (i ∷ items) h = (name_is i.target (h i here).target, items_are items (λ x j. h x (there j)))
 
 pub chained_is : ChainedIsSpelled
-chained_is m h =
-    (name_is m.target h.target, rdns_are m.exclusions h.exclusions, items_are m.trace h.trace.items, request_is m.request h.request)
+chained_is m h = (
+  name_is m.target h.target,
+  rdns_are m.exclusions h.exclusions,
+  items_are m.trace h.trace.items,
+  request_is
+      m.request h.request,
+)

@@ -56,7 +56,9 @@ progress_back (Next k) = refl
 progress_back Done = refl
 
 pub progress_within : (n : Node) → IsProgress n → ProgressWithin (progress_in n)
-progress_within n i = subst (λ (x : Node). ProgressWithin (progress_in x)) (sym i.is) (subst ProgressWithin (sym (progress_back i.progress)) i.within)
+progress_within n i =
+    subst (λ (x : Node). ProgressWithin (progress_in x)) (sym i.is)
+    (subst ProgressWithin (sym (progress_back i.progress)) i.within)
 
 abbrev MaybeNext : Node → Type 0
 MaybeNext n = (n ≡ Vacant) ⊎ IsNumber 1 16 n
@@ -64,10 +66,12 @@ MaybeNext n = (n ≡ Vacant) ⊎ IsNumber 1 16 n
 abbrev phased : Node → Node → Node
 phased phase next = Many (More phase (More next Nil))
 
-phase_by : (k : ℕ) (next : Node) → 1 ≤ k → k ≤ 3 → MaybeNext next → progress_rule (phased (whole k) next) ≡ Some (phased (whole k) next)
+phase_by : (k : ℕ) (next : Node) → 1 ≤ k → k ≤ 3 → MaybeNext next
+    → progress_rule (phased (whole k) next) ≡ Some (phased (whole k) next)
     → IsProgress (phased (whole k) next)
 phase_by zero next least most m settled = absurd (omega (arith, least))
-phase_by (suc zero) next least most (inl e) settled = record { progress = Start; is = ap (phased (whole 1)) e; within = tt }
+phase_by (suc zero) next least most (inl e) settled =
+    record { progress = Start; is = ap (phased (whole 1)) e; within = tt }
 phase_by (suc zero) next least most (inr i) settled =
     let h : progress_rule (phased (whole 1) (whole i.value)) ≡ Some (phased (whole 1) (whole i.value)) =
     subst (λ (x : Node). progress_rule (phased (whole 1) x) ≡ Some (phased (whole 1) x)) i.is settled in
@@ -78,7 +82,8 @@ phase_by (suc (suc zero)) next least most (inl e) settled =
     absurd (cc h)
 phase_by (suc (suc zero)) next least most (inr i) settled =
     record { progress = Next i.value; is = ap (phased (whole 2)) i.is; within = (i.least, i.most) }
-phase_by (suc (suc (suc zero))) next least most (inl e) settled = record { progress = Done; is = ap (phased (whole 3)) e; within = tt }
+phase_by (suc (suc (suc zero))) next least most (inl e) settled =
+    record { progress = Done; is = ap (phased (whole 3)) e; within = tt }
 phase_by (suc (suc (suc zero))) next least most (inr i) settled =
     let h : progress_rule (phased (whole 3) (whole i.value)) ≡ Some (phased (whole 3) (whole i.value)) =
     subst (λ (x : Node). progress_rule (phased (whole 3) x) ≡ Some (phased (whole 3) x)) i.is settled in
@@ -88,8 +93,10 @@ phase_by (suc (suc (suc (suc k)))) next least most m settled = absurd (omega (ar
 pub progress_said : (w : Surroundings) (n : Node) → Fits (layout w) (layout w named.Progress) n → IsProgress n
 progress_said w n f =
     let m = only_made (layout w) _ n refl refl f in
-    let a = first_in (layout w) (named.Enumeration 1 3) _ (IsNumber 1 3) (enumeration_said w 1 3) m.members (sequence_in (layout w) _ m.members m.within) in
-    let b = maybe_in (layout w) Vacant (plain (named.NumberBelow 1 16)) [] MaybeNext (inl refl) (λ x g. inr (number_said w 1 16 x g)) a.others a.rest in
+    let a = first_in (layout w) (named.Enumeration 1 3) _ (IsNumber 1 3) (enumeration_said w 1 3) m.members
+    (sequence_in (layout w) _ m.members m.within) in
+    let b = maybe_in (layout w) Vacant (plain (named.NumberBelow 1 16)) [] MaybeNext (inl refl)
+    (λ x g. inr (number_said w 1 16 x g)) a.others a.rest in
     let is : n ≡ phased (whole a.is.value) b.first =
     m.is_many ∙ ap Many (a.split ∙ ap (λ (x : Node). More x a.others) a.is.is
     ∙ ap (More (whole a.is.value)) (b.split ∙ ap (More b.first) (sequence_over (layout w) b.others b.rest))) in
@@ -112,19 +119,24 @@ pub record IsItem (n : Node) : Type 0 where
 item_node_said : (w : Surroundings) (n : Node) → Fits (layout w) (layout w named.TraceItem) n → IsItem n
 item_node_said w n f =
     let m = only_made (layout w) _ n refl refl f in
-    let a = first_in (layout w) named.AgentName _ IsAgent (agent_said w) m.members (sequence_in (layout w) _ m.members m.within) in
+    let a = first_in (layout w) named.AgentName _ IsAgent (agent_said w) m.members
+    (sequence_in (layout w) _ m.members m.within) in
     let b = first_in (layout w) named.Name _ (λ x. NameWithin (name_of x)) (name_said w) a.others a.rest in
     let c = first_in (layout w) named.Progress _ IsProgress (progress_said w) b.others b.rest in
-    let d = maybe_in (layout w) (Flag false) (plain named.Boolean) [] IsFlag (record { value = false; is = refl }) (flag_said w) c.others c.rest in
+    let d = maybe_in (layout w) (Flag false) (plain named.Boolean) [] IsFlag (record { value = false; is = refl })
+    (flag_said w) c.others c.rest in
     record {
       agent = a.is.name;
       target = b.first;
       progress = c.is.progress;
       wide = d.is.value;
       is =
-          m.is_many ∙ ap Many (a.split ∙ ap (λ (x : Node). More x a.others) a.is.is ∙ ap (More (nodes.Text a.is.name)) (b.split
-          ∙ ap (More b.first) (c.split ∙ ap (λ (x : Node). More x c.others) c.is.is ∙ ap (More (progress_node c.is.progress)) (d.split
-          ∙ ap (λ (x : Node). More x d.others) d.is.is ∙ ap (More (Flag d.is.value)) (sequence_over (layout w) d.others d.rest)))));
+          m.is_many ∙ ap Many (a.split ∙ ap (λ (x : Node). More x a.others) a.is.is ∙ ap (More (nodes.Text a.is.name))
+          (b.split
+          ∙ ap (More b.first) (c.split ∙ ap (λ (x : Node). More x c.others) c.is.is ∙ ap
+          (More (progress_node c.is.progress)) (d.split
+          ∙ ap (λ (x : Node). More x d.others) d.is.is ∙ ap (More (Flag d.is.value))
+          (sequence_over (layout w) d.others d.rest)))));
       agent_within = a.is.agent;
       target_within = b.is;
       progress_within = c.is.within;
@@ -147,7 +159,8 @@ made_item agent target progress wide =
     Many (More (nodes.Text agent) (More target (More (progress_node progress) (More (Flag wide) Nil))))
 
 items_alike : (a b : Text) (s t : Node) (p q : Progress) (v x : Bool)
-    → same_item (item_in (made_item a s p v)) (item_in (made_item b t q x)) ≡ rules.same_item (made_item a s p v) (made_item b t q x)
+    → same_item (item_in (made_item a s p v)) (item_in (made_item b t q x)) ≡ rules.same_item (made_item a s p v)
+    (made_item b t q x)
 items_alike a b s t p q v x =
     ap₂ (λ (i j : Bool). same_octets a b && i && j && same_bit v x)
     (ap₂ same_key (name_key_of (name_in s)) (name_key_of (name_in t)))
@@ -161,7 +174,8 @@ item_alike m n i j =
     ≡ rules.same_item (made_item i.agent i.target i.progress i.wide) x) (sym j.is)
     (items_alike i.agent j.agent i.target j.target i.progress j.progress i.wide j.wide))
 
-trace_said : (w : Surroundings) (n : Node) → Fits (layout w) (layout w named.Trace) n → TraceWithin (map item_in (parts n))
+trace_said : (w : Surroundings) (n : Node) → Fits (layout w) (layout w named.Trace) n
+    → TraceWithin (map item_in (parts n))
 trace_said w n f =
     let m = only_made (layout w) (ruled trace_rule (layouts.sequence_of named.TraceItem)) n refl refl f in
     let h = (so (nat_le (length (parts n)) most_items && distinct rules.same_item (parts n)) n n m.settled).0 in
@@ -171,22 +185,29 @@ trace_said w n f =
     record {
       few = omega (arith, few, length-map (parts n) item_in);
       items = each_mapped ItemWithin item_in (parts n) (λ x i. item_within x (items x i));
-      once = distinct_kept item_in rules.same_item same_item (parts n) (λ x y i j. item_alike x y (items x i) (items y j)) ∙ v.1;
+      once =
+          distinct_kept item_in rules.same_item same_item (parts n) (λ x y i j. item_alike x y (items x i) (items y j))
+          ∙ v.1;
     }
 
 -- ---- messages
 
 abbrev ChainingSaid : Node → Type 0
-ChainingSaid n = (r : Rattle.x5_model.specs.Requests.Request) → RequestWithin r → ChainedWithin (Rattle.x5_model_messages.specs.Chained.chaining_in r n)
+ChainingSaid n =
+    (r : Rattle.x5_model.specs.Requests.Request) → RequestWithin r
+    → ChainedWithin (Rattle.x5_model_messages.specs.Chained.chaining_in r n)
 
 chaining_said : (w : Surroundings) (n : Node) → Fits (layout w) (layout w named.Chaining) n → ChainingSaid n
 chaining_said w n f =
     let m = only_made (layout w) _ n refl refl f in
-    let a = set_first (layout w) 0 named.Name _ (λ x. NameWithin (name_of x)) (name_said w) m.members (set_in (layout w) _ m.members m.within) in
+    let a = set_first (layout w) 0 named.Name _ (λ x. NameWithin (name_of x)) (name_said w) m.members
+    (set_in (layout w) _ m.members m.within) in
     let b = set_first (layout w) 1 named.Progress _ IsProgress (progress_said w) a.others a.rest in
-    let c = set_first (layout w) 2 named.Trace _ (λ x. TraceWithin (map item_in (parts x))) (trace_said w) b.others b.rest in
+    let c = set_first (layout w) 2 named.Trace _ (λ x. TraceWithin (map item_in (parts x))) (trace_said w) b.others
+    b.rest in
     let d = set_first (layout w) 3 named.RefType _ anything (λ x g. tt) c.others c.rest in
-    let e = set_maybe (layout w) (Many Nil) 4 named.Rdns [] (λ x. Each RdnWithin (map rdn_of (parts x))) (λ r i. elim i [ ]) (rdns_said w) d.others d.rest in
+    let e = set_maybe (layout w) (Many Nil) 4 named.Rdns [] (λ x. Each RdnWithin (map rdn_of (parts x)))
+    (λ r i. elim i [ ]) (rdns_said w) d.others d.rest in
     let is : n ≡ Many (More a.first (More b.first (More c.first (More d.first (More e.first Nil))))) =
     m.is_many ∙ ap Many (a.split ∙ ap (More a.first) (b.split ∙ ap (More b.first) (c.split ∙ ap (More c.first)
     (d.split ∙ ap (More d.first) (e.split ∙ ap (More e.first) (set_over (layout w) e.others e.rest)))))) in
@@ -201,13 +222,18 @@ chaining_said w n f =
 abbrev CarriedSaid : ℕ → Node → Type 0
 CarriedSaid code n = ChainedWithin (carried_in code n)
 
-carried_said : (w : Surroundings) (o : named.Operation) (n : Node) → Fits (layout w) (layout w (named.Chained o)) n → CarriedSaid (code_of o) n
+carried_said : (w : Surroundings) (o : named.Operation) (n : Node) → Fits (layout w) (layout w (named.Chained o)) n
+    → CarriedSaid (code_of o) n
 carried_said w o n f =
-    let m = only_made (layout w) (layouts.sequence (plain named.Chaining ∷ plain (named.Argument o) ∷ [])) n refl refl f in
-    let a = first_in (layout w) named.Chaining _ ChainingSaid (chaining_said w) m.members (sequence_in (layout w) _ m.members m.within) in
-    let b = first_in (layout w) (named.Argument o) [] (λ x. RequestWithin (argument_in (code_of o) x)) (argument_said w o) a.others a.rest in
+    let m = only_made (layout w) (layouts.sequence (plain named.Chaining ∷ plain (named.Argument o) ∷ [])) n refl refl
+    f in
+    let a = first_in (layout w) named.Chaining _ ChainingSaid (chaining_said w) m.members
+    (sequence_in (layout w) _ m.members m.within) in
+    let b = first_in (layout w) (named.Argument o) [] (λ x. RequestWithin (argument_in (code_of o) x))
+    (argument_said w o) a.others a.rest in
     let is : n ≡ Many (More a.first (More b.first Nil)) =
-    m.is_many ∙ ap Many (a.split ∙ ap (More a.first) (b.split ∙ ap (More b.first) (sequence_over (layout w) b.others b.rest))) in
+    m.is_many ∙ ap Many (a.split ∙ ap (More a.first) (b.split ∙ ap (More b.first)
+    (sequence_over (layout w) b.others b.rest))) in
     subst (CarriedSaid (code_of o)) (sym is) (a.is (argument_in (code_of o) b.first) b.is)
 
 abbrev ChainedSaid : Node → Type 0
@@ -219,12 +245,15 @@ chained_said w n f =
     let invoke = layouts.invoke (operation_codes named.Chained) in
     let same : m.alternative ≡ invoke = only_marked invoke m.alternative m.tag m.found in
     let i = invoke_in w (operation_codes named.Chained) m.members
-    (sequence_in (layout w) _ m.members (subst (λ (x : Alternative). FitsIn (layout w) x.content m.members) same m.within)) in
+    (sequence_in (layout w) _ m.members (subst (λ (x : Alternative). FitsIn (layout w) x.content m.members) same
+    m.within)) in
     let o = operation_in named.Chained i.number i.form i.names_it in
-    let said = carried_said w o.operation i.said (subst (λ (x : named.Named). Fits (layout w) (layout w x) i.said) o.named_so i.fits_said) in
+    let said = carried_said w o.operation i.said (subst (λ (x : named.Named). Fits (layout w) (layout w x) i.said)
+    o.named_so i.fits_said) in
     subst ChainedSaid (sym (m.is ∙ ap (λ (x : Nodes). Chosen m.tag (Many x)) (i.split
     ∙ ap (λ (k : ℤ). More (whole i.id) (More (Number k) (More i.said Nil))) o.number)))
     (i.small, said)
 
 pub chained_spelled : SpelledChainedIsWithin
-chained_spelled w octets n eights spells = chained_said w n (messages_spelled_fit w named.DspRequest octets n eights spells)
+chained_spelled w octets n eights spells =
+    chained_said w n (messages_spelled_fit w named.DspRequest octets n eights spells)

@@ -18,23 +18,31 @@ use Rattle.x5_model_fitting.proofs.Terms.{assertion_fits, assertion_is, substrin
 -- ---- items
 
 item_fits : (w : Surroundings) (i : Item) → ItemWithin i → Fits (layout w) (layout w named.Item) (item_node i)
-item_fits w (Equality a) h = fits.chosen (choice 0 (Explicit named.Assertion)) 0 named.Assertion refl refl (assertion_fits w a h) refl
-item_fits w (Substrings s) h = fits.chosen (choice 1 (Explicit named.Substrings)) 1 named.Substrings refl refl (substrings_fit w s h) refl
-item_fits w (GreaterOrEqual a) h = fits.chosen (choice 2 (Explicit named.Assertion)) 2 named.Assertion refl refl (assertion_fits w a h) refl
-item_fits w (LessOrEqual a) h = fits.chosen (choice 3 (Explicit named.Assertion)) 3 named.Assertion refl refl (assertion_fits w a h) refl
-item_fits w (Present type) h = fits.chosen (choice 4 (Explicit named.AnyOid)) 4 named.AnyOid refl refl (type_fits w type h) refl
-item_fits w (Approximate a) h = fits.chosen (choice 5 (Explicit named.Assertion)) 5 named.Assertion refl refl (assertion_fits w a h) refl
+item_fits w (Equality a) h =
+    fits.chosen (choice 0 (Explicit named.Assertion)) 0 named.Assertion refl refl (assertion_fits w a h) refl
+item_fits w (Substrings s) h =
+    fits.chosen (choice 1 (Explicit named.Substrings)) 1 named.Substrings refl refl (substrings_fit w s h) refl
+item_fits w (GreaterOrEqual a) h =
+    fits.chosen (choice 2 (Explicit named.Assertion)) 2 named.Assertion refl refl (assertion_fits w a h) refl
+item_fits w (LessOrEqual a) h =
+    fits.chosen (choice 3 (Explicit named.Assertion)) 3 named.Assertion refl refl (assertion_fits w a h) refl
+item_fits w (Present type) h =
+    fits.chosen (choice 4 (Explicit named.AnyOid)) 4 named.AnyOid refl refl (type_fits w type h) refl
+item_fits w (Approximate a) h =
+    fits.chosen (choice 5 (Explicit named.Assertion)) 5 named.Assertion refl refl (assertion_fits w a h) refl
 
 -- ---- filters, where a level is left
 
 abbrev pub level_types : ℕ → List Alternative
 level_types below =
-    choice 0 (Explicit named.Item) ∷ choice 1 (Explicit (named.Filters below)) ∷ choice 2 (Explicit (named.Filters below))
+    choice 0 (Explicit named.Item) ∷ choice 1 (Explicit (named.Filters below)) ∷ choice 2
+    (Explicit (named.Filters below))
     ∷ choice 3 (Explicit (named.Filter below)) ∷ []
 
 pub some_level : (levels : ℕ) → 1 ≤ levels → layouts.filter levels ≡ level_types (levels - 1)
 some_level levels h =
-    ap (λ (b : Bool). if b then choice 0 Never ∷ choice 1 Never ∷ choice 2 Never ∷ choice 3 Never ∷ [] else level_types (levels - 1))
+    ap (λ (b : Bool). if b then choice 0 Never ∷ choice 1 Never ∷ choice 2 Never ∷ choice 3 Never ∷ [] else level_types
+    (levels - 1))
     (not_none levels h)
   where
     not_none : (n : ℕ) → 1 ≤ n → (n == 0) ≡ false
@@ -49,11 +57,13 @@ mutual
   filter_fits w levels (And fs) h =
       subst (λ (ts : List Alternative). Fits (layout w) ts (filter_node (And fs))) (sym (some_level levels h.0))
       (fits.chosen (choice 1 (Explicit (named.Filters (levels - 1)))) 1 (named.Filters (levels - 1)) refl refl
-      (fits.made (set_of (named.Filter (levels - 1))) refl refl refl (fits.members (filters_fit w (levels - 1) fs h.1)) refl) refl)
+      (fits.made (set_of (named.Filter (levels - 1))) refl refl refl (fits.members (filters_fit w (levels - 1) fs h.1))
+      refl) refl)
   filter_fits w levels (Or fs) h =
       subst (λ (ts : List Alternative). Fits (layout w) ts (filter_node (Or fs))) (sym (some_level levels h.0))
       (fits.chosen (choice 2 (Explicit (named.Filters (levels - 1)))) 2 (named.Filters (levels - 1)) refl refl
-      (fits.made (set_of (named.Filter (levels - 1))) refl refl refl (fits.members (filters_fit w (levels - 1) fs h.1)) refl) refl)
+      (fits.made (set_of (named.Filter (levels - 1))) refl refl refl (fits.members (filters_fit w (levels - 1) fs h.1))
+      refl) refl)
   filter_fits w levels (Not f) h =
       subst (λ (ts : List Alternative). Fits (layout w) ts (filter_node (Not f))) (sym (some_level levels h.0))
       (fits.chosen (choice 3 (Explicit (named.Filter (levels - 1)))) 3 (named.Filter (levels - 1)) refl refl

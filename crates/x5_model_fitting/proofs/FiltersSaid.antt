@@ -21,12 +21,18 @@ use Rattle.x5_model_fitting.proofs.TermsSaid.{assertion_said, substrings_said}
 
 item_by : (w : Surroundings) (n : Node) (c : IsChoice (layout w) (layout w named.Item) n) (tag : ℕ)
     → find (is_marked tag) (layout w named.Item) ≡ Some c.alternative → ItemWithin (item_in (Chosen tag c.inner))
-item_by w n c zero e = assertion_said w c.inner (inner_fits (layout w) (layout w named.Item) n c named.Assertion _ refl e)
-item_by w n c (suc zero) e = substrings_said w c.inner (inner_fits (layout w) (layout w named.Item) n c named.Substrings _ refl e)
-item_by w n c (suc (suc zero)) e = assertion_said w c.inner (inner_fits (layout w) (layout w named.Item) n c named.Assertion _ refl e)
-item_by w n c (suc (suc (suc zero))) e = assertion_said w c.inner (inner_fits (layout w) (layout w named.Item) n c named.Assertion _ refl e)
-item_by w n c (suc (suc (suc (suc zero)))) e = type_said w c.inner (inner_fits (layout w) (layout w named.Item) n c named.AnyOid _ refl e)
-item_by w n c (suc (suc (suc (suc (suc zero))))) e = assertion_said w c.inner (inner_fits (layout w) (layout w named.Item) n c named.Assertion _ refl e)
+item_by w n c zero e =
+    assertion_said w c.inner (inner_fits (layout w) (layout w named.Item) n c named.Assertion _ refl e)
+item_by w n c (suc zero) e =
+    substrings_said w c.inner (inner_fits (layout w) (layout w named.Item) n c named.Substrings _ refl e)
+item_by w n c (suc (suc zero)) e =
+    assertion_said w c.inner (inner_fits (layout w) (layout w named.Item) n c named.Assertion _ refl e)
+item_by w n c (suc (suc (suc zero))) e =
+    assertion_said w c.inner (inner_fits (layout w) (layout w named.Item) n c named.Assertion _ refl e)
+item_by w n c (suc (suc (suc (suc zero)))) e =
+    type_said w c.inner (inner_fits (layout w) (layout w named.Item) n c named.AnyOid _ refl e)
+item_by w n c (suc (suc (suc (suc (suc zero))))) e =
+    assertion_said w c.inner (inner_fits (layout w) (layout w named.Item) n c named.Assertion _ refl e)
 item_by w n c (suc (suc (suc (suc (suc (suc k)))))) e =
     absurd (omega (arith, tag_below (layout w named.Item) (suc (suc (suc (suc (suc (suc k)))))) 6 c.alternative refl e))
 
@@ -37,12 +43,14 @@ item_said w n f =
 
 -- ---- one level, over what those below it say
 
-filters_by : (w : Surroundings) (k : ℕ) → ((n : Node) → Fits (layout w) (layouts.filter k) n → FilterWithin k (filter_in n))
+filters_by : (w : Surroundings) (k : ℕ) → ((n : Node) → Fits (layout w) (layouts.filter k) n → FilterWithin k
+    (filter_in n))
     → (ns : Nodes) → FitsEach (layout w) (named.Filter k) ns → FiltersWithin k (filters_of ns)
 filters_by w k of Nil none = tt
 filters_by w k of (More n ns) (more f g) = (of n f, filters_by w k of ns g)
 
-has_filters : (w : Surroundings) (k : ℕ) → ((n : Node) → Fits (layout w) (layouts.filter k) n → FilterWithin k (filter_in n))
+has_filters : (w : Surroundings) (k : ℕ) → ((n : Node) → Fits (layout w) (layouts.filter k) n → FilterWithin k
+    (filter_in n))
     → (n : Node) → Fits (layout w) (layout w (named.Filters k)) n → FiltersWithin k (filters_in n)
 has_filters w k of n f =
     let m = only_made (layout w) (layouts.set_of (named.Filter k)) n refl refl f in
@@ -57,7 +65,8 @@ module _ (w : Surroundings) (k l : ℕ) (types : layouts.filter l ≡ level_type
   some : 1 ≤ l
   some = omega (arith, next)
 
-  level_by : (n : Node) (c : IsChoice (layout w) (level_types k) n) (tag : ℕ) → find (is_marked tag) (level_types k) ≡ Some c.alternative
+  level_by : (n : Node) (c : IsChoice (layout w) (level_types k) n) (tag : ℕ)
+      → find (is_marked tag) (level_types k) ≡ Some c.alternative
       → FilterWithin l (filter_in (Chosen tag c.inner))
   level_by n c zero e = (some, item_said w c.inner (inner_fits (layout w) (level_types k) n c named.Item _ refl e))
   level_by n c (suc zero) e = (
@@ -80,7 +89,8 @@ module _ (w : Surroundings) (k l : ℕ) (types : layouts.filter l ≡ level_type
 
   one_level : (n : Node) → Fits (layout w) (layouts.filter l) n → FilterWithin l (filter_in n)
   one_level n f =
-      let c = choice_in (layout w) (level_types k) n refl refl (subst (λ (ts : List Alternative). Fits (layout w) ts n) types f) in
+      let c = choice_in (layout w) (level_types k) n refl refl
+      (subst (λ (ts : List Alternative). Fits (layout w) ts n) types f) in
       subst (λ (x : Node). FilterWithin l (filter_in x)) (sym c.is) (level_by n c c.tag c.found)
 
 -- ---- where no level is left no content is right
@@ -101,20 +111,25 @@ never_within w (Members form) ns e f = absurd (cc e)
 
 nothing_fits : (w : Surroundings) (n : Node) → Fits (layout w) (layouts.filter 0) n → ⊥
 nothing_fits w n (whole a octets free held unmarked writes settles) =
-    let m = of_all (λ (x : Alternative). x.marked) a (layouts.filter 0) refl (of_find (can_hold n) a (layouts.filter 0) held).0 in
+    let m = of_all (λ (x : Alternative). x.marked) a (layouts.filter 0) refl
+    (of_find (can_hold n) a (layouts.filter 0) held).0 in
     cc (unmarked, m)
 nothing_fits w _ (made {ns} a held unmarked empty inside settles) =
-    let m = of_all (λ (x : Alternative). x.marked) a (layouts.filter 0) refl (of_find (can_hold (Many ns)) a (layouts.filter 0) held).0 in
+    let m = of_all (λ (x : Alternative). x.marked) a (layouts.filter 0) refl
+    (of_find (can_hold (Many ns)) a (layouts.filter 0) held).0 in
     cc (unmarked, m)
 nothing_fits w _ (chosen a tag form found c f settles) =
-    let m = of_all (λ (x : Alternative). is_never x.content) a (layouts.filter 0) refl (of_find (is_marked tag) a (layouts.filter 0) found).0 in
+    let m = of_all (λ (x : Alternative). is_never x.content) a (layouts.filter 0) refl
+    (of_find (is_marked tag) a (layouts.filter 0) found).0 in
     let no : is_never (Explicit form) ≡ true = ap is_never (sym c) ∙ m in
     cc no
 nothing_fits w _ (chosen_made {ns} a tag found inside settles) =
     never_within w a.content ns
-    (of_all (λ (x : Alternative). is_never x.content) a (layouts.filter 0) refl (of_find (is_marked tag) a (layouts.filter 0) found).0) inside
+    (of_all (λ (x : Alternative). is_never x.content) a (layouts.filter 0) refl
+    (of_find (is_marked tag) a (layouts.filter 0) found).0) inside
 
-pub filter_said : (w : Surroundings) (levels : ℕ) (n : Node) → Fits (layout w) (layouts.filter levels) n → FilterWithin levels (filter_in n)
+pub filter_said : (w : Surroundings) (levels : ℕ) (n : Node) → Fits (layout w) (layouts.filter levels) n
+    → FilterWithin levels (filter_in n)
 filter_said w zero n f = absurd (nothing_fits w n f)
 filter_said w (suc k) n f =
     let one : suc k - 1 ≡ k = omega arith in

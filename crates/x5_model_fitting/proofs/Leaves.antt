@@ -20,7 +20,8 @@ use Rattle.x5_model_fitting.proofs.Making.{leaf_fits}
 small : (k : ℕ) → k < 2 ^ 32 → is_short_number (pos k) ≡ true
 small k h = lt-ltb k (2 ^ 63) (omega (arith, h))
 
-between : (low high k : ℕ) → low ≤ k → k ≤ high → high < 2 ^ 32 → (is_short_number (pos k) && from_to low high (pos k)) ≡ true
+between : (low high k : ℕ) → low ≤ k → k ≤ high → high < 2 ^ 32
+    → (is_short_number (pos k) && from_to low high (pos k)) ≡ true
 between low high k h l m =
     and_true (is_short_number (pos k)) (nat_le low k && nat_le k high) (small k (omega (arith, l, m)))
     (and_true (nat_le low k) (nat_le k high) (le-leb low k h) (le-leb k high l))
@@ -29,21 +30,26 @@ pub number_fits : (w : Surroundings) (low high k : ℕ) → low ≤ k → k ≤ 
     → Fits (layout w) (layout w (named.NumberBelow low high)) (whole k)
 number_fits w low high k h l m =
     leaf_fits (layout w) (integer (from_to low high)) (whole k) (number_octets (pos k)) refl refl
-    (let_through (is_short_number (pos k) && from_to low high (pos k)) (number_octets (pos k)) (between low high k h l m)) refl
+    (let_through (is_short_number (pos k) && from_to low high (pos k)) (number_octets (pos k))
+    (between low high k h l m)) refl
 
-pub count_fits : (w : Surroundings) (k : ℕ) → k < 2 ^ 32 → Fits (layout w) (layout w (named.NumberBelow 0 4294967295)) (whole k)
+pub count_fits : (w : Surroundings) (k : ℕ) → k < 2 ^ 32 → Fits (layout w) (layout w (named.NumberBelow 0 4294967295))
+    (whole k)
 count_fits w k h = number_fits w 0 4294967295 k (omega arith) (omega (arith, h)) (omega arith)
 
 pub enumeration_fits : (w : Surroundings) (low high k : ℕ) → low ≤ k → k ≤ high → high < 2 ^ 32
     → Fits (layout w) (layout w (named.Enumeration low high)) (whole k)
 enumeration_fits w low high k h l m =
-    leaf_fits (layout w) (universal 10 (Primitive (number (from_to low high)))) (whole k) (number_octets (pos k)) refl refl
-    (let_through (is_short_number (pos k) && from_to low high (pos k)) (number_octets (pos k)) (between low high k h l m)) refl
+    leaf_fits (layout w) (universal 10 (Primitive (number (from_to low high)))) (whole k) (number_octets (pos k)) refl
+    refl
+    (let_through (is_short_number (pos k) && from_to low high (pos k)) (number_octets (pos k))
+    (between low high k h l m)) refl
 
 pub code_fits : (w : Surroundings) (k : ℕ) → k < 2 ^ 32 → Fits (layout w) (layout w named.AnyNumber) (whole k)
 code_fits w k h =
     leaf_fits (layout w) (integer any_number) (whole k) (number_octets (pos k)) refl refl
-    (let_through (is_short_number (pos k) && true) (number_octets (pos k)) (and_true (is_short_number (pos k)) true (small k h) refl)) refl
+    (let_through (is_short_number (pos k) && true) (number_octets (pos k))
+    (and_true (is_short_number (pos k)) true (small k h) refl)) refl
 
 -- ---- flags, options and names of agents
 
@@ -52,12 +58,18 @@ flag_fits w true = leaf_fits (layout w) (universal 1 (Primitive boolean)) (Flag 
 flag_fits w false = leaf_fits (layout w) (universal 1 (Primitive boolean)) (Flag false) (0 ∷ []) refl refl refl refl
 
 pub options_fit : (w : Surroundings) (a b : Bool) → Fits (layout w) (layout w named.Options) (options_node a b)
-options_fit w true true = leaf_fits (layout w) (universal 3 (JoinedBits options)) (options_node true true) _ refl refl refl refl
-options_fit w true false = leaf_fits (layout w) (universal 3 (JoinedBits options)) (options_node true false) _ refl refl refl refl
-options_fit w false true = leaf_fits (layout w) (universal 3 (JoinedBits options)) (options_node false true) _ refl refl refl refl
-options_fit w false false = leaf_fits (layout w) (universal 3 (JoinedBits options)) (options_node false false) _ refl refl refl refl
+options_fit w true true =
+    leaf_fits (layout w) (universal 3 (JoinedBits options)) (options_node true true) _ refl refl refl refl
+options_fit w true false =
+    leaf_fits (layout w) (universal 3 (JoinedBits options)) (options_node true false) _ refl refl refl refl
+options_fit w false true =
+    leaf_fits (layout w) (universal 3 (JoinedBits options)) (options_node false true) _ refl refl refl refl
+options_fit w false false =
+    leaf_fits (layout w) (universal 3 (JoinedBits options)) (options_node false false) _ refl refl refl refl
 
-pub agent_fits : (w : Surroundings) (t : Text) → is_agent_name t ≡ true → Fits (layout w) (layout w named.AgentName) (nodes.Text t)
+pub agent_fits : (w : Surroundings) (t : Text) → is_agent_name t ≡ true
+    → Fits (layout w) (layout w named.AgentName) (nodes.Text t)
 agent_fits w t h =
     leaf_fits (layout w) (agent_name any_agent) (nodes.Text t) t refl refl
-    (let_through (if is_agent_name t then any_agent t else false) t (ap (λ (b : Bool). if b then true else false) h)) refl
+    (let_through (if is_agent_name t then any_agent t else false) t (ap (λ (b : Bool). if b then true else false) h))
+    refl

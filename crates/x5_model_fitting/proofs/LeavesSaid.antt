@@ -23,7 +23,8 @@ pub record IsNumber (low high : ℕ) (n : Node) : Type 0 where
   pub least : low ≤ value
   pub most : value ≤ high
 
-writes_number : (low high : ℕ) (n : Node) (octets : List ℕ) → (number (from_to low high)).writes n ≡ Some octets → IsNumber low high n
+writes_number : (low high : ℕ) (n : Node) (octets : List ℕ) → (number (from_to low high)).writes n ≡ Some octets
+    → IsNumber low high n
 writes_number low high (Number (pos m)) octets h =
     let b = so (is_short_number (pos m) && (nat_le low m && nat_le m high)) (number_octets (pos m)) octets h in
     let v = both_true (is_short_number (pos m)) (nat_le low m && nat_le m high) b.0 in
@@ -41,13 +42,16 @@ writes_number low high (nodes.Text t) octets h = absurd (cc h)
 writes_number low high (Chosen tag n) octets h = absurd (cc h)
 writes_number low high (Many ns) octets h = absurd (cc h)
 
-pub number_said : (w : Surroundings) (low high : ℕ) (n : Node) → Fits (layout w) (layout w (named.NumberBelow low high)) n → IsNumber low high n
+pub number_said : (w : Surroundings) (low high : ℕ) (n : Node)
+    → Fits (layout w) (layout w (named.NumberBelow low high)) n → IsNumber low high n
 number_said w low high n f =
     let v = only_leaf (layout w) (integer (from_to low high)) n refl refl f in writes_number low high n v.0 v.1
 
-pub enumeration_said : (w : Surroundings) (low high : ℕ) (n : Node) → Fits (layout w) (layout w (named.Enumeration low high)) n → IsNumber low high n
+pub enumeration_said : (w : Surroundings) (low high : ℕ) (n : Node)
+    → Fits (layout w) (layout w (named.Enumeration low high)) n → IsNumber low high n
 enumeration_said w low high n f =
-    let v = only_leaf (layout w) (universal 10 (Primitive (number (from_to low high)))) n refl refl f in writes_number low high n v.0 v.1
+    let v = only_leaf (layout w) (universal 10 (Primitive (number (from_to low high)))) n refl refl f in writes_number
+    low high n v.0 v.1
 
 -- ---- flags and names of agents
 
@@ -67,7 +71,8 @@ writes_flag (Chosen tag n) octets h = absurd (cc h)
 writes_flag (Many ns) octets h = absurd (cc h)
 
 pub flag_said : (w : Surroundings) (n : Node) → Fits (layout w) (layout w named.Boolean) n → IsFlag n
-flag_said w n f = (let v = only_leaf (layout w) (universal 1 (Primitive boolean)) n refl refl f in writes_flag n v.0 v.1)
+flag_said w n f =
+    (let v = only_leaf (layout w) (universal 1 (Primitive boolean)) n refl refl f in writes_flag n v.0 v.1)
 
 pub record IsAgent (n : Node) : Type 0 where
   pub name : Text
@@ -78,7 +83,8 @@ if_true : (b : Bool) → (if b then true else false) ≡ true → b ≡ true
 if_true true h = refl
 if_true false h = absurd (cc h)
 
-writes_agent : (n : Node) (octets : List ℕ) → (text_where (λ t. if is_agent_name t then any_agent t else false)).writes n ≡ Some octets → IsAgent n
+writes_agent : (n : Node) (octets : List ℕ) → (text_where (λ t. if is_agent_name t then any_agent t else false)).writes
+    n ≡ Some octets → IsAgent n
 writes_agent (nodes.Text t) octets h = record {
   name = t;
   is = refl;

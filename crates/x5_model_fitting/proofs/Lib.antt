@@ -17,3 +17,4 @@ pub mod MessagesSaid
 pub mod RequestsSaid
 pub mod ChainedSaid
 pub mod RepliesSaid
+pub mod Kept

@@ -25,7 +25,8 @@ leaf_fits L a n octets plain free writes settles =
 
 -- ---- members
 
-pub each_fits : {X : Type 0} (L : Layout) (form : Named) (f : X → Node) (xs : List X) → Each (λ x. Fits L (L form) (f x)) xs
+pub each_fits : {X : Type 0} (L : Layout) (form : Named) (f : X → Node) (xs : List X)
+    → Each (λ x. Fits L (L form) (f x)) xs
     → FitsEach L form (row (Rattle.std.specs.Prelude.map f xs))
 each_fits L form f [] h = fits.none
 each_fits L form f (x ∷ xs) h = fits.more (h x here) (each_fits L form f xs (λ y i. h y (there i)))

@@ -31,11 +31,14 @@ pub record IsMarked (L : Layout) (types : List Alternative) (n : Node) : Type 0 
 pub marked_in : (L : Layout) (types : List Alternative) (n : Node) → list_all (λ a. a.marked) types ≡ true
     → list_all (λ a. is_made_of_members a.content) types ≡ true → Fits L types n → IsMarked L types n
 marked_in L types n marked of_members (leaf a octets free held unmarked writes settles) =
-    let m = of_all (λ (x : Alternative). x.marked) a types marked (of_find (can_hold n) a types held).0 in absurd (cc (unmarked, m))
+    let m = of_all (λ (x : Alternative). x.marked) a types marked (of_find (can_hold n) a types held).0 in absurd
+    (cc (unmarked, m))
 marked_in L types _ marked of_members (made {ns} a held unmarked empty inside settles) =
-    let m = of_all (λ (x : Alternative). x.marked) a types marked (of_find (can_hold (Many ns)) a types held).0 in absurd (cc (unmarked, m))
+    let m = of_all (λ (x : Alternative). x.marked) a types marked (of_find (can_hold (Many ns)) a types held).0 in
+    absurd (cc (unmarked, m))
 marked_in L types _ marked of_members (chosen a tag form found c f settles) =
-    let m = of_all (λ (x : Alternative). is_made_of_members x.content) a types of_members (of_find (is_marked tag) a types found).0 in
+    let m = of_all (λ (x : Alternative). is_made_of_members x.content) a types of_members
+    (of_find (is_marked tag) a types found).0 in
     let none : is_made_of_members (Explicit form) ≡ true = ap is_made_of_members (sym c) ∙ m in
     absurd (cc none)
 marked_in L types _ marked of_members (chosen_made {ns} a tag found inside settles) =
@@ -58,7 +61,8 @@ pub record IsCoded (L : Layout) (names : ℤ → Option named.Named) (ns : Nodes
   pub names_it : names number ≡ Some form
   pub fits_said : Fits L (L form) said
 
-pub coded_in : (L : Layout) (names : ℤ → Option named.Named) (ns : Nodes) → FitsSequence L (code named.AnyNumber names ∷ []) ns → IsCoded L names ns
+pub coded_in : (L : Layout) (names : ℤ → Option named.Named) (ns : Nodes)
+    → FitsSequence L (code named.AnyNumber names ∷ []) ns → IsCoded L names ns
 coded_in L names _ (left_out d e f g) = absurd (cc e)
 coded_in L names _ (given nd f (named k form is names_it) (left_out d e g h)) = absurd (cc e)
 coded_in L names _ (given {n = c} nd f (named k form is names_it) (given {n = a} nd' f' required over)) = record {
@@ -83,7 +87,8 @@ pub record IsInvoke (w : Surroundings) (rows : List (ℕ × named.Named)) (ns : 
 pub invoke_in : (w : Surroundings) (rows : List (ℕ × named.Named)) (ns : Nodes)
     → FitsSequence (layout w) (layouts.id ∷ code named.AnyNumber (named_by rows) ∷ []) ns → IsInvoke w rows ns
 invoke_in w rows ns f =
-    let i = first_in (layout w) (named.NumberBelow 0 4294967295) _ (IsNumber 0 4294967295) (number_said w 0 4294967295) ns f in
+    let i = first_in (layout w) (named.NumberBelow 0 4294967295) _ (IsNumber 0 4294967295) (number_said w 0 4294967295)
+    ns f in
     let c = coded_in (layout w) (named_by rows) i.others i.rest in
     record {
       id = i.is.value;
@@ -114,7 +119,8 @@ pub record IsOperation (of : named.Operation → named.Named) (k : ℤ) (form : 
   pub named_so : form ≡ of operation
 
 -- the code is one of those that there are
-pub code_below : (rows : List (ℕ × named.Named)) (m limit : ℕ) (form : named.Named) → list_all (λ r. nat_lt r.0 limit) rows ≡ true
+pub code_below : (rows : List (ℕ × named.Named)) (m limit : ℕ) (form : named.Named)
+    → list_all (λ r. nat_lt r.0 limit) rows ≡ true
     → named_by rows (pos m) ≡ Some form → m < limit
 code_below [] m limit form h e = absurd (cc e)
 code_below (r ∷ rows) m limit form h e =
@@ -129,11 +135,13 @@ code_below (r ∷ rows) m limit form h e =
 some_same : (x form : named.Named) → (let o : Option named.Named = Some x in o) ≡ Some form → form ≡ x
 some_same x form h = cc
 
-pub operation_in : (of : named.Operation → named.Named) (k : ℤ) (form : named.Named) → named_by (operation_codes of) k ≡ Some form
+pub operation_in : (of : named.Operation → named.Named) (k : ℤ) (form : named.Named)
+    → named_by (operation_codes of) k ≡ Some form
     → IsOperation of k form
 operation_in of (negsuc m) form e = absurd (cc e)
 operation_in of (pos zero) form e = absurd (cc e)
-operation_in of (pos (suc zero)) form e = record { operation = named.Read; number = refl; named_so = some_same (of named.Read) form e }
+operation_in of (pos (suc zero)) form e =
+    record { operation = named.Read; number = refl; named_so = some_same (of named.Read) form e }
 operation_in of (pos (suc (suc zero))) form e =
     record { operation = named.Compare; number = refl; named_so = some_same (of named.Compare) form e }
 operation_in of (pos (suc (suc (suc zero)))) form e = absurd (cc e)
@@ -150,4 +158,8 @@ operation_in of (pos (suc (suc (suc (suc (suc (suc (suc (suc zero))))))))) form 
 operation_in of (pos (suc (suc (suc (suc (suc (suc (suc (suc (suc zero)))))))))) form e =
     record { operation = named.ModifyDn; number = refl; named_so = some_same (of named.ModifyDn) form e }
 operation_in of (pos (suc (suc (suc (suc (suc (suc (suc (suc (suc (suc m))))))))))) form e =
-    absurd (omega (arith, code_below (operation_codes of) (suc (suc (suc (suc (suc (suc (suc (suc (suc (suc m)))))))))) 10 form refl e))
+    absurd (omega (
+      arith,
+      code_below (operation_codes of) (suc (suc (suc (suc (suc (suc (suc (suc (suc (suc m))))))))))
+          10 form refl e,
+    ))

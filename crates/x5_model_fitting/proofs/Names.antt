@@ -37,28 +37,33 @@ use Rattle.x5_model_fitting.proofs.Texts.{text_fits, known_within, naming_known,
 
 -- ---- limits
 
-none_first : (o p : Option ℕ) → first_found o p ≡ None → (o ≡ None) × (p ≡ None)
+pub none_first : (o p : Option ℕ) → first_found o p ≡ None → (o ≡ None) × (p ≡ None)
 none_first None p e = (refl, e)
 none_first (Some n) p e = cc
 
-not_over : (most n : ℕ) → over most n ≡ None → n ≤ most
+pub not_over : (most n : ℕ) → over most n ≡ None → n ≤ most
 not_over most n e = by (nat_lt most n) refl
   where
     by : (b : Bool) → nat_lt most n ≡ b → n ≤ most
     by true q = cc
     by false q = grind arith
 
-few_pairs : (before : ℕ) (r : List (ℕ × Text)) → before ≤ most_pairs → rdn_over before r ≡ None → before + length r ≤ most_pairs
+few_pairs : (before : ℕ) (r : List (ℕ × Text)) → before ≤ most_pairs → rdn_over before r ≡ None
+    → before + length r ≤ most_pairs
 few_pairs before [] l e = omega arith
 few_pairs before (p ∷ r) l e =
-    let w = none_first (over most_pairs (before + 1)) (first_found (over most_octets (length p.1)) (rdn_over (before + 1) r)) e in
+    let w = none_first (over most_pairs (before + 1)) (first_found (over most_octets (length p.1))
+    (rdn_over (before + 1) r)) e in
     let v = none_first (over most_octets (length p.1)) (rdn_over (before + 1) r) w.1 in
-    let k : before + 1 + length r ≤ most_pairs = few_pairs (before + 1) r (not_over most_pairs (before + 1) w.0) v.1 in omega arith
+    let k : before + 1 + length r ≤ most_pairs = few_pairs (before + 1) r (not_over most_pairs (before + 1) w.0) v.1 in
+    omega arith
 
-short_texts : (before : ℕ) (r : List (ℕ × Text)) → rdn_over before r ≡ None → Each (λ (p : ℕ × Text). length p.1 ≤ most_octets) r
+short_texts : (before : ℕ) (r : List (ℕ × Text)) → rdn_over before r ≡ None
+    → Each (λ (p : ℕ × Text). length p.1 ≤ most_octets) r
 short_texts before [] e p i = elim i [ ]
 short_texts before (p ∷ r) e q i =
-    let w = none_first (over most_pairs (before + 1)) (first_found (over most_octets (length p.1)) (rdn_over (before + 1) r)) e in
+    let w = none_first (over most_pairs (before + 1)) (first_found (over most_octets (length p.1))
+    (rdn_over (before + 1) r)) e in
     let v = none_first (over most_octets (length p.1)) (rdn_over (before + 1) r) w.1 in
     by (not_over most_octets (length p.1) v.0) (short_texts (before + 1) r v.1) q i
   where
@@ -71,7 +76,7 @@ some_digit : (q : ℕ → Bool) (t : Text) → list_any q t ≡ true → 0 < len
 some_digit q [] h = absurd (cc h)
 some_digit q (o ∷ t) h = omega arith
 
-enough : (k : Kind) (t : Text) → is_enough k t ≡ true → 0 < length t
+pub enough : (k : Kind) (t : Text) → is_enough k t ≡ true → 0 < length t
 enough TextKind t h = ltb-true 0 (length t) h
 enough PrintableKind t h = ltb-true 0 (length t) h
 enough CountryKind t h = grind arith
@@ -102,7 +107,8 @@ pub pair_fits : (w : Surroundings) (p : ℕ × Text) → is_pair p ≡ true → 
     → Fits (layout w) (layout w named.Pair) (pair_node p)
 pair_fits w p h short utf8 =
     fits.made _ refl refl refl
-    (fits.sequence (fits.given refl (type_fits w (Known p.0) (known_within p.0 (naming_known p.0 (both_true (may_name p.0) (is_text_of_kind (kind_of p.0) p.1) h).0))) required
+    (fits.sequence (fits.given refl (type_fits w (Known p.0) (known_within p.0
+    (naming_known p.0 (both_true (may_name p.0) (is_text_of_kind (kind_of p.0) p.1) h).0))) required
     (fits.given refl (text_fits w p.1 (pair_text p h short utf8)) required fits.over)))
     (pair_kept p h)
 
@@ -136,7 +142,8 @@ types_apart least (p ∷ r) all up =
     (ap not (none_of_type p (p.0 + 1) r a.0 a.1 (omega arith) b.1)) (types_apart (p.0 + 1) r a.1 b.1)
 
 first_stays : (p : ℕ × Text) (r : List (ℕ × Text)) → is_pair p ≡ true → list_all is_pair r ≡ true
-    → ascends_from (p.0 + 1) r ≡ true → insert_sorted pair_below (pair_node p) (map pair_node r) ≡ pair_node p ∷ map pair_node r
+    → ascends_from (p.0 + 1) r ≡ true → insert_sorted pair_below (pair_node p) (map pair_node r) ≡ pair_node p ∷ map
+    pair_node r
 first_stays p [] h all up = refl
 first_stays p (q ∷ r) h all up =
     let a = both_true (is_pair q) (list_all is_pair r) all in
@@ -192,7 +199,8 @@ rdn_kept r h =
     ∙ ap (λ (ps : List Node). where_so (passes (map pair_node r)) (Many (row ps))) (pairs_sorted 0 r m.pairs m.order)
     ∙ let_through (passes (map pair_node r)) (pairs_node r) (rdn_passes r h)
 
-pub pairs_fit : (w : Surroundings) (r : List (ℕ × Text)) → WrittenRdnWithin r → Fits (layout w) (layout w named.Rdn) (pairs_node r)
+pub pairs_fit : (w : Surroundings) (r : List (ℕ × Text)) → WrittenRdnWithin r
+    → Fits (layout w) (layout w named.Rdn) (pairs_node r)
 pairs_fit w r h =
     fits.made _ refl refl refl
     (fits.members (each_fits (layout w) named.Pair pair_node r (λ p i.
@@ -203,8 +211,11 @@ pairs_fit w r h =
 pub rdn_fits : (w : Surroundings) (r : Rdn) → RdnWithin r → Fits (layout w) (layout w named.Rdn) (rdn_node r)
 rdn_fits w r h = pairs_fit w (written_rdn r) h.is_written
 
-pub rdns_fit : (w : Surroundings) (rs : List Rdn) → Each RdnWithin rs → Fits (layout w) (layout w named.Rdns) (node_of (map rdn_node rs))
-rdns_fit w rs h = fits.made _ refl refl refl (fits.members (each_fits (layout w) named.Rdn rdn_node rs (λ r i. rdn_fits w r (h r i)))) refl
+pub rdns_fit : (w : Surroundings) (rs : List Rdn) → Each RdnWithin rs
+    → Fits (layout w) (layout w named.Rdns) (node_of (map rdn_node rs))
+rdns_fit w rs h =
+    fits.made _ refl refl refl (fits.members (each_fits (layout w) named.Rdn rdn_node rs
+    (λ r i. rdn_fits w r (h r i)))) refl
 
 -- ---- names
 
@@ -212,11 +223,13 @@ pub written_within : (n : Name) → NameWithin n → WrittenNameWithin (written 
 written_within n h = record {
   few = omega (arith, h.few, length-map n (map written_pair));
   rdns = λ r i.
-      (let o = of_map (map written_pair) r n i in subst (λ (x : List (ℕ × Text)). WrittenRdnWithin x) (sym o.2) (h.rdns o.0 o.1).is_written);
+      (let o = of_map (map written_pair) r n i in subst (λ (x : List (ℕ × Text)). WrittenRdnWithin x) (sym o.2)
+      (h.rdns o.0 o.1).is_written);
 }
 
 -- RDNs of the name's node
-pub name_members : (w : Surroundings) (n : NameValue) → WrittenNameWithin n → FitsEach (layout w) named.Rdn (row (map pairs_node n))
+pub name_members : (w : Surroundings) (n : NameValue) → WrittenNameWithin n
+    → FitsEach (layout w) named.Rdn (row (map pairs_node n))
 name_members w n h = each_fits (layout w) named.Rdn pairs_node n (λ r i. pairs_fit w r (h.rdns r i))
 
 pub name_kept : (n : NameValue) → WrittenNameWithin n → name_rule (name_value_node n) ≡ Some (name_value_node n)
@@ -243,7 +256,8 @@ pub rdn_types : (r : List (ℕ × Text)) → WrittenRdnWithin r → list_all (λ
 rdn_types r h = types_known r (made_of r h.valid).pairs
 
 pub name_types : (n : NameValue) → WrittenNameWithin n → has_known_types n ≡ true
-name_types n h = all_in (λ (r : List (ℕ × Text)). list_all (λ (p : ℕ × Text). is_known p.0) r) n (λ r i. rdn_types r (h.rdns r i))
+name_types n h =
+    all_in (λ (r : List (ℕ × Text)). list_all (λ (p : ℕ × Text). is_known p.0) r) n (λ r i. rdn_types r (h.rdns r i))
 
 pub rdn_is : (r : Rdn) → RdnWithin r → IsRdn r
 rdn_is r h = (rdn_types (written_rdn r) h.is_written, h.normal)

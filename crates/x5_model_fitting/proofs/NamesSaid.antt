@@ -94,30 +94,41 @@ record IsGoodPair (p : ℕ × Text) : Type 0 where
   is : is_pair p ≡ true
   text : TextWithin p.1
 
-naming_value : (w : Surroundings) (k : ℕ) (value : Node) → (may_name k && is_of_kind (kind_of k) (value_in value)) ≡ true
+naming_value : (w : Surroundings) (k : ℕ) (value : Node) → (may_name k && is_of_kind (kind_of k) (value_in value)) ≡
+    true
     → Fits (layout w) (layout w named.Value) value → IsGoodPair (k, text_in value)
 naming_value w k (nodes.Text t) h f = record { is = h; text = text_said w t f }
 naming_value w k (Octets o) h f =
-    let v = both_true (may_name k) (is_of_kind (kind_of k) (OctetsValue o)) h in absurd (no_octets (kind_of k) o (naming_texts k v.0) v.1)
+    let v = both_true (may_name k) (is_of_kind (kind_of k) (OctetsValue o)) h in absurd
+    (no_octets (kind_of k) o (naming_texts k v.0) v.1)
 naming_value w k (Oid arcs) h f =
-    let v = both_true (may_name k) (is_of_kind (kind_of k) (OidValue arcs)) h in absurd (no_oid (kind_of k) arcs (naming_texts k v.0) v.1)
-naming_value w k Vacant h f = (let v = both_true (may_name k) _ h in absurd (no_name (kind_of k) _ (naming_texts k v.0) v.1))
-naming_value w k (Flag b) h f = (let v = both_true (may_name k) _ h in absurd (no_name (kind_of k) _ (naming_texts k v.0) v.1))
-naming_value w k (Number i) h f = (let v = both_true (may_name k) _ h in absurd (no_name (kind_of k) _ (naming_texts k v.0) v.1))
-naming_value w k (Bits b) h f = (let v = both_true (may_name k) _ h in absurd (no_name (kind_of k) _ (naming_texts k v.0) v.1))
-naming_value w k (Chosen tag n) h f = (let v = both_true (may_name k) _ h in absurd (no_name (kind_of k) _ (naming_texts k v.0) v.1))
-naming_value w k (Many ns) h f = (let v = both_true (may_name k) _ h in absurd (no_name (kind_of k) _ (naming_texts k v.0) v.1))
+    let v = both_true (may_name k) (is_of_kind (kind_of k) (OidValue arcs)) h in absurd
+    (no_oid (kind_of k) arcs (naming_texts k v.0) v.1)
+naming_value w k Vacant h f =
+    (let v = both_true (may_name k) _ h in absurd (no_name (kind_of k) _ (naming_texts k v.0) v.1))
+naming_value w k (Flag b) h f =
+    (let v = both_true (may_name k) _ h in absurd (no_name (kind_of k) _ (naming_texts k v.0) v.1))
+naming_value w k (Number i) h f =
+    (let v = both_true (may_name k) _ h in absurd (no_name (kind_of k) _ (naming_texts k v.0) v.1))
+naming_value w k (Bits b) h f =
+    (let v = both_true (may_name k) _ h in absurd (no_name (kind_of k) _ (naming_texts k v.0) v.1))
+naming_value w k (Chosen tag n) h f =
+    (let v = both_true (may_name k) _ h in absurd (no_name (kind_of k) _ (naming_texts k v.0) v.1))
+naming_value w k (Many ns) h f =
+    (let v = both_true (may_name k) _ h in absurd (no_name (kind_of k) _ (naming_texts k v.0) v.1))
 
 -- a pair of a type and a value
 abbrev two : Node → Node → Node
 two type value = Many (More type (More value Nil))
 
-pair_by : (w : Surroundings) (type value : Node) (o : Option ℕ) → known_type type ≡ o → rules.is_pair (two type value) ≡ true
+pair_by : (w : Surroundings) (type value : Node) (o : Option ℕ) → known_type type ≡ o
+    → rules.is_pair (two type value) ≡ true
     → Fits (layout w) (layout w named.Value) value → IsGoodPair (pair_in (two type value))
 pair_by w type value None e h f = (let no : false ≡ true = rw e at h in absurd (cc no))
 pair_by w type value (Some k) e h f =
     let yes : (may_name k && is_of_kind (kind_of k) (value_in value)) ≡ true = rw e at h in
-    let is : pair_in (two type value) ≡ (k, text_in value) = ap (λ (o : Option ℕ). (in_option 0 (λ n. n) o, text_in value)) e in
+    let is : pair_in (two type value) ≡ (k, text_in value) = ap
+    (λ (o : Option ℕ). (in_option 0 (λ n. n) o, text_in value)) e in
     subst IsGoodPair (sym is) (naming_value w k value yes f)
 
 abbrev anything : Node → Type 0
@@ -125,11 +136,15 @@ anything n = Unit {0}
 
 pair_said : (w : Surroundings) (n : Node) → Fits (layout w) (layout w named.Pair) n → IsGoodPair (pair_in n)
 pair_said w n f =
-    let m = only_made (layout w) (ruled pair_rule (layouts.sequence (plain named.AnyOid ∷ plain named.Value ∷ []))) n refl refl f in
-    let a = first_in (layout w) named.AnyOid _ anything (λ x g. tt) m.members (sequence_in (layout w) _ m.members m.within) in
-    let b = first_in (layout w) named.Value [] (λ x. Fits (layout w) (layout w named.Value) x) (λ x g. g) a.others a.rest in
+    let m = only_made (layout w) (ruled pair_rule (layouts.sequence (plain named.AnyOid ∷ plain named.Value ∷ []))) n
+    refl refl f in
+    let a = first_in (layout w) named.AnyOid _ anything (λ x g. tt) m.members
+    (sequence_in (layout w) _ m.members m.within) in
+    let b = first_in (layout w) named.Value [] (λ x. Fits (layout w) (layout w named.Value) x) (λ x g. g) a.others
+    a.rest in
     let is : n ≡ two a.first b.first =
-    m.is_many ∙ ap Many (a.split ∙ ap (More a.first) (b.split ∙ ap (More b.first) (sequence_over (layout w) b.others b.rest))) in
+    m.is_many ∙ ap Many (a.split ∙ ap (More a.first) (b.split ∙ ap (More b.first)
+    (sequence_over (layout w) b.others b.rest))) in
     let holds = (so (rules.is_pair n) n n m.settled).0 in
     subst (λ (x : Node). IsGoodPair (pair_in x)) (sym is)
     (pair_by w a.first b.first (known_type a.first) refl (subst (λ (x : Node). rules.is_pair x ≡ true) is holds) b.is)
@@ -148,7 +163,8 @@ stays : (p : Node) (ys zs : List Node) → insert_sorted pair_below p ys ≡ p �
 stays p [] zs e = record { same = (let s : [] ≡ zs = cc in s); free = λ y rest h. absurd (cc h) }
 stays p (y ∷ ys) zs e = by (pair_below y p) refl e
   where
-    by : (b : Bool) → pair_below y p ≡ b → cond b (y ∷ insert_sorted pair_below p ys) (p ∷ y ∷ ys) ≡ p ∷ zs → Stays p (y ∷ ys) zs
+    by : (b : Bool) → pair_below y p ≡ b → cond b (y ∷ insert_sorted pair_below p ys) (p ∷ y ∷ ys) ≡ p ∷ zs
+        → Stays p (y ∷ ys) zs
     by true b h =
         let same : y ≡ p = cc in
         absurd (not_itself (pair_in p).0 (subst (λ (x : Node). pair_below x p ≡ true) same b))
@@ -164,7 +180,8 @@ BeginsAt least (p ∷ ps) = least ≤ (pair_in p).0
 next_above : (p : Node) (ps : List Node) → ((y : Node) (rest : List Node) → ps ≡ y ∷ rest → pair_below y p ≡ false)
     → has same_type ps p ≡ false → BeginsAt ((pair_in p).0 + 1) ps
 next_above p [] free apart = tt
-next_above p (q ∷ ps) free apart = above (pair_in q).0 (pair_in p).0 (free q ps refl) (first_not (same_type q p) (has same_type ps p) apart)
+next_above p (q ∷ ps) free apart =
+    above (pair_in q).0 (pair_in p).0 (free q ps refl) (first_not (same_type q p) (has same_type ps p) apart)
   where
     first_not : (a b : Bool) → (a || b) ≡ false → a ≡ false
     first_not true b h = absurd (cc h)
@@ -183,7 +200,8 @@ order_said least [] begin order apart = refl
 order_said least (p ∷ ps) begin order apart =
     let s = stays p (sorted pair_below ps) ps order in
     let d = both_true (not (has same_type ps p)) (distinct same_type ps) apart in
-    and_true (nat_le least (pair_in p).0) (ascends_from ((pair_in p).0 + 1) (map pair_in ps)) (le-leb least (pair_in p).0 begin)
+    and_true (nat_le least (pair_in p).0) (ascends_from ((pair_in p).0 + 1) (map pair_in ps))
+    (le-leb least (pair_in p).0 begin)
     (order_said ((pair_in p).0 + 1) ps
     (next_above p ps (λ y rest e. s.free y rest (s.same ∙ e)) (is_false (has same_type ps p) d.0)) s.same d.1)
 
@@ -200,7 +218,8 @@ within_none most n h = by (nat_lt most n) refl
     by true e = (let l : most < n = ltb-true most n e in absurd (omega (arith, h, l)))
     by false e = refl
 
-no_limit : (before : ℕ) (r : List (ℕ × Text)) → before + length r ≤ most_pairs → Each (λ (p : ℕ × Text). length p.1 ≤ most_octets) r
+no_limit : (before : ℕ) (r : List (ℕ × Text)) → before + length r ≤ most_pairs
+    → Each (λ (p : ℕ × Text). length p.1 ≤ most_octets) r
     → rdn_over before r ≡ None
 no_limit before [] few short = refl
 no_limit before (p ∷ r) few short =
@@ -221,7 +240,8 @@ record IsKept (n : Node) : Type 0 where
 rdn_kept : (n : Node) → rdn_rule n ≡ Some n → IsKept n
 rdn_kept n h =
     let s = so (passes (parts n)) (Many (row (sorted pair_below (parts n)))) n h in
-    let a = both_true (nat_lt 0 (length (parts n)) && nat_le (length (parts n)) most_pairs) (distinct same_type (parts n)) s.0 in
+    let a = both_true (nat_lt 0 (length (parts n)) && nat_le (length (parts n)) most_pairs)
+    (distinct same_type (parts n)) s.0 in
     let b = both_true (nat_lt 0 (length (parts n))) (nat_le (length (parts n)) most_pairs) a.0 in
     record { some = b.0; few = b.1; apart = a.1; order = sym (list_row (sorted pair_below (parts n))) ∙ ap parts s.1 }
 
@@ -238,7 +258,8 @@ rdn_said w n f =
           (ap (λ (i : ℕ). nat_lt 0 i) long ∙ k.some) (all_in is_pair (rdn_in n) (λ p i. (good p i).is)))
           (order_said 0 (parts n) (begins_at_zero (parts n)) k.order k.apart);
       short = no_limit 0 (rdn_in n)
-          (let few : length (parts n) ≤ most_pairs = leb-true (length (parts n)) most_pairs k.few in omega (arith, few, long))
+          (let few : length (parts n) ≤ most_pairs = leb-true (length (parts n)) most_pairs k.few in omega
+          (arith, few, long))
           (λ p i. (good p i).text.short);
       utf8 = all_in (λ (p : ℕ × Text). is_utf8 p.1) (rdn_in n) (λ p i. (good p i).text.utf8);
     }
@@ -253,7 +274,8 @@ stored_within r h = record {
 pub rdn_of_said : (w : Surroundings) (n : Node) → Fits (layout w) (layout w named.Rdn) n → RdnWithin (rdn_of n)
 rdn_of_said w n f = stored_within (rdn_in n) (rdn_said w n f)
 
-pub rdns_said : (w : Surroundings) (n : Node) → Fits (layout w) (layout w named.Rdns) n → Each RdnWithin (map rdn_of (parts n))
+pub rdns_said : (w : Surroundings) (n : Node) → Fits (layout w) (layout w named.Rdns) n
+    → Each RdnWithin (map rdn_of (parts n))
 rdns_said w n f =
     each_mapped RdnWithin rdn_of (parts n)
     (many_in (layout w) _ named.Rdn (λ x. RdnWithin (rdn_of x)) refl (rdn_of_said w) n
@@ -262,7 +284,8 @@ rdns_said w n f =
 -- ---- names
 
 -- a name's RDNs, of no more than names may have
-pub name_parts_said : (w : Surroundings) (n : Node) → IsMade (layout w) (ruled name_rule (layouts.sequence_of named.Rdn)) n
+pub name_parts_said : (w : Surroundings) (n : Node) → IsMade (layout w)
+    (ruled name_rule (layouts.sequence_of named.Rdn)) n
     → WrittenNameWithin (name_in n)
 name_parts_said w n m =
     let h = (so (nat_le (length (parts n)) most_rdns) n n m.settled).0 in
@@ -273,8 +296,10 @@ name_parts_said w n m =
           (many_in (layout w) _ named.Rdn (λ x. WrittenRdnWithin (rdn_in x)) refl (rdn_said w) n m);
     }
 
-pub name_in_said : (w : Surroundings) (n : Node) → Fits (layout w) (layout w named.Name) n → WrittenNameWithin (name_in n)
-name_in_said w n f = name_parts_said w n (only_made (layout w) (ruled name_rule (layouts.sequence_of named.Rdn)) n refl refl f)
+pub name_in_said : (w : Surroundings) (n : Node) → Fits (layout w) (layout w named.Name) n
+    → WrittenNameWithin (name_in n)
+name_in_said w n f =
+    name_parts_said w n (only_made (layout w) (ruled name_rule (layouts.sequence_of named.Rdn)) n refl refl f)
 
 pub name_of_within : (n : NameValue) → WrittenNameWithin n → NameWithin (stored n)
 name_of_within n h = record {

@@ -42,21 +42,24 @@ access_fits w a h =
     (sequence_or (layout w) (Flag false) (Flag a.copy) named.Boolean [] Nil (flag_fits w a.copy) fits.over)))
     refl
 
-reference_fits : (w : Surroundings) (r : Reference) → ReferenceWithin r → Fits (layout w) (layout w named.Reference) (reference_node r)
+reference_fits : (w : Surroundings) (r : Reference) → ReferenceWithin r
+    → Fits (layout w) (layout w named.Reference) (reference_node r)
 reference_fits w r h =
     fits.made _ refl refl refl
     (fits.set (fits.present refl (name_fits w r.target h.target) required
     (fits.present refl (progress_fits w r.progress h.progress) required
     (fits.present refl (kind_fits w r.kind) required
     (fits.present refl agents_fit required
-    (set_or (layout w) (Many Nil) (node_of (map rdn_node r.exclusions)) 4 named.Rdns _ _ (rdns_fit w r.exclusions h.exclusions)
+    (set_or (layout w) (Many Nil) (node_of (map rdn_node r.exclusions)) 4 named.Rdns _ _
+    (rdns_fit w r.exclusions h.exclusions)
     (set_or (layout w) (Flag false) (Flag r.tried) 5 named.Boolean [] Nil (flag_fits w r.tried) fits.all)))))))
     refl
   where
     agents_fit : Fits (layout w) (layout w named.Agents) (node_of (map access_node r.agents))
     agents_fit =
         fits.made _ refl refl refl
-        (fits.members (each_fits (layout w) named.Agent access_node r.agents (λ a i. access_fits w a (h.agents a i)))) refl
+        (fits.members (each_fits (layout w) named.Agent access_node r.agents (λ a i. access_fits w a (h.agents a i))))
+        refl
 
 references_fit : (w : Surroundings) (rs : List Reference) → Each ReferenceWithin rs
     → Fits (layout w) (layout w named.References) (node_of (map reference_node rs))
@@ -76,9 +79,11 @@ source_fits w s h =
     (fits.given refl (agent_fits w s.agent h.agent) required (moment_last w s.moment h.moment))))
     refl
 
-sources_fit : (w : Surroundings) (ss : List Source) → Each SourceWithin ss → Fits (layout w) (layout w named.Sources) (node_of (map source_node ss))
+sources_fit : (w : Surroundings) (ss : List Source) → Each SourceWithin ss
+    → Fits (layout w) (layout w named.Sources) (node_of (map source_node ss))
 sources_fit w ss h =
-    fits.made _ refl refl refl (fits.members (each_fits (layout w) named.Source source_node ss (λ s i. source_fits w s (h s i)))) refl
+    fits.made _ refl refl refl (fits.members (each_fits (layout w) named.Source source_node ss
+    (λ s i. source_fits w s (h s i)))) refl
 
 -- ---- results
 
@@ -100,7 +105,8 @@ info_fits w e h =
     attributes_fit : Fits (layout w) (layout w named.Attributes) (node_of (map shown_node e.attributes))
     attributes_fit =
         fits.made _ refl refl refl
-        (fits.members (each_fits (layout w) named.Attribute shown_node e.attributes (λ a i. shown_fits w a (h.attributes a i)))) refl
+        (fits.members (each_fits (layout w) named.Attribute shown_node e.attributes
+        (λ a i. shown_fits w a (h.attributes a i)))) refl
 
 sub_fits : (w : Surroundings) (s : Sub) → SubWithin s → Fits (layout w) (layout w named.Sub) (sub_node s)
 sub_fits w s h =
@@ -109,27 +115,34 @@ sub_fits w s h =
     (sequence_or (layout w) (Flag true) (Flag (not s.copy)) named.Boolean [] Nil (flag_fits w (not s.copy)) fits.over)))
     refl
 
-limit_first : (w : Surroundings) (b : Bool) (rs : Nodes) → FitsSet (layout w) (layouts.or_nothing (at 1 named.References) ∷ []) rs
-    → FitsSet (layout w) (optional (at 0 (named.NumberBelow 1 1)) ∷ layouts.or_nothing (at 1 named.References) ∷ []) (More (limit_node b) rs)
+limit_first : (w : Surroundings) (b : Bool) (rs : Nodes) → FitsSet (layout w)
+    (layouts.or_nothing (at 1 named.References) ∷ []) rs
+    → FitsSet (layout w) (optional (at 0 (named.NumberBelow 1 1)) ∷ layouts.or_nothing (at 1 named.References) ∷ [])
+    (More (limit_node b) rs)
 limit_first w true rs h = fits.present refl (number_fits w 1 1 1 (omega arith) (omega arith) (omega arith)) default h
 limit_first w false rs h = fits.absent Vacant refl refl h
 
-outcome_fits : (w : Surroundings) (o : Outcome) → OutcomeWithin o → Fits (layout w) (layout w named.Qualifier) (outcome_node o)
+outcome_fits : (w : Surroundings) (o : Outcome) → OutcomeWithin o
+    → Fits (layout w) (layout w named.Qualifier) (outcome_node o)
 outcome_fits w o h =
     fits.made _ refl refl refl
     (fits.set (limit_first w o.limited _
-    (set_or (layout w) (Many Nil) (node_of (map reference_node o.unexplored)) 1 named.References [] Nil (references_fit w o.unexplored h) fits.all)))
+    (set_or (layout w) (Many Nil) (node_of (map reference_node o.unexplored)) 1 named.References [] Nil
+    (references_fit w o.unexplored h) fits.all)))
     refl
 
 outcome_last : (w : Surroundings) (o : Outcome) → OutcomeWithin o
-    → FitsSet (layout w) (Rattle.x5_model_typed.specs.Forms.or layouts.no_qualifier (at 2 named.Qualifier) ∷ []) (More (outcome_node o) Nil)
-outcome_last w o h = set_or (layout w) layouts.no_qualifier (outcome_node o) 2 named.Qualifier [] Nil (outcome_fits w o h) fits.all
+    → FitsSet (layout w) (Rattle.x5_model_typed.specs.Forms.or layouts.no_qualifier (at 2 named.Qualifier) ∷ [])
+    (More (outcome_node o) Nil)
+outcome_last w o h =
+    set_or (layout w) layouts.no_qualifier (outcome_node o) 2 named.Qualifier [] Nil (outcome_fits w o h) fits.all
 
 entry_fits : (w : Surroundings) (e : EntryInfo) (s : Source) → InfoWithin e → SourceWithin s
     → Fits (layout w) (layout w (named.Outcome named.Read)) (answer_node (Entry e s))
 entry_fits w e s h k =
     fits.made _ refl refl refl
-    (fits.set (fits.present refl (info_fits w e h) required (fits.present refl (source_fits w s k) required fits.all))) refl
+    (fits.set (fits.present refl (info_fits w e h) required (fits.present refl (source_fits w s k) required fits.all)))
+    refl
 
 match_fits : (w : Surroundings) (matched copy : Bool) (s : Source) → SourceWithin s
     → Fits (layout w) (layout w (named.Outcome named.Compare)) (answer_node (Match matched copy s))
@@ -140,23 +153,31 @@ match_fits w matched copy s h =
     (fits.present refl (source_fits w s h) required fits.all))))
     refl
 
-listed_fits : (w : Surroundings) (subs : List Sub) (ss : List Source) (o : Outcome) → Each SubWithin subs → Each SourceWithin ss → OutcomeWithin o
+listed_fits : (w : Surroundings) (subs : List Sub) (ss : List Source) (o : Outcome) → Each SubWithin subs
+    → Each SourceWithin ss → OutcomeWithin o
     → Fits (layout w) (layout w (named.Outcome named.ListBelow)) (answer_node (Listed subs ss o))
 listed_fits w subs ss o h k l =
     fits.made _ refl refl refl
-    (fits.set (fits.present refl subs_fit required (fits.present refl (sources_fit w ss k) required (outcome_last w o l)))) refl
+    (fits.set (fits.present refl subs_fit required (fits.present refl (sources_fit w ss k) required
+    (outcome_last w o l)))) refl
   where
     subs_fit : Fits (layout w) (layout w named.Subs) (node_of (map sub_node subs))
-    subs_fit = fits.made _ refl refl refl (fits.members (each_fits (layout w) named.Sub sub_node subs (λ s i. sub_fits w s (h s i)))) refl
+    subs_fit =
+        fits.made _ refl refl refl (fits.members (each_fits (layout w) named.Sub sub_node subs
+        (λ s i. sub_fits w s (h s i)))) refl
 
-found_fits : (w : Surroundings) (es : List EntryInfo) (ss : List Source) (o : Outcome) → Each InfoWithin es → Each SourceWithin ss → OutcomeWithin o
+found_fits : (w : Surroundings) (es : List EntryInfo) (ss : List Source) (o : Outcome) → Each InfoWithin es
+    → Each SourceWithin ss → OutcomeWithin o
     → Fits (layout w) (layout w (named.Outcome named.Search)) (answer_node (Found es ss o))
 found_fits w es ss o h k l =
     fits.made _ refl refl refl
-    (fits.set (fits.present refl entries_fit required (fits.present refl (sources_fit w ss k) required (outcome_last w o l)))) refl
+    (fits.set (fits.present refl entries_fit required (fits.present refl (sources_fit w ss k) required
+    (outcome_last w o l)))) refl
   where
     entries_fit : Fits (layout w) (layout w named.EntryInfos) (node_of (map info_node es))
-    entries_fit = fits.made _ refl refl refl (fits.members (each_fits (layout w) named.EntryInfo info_node es (λ e i. info_fits w e (h e i)))) refl
+    entries_fit =
+        fits.made _ refl refl refl (fits.members (each_fits (layout w) named.EntryInfo info_node es
+        (λ e i. info_fits w e (h e i)))) refl
 
 -- ---- by the code of the operation
 
@@ -187,31 +208,53 @@ update_result w code i = elim (in_first code 6 (7 ∷ 8 ∷ 9 ∷ []) i) [
 
     by : (k : ℕ) (form : named.Named) → k < 2 ^ 32 → named_by (operation_codes named.Outcome) (pos k) ≡ Some form
         → Fits (layout w) (layout w form) Vacant → code ≡ k → IsResult w code Changed
-    by k form small names f e = subst (λ (x : ℕ). IsResult w x Changed) (sym e) (record { small = small; form = form; names = names; result = f })
+    by k form small names f e =
+        subst (λ (x : ℕ). IsResult w x Changed) (sym e) (record
+        { small = small; form = form; names = names; result = f })
 
 only_code : (code k : ℕ) → In code (k ∷ []) → code ≡ k
 only_code code k i = elim (in_first code k [] i) [ inl e ↦ e | inr j ↦ elim j [ ] ]
 
-result_of : (w : Surroundings) (code : ℕ) (answer : Answer) → In code (answered_by answer) → AnswerWithin answer → IsResult w code answer
+result_of : (w : Surroundings) (code : ℕ) (answer : Answer) → In code (answered_by answer) → AnswerWithin answer
+    → IsResult w code answer
 result_of w code (Entry e s) i h =
     subst (λ (x : ℕ). IsResult w x (Entry e s)) (sym (only_code code 1 i))
     (record { small = omega arith; form = named.Outcome named.Read; names = refl; result = entry_fits w e s h.0 h.1 })
 result_of w code (Match matched copy s) i h =
     subst (λ (x : ℕ). IsResult w x (Match matched copy s)) (sym (only_code code 2 i))
-    (record { small = omega arith; form = named.Outcome named.Compare; names = refl; result = match_fits w matched copy s h })
+    (record {
+      small = omega arith;
+      form = named.Outcome named.Compare;
+      names = refl;
+      result = match_fits w matched copy
+          s h;
+    })
 result_of w code (Listed subs ss o) i h =
     subst (λ (x : ℕ). IsResult w x (Listed subs ss o)) (sym (only_code code 4 i))
-    (record { small = omega arith; form = named.Outcome named.ListBelow; names = refl; result = listed_fits w subs ss o h.0 h.1 h.2 })
+    (record {
+      small = omega arith;
+      form = named.Outcome named.ListBelow;
+      names = refl;
+      result = listed_fits w subs ss o
+          h.0 h.1 h.2;
+    })
 result_of w code (Found es ss o) i h =
     subst (λ (x : ℕ). IsResult w x (Found es ss o)) (sym (only_code code 5 i))
-    (record { small = omega arith; form = named.Outcome named.Search; names = refl; result = found_fits w es ss o h.0 h.1 h.2 })
+    (record {
+      small = omega arith;
+      form = named.Outcome named.Search;
+      names = refl;
+      result = found_fits w es ss o h.0
+          h.1 h.2;
+    })
 result_of w code Changed i h = update_result w code i
 
 -- ---- errors
 
 reference_first : (w : Surroundings) (o : Option Reference) (ns : Nodes) → IfThere ReferenceWithin o
     → FitsSequence (layout w) (optional (at 1 named.TraceItem) ∷ []) ns
-    → FitsSequence (layout w) (optional (at 0 named.Reference) ∷ optional (at 1 named.TraceItem) ∷ []) (More (reference_or_vacant o) ns)
+    → FitsSequence (layout w) (optional (at 0 named.Reference) ∷ optional (at 1 named.TraceItem) ∷ [])
+    (More (reference_or_vacant o) ns)
 reference_first w None ns h g = fits.left_out Vacant refl refl g
 reference_first w (Some r) ns h g = fits.given refl (reference_fits w r h) default g
 
@@ -220,31 +263,37 @@ item_last : (w : Surroundings) (o : Option TraceItem) → IfThere ItemWithin o
 item_last w None h = fits.left_out Vacant refl refl fits.over
 item_last w (Some i) h = fits.given refl (item_fits w i h) default fits.over
 
-service_fits : (w : Surroundings) (problem : ℕ) (reference : Option Reference) (item : Option TraceItem) → 1 ≤ problem → problem ≤ 12
+service_fits : (w : Surroundings) (problem : ℕ) (reference : Option Reference) (item : Option TraceItem) → 1 ≤ problem
+    → problem ≤ 12
     → IfThere ReferenceWithin reference → IfThere ItemWithin item
-    → Fits (layout w) (layout w named.ServiceError) (node_of (whole problem ∷ reference_or_vacant reference ∷ item_or_vacant item ∷ []))
+    → Fits (layout w) (layout w named.ServiceError) (node_of (whole problem ∷ reference_or_vacant reference ∷
+    item_or_vacant item ∷ []))
 service_fits w problem reference item some most h k =
     fits.made _ refl refl refl
     (fits.sequence (fits.given refl (number_fits w 1 12 problem some most (omega arith)) required
     (reference_first w reference _ h (item_last w item k))))
     refl
 
-attribute_error_fits : (w : Surroundings) (problem : ℕ) (n : Node) → 1 ≤ problem → problem ≤ 6 → Fits (layout w) (layout w named.AnyOid) n
+attribute_error_fits : (w : Surroundings) (problem : ℕ) (n : Node) → 1 ≤ problem → problem ≤ 6
+    → Fits (layout w) (layout w named.AnyOid) n
     → Fits (layout w) (layout w named.AttributeError) (node_of (whole problem ∷ n ∷ []))
 attribute_error_fits w problem n some most f =
     fits.made _ refl refl refl
-    (fits.sequence (fits.given refl (number_fits w 1 6 problem some most (omega arith)) required (fits.given refl f required fits.over))) refl
+    (fits.sequence (fits.given refl (number_fits w 1 6 problem some most (omega arith)) required
+    (fits.given refl f required fits.over))) refl
 
 name_error_fits : (w : Surroundings) (n : Node) → Fits (layout w) (layout w named.Name) n
     → Fits (layout w) (layout w named.NameError) (node_of (whole 1 ∷ n ∷ []))
 name_error_fits w n f =
     fits.made _ refl refl refl
-    (fits.sequence (fits.given refl (number_fits w 1 1 1 (omega arith) (omega arith) (omega arith)) required (fits.given refl f required fits.over))) refl
+    (fits.sequence (fits.given refl (number_fits w 1 1 1 (omega arith) (omega arith) (omega arith)) required
+    (fits.given refl f required fits.over))) refl
 
 update_error_fits : (w : Surroundings) (problem : ℕ) → 1 ≤ problem → problem ≤ 7
     → Fits (layout w) (layout w named.UpdateError) (node_of (whole problem ∷ []))
 update_error_fits w problem some most =
-    fits.made _ refl refl refl (fits.sequence (fits.given refl (number_fits w 1 7 problem some most (omega arith)) required fits.over)) refl
+    fits.made _ refl refl refl (fits.sequence (fits.given refl (number_fits w 1 7 problem some most (omega arith))
+    required fits.over)) refl
 
 -- ---- messages, with the codes of errors and of a referral
 
@@ -256,45 +305,61 @@ record AreErrors (rows : List (ℕ × named.Named)) (referral : ℕ) : Type 0 wh
   referred : named_by rows (pos referral) ≡ Some named.Reference
   small : referral < 2 ^ 32
 
-module _ (w : Surroundings) (inner : named.Named) (is_inner : layout w inner ≡ layouts.is (layouts.result_inner (operation_codes named.Outcome)))
-    (rows : List (ℕ × named.Named)) (referral : ℕ) (errors : AreErrors rows referral) (id : ℕ) (small : CountWithin id) where
-  answered_fits : (code : ℕ) (answer : Answer) → IsResult w code answer
-      → Fits (layout w) (layouts.result inner ∷ layouts.error rows ∷ []) (result_node id code (answer_node answer))
-  answered_fits code answer h =
-      fits.chosen_made (layouts.result inner) 2 refl
-      (fits.sequence (fits.given refl (count_fits w id small) required (fits.given refl inside required fits.over))) refl
-    where
-      one : Fits (layout w) (layouts.is (layouts.result_inner (operation_codes named.Outcome))) (node_of (whole code ∷ answer_node answer ∷ []))
-      one =
-          fits.made _ refl refl refl
-          (fits.sequence (fits.given refl (code_fits w code h.small) (typed.named (pos code) h.form refl h.names) (fits.given refl h.result required fits.over)))
-          refl
+module _ (w : Surroundings) (inner : named.Named) (is_inner : layout w inner ≡ layouts.is
+    (layouts.result_inner (operation_codes named.Outcome)))
+    (rows : List (ℕ × named.Named)) (referral : ℕ) (errors : AreErrors rows referral) (id : ℕ) (small : CountWithin id)
+  where
+    answered_fits : (code : ℕ) (answer : Answer) → IsResult w code answer
+        → Fits (layout w) (layouts.result inner ∷ layouts.error rows ∷ []) (result_node id code (answer_node answer))
+    answered_fits code answer h =
+        fits.chosen_made (layouts.result inner) 2 refl
+        (fits.sequence (fits.given refl (count_fits w id small) required (fits.given refl inside required fits.over)))
+        refl
+      where
+        one : Fits (layout w) (layouts.is (layouts.result_inner (operation_codes named.Outcome)))
+            (node_of (whole code ∷ answer_node answer ∷ []))
+        one =
+            fits.made _ refl refl refl
+            (fits.sequence (fits.given refl (code_fits w code h.small) (typed.named (pos code) h.form refl h.names)
+            (fits.given refl h.result required fits.over)))
+            refl
 
-      inside : Fits (layout w) (layout w inner) (node_of (whole code ∷ answer_node answer ∷ []))
-      inside = subst (λ (ts : List Rattle.x5_model_typed.specs.Forms.Alternative). Fits (layout w) ts (node_of (whole code ∷ answer_node answer ∷ []))) (sym is_inner) one
+        inside : Fits (layout w) (layout w inner) (node_of (whole code ∷ answer_node answer ∷ []))
+        inside =
+            subst (λ (ts : List Rattle.x5_model_typed.specs.Forms.Alternative). Fits (layout w) ts
+            (node_of (whole code ∷ answer_node answer ∷ []))) (sym is_inner) one
 
-  error_fits : (k : ℕ) (form : named.Named) (n : Node) → k < 2 ^ 32 → named_by rows (pos k) ≡ Some form → Fits (layout w) (layout w form) n
-      → Fits (layout w) (layouts.result inner ∷ layouts.error rows ∷ []) (error_node id k n)
-  error_fits k form n few names f =
-      fits.chosen_made (layouts.error rows) 3 refl (fits.sequence (invoke_fits w rows id k form n small few names f)) refl
+    error_fits : (k : ℕ) (form : named.Named) (n : Node) → k < 2 ^ 32 → named_by rows (pos k) ≡ Some form
+        → Fits (layout w) (layout w form) n
+        → Fits (layout w) (layouts.result inner ∷ layouts.error rows ∷ []) (error_node id k n)
+    error_fits k form n few names f =
+        fits.chosen_made (layouts.error rows) 3 refl (fits.sequence (invoke_fits w rows id k form n small few names f))
+        refl
 
-  message_fits : (r : Reply) → ReplyWithin r → Fits (layout w) (layouts.result inner ∷ layouts.error rows ∷ []) (reply_node referral id r)
-  message_fits (Answered code answer) h = answered_fits code answer (result_of w code answer h.0 h.1)
-  message_fits (NoSuchObject matched) h = error_fits 2 named.NameError _ (omega arith) errors.name (name_error_fits w _ (name_fits w matched h))
-  message_fits (AttributeProblem problem type) h =
-      error_fits 1 named.AttributeError _ (omega arith) errors.attribute (attribute_error_fits w problem _ h.0.0 h.0.1 (type_fits w type h.1))
-  message_fits (UpdateProblem problem) h =
-      error_fits 8 named.UpdateError _ (omega arith) errors.update (update_error_fits w problem h.0 h.1)
-  message_fits (ServiceProblem problem reference item) h =
-      error_fits 3 named.ServiceError _ (omega arith) errors.service (service_fits w problem reference item h.0.0 h.0.1 h.1 h.2)
-  message_fits (Referred reference) h = error_fits referral named.Reference _ errors.small errors.referred (reference_fits w reference h)
+    message_fits : (r : Reply) → ReplyWithin r → Fits (layout w) (layouts.result inner ∷ layouts.error rows ∷ [])
+        (reply_node referral id r)
+    message_fits (Answered code answer) h = answered_fits code answer (result_of w code answer h.0 h.1)
+    message_fits (NoSuchObject matched) h =
+        error_fits 2 named.NameError _ (omega arith) errors.name (name_error_fits w _ (name_fits w matched h))
+    message_fits (AttributeProblem problem type) h =
+        error_fits 1 named.AttributeError _ (omega arith) errors.attribute
+        (attribute_error_fits w problem _ h.0.0 h.0.1 (type_fits w type h.1))
+    message_fits (UpdateProblem problem) h =
+        error_fits 8 named.UpdateError _ (omega arith) errors.update (update_error_fits w problem h.0 h.1)
+    message_fits (ServiceProblem problem reference item) h =
+        error_fits 3 named.ServiceError _ (omega arith) errors.service
+        (service_fits w problem reference item h.0.0 h.0.1 h.1 h.2)
+    message_fits (Referred reference) h =
+        error_fits referral named.Reference _ errors.small errors.referred (reference_fits w reference h)
 
 pub reply_fits : ReplyFits
 reply_fits w id r small h =
     message_fits w named.DapResult refl layouts.dap_errors to_user
-    (record { attribute = refl; name = refl; service = refl; update = refl; referred = refl; small = omega arith }) id small r h
+    (record { attribute = refl; name = refl; service = refl; update = refl; referred = refl; small = omega arith }) id
+    small r h
 
 pub reply_to_agent_fits : ReplyToAgentFits
 reply_to_agent_fits w id r small h =
     message_fits w named.DspResult refl layouts.dsp_errors to_agent
-    (record { attribute = refl; name = refl; service = refl; update = refl; referred = refl; small = omega arith }) id small r h
+    (record { attribute = refl; name = refl; service = refl; update = refl; referred = refl; small = omega arith }) id
+    small r h

@@ -38,39 +38,54 @@ use Rattle.x5_model_fitting.proofs.Leaves.{number_fits, count_fits, code_fits, f
 -- ---- controls, selections and changes
 
 size_set : (w : Surroundings) (o : Option ℕ) → IfThere CountWithin o
-    → FitsSet (layout w) (layouts.optional (Rattle.x5_model_typed.specs.Forms.at 3 (named.NumberBelow 0 4294967295)) ∷ []) (More (size_node o) Nil)
+    → FitsSet (layout w) (layouts.optional (Rattle.x5_model_typed.specs.Forms.at 3 (named.NumberBelow 0 4294967295)) ∷
+    []) (More (size_node o) Nil)
 size_set w None h = fits.absent Vacant refl refl fits.all
 size_set w (Some n) h = fits.present refl (count_fits w n h) default fits.all
 
-controls_fit : (w : Surroundings) (c : Controls) → ControlsWithin c → Fits (layout w) (layout w named.Controls) (controls_node c)
+controls_fit : (w : Surroundings) (c : Controls) → ControlsWithin c
+    → Fits (layout w) (layout w named.Controls) (controls_node c)
 controls_fit w c h =
     fits.made _ refl refl refl
-    (fits.set (set_or (layout w) (options_node false false) (options_node c.nocopy c.nochain) 0 named.Options _ _ (options_fit w c.nocopy c.nochain)
+    (fits.set (set_or (layout w) (options_node false false) (options_node c.nocopy c.nochain) 0 named.Options _ _
+    (options_fit w c.nocopy c.nochain)
     (fits.absent Vacant refl refl (fits.absent Vacant refl refl (size_set w c.size h)))))
     refl
 
-controls_last : (w : Surroundings) (c : Controls) → ControlsWithin c → FitsSet (layout w) (layouts.controls ∷ []) (More (controls_node c) Nil)
-controls_last w c h = set_or (layout w) layouts.no_controls (controls_node c) 30 named.Controls [] Nil (controls_fit w c h) fits.all
+controls_last : (w : Surroundings) (c : Controls) → ControlsWithin c
+    → FitsSet (layout w) (layouts.controls ∷ []) (More (controls_node c) Nil)
+controls_last w c h =
+    set_or (layout w) layouts.no_controls (controls_node c) 30 named.Controls [] Nil (controls_fit w c h) fits.all
 
-selection_fits : (w : Surroundings) (s : Selection) → SelectionWithin s → Fits (layout w) (layout w named.Selection) (selection_node s)
+selection_fits : (w : Surroundings) (s : Selection) → SelectionWithin s
+    → Fits (layout w) (layout w named.Selection) (selection_node s)
 selection_fits w All h = fits.made _ refl refl refl (fits.set (fits.absent Vacant refl refl fits.all)) refl
 selection_fits w (Only types) h =
     fits.made _ refl refl refl
     (fits.set (fits.present refl
-    (fits.made _ refl refl refl (fits.members (each_fits (layout w) named.AnyOid type_node types (λ t i. type_fits w t (h t i)))) refl)
+    (fits.made _ refl refl refl (fits.members (each_fits (layout w) named.AnyOid type_node types
+    (λ t i. type_fits w t (h t i)))) refl)
     default fits.all))
     refl
 
 change_fits : (w : Surroundings) (c : Change) → ChangeWithin c → Fits (layout w) (layout w named.Change) (change_node c)
-change_fits w (AddAttribute a) h = fits.chosen (choice 0 (Explicit named.Attribute)) 0 named.Attribute refl refl (attribute_fits w a h) refl
-change_fits w (RemoveAttribute type) h = fits.chosen (choice 1 (Explicit named.AnyOid)) 1 named.AnyOid refl refl (type_fits w type h) refl
-change_fits w (AddValues a) h = fits.chosen (choice 2 (Explicit named.Attribute)) 2 named.Attribute refl refl (attribute_fits w a h) refl
-change_fits w (RemoveValues a) h = fits.chosen (choice 3 (Explicit named.Attribute)) 3 named.Attribute refl refl (attribute_fits w a h) refl
+change_fits w (AddAttribute a) h =
+    fits.chosen (choice 0 (Explicit named.Attribute)) 0 named.Attribute refl refl (attribute_fits w a h) refl
+change_fits w (RemoveAttribute type) h =
+    fits.chosen (choice 1 (Explicit named.AnyOid)) 1 named.AnyOid refl refl (type_fits w type h) refl
+change_fits w (AddValues a) h =
+    fits.chosen (choice 2 (Explicit named.Attribute)) 2 named.Attribute refl refl (attribute_fits w a h) refl
+change_fits w (RemoveValues a) h =
+    fits.chosen (choice 3 (Explicit named.Attribute)) 3 named.Attribute refl refl (attribute_fits w a h) refl
 
-changes_fit : (w : Surroundings) (cs : List Change) → Each ChangeWithin cs → Fits (layout w) (layout w named.Changes) (node_of (map change_node cs))
-changes_fit w cs h = fits.made _ refl refl refl (fits.members (each_fits (layout w) named.Change change_node cs (λ c i. change_fits w c (h c i)))) refl
+changes_fit : (w : Surroundings) (cs : List Change) → Each ChangeWithin cs
+    → Fits (layout w) (layout w named.Changes) (node_of (map change_node cs))
+changes_fit w cs h =
+    fits.made _ refl refl refl (fits.members (each_fits (layout w) named.Change change_node cs
+    (λ c i. change_fits w c (h c i)))) refl
 
-subset_fits : (w : Surroundings) (s : Subset) → Fits (layout w) (layout w (named.NumberBelow 0 2)) (whole (subset_number s))
+subset_fits : (w : Surroundings) (s : Subset) → Fits (layout w) (layout w (named.NumberBelow 0 2))
+    (whole (subset_number s))
 subset_fits w Base = number_fits w 0 2 0 (omega arith) (omega arith) (omega arith)
 subset_fits w OneLevel = number_fits w 0 2 1 (omega arith) (omega arith) (omega arith)
 subset_fits w WholeSubtree = number_fits w 0 2 2 (omega arith) (omega arith) (omega arith)
@@ -88,13 +103,15 @@ operation (ModifyEntry name changes) = named.ModifyEntry
 operation (ModifyDn name rdn drops) = named.ModifyDn
 
 abbrev set_made : (w : Surroundings) (c : Controls) (b : Body) → Type 0
-set_made w c b = Fits (layout w) (layout w (named.Argument (operation b))) (argument_node (record { controls = c; body = b }))
+set_made w c b =
+    Fits (layout w) (layout w (named.Argument (operation b))) (argument_node (record { controls = c; body = b }))
 
 body_fits : (w : Surroundings) (c : Controls) (b : Body) → ControlsWithin c → BodyWithin b → set_made w c b
 body_fits w c (Read name selection) k h =
     fits.made _ refl refl refl
     (fits.set (fits.present refl (name_fits w name h.0) required
-    (set_or (layout w) layouts.all_attributes (selection_node selection) 1 named.Selection _ _ (selection_fits w selection h.1) (controls_last w c k))))
+    (set_or (layout w) layouts.all_attributes (selection_node selection) 1 named.Selection _ _
+    (selection_fits w selection h.1) (controls_last w c k))))
     refl
 body_fits w c (Compare name assertion) k h =
     fits.made _ refl refl refl
@@ -108,7 +125,8 @@ body_fits w c (Search base subset filter selection) k h =
     (fits.set (fits.present refl (name_fits w base h.0) required
     (set_or (layout w) (whole 0) (whole (subset_number subset)) 1 (named.NumberBelow 0 2) _ _ (subset_fits w subset)
     (set_or (layout w) layouts.everything _ 2 (named.Filter 16) _ _ (filter_fits w most_levels filter h.1)
-    (set_or (layout w) layouts.all_attributes (selection_node selection) 4 named.Selection _ _ (selection_fits w selection h.2) (controls_last w c k))))))
+    (set_or (layout w) layouts.all_attributes (selection_node selection) 4 named.Selection _ _
+    (selection_fits w selection h.2) (controls_last w c k))))))
     refl
 body_fits w c (AddEntry name attributes) k h =
     fits.made _ refl refl refl
@@ -157,9 +175,11 @@ code_small (ModifyEntry name changes) = omega arith
 code_small (ModifyDn name rdn drops) = omega arith
 
 -- an id, the code of an operation, and what the code names
-pub invoke_fits : (w : Surroundings) (rows : List (ℕ × named.Named)) (id k : ℕ) (form : named.Named) (n : Node) → CountWithin id → k < 2 ^ 32
+pub invoke_fits : (w : Surroundings) (rows : List (ℕ × named.Named)) (id k : ℕ) (form : named.Named) (n : Node)
+    → CountWithin id → k < 2 ^ 32
     → named_by rows (pos k) ≡ Some form → Fits (layout w) (layout w form) n
-    → FitsSequence (layout w) (layouts.id ∷ code named.AnyNumber (named_by rows) ∷ []) (More (whole id) (More (whole k) (More n Nil)))
+    → FitsSequence (layout w) (layouts.id ∷ code named.AnyNumber (named_by rows) ∷ [])
+    (More (whole id) (More (whole k) (More n Nil)))
 invoke_fits w rows id k form n small few names f =
     fits.given refl (count_fits w id small) required
     (fits.given refl (code_fits w k few) (typed.named (pos k) form refl names) (fits.given refl f required fits.over))
@@ -167,7 +187,8 @@ invoke_fits w rows id k form n small few names f =
 pub request_fits : RequestFits
 request_fits w id r small h =
     fits.chosen_made (layouts.invoke (operation_codes named.Argument)) 1 refl
-    (fits.sequence (invoke_fits w (operation_codes named.Argument) id (operation_of r.body) (named.Argument (operation r.body)) (argument_node r) small
+    (fits.sequence (invoke_fits w (operation_codes named.Argument) id (operation_of r.body)
+    (named.Argument (operation r.body)) (argument_node r) small
     (code_small r.body) (coded named.Argument r.body) (argument_fits w r h)))
     refl
 

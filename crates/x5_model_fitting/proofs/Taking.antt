@@ -40,7 +40,8 @@ no_octets : (o : Option (List ℕ)) (octets : List ℕ) → o ≡ None → o ≡
 no_octets o octets e h = cc
 
 -- whose content is elements
-pub only_made : (L : Layout) (a : Alternative) (n : Node) → a.marked ≡ false → is_made_of_members a.content ≡ true → Fits L (a ∷ []) n
+pub only_made : (L : Layout) (a : Alternative) (n : Node) → a.marked ≡ false → is_made_of_members a.content ≡ true
+    → Fits L (a ∷ []) n
     → IsMade L a n
 only_made L a n free_of of_members (whole b octets free held unmarked writes settles) =
     let same : b ≡ a = only a b (can_hold n a) held in
@@ -54,8 +55,10 @@ only_made L a _ free_of of_members (made {ns} b held unmarked empty inside settl
       within = subst (λ (c : Alternative). FitsIn L c.content ns) same inside;
       settled = subst (λ (c : Alternative). c.settles (Many ns) ≡ Some (Many ns)) same settles;
     }
-only_made L a _ free_of of_members (chosen b tag form found c f settles) = absurd (unmarked_not_found a b tag free_of found)
-only_made L a _ free_of of_members (chosen_made b tag found inside settles) = absurd (unmarked_not_found a b tag free_of found)
+only_made L a _ free_of of_members (chosen b tag form found c f settles) =
+    absurd (unmarked_not_found a b tag free_of found)
+only_made L a _ free_of of_members (chosen_made b tag found inside settles) =
+    absurd (unmarked_not_found a b tag free_of found)
 
 made_of_members : (L : Layout) (c : Content) (ns : Nodes) → FitsIn L c ns → is_made_of_members c ≡ true
 made_of_members L _ ns (fits.sequence f) = refl
@@ -63,7 +66,8 @@ made_of_members L _ ns (fits.set f) = refl
 made_of_members L _ ns (fits.members f) = refl
 
 -- whose content is octets or bits
-pub only_leaf : (L : Layout) (a : Alternative) (n : Node) → a.marked ≡ false → is_made_of_members a.content ≡ false → Fits L (a ∷ []) n
+pub only_leaf : (L : Layout) (a : Alternative) (n : Node) → a.marked ≡ false → is_made_of_members a.content ≡ false
+    → Fits L (a ∷ []) n
     → (octets : List ℕ) × (leaf_octets a.content n ≡ Some octets)
 only_leaf L a n free_of of_octets (whole b octets free held unmarked writes settles) =
     let same : b ≡ a = only a b (can_hold n a) held in
@@ -72,8 +76,10 @@ only_leaf L a _ free_of of_octets (made {ns} b held unmarked empty inside settle
     let same : b ≡ a = only a b (can_hold (Many ns) a) held in
     let some = made_of_members L a.content ns (subst (λ (c : Alternative). FitsIn L c.content ns) same inside) in
     absurd (cc (some, of_octets))
-only_leaf L a _ free_of of_octets (chosen b tag form found c f settles) = absurd (unmarked_not_found a b tag free_of found)
-only_leaf L a _ free_of of_octets (chosen_made b tag found inside settles) = absurd (unmarked_not_found a b tag free_of found)
+only_leaf L a _ free_of of_octets (chosen b tag form found c f settles) =
+    absurd (unmarked_not_found a b tag free_of found)
+only_leaf L a _ free_of of_octets (chosen_made b tag found inside settles) =
+    absurd (unmarked_not_found a b tag free_of found)
 
 -- ---- members
 
@@ -90,9 +96,11 @@ pub many_in : (L : Layout) (a : Alternative) (form : Named) (P : Node → Type 0
     → ((n : Node) → Fits L (L form) n → P n) → (n : Node) → IsMade L a n → Each P (parts n)
 many_in L a form P c of n m =
     subst (λ (x : Node). Each P (parts x)) (sym m.is_many)
-    (each_in L form P of m.members (members_of L form m.members (subst (λ (x : Content). FitsIn L x m.members) c m.within)))
+    (each_in L form P of m.members (members_of L form m.members
+    (subst (λ (x : Content). FitsIn L x m.members) c m.within)))
 
-pub each_mapped : {X : Type 0} (P : X → Type 0) (f : Node → X) (ns : List Node) → Each (λ n. P (f n)) ns → Each P (map f ns)
+pub each_mapped : {X : Type 0} (P : X → Type 0) (f : Node → X) (ns : List Node) → Each (λ n. P (f n)) ns
+    → Each P (map f ns)
 each_mapped P f ns h x i = (let w = of_map f x ns i in subst P (sym w.2) (h w.0 w.1))
 
 -- ---- components, one by one
@@ -108,13 +116,16 @@ pub record First (P : Node → Type 0) (R : Nodes → Type 0) (ns : Nodes) : Typ
 pub set_in : (L : Layout) (cs : List Component) (ns : Nodes) → FitsIn L (Set cs) ns → FitsSet L cs ns
 set_in L cs ns (fits.set f) = f
 
-pub set_first : (L : Layout) (tag : ℕ) (form : Named) (cs : List Component) (P : Node → Type 0) → ((n : Node) → Fits L (L form) n → P n)
+pub set_first : (L : Layout) (tag : ℕ) (form : Named) (cs : List Component) (P : Node → Type 0)
+    → ((n : Node) → Fits L (L form) n → P n)
     → (ns : Nodes) → FitsSet L (at tag form ∷ cs) ns → First P (FitsSet L cs) ns
 set_first L tag form cs P of _ (absent d e f g) = absurd (cc e)
-set_first L tag form cs P of _ (present {n} {ns} nd f goes g) = record { first = n; others = ns; split = refl; is = of n f; rest = g }
+set_first L tag form cs P of _ (present {n} {ns} nd f goes g) =
+    record { first = n; others = ns; split = refl; is = of n f; rest = g }
 
 pub set_maybe : (L : Layout) (d : Node) (tag : ℕ) (form : Named) (cs : List Component) (P : Node → Type 0) → P d
-    → ((n : Node) → Fits L (L form) n → P n) → (ns : Nodes) → FitsSet L (or d (at tag form) ∷ cs) ns → First P (FitsSet L cs) ns
+    → ((n : Node) → Fits L (L form) n → P n) → (ns : Nodes) → FitsSet L (or d (at tag form) ∷ cs) ns
+    → First P (FitsSet L cs) ns
 set_maybe L d tag form cs P missing of _ (absent {ns} x e f g) =
     let same : d ≡ x = cc in record { first = x; others = ns; split = refl; is = subst P same missing; rest = g }
 set_maybe L d tag form cs P missing of _ (present {n} {ns} nd f goes g) =
@@ -126,13 +137,16 @@ set_over L _ all = refl
 pub sequence_in : (L : Layout) (cs : List Component) (ns : Nodes) → FitsIn L (Sequence cs) ns → FitsSequence L cs ns
 sequence_in L cs ns (fits.sequence f) = f
 
-pub first_in : (L : Layout) (form : Named) (cs : List Component) (P : Node → Type 0) → ((n : Node) → Fits L (L form) n → P n)
+pub first_in : (L : Layout) (form : Named) (cs : List Component) (P : Node → Type 0)
+    → ((n : Node) → Fits L (L form) n → P n)
     → (ns : Nodes) → FitsSequence L (plain form ∷ cs) ns → First P (FitsSequence L cs) ns
 first_in L form cs P of _ (left_out d e f g) = absurd (cc e)
-first_in L form cs P of _ (given {n} {ns} nd f required g) = record { first = n; others = ns; split = refl; is = of n f; rest = g }
+first_in L form cs P of _ (given {n} {ns} nd f required g) =
+    record { first = n; others = ns; split = refl; is = of n f; rest = g }
 
 pub maybe_in : (L : Layout) (d : Node) (c : Component) (cs : List Component) (P : Node → Type 0) → P d
-    → ((n : Node) → Fits L (L c.form) n → P n) → (ns : Nodes) → FitsSequence L (or d c ∷ cs) ns → First P (FitsSequence L cs) ns
+    → ((n : Node) → Fits L (L c.form) n → P n) → (ns : Nodes) → FitsSequence L (or d c ∷ cs) ns
+    → First P (FitsSequence L cs) ns
 maybe_in L d c cs P missing of _ (left_out {ns} x e f g) =
     let same : d ≡ x = cc in record { first = x; others = ns; split = refl; is = subst P same missing; rest = g }
 maybe_in L d c cs P missing of _ (given {n} {ns} nd f default g) =
@@ -168,7 +182,8 @@ pub record IsChoice (L : Layout) (types : List Alternative) (n : Node) : Type 0 
   pub explicit : alternative.content ≡ Explicit form
   pub fits_inner : Fits L (L form) inner
 
-marked_one : (p : Alternative → Bool) (types : List Alternative) (a : Alternative) → list_all (λ x. x.marked) types ≡ true
+marked_one : (p : Alternative → Bool) (types : List Alternative) (a : Alternative)
+    → list_all (λ x. x.marked) types ≡ true
     → find p types ≡ Some a → a.marked ≡ true
 marked_one p types a marked held = of_all (λ (x : Alternative). x.marked) a types marked (of_find p a types held).0
 
@@ -179,12 +194,24 @@ choice_in L types n marked all_so (whole a octets free held unmarked writes sett
 choice_in L types _ marked all_so (made {ns} a held unmarked empty inside settles) =
     let m = marked_one (can_hold (Many ns)) types a marked held in absurd (cc (unmarked, m))
 choice_in L types _ marked all_so (chosen {n} a tag form found c f settles) =
-    record { tag = tag; inner = n; is = refl; alternative = a; found = found; form = form; explicit = c; fits_inner = f }
+    record {
+      tag = tag;
+      inner = n;
+      is = refl;
+      alternative = a;
+      found = found;
+      form = form;
+      explicit = c;
+      fits_inner = f;
+    }
 choice_in L types _ marked all_so (chosen_made {ns} a tag found inside settles) =
-    absurd (no_explicit L a.content ns (of_all (λ (x : Alternative). is_explicit x.content) a types all_so (of_find (is_marked tag) a types found).0) inside)
+    absurd (no_explicit L a.content ns (of_all (λ (x : Alternative). is_explicit x.content) a types all_so
+    (of_find (is_marked tag) a types found).0) inside)
 
-pub inner_fits : (L : Layout) (types : List Alternative) (n : Node) (c : IsChoice L types n) (form : Named) (a : Alternative)
-    → a.content ≡ Explicit form → (let o : Option Alternative = Some a in o) ≡ Some c.alternative → Fits L (L form) c.inner
+pub inner_fits : (L : Layout) (types : List Alternative) (n : Node) (c : IsChoice L types n) (form : Named)
+    (a : Alternative)
+    → a.content ≡ Explicit form → (let o : Option Alternative = Some a in o) ≡ Some c.alternative
+    → Fits L (L form) c.inner
 inner_fits L types n c form a e same =
     let alike : a ≡ c.alternative = cc in
     let both : Explicit form ≡ Explicit c.form = sym e ∙ ap (λ (x : Alternative). x.content) alike ∙ c.explicit in
@@ -192,10 +219,12 @@ inner_fits L types n c form a e same =
     subst (λ (x : Named). Fits L (L x) c.inner) forms c.fits_inner
 
 -- the tag is one that the types have
-pub tag_below : (types : List Alternative) (tag limit : ℕ) (a : Alternative) → list_all (λ x. nat_lt x.tag limit) types ≡ true
+pub tag_below : (types : List Alternative) (tag limit : ℕ) (a : Alternative)
+    → list_all (λ x. nat_lt x.tag limit) types ≡ true
     → find (is_marked tag) types ≡ Some a → tag < limit
 tag_below types tag limit a low_all found =
     let w = of_find (is_marked tag) a types found in
-    let low : a.tag < limit = ltb-true a.tag limit (of_all (λ (x : Alternative). nat_lt x.tag limit) a types low_all w.0) in
+    let low : a.tag < limit = ltb-true a.tag limit (of_all (λ (x : Alternative). nat_lt x.tag limit) a types low_all
+    w.0) in
     let same : a.tag ≡ tag = eqb-true a.tag tag (both_true a.marked (a.tag == tag) w.1).1 in
     omega (arith, low, same)

@@ -39,7 +39,8 @@ octets_found : (w : Surroundings) (o : List ℕ) → nat_le (length o) most_octe
     → find (can_hold (Octets o)) (layout w named.Value) ≡ Some (universal 4 (Joined octet_string))
 octets_found w o e = rw e refl
 
-octets_fit : (w : Surroundings) (o : List ℕ) → nat_le (length o) most_octets ≡ true → Fits (layout w) (layout w named.Value) (Octets o)
+octets_fit : (w : Surroundings) (o : List ℕ) → nat_le (length o) most_octets ≡ true
+    → Fits (layout w) (layout w named.Value) (Octets o)
 octets_fit w o e =
     fits.whole (universal 4 (Joined octet_string)) o refl (octets_found w o e) refl
     (let_through (nat_le (length o) most_octets) o e) refl
@@ -53,9 +54,11 @@ arcs_fit w arcs e =
 pub value_fits : (w : Surroundings) (v : Value) → ValueWithin v → Fits (layout w) (layout w named.Value) (value_node v)
 value_fits w (TextValue t) h = text_fits w t h
 value_fits w (OctetsValue o) h = octets_fit w o (le-leb (length o) most_octets h)
-value_fits w (OidValue arcs) h = arcs_fit w arcs (and_true (is_oid arcs) (short_oid arcs) h.0 (le-leb _ most_octets h.1))
+value_fits w (OidValue arcs) h =
+    arcs_fit w arcs (and_true (is_oid arcs) (short_oid arcs) h.0 (le-leb _ most_octets h.1))
 value_fits w (NameOf n) h =
-    fits.made (ruled name_rule (sequence_of named.Rdn)) refl refl refl (fits.members (name_members w n h)) (name_kept n h)
+    fits.made (ruled name_rule (sequence_of named.Rdn)) refl refl refl (fits.members (name_members w n h))
+    (name_kept n h)
 
 pub value_said : (v : Value) → ValueWithin v → is_sayable v ≡ true
 value_said (TextValue t) h = refl
@@ -65,23 +68,28 @@ value_said (NameOf n) h = name_types n h
 
 -- ---- attributes
 
-pub still_some : {X : Type 0} (f : X → Node) (xs : List X) → is_empty xs ≡ false → not (is_empty (list (row (map f xs)))) ≡ true
+pub still_some : {X : Type 0} (f : X → Node) (xs : List X) → is_empty xs ≡ false
+    → not (is_empty (list (row (map f xs)))) ≡ true
 still_some f [] h = absurd (cc h)
 still_some f (x ∷ xs) h = refl
 
-pub values_fit : {X : Type 0} (w : Surroundings) (of : X → Value) (xs : List X) → is_empty xs ≡ false → Each (λ x. ValueWithin (of x)) xs
+pub values_fit : {X : Type 0} (w : Surroundings) (of : X → Value) (xs : List X) → is_empty xs ≡ false
+    → Each (λ x. ValueWithin (of x)) xs
     → Fits (layout w) (layout w named.Values) (node_of (map (λ x. value_node (of x)) xs))
 values_fit w of xs some h =
     fits.made _ refl refl refl
     (fits.members (each_fits (layout w) named.Value (λ x. value_node (of x)) xs (λ x i. value_fits w (of x) (h x i))))
-    (let_through (not (is_empty (list (row (map (λ x. value_node (of x)) xs))))) (node_of (map (λ x. value_node (of x)) xs))
+    (let_through (not (is_empty (list (row (map (λ x. value_node (of x)) xs)))))
+    (node_of (map (λ x. value_node (of x)) xs))
     (still_some (λ x. value_node (of x)) xs some))
 
-pub attribute_fits : (w : Surroundings) (a : Attribute) → AttributeWithin a → Fits (layout w) (layout w named.Attribute) (attribute_node a)
+pub attribute_fits : (w : Surroundings) (a : Attribute) → AttributeWithin a
+    → Fits (layout w) (layout w named.Attribute) (attribute_node a)
 attribute_fits w a h =
     fits.made _ refl refl refl
     (fits.sequence (fits.given refl (type_fits w a.kind h.type) required
-    (fits.given refl (values_fit w (λ (v : Offered). v.value) a.values h.some (λ v i. (h.values v i).value)) required fits.over)))
+    (fits.given refl (values_fit w (λ (v : Offered). v.value) a.values h.some (λ v i. (h.values v i).value)) required
+    fits.over)))
     refl
 
 pub attributes_fit : (w : Surroundings) (as' : List Attribute) → Each AttributeWithin as'
@@ -90,7 +98,8 @@ attributes_fit w as' h =
     fits.made _ refl refl refl
     (fits.members (each_fits (layout w) named.Attribute attribute_node as' (λ a i. attribute_fits w a (h a i)))) refl
 
-offered_same : (type : TypeRef) (vs : List Offered) → Each (OfferedWithin type) vs → vs ≡ map (λ v. offered type v.value) vs
+offered_same : (type : TypeRef) (vs : List Offered) → Each (OfferedWithin type) vs
+    → vs ≡ map (λ v. offered type v.value) vs
 offered_same type [] h = refl
 offered_same type (v ∷ vs) h =
     ap₂ (λ (x : Offered) (xs : List Offered). x ∷ xs) (h v here).normal (offered_same type vs (λ x i. h x (there i)))
@@ -108,10 +117,12 @@ attributes_are (a ∷ as') h = (attribute_is a (h a here), attributes_are as' (�
 
 -- ---- assertions
 
-pub assertion_fits : (w : Surroundings) (a : Assertion) → AssertionWithin a → Fits (layout w) (layout w named.Assertion) (assertion_node a)
+pub assertion_fits : (w : Surroundings) (a : Assertion) → AssertionWithin a
+    → Fits (layout w) (layout w named.Assertion) (assertion_node a)
 assertion_fits w a h =
     fits.made _ refl refl refl
-    (fits.sequence (fits.given refl (type_fits w a.kind h.type) required (fits.given refl (value_fits w a.value h.value) required fits.over)))
+    (fits.sequence (fits.given refl (type_fits w a.kind h.type) required
+    (fits.given refl (value_fits w a.value h.value) required fits.over)))
     refl
 
 pub assertion_is : (a : Assertion) → AssertionWithin a → IsAssertion a
@@ -131,9 +142,11 @@ placed w Initial = refl
 placed w Any = refl
 placed w Last = refl
 
-piece_fits : (w : Surroundings) (p : Piece) → PartWithin p.value → Fits (layout w) (layout w named.PlacedPart) (piece_node p)
+piece_fits : (w : Surroundings) (p : Piece) → PartWithin p.value
+    → Fits (layout w) (layout w named.PlacedPart) (piece_node p)
 piece_fits w p h =
-    fits.chosen (choice (place_tag p.place) (Explicit named.Part)) (place_tag p.place) named.Part (placed w p.place) refl
+    fits.chosen (choice (place_tag p.place) (Explicit named.Part)) (place_tag p.place) named.Part (placed w p.place)
+    refl
     (part_fits_so w p.value h) refl
 
 begins_so : (p : PiecePlace) → (place_tag p == 0) ≡ begins_value p
@@ -156,7 +169,8 @@ places_stay (p ∷ q ∷ ps) =
 parts_kept : (ps : List Piece) → is_empty ps ≡ false → stand_right ps ≡ true
     → parts_rule (node_of (map piece_node ps)) ≡ Some (node_of (map piece_node ps))
 parts_kept ps some right =
-    let_through (not (is_empty (list (row (map piece_node ps)))) && in_their_places (list (row (map piece_node ps)))) (node_of (map piece_node ps))
+    let_through (not (is_empty (list (row (map piece_node ps)))) && in_their_places (list (row (map piece_node ps))))
+    (node_of (map piece_node ps))
     (and_true (not (is_empty (list (row (map piece_node ps))))) (in_their_places (list (row (map piece_node ps))))
     (still_some piece_node ps some)
     (ap in_their_places (list_row (map piece_node ps)) ∙ places_stay ps ∙ right))
@@ -165,13 +179,15 @@ pub substrings_fit : (w : Surroundings) (s : SubstringItem) → SubstringsWithin
     → Fits (layout w) (layout w named.Substrings) (substrings_node s)
 substrings_fit w s h =
     fits.made _ refl refl refl
-    (fits.sequence (fits.given refl (type_fits w s.kind h.type) required (fits.given refl pieces_fit required fits.over)))
+    (fits.sequence (fits.given refl (type_fits w s.kind h.type) required
+    (fits.given refl pieces_fit required fits.over)))
     refl
   where
     pieces_fit : Fits (layout w) (layout w named.Parts) (node_of (map piece_node s.pieces))
     pieces_fit =
         fits.made _ refl refl refl
-        (fits.members (each_fits (layout w) named.PlacedPart piece_node s.pieces (λ p i. piece_fits w p (h.pieces p i))))
+        (fits.members (each_fits (layout w) named.PlacedPart piece_node s.pieces
+        (λ p i. piece_fits w p (h.pieces p i))))
         (parts_kept s.pieces h.some h.places)
 
 part_said : (v : Value) → PartWithin v → is_sayable v ≡ true

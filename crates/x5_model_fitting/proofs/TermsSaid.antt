@@ -35,18 +35,21 @@ use Rattle.x5_model_fitting.proofs.NamesSaid.{name_parts_said}
 
 -- ---- values
 
-held_by : {X : Type 0} (b : Bool) (x : X) (y a : Alternative) → cond (cond (is_some (where_so b x)) true false) (Some y) None ≡ Some a → b ≡ true
+held_by : {X : Type 0} (b : Bool) (x : X) (y a : Alternative)
+    → cond (cond (is_some (where_so b x)) true false) (Some y) None ≡ Some a → b ≡ true
 held_by true x y a h = refl
 held_by false x y a h = absurd (cc h)
 
-octets_said : (w : Surroundings) (o : List ℕ) → Fits (layout w) (layout w named.Value) (Octets o) → length o ≤ most_octets
+octets_said : (w : Surroundings) (o : List ℕ) → Fits (layout w) (layout w named.Value) (Octets o)
+    → length o ≤ most_octets
 octets_said w o (whole a octets free held unmarked writes settles) =
     leb-true (length o) most_octets (held_by (nat_le (length o) most_octets) o _ a held)
 
 arcs_said : (w : Surroundings) (arcs : List ℕ) → Fits (layout w) (layout w named.Value) (Oid arcs)
     → (is_oid arcs ≡ true) × (oid_content_len arcs ≤ most_octets)
 arcs_said w arcs (whole a octets free held unmarked writes settles) =
-    let v = both_true (is_oid arcs) (short_oid arcs) (held_by (is_oid arcs && short_oid arcs) (oid_octets arcs) _ a held) in
+    let v = both_true (is_oid arcs) (short_oid arcs) (held_by (is_oid arcs && short_oid arcs) (oid_octets arcs) _ a
+    held) in
     (v.0, leb-true (oid_content_len arcs) most_octets v.1)
 
 abbrev name_value : Alternative
@@ -55,7 +58,8 @@ name_value = ruled name_rule (layouts.sequence_of named.Rdn)
 some_same : (a b : Alternative) → (let o : Option Alternative = Some a in o) ≡ Some b → b ≡ a
 some_same a b h = cc
 
-name_made : (w : Surroundings) (ns : Nodes) → Fits (layout w) (layout w named.Value) (Many ns) → IsMade (layout w) name_value (Many ns)
+name_made : (w : Surroundings) (ns : Nodes) → Fits (layout w) (layout w named.Value) (Many ns)
+    → IsMade (layout w) name_value (Many ns)
 name_made w ns (whole a octets free held unmarked writes settles) =
     let same : a ≡ name_value = some_same name_value a held in
     let nothing : None ≡ Some octets = ap (λ (x : Alternative). leaf_octets x.content (Many ns)) (sym same) ∙ writes in
@@ -95,7 +99,8 @@ pub record AreValues (P : Node → Type 0) (n : Node) : Type 0 where
   pub some : not (is_empty (parts n)) ≡ true
   pub each : Each P (parts n)
 
-pub values_said : (w : Surroundings) (n : Node) → Fits (layout w) (layout w named.Values) n → AreValues (λ x. ValueWithin (value_in x)) n
+pub values_said : (w : Surroundings) (n : Node) → Fits (layout w) (layout w named.Values) n
+    → AreValues (λ x. ValueWithin (value_in x)) n
 values_said w n f =
     let m = only_made (layout w) (ruled some_members (layouts.set_of named.Value)) n refl refl f in
     record {
@@ -114,16 +119,20 @@ pub record IsTyped (P : Node → Type 0) (n : Node) : Type 0 where
   pub type_within : TypeWithin (type_in type)
   pub so_behind : P behind
 
-pub typed_in : (w : Surroundings) (form : named.Named) (P : Node → Type 0) → ((n : Node) → Fits (layout w) (layout w form) n → P n) → (n : Node)
+pub typed_in : (w : Surroundings) (form : named.Named) (P : Node → Type 0)
+    → ((n : Node) → Fits (layout w) (layout w form) n → P n) → (n : Node)
     → Fits (layout w) (layouts.is (layouts.sequence (plain named.AnyOid ∷ plain form ∷ []))) n → IsTyped P n
 typed_in w form P of n f =
     let m = only_made (layout w) (layouts.sequence (plain named.AnyOid ∷ plain form ∷ [])) n refl refl f in
-    let a = first_in (layout w) named.AnyOid _ (λ x. TypeWithin (type_in x)) (type_said w) m.members (sequence_in (layout w) _ m.members m.within) in
+    let a = first_in (layout w) named.AnyOid _ (λ x. TypeWithin (type_in x)) (type_said w) m.members
+    (sequence_in (layout w) _ m.members m.within) in
     let b = first_in (layout w) form [] P of a.others a.rest in
     record {
       type = a.first;
       behind = b.first;
-      is = m.is_many ∙ ap Many (a.split ∙ ap (More a.first) (b.split ∙ ap (More b.first) (sequence_over (layout w) b.others b.rest)));
+      is =
+          m.is_many ∙ ap Many (a.split ∙ ap (More a.first) (b.split ∙ ap (More b.first)
+          (sequence_over (layout w) b.others b.rest)));
       type_within = a.is;
       so_behind = b.is;
     }
@@ -131,24 +140,28 @@ typed_in w form P of n f =
 offered_within : (t : TypeRef) (v : Value) → ValueWithin v → OfferedWithin t (offered t v)
 offered_within t v h = record { value = h; normal = refl }
 
-pub attribute_said : (w : Surroundings) (n : Node) → Fits (layout w) (layout w named.Attribute) n → AttributeWithin (attribute_in n)
+pub attribute_said : (w : Surroundings) (n : Node) → Fits (layout w) (layout w named.Attribute) n
+    → AttributeWithin (attribute_in n)
 attribute_said w n f =
     let t = typed_in w named.Values (AreValues (λ x. ValueWithin (value_in x))) (values_said w) n f in
     subst (λ (x : Node). AttributeWithin (attribute_in x)) (sym t.is)
     (record {
       type = t.type_within;
       some = map_some (λ v. offered (type_in t.type) (value_in v)) (parts t.behind) t.so_behind.some;
-      values = each_mapped (OfferedWithin (type_in t.type)) (λ v. offered (type_in t.type) (value_in v)) (parts t.behind)
+      values =
+          each_mapped (OfferedWithin (type_in t.type)) (λ v. offered (type_in t.type) (value_in v)) (parts t.behind)
           (λ v i. offered_within (type_in t.type) (value_in v) (t.so_behind.each v i));
     })
 
-pub attributes_said : (w : Surroundings) (n : Node) → Fits (layout w) (layout w named.Attributes) n → Each AttributeWithin (map attribute_in (parts n))
+pub attributes_said : (w : Surroundings) (n : Node) → Fits (layout w) (layout w named.Attributes) n
+    → Each AttributeWithin (map attribute_in (parts n))
 attributes_said w n f =
     each_mapped AttributeWithin attribute_in (parts n)
     (many_in (layout w) _ named.Attribute (λ x. AttributeWithin (attribute_in x)) refl (attribute_said w) n
     (only_made (layout w) (layouts.set_of named.Attribute) n refl refl f))
 
-pub assertion_said : (w : Surroundings) (n : Node) → Fits (layout w) (layout w named.Assertion) n → AssertionWithin (assertion_in n)
+pub assertion_said : (w : Surroundings) (n : Node) → Fits (layout w) (layout w named.Assertion) n
+    → AssertionWithin (assertion_in n)
 assertion_said w n f =
     let t = typed_in w named.Value (λ x. ValueWithin (value_in x)) (value_said w) n f in
     subst (λ (x : Node). AssertionWithin (assertion_in x)) (sym t.is)
@@ -251,7 +264,8 @@ places_said [] h e = refl
 places_said (p ∷ []) h e = refl
 places_said (p ∷ q ∷ ns) h e =
     let a = both_true (not (is_final p) && not (is_initial q)) (in_their_places (q ∷ ns)) e in
-    and_true (not (ends_value (piece_in p).place) && not (begins_value (piece_in q).place)) (stand_right (map piece_in (q ∷ ns)))
+    and_true (not (ends_value (piece_in p).place) && not (begins_value (piece_in q).place))
+    (stand_right (map piece_in (q ∷ ns)))
     (sym (ap₂ (λ (x y : Bool). not x && not y) (h p here).ends (h q (there here)).begins) ∙ a.0)
     (places_said (q ∷ ns) (λ x i. h x (there i)) a.1)
 
@@ -267,7 +281,8 @@ pieces_said w n f =
     (so (not (is_empty (parts n)) && in_their_places (parts n)) n n m.settled).0 in
     record { some = v.0; right = v.1; each = many_in (layout w) _ named.PlacedPart IsPiece refl (piece_said w) n m }
 
-pub substrings_said : (w : Surroundings) (n : Node) → Fits (layout w) (layout w named.Substrings) n → SubstringsWithin (substrings_in n)
+pub substrings_said : (w : Surroundings) (n : Node) → Fits (layout w) (layout w named.Substrings) n
+    → SubstringsWithin (substrings_in n)
 substrings_said w n f =
     let t = typed_in w named.Parts ArePieces (pieces_said w) n f in
     subst (λ (x : Node). SubstringsWithin (substrings_in x)) (sym t.is)
@@ -275,6 +290,8 @@ substrings_said w n f =
       type = t.type_within;
       some = map_some piece_in (parts t.behind) t.so_behind.some;
       places = places_said (parts t.behind) t.so_behind.each t.so_behind.right;
-      pieces = each_mapped (λ (p : Piece). PartWithin p.value) piece_in (parts t.behind) (λ p i. (t.so_behind.each p i).text);
+      pieces =
+          each_mapped (λ (p : Piece). PartWithin p.value) piece_in (parts t.behind)
+          (λ p i. (t.so_behind.each p i).text);
       normal = refl;
     })

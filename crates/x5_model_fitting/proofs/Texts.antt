@@ -77,7 +77,8 @@ module _ (w : Surroundings) (t : Text) (h : TextWithin t) where
       by : (b : Bool) → text_of is_printable t ≡ b → Fits (layout w) (layout w named.Value) (nodes.Text t)
       by true e = fits.whole printable t refl (rw e refl) refl (let_through (text_of is_printable t) t e) refl
       by false e = fits.whole (universal 28 (Joined universal_string)) (flat_map (to_be_bytes w32) (chars t)) refl
-          (rw (e, fine) refl) refl (let_through (are_characters t && is_length t) (flat_map (to_be_bytes w32) (chars t)) fine) refl
+          (rw (e, fine) refl) refl (let_through (are_characters t && is_length t)
+          (flat_map (to_be_bytes w32) (chars t)) fine) refl
 
   pub part_fits : Fits (layout w) (layout w named.Part) (nodes.Text t)
   part_fits = by (text_of is_printable t) refl
@@ -85,7 +86,8 @@ module _ (w : Surroundings) (t : Text) (h : TextWithin t) where
       by : (b : Bool) → text_of is_printable t ≡ b → Fits (layout w) (layout w named.Part) (nodes.Text t)
       by true e = fits.whole printable t refl (rw e refl) refl (let_through (text_of is_printable t) t e) refl
       by false e = fits.whole (universal 28 (Joined universal_string)) (flat_map (to_be_bytes w32) (chars t)) refl
-          (rw (e, fine) refl) refl (let_through (are_characters t && is_length t) (flat_map (to_be_bytes w32) (chars t)) fine) refl
+          (rw (e, fine) refl) refl (let_through (are_characters t && is_length t)
+          (flat_map (to_be_bytes w32) (chars t)) fine) refl
 
 -- ---- types
 
@@ -110,7 +112,10 @@ naming_known k h = by (row_of k) h
     by None e = absurd (cc e)
     by (Some r) e = refl
 
-pub type_fits : (w : Surroundings) (type : TypeRef) → TypeWithin type → Fits (layout w) (layout w named.AnyOid) (type_node type)
+pub type_fits : (w : Surroundings) (type : TypeRef) → TypeWithin type
+    → Fits (layout w) (layout w named.AnyOid) (type_node type)
 type_fits w type h =
-    leaf_fits (layout w) (universal 6 (Primitive (oid any_oid))) (type_node type) (oid_octets (arcs_of_type type)) refl refl
-    (let_through (is_oid (arcs_of_type type) && true) (oid_octets (arcs_of_type type)) (ap (λ (b : Bool). b && true) h.oid)) refl
+    leaf_fits (layout w) (universal 6 (Primitive (oid any_oid))) (type_node type) (oid_octets (arcs_of_type type)) refl
+    refl
+    (let_through (is_oid (arcs_of_type type) && true) (oid_octets (arcs_of_type type))
+    (ap (λ (b : Bool). b && true) h.oid)) refl

@@ -79,7 +79,8 @@ numeric_small o h = grind (arith, nat_tests)
 printable_small : (o : ℕ) → is_printable o ≡ true → is_seven_bit o ≡ true
 printable_small o h = grind (arith, nat_tests)
 
-all_small : (q : ℕ → Bool) → ((o : ℕ) → q o ≡ true → is_seven_bit o ≡ true) → (t : Text) → list_all q t ≡ true → list_all is_seven_bit t ≡ true
+all_small : (q : ℕ → Bool) → ((o : ℕ) → q o ≡ true → is_seven_bit o ≡ true) → (t : Text) → list_all q t ≡ true
+    → list_all is_seven_bit t ≡ true
 all_small q of [] h = refl
 all_small q of (b ∷ bs) h =
     let w = both_true (q b) (list_all q bs) h in
@@ -96,7 +97,8 @@ fine_within t h =
     let v = both_true (nat_lt 0 (length t)) (nat_le (length t) most_octets) w.1 in
     record { utf8 = w.0; some = ltb-true 0 (length t) v.0; short = leb-true (length t) most_octets v.1 }
 
-fine_by : (q : ℕ → Bool) → ((o : ℕ) → q o ≡ true → is_seven_bit o ≡ true) → (t : Text) → text_of q t ≡ true → is_fine t ≡ true
+fine_by : (q : ℕ → Bool) → ((o : ℕ) → q o ≡ true → is_seven_bit o ≡ true) → (t : Text) → text_of q t ≡ true
+    → is_fine t ≡ true
 fine_by q of t h =
     let w = both_true (list_all q t) (is_length t) h in
     and_true (is_utf8 t) (is_length t) (seven_utf8 t (all_small q of t w.0)) w.1
@@ -129,7 +131,8 @@ text_said w t (whole a octets free held unmarked writes settles) = by (is_fine t
     by : (b : Bool) → is_fine t ≡ b → TextWithin t
     by true e = fine_within t e
     by false e =
-        let nothing : None ≡ Some a = rw (not_printable t e, not_universal t e, not_numeric t e, not_seven t e) at held in
+        let nothing : None ≡ Some a = rw (not_printable t e, not_universal t e, not_numeric t e, not_seven t e) at held
+        in
         absurd (cc nothing)
 
 pub part_said : (w : Surroundings) (t : Text) → Fits (layout w) (layout w named.Part) (nodes.Text t) → TextWithin t
@@ -138,12 +141,14 @@ part_said w t (whole a octets free held unmarked writes settles) = by (is_fine t
     by : (b : Bool) → is_fine t ≡ b → TextWithin t
     by true e = fine_within t e
     by false e =
-        let nothing : None ≡ Some a = rw (not_printable t e, not_universal t e, not_numeric t e, not_seven t e) at held in
+        let nothing : None ≡ Some a = rw (not_printable t e, not_universal t e, not_numeric t e, not_seven t e) at held
+        in
         absurd (cc nothing)
 
 -- ---- types
 
-parts_known : (a b c d : Bool) (n k : ℕ) → (if a && b && c && d then Some n else None) ≡ Some k → (a && (b && (c && d))) ≡ true
+parts_known : (a b c d : Bool) (n k : ℕ) → (if a && b && c && d then Some n else None) ≡ Some k
+    → (a && (b && (c && d))) ≡ true
 parts_known true true true true n k h = refl
 parts_known true true true false n k h = absurd (cc h)
 parts_known true true false d n k h = absurd (cc h)
@@ -160,14 +165,16 @@ known_by (a ∷ []) k h = absurd (cc h)
 known_by (a ∷ b ∷ []) k h = absurd (cc h)
 known_by (a ∷ b ∷ c ∷ []) k h = absurd (cc h)
 known_by (a ∷ b ∷ c ∷ n ∷ []) k h =
-    let all : ((a == 2) && ((b == 5) && ((c == 4) && is_known n))) ≡ true = parts_known (a == 2) (b == 5) (c == 4) (is_known n) n k h in
+    let all : ((a == 2) && ((b == 5) && ((c == 4) && is_known n))) ≡ true =
+    parts_known (a == 2) (b == 5) (c == 4) (is_known n) n k h in
     let u = both_true (a == 2) ((b == 5) && ((c == 4) && is_known n)) all in
     let v = both_true (b == 5) ((c == 4) && is_known n) u.1 in
     let w = both_true (c == 4) (is_known n) v.1 in
     subst (λ (m : ℕ). is_known m ≡ true) (some_number ((a == 2) && (b == 5) && (c == 4) && is_known n) n k h) w.1
 known_by (a ∷ b ∷ c ∷ n ∷ m ∷ arcs) k h = absurd (cc h)
 
-parts_unknown : (a b c d : Bool) (n : ℕ) → (if a && b && c && d then Some n else None) ≡ None → (a && (b && (c && d))) ≡ false
+parts_unknown : (a b c d : Bool) (n : ℕ) → (if a && b && c && d then Some n else None) ≡ None
+    → (a && (b && (c && d))) ≡ false
 parts_unknown true true true true n h = absurd (cc h)
 parts_unknown true true true false n h = refl
 parts_unknown true true false d n h = refl
@@ -188,7 +195,8 @@ arcs_within arcs (Some k) e h = known_within k (known_by arcs k e)
 
 type_writes : (n : Node) (octets : List ℕ) → (oid any_oid).writes n ≡ Some octets → TypeWithin (type_in n)
 type_writes (Oid arcs) octets h =
-    arcs_within arcs (known_below arcs) refl (both_true (is_oid arcs) true (so (is_oid arcs && true) (oid_octets arcs) octets h).0).0
+    arcs_within arcs (known_below arcs) refl (both_true (is_oid arcs) true
+    (so (is_oid arcs && true) (oid_octets arcs) octets h).0).0
 type_writes Vacant octets h = absurd (cc h)
 type_writes (Flag b) octets h = absurd (cc h)
 type_writes (Number k) octets h = absurd (cc h)

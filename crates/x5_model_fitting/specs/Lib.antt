@@ -4,4 +4,5 @@ pub mod Filters
 pub mod Requests
 pub mod Chained
 pub mod Replies
+pub mod Keeping
 pub mod Laws

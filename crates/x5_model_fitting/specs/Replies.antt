@@ -49,7 +49,8 @@ abbrev pub AnswerWithin : Answer → Type 0
 AnswerWithin (Entry entry source) = InfoWithin entry × SourceWithin source
 AnswerWithin (Match matched copy source) = SourceWithin source
 AnswerWithin (Listed subs sources outcome) = Each SubWithin subs × Each SourceWithin sources × OutcomeWithin outcome
-AnswerWithin (Found entries sources outcome) = Each InfoWithin entries × Each SourceWithin sources × OutcomeWithin outcome
+AnswerWithin (Found entries sources outcome) =
+    Each InfoWithin entries × Each SourceWithin sources × OutcomeWithin outcome
 AnswerWithin Changed = Unit {0}
 
 -- the codes of the operations that are answered so
