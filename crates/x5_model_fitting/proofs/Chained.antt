@@ -1,5 +1,5 @@
 -- Messages between agents within the limits fit, and are as they are spelled.
-use Rattle.std.proofs.Common.{◌≡◌, ℕ, ◌≤◌, Bool, true, false, not, ◌&&◌, ◌||◌, ◌==◌, nat_le, List, [], ◌∷◌, length, map, refl, sym, ap, ap₂, ◌∙◌, arith}
+use Rattle.std.proofs.Common.{◌≡◌, ℕ, Bool, true, false, not, ◌&&◌, ◌||◌, ◌==◌, nat_le, List, [], ◌∷◌, length, map, refl, ap, ap₂, ◌∙◌, arith}
 use Rattle.std.proofs.lemmas.Bool.{le-leb}
 use Rattle.std.proofs.lemmas.List.{length-map}
 use Rattle.std.specs.declared.option.Option.TheVariants.{Some}
@@ -9,14 +9,13 @@ use Rattle.x5_model.specs.Keys.{same_key}
 use Rattle.x5_model.specs.Values.{Rdn}
 use Rattle.x5_model.specs.References.{Progress, Start, Next, Done, RefType, Superior, Subordinate, Cross, NonSpecific, Supplier, Own}
 use Rattle.x5_model.proofs.Lists.{and_true}
-use Rattle.x5_model_run.specs.Journal.{operation_of, kind_number, same_name, same_progress}
+use Rattle.x5_model_run.specs.Journal.{operation_of, kind_number, same_progress}
 use Rattle.x5_model_typed.specs.Nodes as nodes
-use Rattle.x5_model_typed.specs.Nodes.{Node, Vacant, Flag, Many, Nil, same_bit, list, row, whole}
+use Rattle.x5_model_typed.specs.Nodes.{Node, Vacant, Flag, Many, Nil, same_bit, whole}
 use Rattle.x5_model_typed.specs.Named as named
-use Rattle.x5_model_typed.specs.Forms.{Primitive}
 use Rattle.x5_model_typed.specs.Rules as rules
 use Rattle.x5_model_typed.specs.Rules.{most_items, trace_rule}
-use Rattle.x5_model_typed.specs.Leaves.{where_so, one_of, number_octets}
+use Rattle.x5_model_typed.specs.Leaves.{where_so, one_of}
 use Rattle.x5_model_typed.specs.Typed.{required, default}
 use Rattle.x5_model_typed.specs.Layouts as layouts
 use Rattle.x5_model_typed.specs.Layouts.{Surroundings, layout, operation_codes}
@@ -24,10 +23,9 @@ use Rattle.x5_model_typed.proofs.Laws.{list_row}
 use Rattle.x5_model_typed_laws.specs.Fits as fits
 use Rattle.x5_model_typed_laws.specs.Fits.{Fits}
 use Rattle.x5_model_typed_laws.proofs.Leaves.{let_through}
-use Rattle.x5_model_messages.specs.Terms.{node_of, rdn_node, name_node}
-use Rattle.x5_model_messages.specs.Requests.{argument_node}
+use Rattle.x5_model_messages.specs.Terms.{node_of, rdn_node}
 use Rattle.x5_model_messages.specs.Replies.{TraceItem, progress_node, item_node}
-use Rattle.x5_model_messages.specs.Chained.{Chained, chaining_node, carried_node, chained_node}
+use Rattle.x5_model_messages.specs.Chained.{Chained, chaining_node, carried_node}
 use Rattle.x5_model_messages.specs.ChainedLaws.{AreRdns, AreItems}
 use Rattle.x5_model_fitting.specs.Names.{Each, RdnWithin}
 use Rattle.x5_model_fitting.specs.Chained.{ProgressWithin, ItemWithin, same_item, TraceWithin, ChainedWithin}

@@ -1,15 +1,13 @@
 -- What octets say of a message between agents is within the limits, component by component.
-use Rattle.std.proofs.Common.{◌≡◌, ℕ, zero, suc, ◌≤◌, Bool, true, false, not, ◌&&◌, ◌||◌, nat_le, List, [], ◌∷◌, length, map, ◌⊎◌, inl, inr, refl, sym, ap, ap₂, subst, ◌∙◌, arith}
+use Rattle.std.proofs.Common.{◌≡◌, ℕ, zero, suc, ◌≤◌, Bool, true, false, ◌&&◌, nat_le, [], ◌∷◌, length, map, ◌⊎◌, inl, inr, refl, sym, ap, ap₂, subst, ◌∙◌, arith}
 use Rattle.std.specs.Prelude.{ℤ}
 use Rattle.std.proofs.lemmas.Bool.{leb-true}
 use Rattle.std.proofs.lemmas.List.{length-map}
 use Rattle.std.specs.declared.option.Option.TheVariants.{Some}
 use Rattle.x5_model.specs.Words.{distinct, same_octets}
-use Rattle.x5_model.specs.Members.{In}
 use Rattle.x5_model.specs.Keys.{same_key}
-use Rattle.x5_model.specs.Values.{Text, key_of}
+use Rattle.x5_model.specs.Values.{Text}
 use Rattle.x5_model.specs.References.{Progress, Start, Next, Done}
-use Rattle.x5_model.specs.Normal.{most_rdns, written_key}
 use Rattle.x5_model.proofs.Lists.{both_true}
 use Rattle.x5_model_run.specs.Journal.{same_progress}
 use Rattle.x5_model_typed.specs.Nodes as nodes

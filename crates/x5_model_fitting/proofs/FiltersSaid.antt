@@ -1,5 +1,5 @@
 -- What octets say of filters is within the limits: an item by its tag, a filter level by level.
-use Rattle.std.proofs.Common.{◌≡◌, ℕ, zero, suc, ◌+◌, ◌-◌, ◌≤◌, Bool, true, false, List, [], ◌∷◌, refl, sym, ap, subst, ◌∙◌, arith}
+use Rattle.std.proofs.Common.{◌≡◌, ℕ, zero, suc, ◌+◌, ◌-◌, ◌≤◌, Bool, true, false, List, refl, sym, ap, subst, ◌∙◌, arith}
 use Rattle.std.specs.List.{find}
 use Rattle.std.specs.declared.option.Option.TheVariants.{Some}
 use Rattle.x5_model_typed.specs.Nodes.{Node, Nodes, Chosen, Many, Nil, More}

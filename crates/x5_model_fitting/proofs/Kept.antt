@@ -1,5 +1,5 @@
 -- What stays within the limits of messages.
-use Rattle.std.proofs.Common.{◌≡◌, ℕ, zero, suc, ◌+◌, ◌<◌, ◌≤◌, Bool, true, false, not, ◌&&◌, ◌||◌, List, [], ◌∷◌, ◌++◌, length, map, take, ◌⊎◌, inl, inr, refl, sym, ap, ap₂, subst, ◌∙◌, arith, length-append}
+use Rattle.std.proofs.Common.{◌≡◌, ℕ, zero, suc, ◌+◌, ◌≤◌, Bool, true, false, not, ◌&&◌, ◌||◌, List, [], ◌∷◌, ◌++◌, length, map, take, inl, inr, refl, sym, ap, ap₂, subst, ◌∙◌, arith, length-append}
 use Rattle.std.specs.Prelude.{Result, Ok, Err, ◌==◌, if◌then◌else◌}
 use Rattle.std.proofs.lemmas.List.{length-map, length-take}
 use Rattle.std.specs.List.{list_all}
@@ -10,7 +10,7 @@ use Rattle.x5_model.specs.Keys.{Key, same_key}
 use Rattle.x5_model.specs.Members.{In, here, there}
 use Rattle.x5_model.specs.Values.{Text, NameValue, Value, TextValue, OctetsValue, OidValue, NameOf, Rdn, Name, key_of, written, written_pair}
 use Rattle.x5_model.specs.Types.{Kind, TextKind, PrintableKind, CountryKind, NumericKind, TelephoneKind, OidKind, NameKind, OctetsKind}
-use Rattle.x5_model.specs.Normal.{most_octets, most_rdns, is_of_kind, is_part_of_kind, is_text_of_kind, is_enough, is_oid, is_rdn, is_name, first_found, over, rdn_over, name_over, value_over, oid_content_len, normal_form, ValueFault, WrongSyntax, within, normal_of, stored, stored_rdn, written_rdn, IsStored}
+use Rattle.x5_model.specs.Normal.{most_octets, most_rdns, is_of_kind, is_part_of_kind, is_enough, is_oid, is_rdn, is_name, first_found, over, rdn_over, name_over, value_over, oid_content_len, normal_form, ValueFault, WrongSyntax, within, normal_of, stored, stored_rdn, written_rdn}
 use Rattle.x5_model.specs.References.{Progress, Start, Next, Done}
 use Rattle.x5_model.proofs.KeyLaws.{key_decides}
 use Rattle.x5_model.proofs.Lists.{both_true, and_true, not_true, of_all, in_either, in_first, in_map}
@@ -18,10 +18,9 @@ use Rattle.x5_model_run.specs.Journal.{same_progress}
 use Rattle.x5_model_typed.specs.Nodes.{same_bit}
 use Rattle.x5_model_typed_laws.proofs.Sorting.{octets_turned}
 use Rattle.x5_model_messages.specs.Replies.{TraceItem}
-use Rattle.x5_model_typed.specs.Rules.{most_items}
-use Rattle.x5_model_fitting.specs.Names.{Each, TextWithin, are_utf8, WrittenRdnWithin, WrittenNameWithin, RdnWithin, NameWithin}
+use Rattle.x5_model_fitting.specs.Names.{Each, are_utf8, WrittenNameWithin, RdnWithin}
 use Rattle.x5_model_fitting.specs.Terms.{ValueWithin}
-use Rattle.x5_model_fitting.specs.Chained.{ItemWithin, same_item, TraceWithin}
+use Rattle.x5_model_fitting.specs.Chained.{ItemWithin, same_item}
 use Rattle.x5_model_fitting.specs.Keeping.{StoredNameIsWithin, BeginningIsWithin, LongerNameIsWithin, LongerTraceIsWithin, has_utf8, NormalIsWithin}
 use Rattle.x5_model_fitting.proofs.Names.{none_first, not_over, enough}
 

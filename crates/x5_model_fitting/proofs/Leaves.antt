@@ -1,14 +1,13 @@
 -- Numbers, flags, options and names of agents within the limits fit.
-use Rattle.std.proofs.Common.{◌≡◌, ℕ, ◌≤◌, ◌<◌, ◌^◌, Bool, true, false, ◌&&◌, if◌then◌else◌, nat_lt, nat_le, List, [], ◌∷◌, refl, ap, ◌∙◌, arith}
-use Rattle.std.specs.Prelude.{ℤ, pos}
+use Rattle.std.proofs.Common.{◌≡◌, ℕ, ◌≤◌, ◌<◌, ◌^◌, Bool, true, false, ◌&&◌, if◌then◌else◌, nat_le, [], ◌∷◌, refl, ap, arith}
+use Rattle.std.specs.Prelude.{pos}
 use Rattle.std.proofs.lemmas.Bool.{lt-ltb, le-leb}
-use Rattle.std.specs.declared.option.Option.TheVariants.{Some}
 use Rattle.x5_model.specs.Values.{Text}
 use Rattle.x5_model.proofs.Lists.{and_true}
 use Rattle.x5_model_typed.specs.Nodes as nodes
 use Rattle.x5_model_typed.specs.Nodes.{Flag, whole}
 use Rattle.x5_model_typed.specs.Named as named
-use Rattle.x5_model_typed.specs.Forms.{Primitive, Joined, JoinedBits, universal}
+use Rattle.x5_model_typed.specs.Forms.{Primitive, JoinedBits, universal}
 use Rattle.x5_model_typed.specs.Leaves.{boolean, number, number_octets, is_short_number, any_number, from_to, is_agent_name, options, options_node}
 use Rattle.x5_model_typed.specs.Layouts.{Surroundings, layout, integer, agent_name, any_agent}
 use Rattle.x5_model_typed_laws.specs.Fits.{Fits}

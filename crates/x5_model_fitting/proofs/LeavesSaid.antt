@@ -1,6 +1,6 @@
 -- What fits as a number, a flag or the name of an agent is one.
-use Rattle.std.proofs.Common.{◌≡◌, ℕ, ◌≤◌, Bool, true, false, ◌&&◌, if◌then◌else◌, nat_le, List, [], ◌∷◌, refl}
-use Rattle.std.specs.Prelude.{ℤ, pos, negsuc}
+use Rattle.std.proofs.Common.{◌≡◌, ℕ, ◌≤◌, Bool, true, false, ◌&&◌, if◌then◌else◌, nat_le, List, refl}
+use Rattle.std.specs.Prelude.{pos, negsuc}
 use Rattle.std.proofs.lemmas.Bool.{leb-true}
 use Rattle.std.specs.declared.option.Option.TheVariants.{Some}
 use Rattle.x5_model.specs.Values.{Text}
@@ -8,7 +8,7 @@ use Rattle.x5_model.proofs.Lists.{both_true}
 use Rattle.x5_model_typed.specs.Nodes as nodes
 use Rattle.x5_model_typed.specs.Nodes.{Node, Vacant, Flag, Number, Oid, Bits, Octets, Chosen, Many, whole}
 use Rattle.x5_model_typed.specs.Named as named
-use Rattle.x5_model_typed.specs.Forms.{Primitive, Joined, universal}
+use Rattle.x5_model_typed.specs.Forms.{Primitive, universal}
 use Rattle.x5_model_typed.specs.Leaves.{boolean, number, number_octets, is_short_number, from_to, is_agent_name, text_where}
 use Rattle.x5_model_typed.specs.Layouts.{Surroundings, layout, integer, agent_name, any_agent}
 use Rattle.x5_model_typed_laws.specs.Fits.{Fits}

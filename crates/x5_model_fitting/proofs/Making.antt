@@ -1,13 +1,12 @@
 -- How a value is shown to fit a type of messages: by its content, component by component and member by member.
-use Rattle.std.proofs.Common.{◌≡◌, ℕ, Bool, true, false, cond, List, [], ◌∷◌, refl, sym, ap, subst, ◌∙◌}
-use Rattle.std.specs.List.{find}
+use Rattle.std.proofs.Common.{◌≡◌, ℕ, Bool, true, false, cond, List, [], ◌∷◌, refl, ap, subst}
 use Rattle.std.specs.declared.option.Option.TheVariants.{None, Some}
-use Rattle.x5_model.specs.Members.{In, here, there}
-use Rattle.x5_model_typed.specs.Nodes.{Node, Nodes, Many, Nil, More, row, same}
+use Rattle.x5_model.specs.Members.{here, there}
+use Rattle.x5_model_typed.specs.Nodes.{Node, Nodes, More, row, same}
 use Rattle.x5_model_typed.specs.Named.{Named}
-use Rattle.x5_model_typed.specs.Forms.{Component, Content, Explicit, Alternative, Layout, plain, at, or}
-use Rattle.x5_model_typed.specs.Typed.{required, default}
-use Rattle.x5_model_typed.specs.Written.{leaf_octets, is_marked}
+use Rattle.x5_model_typed.specs.Forms.{Component, Alternative, Layout, plain, at, or}
+use Rattle.x5_model_typed.specs.Typed.{default}
+use Rattle.x5_model_typed.specs.Written.{leaf_octets}
 use Rattle.x5_model_typed_laws.specs.Fits as fits
 use Rattle.x5_model_typed_laws.specs.Fits.{is_chosen, Fits, FitsSequence, FitsSet, FitsEach}
 use Rattle.x5_model_typed_laws.proofs.Closing.{held_by}

@@ -1,5 +1,5 @@
 -- Messages taken apart: one of several by its tag, with the id and what the code names.
-use Rattle.std.proofs.Common.{◌≡◌, ℕ, zero, suc, ◌<◌, ◌≤◌, ◌^◌, Bool, true, false, cond, ◌&&◌, ◌==◌, nat_lt, List, [], ◌∷◌, refl, sym, ap, subst, ◌∙◌, arith}
+use Rattle.std.proofs.Common.{◌≡◌, ℕ, zero, suc, ◌<◌, Bool, true, false, cond, ◌==◌, nat_lt, List, [], ◌∷◌, refl, sym, ap, ◌∙◌, arith}
 use Rattle.std.specs.Prelude.{ℤ, pos, negsuc}
 use Rattle.std.specs.List.{find, list_all}
 use Rattle.std.proofs.lemmas.Bool.{ltb-true, eqb-true}
@@ -8,14 +8,14 @@ use Rattle.std.specs.declared.option.Option.TheVariants.{None, Some}
 use Rattle.x5_model.proofs.Lists.{both_true, of_all, of_find}
 use Rattle.x5_model_typed.specs.Nodes.{Node, Nodes, Number, Chosen, Many, Nil, More, whole}
 use Rattle.x5_model_typed.specs.Named as named
-use Rattle.x5_model_typed.specs.Forms.{Content, Explicit, Alternative, Layout, code}
+use Rattle.x5_model_typed.specs.Forms.{Explicit, Alternative, Layout, code}
 use Rattle.x5_model_typed.specs.Typed.{named, required}
 use Rattle.x5_model_typed.specs.Written.{is_made_of_members, can_hold, is_marked}
 use Rattle.x5_model_typed.specs.Layouts as layouts
 use Rattle.x5_model_typed.specs.Layouts.{Surroundings, layout, named_by, operation_codes}
 use Rattle.x5_model_typed_laws.specs.Fits.{Fits, FitsIn, FitsSequence, left_out, given, over, whole as leaf, made, chosen, chosen_made}
 use Rattle.x5_model_fitting.specs.Requests.{CountWithin}
-use Rattle.x5_model_fitting.proofs.Taking.{First, first_in}
+use Rattle.x5_model_fitting.proofs.Taking.{first_in}
 use Rattle.x5_model_fitting.proofs.LeavesSaid.{IsNumber, number_said}
 
 -- ---- one of several, whose content is elements

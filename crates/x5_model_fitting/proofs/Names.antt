@@ -1,7 +1,7 @@
 -- RDNs and names within the limits fit: each pair, then the pairs in their order, then the RDNs.
-use Rattle.std.proofs.Common.{◌≡◌, ℕ, suc, ◌+◌, ◌<◌, ◌≤◌, Bool, true, false, not, ◌&&◌, ◌||◌, ◌==◌, nat_lt, nat_le, List, [], ◌∷◌, length, map, refl, sym, ap, ap₂, subst, ◌∙◌, arith}
+use Rattle.std.proofs.Common.{◌≡◌, ℕ, ◌+◌, ◌<◌, ◌≤◌, Bool, true, false, not, ◌&&◌, ◌||◌, ◌==◌, nat_lt, nat_le, List, [], ◌∷◌, length, map, refl, sym, ap, ap₂, subst, ◌∙◌, arith}
 use Rattle.std.specs.Prelude.{if◌then◌else◌}
-use Rattle.std.proofs.lemmas.Bool.{lt-ltb, ltb-true, ltb-false, le-leb, leb-true, le-ltb}
+use Rattle.std.proofs.lemmas.Bool.{ltb-true, le-leb, leb-true}
 use Rattle.std.proofs.lemmas.List.{length-map}
 use Rattle.std.specs.List.{list_all, list_any}
 use Rattle.std.specs.Str.{is_utf8}
@@ -10,20 +10,17 @@ use Rattle.std.specs.declared.option.Option.TheVariants.{None, Some}
 use Rattle.x5_model.specs.Words.{in_option, has, distinct, insert_sorted, sorted}
 use Rattle.x5_model.specs.Members.{In, here, there}
 use Rattle.x5_model.specs.Keys.{Key, KeyRdn}
-use Rattle.x5_model.specs.Values.{Text, TypeRef, Known, NameValue, Value, TextValue, Rdn, Name, key_of, key_of_rdn, written, written_pair}
+use Rattle.x5_model.specs.Values.{Text, Known, NameValue, Rdn, Name, key_of, key_of_rdn, written, written_pair}
 use Rattle.x5_model.specs.Types.{Kind, TextKind, PrintableKind, CountryKind, NumericKind, TelephoneKind, OidKind, NameKind, OctetsKind, is_known, may_name, kind_of}
 use Rattle.x5_model.specs.Normal.{most_octets, most_pairs, most_rdns, is_enough, is_part_of_kind, is_text_of_kind, is_pair, ascends_from, ascends, is_rdn, first_found, over, rdn_over, written_rdn, stored, stored_rdn, normal_pair, written_key}
 use Rattle.x5_model.proofs.Lists.{both_true, and_true, of_all, all_in, of_map}
 use Rattle.x5_model_text.specs.TypeText.{known_below}
-use Rattle.x5_model_typed.specs.Nodes as nodes
 use Rattle.x5_model_typed.specs.Nodes.{Node, Many, row}
 use Rattle.x5_model_typed.specs.Named as named
-use Rattle.x5_model_typed.specs.Forms.{ruled}
 use Rattle.x5_model_typed.specs.Leaves.{where_so}
-use Rattle.x5_model_typed.specs.Rules as rules
 use Rattle.x5_model_typed.specs.Rules.{pair_in, name_in, pair_below, same_type, pair_rule, rdn_rule, name_rule}
 use Rattle.x5_model_typed.specs.Typed.{required}
-use Rattle.x5_model_typed.specs.Layouts.{Surroundings, layout, sequence_of}
+use Rattle.x5_model_typed.specs.Layouts.{Surroundings, layout}
 use Rattle.x5_model_typed.proofs.Laws.{list_row}
 use Rattle.x5_model_typed_laws.specs.Fits as fits
 use Rattle.x5_model_typed_laws.specs.Fits.{Fits, FitsEach}
@@ -31,7 +28,7 @@ use Rattle.x5_model_typed_laws.proofs.Leaves.{let_through}
 use Rattle.x5_model_messages.specs.Terms.{node_of, pair_node, pairs_node, rdn_node, name_value_node, name_node}
 use Rattle.x5_model_messages.specs.Laws.{has_known_types, IsName, IsRdn}
 use Rattle.x5_model_messages.proofs.Requests.{the_name}
-use Rattle.x5_model_fitting.specs.Names.{Each, TextWithin, are_utf8, WrittenRdnWithin, WrittenNameWithin, RdnWithin, NameWithin}
+use Rattle.x5_model_fitting.specs.Names.{Each, TextWithin, WrittenRdnWithin, WrittenNameWithin, RdnWithin, NameWithin}
 use Rattle.x5_model_fitting.proofs.Making.{each_fits}
 use Rattle.x5_model_fitting.proofs.Texts.{text_fits, known_within, naming_known, type_fits}
 

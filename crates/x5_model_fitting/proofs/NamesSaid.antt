@@ -1,33 +1,32 @@
 -- What octets say of RDNs and names is within the limits: each pair is of a type that may name, and the pairs stand in
 -- the order of their types, each once.
-use Rattle.std.proofs.Common.{◌≡◌, ℕ, suc, ◌+◌, ◌<◌, ◌≤◌, Bool, true, false, not, cond, ◌&&◌, ◌||◌, ◌==◌, nat_lt, nat_le, List, [], ◌∷◌, length, map, refl, sym, ap, ap₂, subst, ◌∙◌, arith}
+use Rattle.std.proofs.Common.{◌≡◌, ℕ, ◌+◌, ◌<◌, ◌≤◌, Bool, true, false, not, cond, ◌&&◌, ◌||◌, ◌==◌, nat_lt, nat_le, List, [], ◌∷◌, length, map, refl, sym, ap, subst, ◌∙◌, arith}
 use Rattle.std.specs.Prelude.{if◌then◌else◌}
-use Rattle.std.proofs.lemmas.Bool.{ltb-true, ltb-false, le-leb, leb-true, lt-ltb}
+use Rattle.std.proofs.lemmas.Bool.{ltb-true, le-leb, leb-true}
 use Rattle.std.proofs.lemmas.List.{length-map}
 use Rattle.std.specs.List.{list_all}
 use Rattle.std.specs.Str.{is_utf8}
 use Rattle.std.specs.declared.option.Option.{Option}
 use Rattle.std.specs.declared.option.Option.TheVariants.{None, Some}
 use Rattle.x5_model.specs.Words.{in_option, has, distinct, insert_sorted, sorted}
-use Rattle.x5_model.specs.Members.{In, here, there}
-use Rattle.x5_model.specs.Values.{Text, NameValue, Value, TextValue, OctetsValue, OidValue, NameOf, Rdn, Name, written_pair}
+use Rattle.x5_model.specs.Members.{here, there}
+use Rattle.x5_model.specs.Values.{Text, NameValue, Value, OctetsValue, OidValue, NameOf, Rdn, Name}
 use Rattle.x5_model.specs.Types.{Kind, TextKind, PrintableKind, CountryKind, NumericKind, TelephoneKind, OidKind, NameKind, OctetsKind, Row, table, row_of, in_row, may_name, kind_of}
-use Rattle.x5_model.specs.Normal.{most_octets, most_pairs, most_rdns, is_of_kind, is_text_of_kind, is_pair, ascends_from, is_rdn, first_found, over, rdn_over, written_rdn, stored, stored_rdn}
+use Rattle.x5_model.specs.Normal.{most_octets, most_pairs, most_rdns, is_of_kind, is_pair, ascends_from, over, rdn_over, stored, stored_rdn}
 use Rattle.x5_model.proofs.Lists.{both_true, and_true, all_in, of_all, of_find, of_map}
 use Rattle.x5_model_typed.specs.Nodes as nodes
-use Rattle.x5_model_typed.specs.Nodes.{Node, Nodes, Vacant, Flag, Number, Oid, Bits, Octets, Chosen, Many, Nil, More, list, row, parts}
+use Rattle.x5_model_typed.specs.Nodes.{Node, Vacant, Flag, Number, Oid, Bits, Octets, Chosen, Many, Nil, More, row, parts}
 use Rattle.x5_model_typed.specs.Named as named
-use Rattle.x5_model_typed.specs.Forms.{plain, ruled, universal, Sequence}
-use Rattle.x5_model_typed.specs.Leaves.{where_so}
+use Rattle.x5_model_typed.specs.Forms.{plain, ruled}
 use Rattle.x5_model_typed.specs.Rules as rules
-use Rattle.x5_model_typed.specs.Rules.{known_type, type_number, text_in, value_in, pair_in, rdn_in, name_in, pair_below, same_type, rdn_rule, name_rule, pair_rule}
+use Rattle.x5_model_typed.specs.Rules.{known_type, text_in, value_in, pair_in, rdn_in, name_in, pair_below, same_type, rdn_rule, name_rule, pair_rule}
 use Rattle.x5_model_typed.specs.Layouts as layouts
 use Rattle.x5_model_typed.specs.Layouts.{Surroundings, layout}
 use Rattle.x5_model_typed.proofs.Laws.{list_row}
 use Rattle.x5_model_typed_laws.specs.Fits.{Fits}
 use Rattle.x5_model_typed_laws.proofs.Leaves.{so}
 use Rattle.x5_model_messages.specs.Terms.{name_of, rdn_of}
-use Rattle.x5_model_fitting.specs.Names.{Each, TextWithin, are_utf8, WrittenRdnWithin, WrittenNameWithin, RdnWithin, NameWithin}
+use Rattle.x5_model_fitting.specs.Names.{Each, TextWithin, WrittenRdnWithin, WrittenNameWithin, RdnWithin, NameWithin}
 use Rattle.x5_model_fitting.proofs.Names.{written_rdn_of}
 use Rattle.x5_model_fitting.proofs.Taking.{IsMade, only_made, many_in, each_mapped, sequence_in, first_in, sequence_over}
 use Rattle.x5_model_fitting.proofs.TextsSaid.{text_said}

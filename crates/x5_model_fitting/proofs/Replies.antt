@@ -7,7 +7,6 @@ use Rattle.x5_model.specs.Members.{In}
 use Rattle.x5_model.specs.Answers.{Shown, EntryInfo, Sub}
 use Rattle.x5_model.specs.Values.{Value}
 use Rattle.x5_model.proofs.Lists.{in_first}
-use Rattle.x5_model_run.specs.Journal.{kind_number}
 use Rattle.x5_model_typed.specs.Nodes.{Node, Nodes, Vacant, Flag, Many, Nil, More, whole}
 use Rattle.x5_model_typed.specs.Named as named
 use Rattle.x5_model_typed.specs.Forms.{Primitive, universal, plain, at, code}
@@ -18,7 +17,7 @@ use Rattle.x5_model_typed.specs.Layouts as layouts
 use Rattle.x5_model_typed.specs.Layouts.{Surroundings, layout, named_by, operation_codes, optional}
 use Rattle.x5_model_typed_laws.specs.Fits as fits
 use Rattle.x5_model_typed_laws.specs.Fits.{Fits, FitsSequence, FitsSet}
-use Rattle.x5_model_messages.specs.Terms.{node_of, type_node, rdn_node, value_node}
+use Rattle.x5_model_messages.specs.Terms.{node_of, rdn_node}
 use Rattle.x5_model_messages.specs.Replies.{Access, Reference, TraceItem, Source, Outcome, Answer, Entry, Match, Listed, Found, Changed, Reply, Answered, NoSuchObject, AttributeProblem, UpdateProblem, ServiceProblem, Referred, access_node, reference_node, number_or_vacant, source_node, shown_node, info_node, sub_node, limit_node, outcome_node, answer_node, reference_or_vacant, item_or_vacant, result_node, error_node, reply_node, to_user, to_agent}
 use Rattle.x5_model_fitting.specs.Names.{Each}
 use Rattle.x5_model_fitting.specs.Requests.{CountWithin, IfThere}

@@ -1,11 +1,8 @@
 -- What octets say of a reply is within the limits, component by component.
-use Rattle.std.proofs.Common.{◌≡◌, ℕ, zero, suc, ◌≤◌, Bool, true, false, cond, ◌&&◌, ◌==◌, not, List, [], ◌∷◌, map, ◌⊎◌, inl, inr, refl, sym, ap, subst, ◌∙◌, arith}
+use Rattle.std.proofs.Common.{◌≡◌, ℕ, zero, suc, Bool, true, false, cond, List, [], ◌∷◌, map, ◌⊎◌, inl, inr, refl, sym, ap, subst, ◌∙◌, arith}
 use Rattle.std.specs.Prelude.{ℤ, pos, negsuc}
-use Rattle.std.specs.List.{find}
-use Rattle.std.specs.declared.option.Option.{Option}
 use Rattle.std.specs.declared.option.Option.TheVariants.{None, Some}
 use Rattle.x5_model.specs.Members.{In, here, there}
-use Rattle.x5_model.specs.Words.{is_empty}
 use Rattle.x5_model_typed.specs.Nodes as nodes
 use Rattle.x5_model_typed.specs.Nodes.{Node, Nodes, Vacant, Flag, Number, Oid, Bits, Octets, Chosen, Many, Nil, More, parts, whole}
 use Rattle.x5_model_typed.specs.Named as named
@@ -18,17 +15,17 @@ use Rattle.x5_model_typed.specs.Layouts.{Surroundings, layout, named_by, operati
 use Rattle.x5_model_typed_laws.specs.Fits.{Fits, FitsIn}
 use Rattle.x5_model_typed_laws.proofs.Closed.{messages_spelled_fit}
 use Rattle.x5_model_messages.specs.Terms.{type_in, name_of, rdn_of, number_in}
-use Rattle.x5_model_messages.specs.Replies.{progress_in, access_in, reference_in, item_in, source_in, shown_in, info_in, sub_in, outcome_in, answer_in, reference_if, item_if, error_in, reply_in}
+use Rattle.x5_model_messages.specs.Replies.{access_in, reference_in, item_in, source_in, shown_in, info_in, sub_in, outcome_in, answer_in, reference_if, item_if, error_in, reply_in}
 use Rattle.x5_model_fitting.specs.Names.{Each, NameWithin, RdnWithin}
 use Rattle.x5_model_fitting.specs.Terms.{TypeWithin, ValueWithin}
 use Rattle.x5_model_fitting.specs.Requests.{CountWithin, IfThere}
-use Rattle.x5_model_fitting.specs.Chained.{ProgressWithin, ItemWithin}
-use Rattle.x5_model_fitting.specs.Replies.{AccessWithin, ReferenceWithin, SourceWithin, ShownWithin, InfoWithin, SubWithin, OutcomeWithin, AnswerWithin, answered_by, ProblemWithin, ReplyWithin}
+use Rattle.x5_model_fitting.specs.Chained.{ItemWithin}
+use Rattle.x5_model_fitting.specs.Replies.{AccessWithin, ReferenceWithin, SourceWithin, ShownWithin, InfoWithin, SubWithin, OutcomeWithin, AnswerWithin, answered_by, ReplyWithin}
 use Rattle.x5_model_fitting.specs.Laws.{SpelledReplyIsWithin, SpelledReplyToAgentIsWithin}
 use Rattle.x5_model_fitting.proofs.Taking.{only_made, only_leaf, many_in, each_mapped, set_in, set_first, set_maybe, set_over, sequence_in, first_in, maybe_in, sequence_over}
 use Rattle.x5_model_fitting.proofs.TextsSaid.{type_said}
 use Rattle.x5_model_fitting.proofs.NamesSaid.{name_said, rdn_of_said, rdns_said}
-use Rattle.x5_model_fitting.proofs.TermsSaid.{AreValues, values_said, map_some, IsTyped, typed_in}
+use Rattle.x5_model_fitting.proofs.TermsSaid.{AreValues, values_said, map_some, typed_in}
 use Rattle.x5_model_fitting.proofs.LeavesSaid.{IsNumber, number_said, IsAgent, agent_said}
 use Rattle.x5_model_fitting.proofs.MessagesSaid.{marked_in, coded_in, invoke_in, code_below, code_of, operation_in}
 use Rattle.x5_model_fitting.proofs.RequestsSaid.{count_said}

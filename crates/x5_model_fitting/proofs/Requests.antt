@@ -1,7 +1,6 @@
 -- Requests within the limits fit, and are as they are spelled.
 use Rattle.std.proofs.Common.{◌≡◌, ℕ, ◌<◌, ◌^◌, false, List, [], ◌∷◌, map, refl, arith}
 use Rattle.std.specs.Prelude.{pos}
-use Rattle.std.specs.List.{list_all}
 use Rattle.std.specs.declared.option.Option.{Option}
 use Rattle.std.specs.declared.option.Option.TheVariants.{None, Some}
 use Rattle.x5_model.specs.Members.{here, there}
@@ -10,9 +9,9 @@ use Rattle.x5_model.specs.Values.{TypeRef}
 use Rattle.x5_model.specs.Requests.{Subset, Base, OneLevel, WholeSubtree, Selection, All, Only, Change, AddAttribute, RemoveAttribute, AddValues, RemoveValues, Controls, Body, Read, Compare, ListBelow, Search, AddEntry, RemoveEntry, ModifyEntry, ModifyDn, Request}
 use Rattle.x5_model.proofs.Lists.{all_in}
 use Rattle.x5_model_run.specs.Journal.{operation_of}
-use Rattle.x5_model_typed.specs.Nodes.{Node, Nodes, Vacant, Flag, Nil, More, whole}
+use Rattle.x5_model_typed.specs.Nodes.{Node, Vacant, Flag, Nil, More, whole}
 use Rattle.x5_model_typed.specs.Named as named
-use Rattle.x5_model_typed.specs.Forms.{Explicit, choice, plain, code}
+use Rattle.x5_model_typed.specs.Forms.{Explicit, choice, code}
 use Rattle.x5_model_typed.specs.Leaves.{options_node}
 use Rattle.x5_model_typed.specs.Typed as typed
 use Rattle.x5_model_typed.specs.Typed.{required, default}
@@ -21,10 +20,9 @@ use Rattle.x5_model_typed.specs.Layouts.{Surroundings, layout, named_by, operati
 use Rattle.x5_model_typed_laws.specs.Fits as fits
 use Rattle.x5_model_typed_laws.specs.Fits.{Fits, FitsSequence, FitsSet}
 use Rattle.x5_model_messages.specs.Terms.{node_of, type_node, change_node}
-use Rattle.x5_model_messages.specs.Requests.{size_node, controls_node, subset_number, selection_node, body_nodes, argument_node, request_node}
+use Rattle.x5_model_messages.specs.Requests.{size_node, controls_node, subset_number, selection_node, argument_node}
 use Rattle.x5_model_messages.specs.Laws.{IsChange, AreChanges, IsSelection, IsBody}
 use Rattle.x5_model_fitting.specs.Names.{Each}
-use Rattle.x5_model_fitting.specs.Terms.{TypeWithin}
 use Rattle.x5_model_fitting.specs.Filters.{most_levels}
 use Rattle.x5_model_fitting.specs.Requests.{CountWithin, IfThere, SelectionWithin, ChangeWithin, ControlsWithin, BodyWithin, RequestWithin}
 use Rattle.x5_model_fitting.specs.Laws.{RequestFits, RequestIsSpelled}

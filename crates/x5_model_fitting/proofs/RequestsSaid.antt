@@ -1,15 +1,12 @@
 -- What octets say of a user's request is within the limits, component by component.
-use Rattle.std.proofs.Common.{◌≡◌, ℕ, zero, suc, ◌≤◌, ◌<◌, ◌^◌, false, List, [], ◌∷◌, map, refl, sym, ap, subst, ◌∙◌, arith}
-use Rattle.std.specs.Prelude.{pos}
+use Rattle.std.proofs.Common.{◌≡◌, ℕ, zero, suc, false, List, [], ◌∷◌, map, refl, sym, ap, subst, ◌∙◌, arith}
 use Rattle.std.specs.List.{find}
-use Rattle.std.specs.declared.option.Option.{Option}
-use Rattle.std.specs.declared.option.Option.TheVariants.{None, Some}
-use Rattle.x5_model.specs.Requests.{Selection, All}
+use Rattle.std.specs.declared.option.Option.TheVariants.{Some}
+use Rattle.x5_model.specs.Requests.{Selection}
 use Rattle.x5_model_typed.specs.Nodes.{Node, Nodes, Vacant, Flag, Chosen, Many, Nil, More, parts, whole}
 use Rattle.x5_model_typed.specs.Named as named
-use Rattle.x5_model_typed.specs.Forms.{Sequence, Alternative, at, ruled}
+use Rattle.x5_model_typed.specs.Forms.{Alternative}
 use Rattle.x5_model_typed.specs.Leaves.{options_node}
-use Rattle.x5_model_typed.specs.Rules.{controls_rule}
 use Rattle.x5_model_typed.specs.Written.{is_marked}
 use Rattle.x5_model_typed.specs.Layouts as layouts
 use Rattle.x5_model_typed.specs.Layouts.{Surroundings, layout, operation_codes}
@@ -17,18 +14,18 @@ use Rattle.x5_model_typed_laws.specs.Fits.{Fits, FitsIn, FitsSet}
 use Rattle.x5_model_typed_laws.proofs.Closed.{messages_spelled_fit}
 use Rattle.x5_model_messages.specs.Terms.{type_in, name_of, rdn_of, number_in, attribute_in, assertion_in, change_in}
 use Rattle.x5_model_messages.specs.FilterTerms.{filter_in}
-use Rattle.x5_model_messages.specs.Requests.{controls_in, selection_in, body_in, argument_in, request_in}
+use Rattle.x5_model_messages.specs.Requests.{controls_in, selection_in, argument_in, request_in}
 use Rattle.x5_model_fitting.specs.Names.{Each, NameWithin, RdnWithin}
 use Rattle.x5_model_fitting.specs.Terms.{TypeWithin, AttributeWithin, AssertionWithin}
 use Rattle.x5_model_fitting.specs.Filters.{FilterWithin, most_levels}
-use Rattle.x5_model_fitting.specs.Requests.{CountWithin, IfThere, SelectionWithin, ChangeWithin, ControlsWithin, BodyWithin, RequestWithin}
+use Rattle.x5_model_fitting.specs.Requests.{CountWithin, IfThere, SelectionWithin, ChangeWithin, ControlsWithin, RequestWithin}
 use Rattle.x5_model_fitting.specs.Laws.{SpelledRequestIsWithin}
-use Rattle.x5_model_fitting.proofs.Taking.{only_made, many_in, each_mapped, First, set_in, set_first, set_maybe, set_over, sequence_in, IsChoice, choice_in, inner_fits, tag_below}
+use Rattle.x5_model_fitting.proofs.Taking.{only_made, many_in, each_mapped, set_in, set_first, set_maybe, set_over, sequence_in, IsChoice, choice_in, inner_fits, tag_below}
 use Rattle.x5_model_fitting.proofs.TextsSaid.{type_said}
 use Rattle.x5_model_fitting.proofs.NamesSaid.{name_said, rdn_of_said}
 use Rattle.x5_model_fitting.proofs.TermsSaid.{attribute_said, attributes_said, assertion_said}
 use Rattle.x5_model_fitting.proofs.FiltersSaid.{filter_said}
-use Rattle.x5_model_fitting.proofs.LeavesSaid.{IsNumber, number_said}
+use Rattle.x5_model_fitting.proofs.LeavesSaid.{number_said}
 use Rattle.x5_model_fitting.proofs.MessagesSaid.{marked_in, only_marked, invoke_in, code_of, operation_in}
 
 abbrev anything : Node → Type 0

@@ -1,11 +1,11 @@
 -- What fits a type of messages, taken apart: its content, its rule, its components and members. A type with one
 -- alternative is that alternative; of several, which are told apart by tags, the tag tells which.
-use Rattle.std.proofs.Common.{◌≡◌, ℕ, suc, ◌<◌, ◌≤◌, nat_lt, Bool, true, false, cond, not, ◌&&◌, ◌==◌, List, [], ◌∷◌, map, refl, sym, ap, subst, ◌∙◌, arith}
+use Rattle.std.proofs.Common.{◌≡◌, ℕ, ◌<◌, nat_lt, Bool, true, false, cond, ◌&&◌, ◌==◌, List, [], ◌∷◌, map, refl, sym, ap, subst, ◌∙◌, arith}
 use Rattle.std.specs.List.{find, list_all}
 use Rattle.std.proofs.lemmas.Bool.{ltb-true, eqb-true}
 use Rattle.std.specs.declared.option.Option.{Option}
 use Rattle.std.specs.declared.option.Option.TheVariants.{None, Some}
-use Rattle.x5_model.specs.Members.{In, here, there}
+use Rattle.x5_model.specs.Members.{here, there}
 use Rattle.x5_model.proofs.Lists.{both_true, of_all, of_find, of_map}
 use Rattle.x5_model_typed.specs.Nodes.{Node, Nodes, Chosen, Many, Nil, More, list, parts}
 use Rattle.x5_model_typed.specs.Named.{Named}

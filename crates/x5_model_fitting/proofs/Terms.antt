@@ -1,10 +1,10 @@
 -- Values, attributes and assertions within the limits fit, and are as they are spelled.
-use Rattle.std.proofs.Common.{◌≡◌, ℕ, ◌≤◌, ◌^◌, Bool, true, false, not, ◌&&◌, ◌==◌, nat_le, List, [], ◌∷◌, length, map, refl, sym, ap, ap₂, ◌∙◌, arith}
+use Rattle.std.proofs.Common.{◌≡◌, ℕ, Bool, true, false, not, ◌&&◌, ◌==◌, nat_le, List, [], ◌∷◌, length, map, refl, ap, ap₂, ◌∙◌}
 use Rattle.std.proofs.lemmas.Bool.{le-leb}
-use Rattle.std.specs.List.{find, list_all}
-use Rattle.std.specs.declared.option.Option.TheVariants.{None, Some}
+use Rattle.std.specs.List.{find}
+use Rattle.std.specs.declared.option.Option.TheVariants.{Some}
 use Rattle.x5_model.specs.Words.{is_empty}
-use Rattle.x5_model.specs.Members.{In, here, there}
+use Rattle.x5_model.specs.Members.{here, there}
 use Rattle.x5_model.specs.Values.{TypeRef, Value, TextValue, OctetsValue, OidValue, NameOf, Offered}
 use Rattle.x5_model.specs.Normal.{most_octets, is_oid}
 use Rattle.x5_model.specs.Assertions.{offered, begins_value, ends_value}
@@ -15,8 +15,8 @@ use Rattle.x5_model_typed.specs.Nodes as nodes
 use Rattle.x5_model_typed.specs.Nodes.{Node, Octets, row, list}
 use Rattle.x5_model_typed.specs.Named as named
 use Rattle.x5_model_typed.specs.Forms.{Primitive, Joined, Explicit, universal, choice, ruled}
-use Rattle.x5_model_typed.specs.Leaves.{where_so, oid, short_oid, oid_octets, octet_string}
-use Rattle.x5_model_typed.specs.Rules.{name_rule, some_members, in_their_places, parts_rule}
+use Rattle.x5_model_typed.specs.Leaves.{oid, short_oid, oid_octets, octet_string}
+use Rattle.x5_model_typed.specs.Rules.{name_rule, in_their_places, parts_rule}
 use Rattle.x5_model_typed.specs.Typed.{required}
 use Rattle.x5_model_typed.specs.Written.{can_hold, is_marked}
 use Rattle.x5_model_typed.specs.Layouts.{Surroundings, layout, sequence_of}
@@ -28,7 +28,7 @@ use Rattle.x5_model_messages.specs.Terms.{node_of, value_node, attribute_node, a
 use Rattle.x5_model_messages.specs.FilterTerms.{place_tag, piece_node, substrings_node}
 use Rattle.x5_model_messages.specs.Laws.{is_sayable, IsAttribute, AreAttributes, IsAssertion, IsSubstrings}
 use Rattle.x5_model_fitting.specs.Names.{Each}
-use Rattle.x5_model_fitting.specs.Terms.{TypeWithin, ValueWithin, OfferedWithin, AttributeWithin, AssertionWithin, PartWithin, stand_right, SubstringsWithin}
+use Rattle.x5_model_fitting.specs.Terms.{ValueWithin, OfferedWithin, AttributeWithin, AssertionWithin, PartWithin, stand_right, SubstringsWithin}
 use Rattle.x5_model_fitting.proofs.Making.{each_fits}
 use Rattle.x5_model_fitting.proofs.Texts.{text_fits, part_fits, type_fits}
 use Rattle.x5_model_fitting.proofs.Names.{name_members, name_kept, name_types}

@@ -1,5 +1,5 @@
 -- What octets say of values, attributes and assertions is within the limits.
-use Rattle.std.proofs.Common.{◌≡◌, ℕ, zero, suc, ◌≤◌, Bool, true, false, not, cond, ◌&&◌, ◌==◌, nat_lt, nat_le, List, [], ◌∷◌, length, map, refl, sym, ap, ap₂, subst, ◌∙◌, arith}
+use Rattle.std.proofs.Common.{◌≡◌, ℕ, zero, suc, ◌≤◌, Bool, true, false, not, cond, ◌&&◌, nat_le, List, [], ◌∷◌, length, map, refl, sym, ap, ap₂, subst, ◌∙◌, arith}
 use Rattle.std.specs.Prelude.{ℤ}
 use Rattle.std.proofs.lemmas.Bool.{leb-true}
 use Rattle.std.specs.List.{find}
@@ -7,8 +7,8 @@ use Rattle.std.specs.Option.{is_some}
 use Rattle.std.specs.declared.option.Option.{Option}
 use Rattle.std.specs.declared.option.Option.TheVariants.{None, Some}
 use Rattle.x5_model.specs.Words.{is_empty}
-use Rattle.x5_model.specs.Members.{In, here, there}
-use Rattle.x5_model.specs.Values.{TypeRef, Value, TextValue, OctetsValue, OidValue, NameOf, Offered}
+use Rattle.x5_model.specs.Members.{here, there}
+use Rattle.x5_model.specs.Values.{TypeRef, Value}
 use Rattle.x5_model.specs.Normal.{most_octets, is_oid, oid_content_len}
 use Rattle.x5_model.specs.Assertions.{offered, begins_value, ends_value}
 use Rattle.x5_model.specs.Filters.{Piece}

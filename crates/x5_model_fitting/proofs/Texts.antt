@@ -1,25 +1,24 @@
 -- Texts and types within the limits: a text is of characters, and fits as a value and as a part; a type is an object
 -- identifier, and fits.
-use Rattle.std.proofs.Common.{◌≡◌, ℕ, ◌<◌, ◌≤◌, ◌^◌, Bool, true, false, ◌&&◌, ◌||◌, ◌==◌, nat_lt, nat_le, List, [], ◌∷◌, length, refl, sym, ap, ap₂, subst, ◌∙◌, arith}
+use Rattle.std.proofs.Common.{◌≡◌, ℕ, ◌≤◌, ◌^◌, Bool, true, false, ◌&&◌, ◌||◌, ◌==◌, nat_lt, nat_le, List, [], ◌∷◌, length, refl, ap, ap₂, subst, ◌∙◌, arith}
 use Rattle.std.specs.Prelude.{chars, encode_utf8_all, flat_map}
-use Rattle.std.proofs.lemmas.Bool.{lt-ltb, ltb-true, ltb-false, le-leb, leb-true}
+use Rattle.std.proofs.lemmas.Bool.{lt-ltb, le-leb, leb-true}
 use Rattle.std.proofs.lemmas.Str.{chars-encodes, IsUtf8-from_is_utf8}
 use Rattle.std.specs.Cmp.Lexicographic.{bytes_decides}
 use Rattle.std.specs.Int.{to_be_bytes, w32}
-use Rattle.std.specs.List.{find, list_all}
+use Rattle.std.specs.List.{list_all}
 use Rattle.std.specs.Str.{is_utf8, all_scalars}
 use Rattle.std.specs.declared.option.Option.{Option}
 use Rattle.std.specs.declared.option.Option.TheVariants.{None, Some}
 use lib.Utf8.{scalar}
 use Rattle.x5_model.specs.Words.{same_octets}
-use Rattle.x5_model.specs.Values.{Text, TypeRef, Known, Unknown}
-use Rattle.x5_model.specs.Types.{Row, table, row_of, in_row, is_known, may_name, is_type}
+use Rattle.x5_model.specs.Values.{Text, TypeRef, Known}
+use Rattle.x5_model.specs.Types.{Row, table, row_of, in_row, is_known, may_name}
 use Rattle.x5_model.specs.Normal.{is_oid, is_printable, most_octets}
 use Rattle.x5_model.proofs.Decide.{nat_same_decides}
 use Rattle.x5_model.proofs.Lists.{both_true, and_true, of_all, of_find}
 use Rattle.x5_model_text.specs.TypeText.{arcs_of_type}
 use Rattle.x5_model_typed.specs.Nodes as nodes
-use Rattle.x5_model_typed.specs.Nodes.{Node}
 use Rattle.x5_model_typed.specs.Named as named
 use Rattle.x5_model_typed.specs.Forms.{Primitive, Joined, universal}
 use Rattle.x5_model_typed.specs.Leaves.{is_length, text_of, is_character, are_characters, universal_string, oid, any_oid, oid_octets}

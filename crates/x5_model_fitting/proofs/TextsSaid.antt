@@ -1,26 +1,25 @@
 -- What octets say of texts and types is within the limits: each kind of string holds UTF-8 of so many octets.
-use Rattle.std.proofs.Common.{◌≡◌, ℕ, zero, suc, ◌<◌, ◌≤◌, ◌^◌, Bool, true, false, ◌&&◌, ◌||◌, ◌==◌, if◌then◌else◌, nat_lt, nat_le, List, [], ◌∷◌, length, refl, sym, ap, ap₂, subst, ◌∙◌, arith, cond}
+use Rattle.std.proofs.Common.{◌≡◌, ℕ, zero, suc, ◌<◌, Bool, true, false, ◌&&◌, ◌||◌, ◌==◌, if◌then◌else◌, nat_lt, nat_le, List, [], ◌∷◌, length, refl, ap, ap₂, subst, arith}
 use Rattle.std.specs.Prelude.{chars, encode_utf8_all}
 use Rattle.std.proofs.lemmas.Bool.{lt-ltb, ltb-true, le-leb, leb-true}
 use Rattle.std.proofs.lemmas.Bool.Decides.{nat_tests}
-use Rattle.std.proofs.lemmas.Str.{chars-IsAscii, encodes-IsAscii, is_utf8-from_IsUtf8}
+use Rattle.std.proofs.lemmas.Str.{encodes-IsAscii, is_utf8-from_IsUtf8}
 use Rattle.std.specs.Cmp.Lexicographic.{bytes_decides}
-use Rattle.std.specs.List.{find, list_all}
-use Rattle.std.specs.Option.{is_some}
-use Rattle.std.specs.Str.{IsAscii, IsUtf8, is_utf8, all_scalars}
+use Rattle.std.specs.List.{list_all}
+use Rattle.std.specs.Str.{IsAscii, is_utf8, all_scalars}
 use Rattle.std.specs.declared.option.Option.{Option}
 use Rattle.std.specs.declared.option.Option.TheVariants.{None, Some}
 use lib.Utf8.{scalar}
 use Rattle.x5_model.specs.Words.{same_octets}
-use Rattle.x5_model.specs.Values.{Text, TypeRef, Known, Unknown}
-use Rattle.x5_model.specs.Types.{is_known, in_table, is_type}
+use Rattle.x5_model.specs.Values.{Text}
+use Rattle.x5_model.specs.Types.{is_known, in_table}
 use Rattle.x5_model.specs.Normal.{is_oid, is_printable, most_octets}
 use Rattle.x5_model.proofs.Lists.{both_true, and_true}
-use Rattle.x5_model_text.specs.TypeText.{known_below, type_or, arcs_of_type}
+use Rattle.x5_model_text.specs.TypeText.{known_below, type_or}
 use Rattle.x5_model_typed.specs.Nodes as nodes
 use Rattle.x5_model_typed.specs.Nodes.{Node, Vacant, Flag, Number, Oid, Bits, Octets, Chosen, Many}
 use Rattle.x5_model_typed.specs.Named as named
-use Rattle.x5_model_typed.specs.Forms.{Primitive, Alternative, universal}
+use Rattle.x5_model_typed.specs.Forms.{Primitive, universal}
 use Rattle.x5_model_typed.specs.Leaves.{is_length, text_of, is_numeric, is_seven_bit, is_character, are_characters, oid, any_oid, oid_octets}
 use Rattle.x5_model_typed.specs.Layouts.{Surroundings, layout}
 use Rattle.x5_model_typed_laws.specs.Fits.{Fits, whole}

@@ -1,5 +1,5 @@
 -- Messages between agents within the limits (X.518, section 10). Agents go by their names.
-use Rattle.std.specs.Prelude.{◌≡◌, ℕ, ◌≤◌, Bool, true, ◌&&◌, List, length}
+use Rattle.std.specs.Prelude.{◌≡◌, ◌≤◌, Bool, true, ◌&&◌, List, length}
 use Rattle.x5_model.specs.Words.{distinct, same_octets}
 use Rattle.x5_model.specs.References.{Progress, Start, Next, Done}
 use Rattle.x5_model.specs.Normal.{most_rdns}

@@ -1,6 +1,6 @@
 -- Filters within the limits of messages (X.511, section 7.8): nested no deeper than there are levels, 16 in a search.
 -- Each item, `and`, `or` and `not` takes one.
-use Rattle.std.specs.Prelude.{◌≡◌, ℕ, ◌-◌, ◌≤◌}
+use Rattle.std.specs.Prelude.{ℕ, ◌-◌, ◌≤◌}
 use Rattle.x5_model.specs.Filters.{Item, Equality, Substrings, GreaterOrEqual, LessOrEqual, Present, Approximate}
 use Rattle.x5_model.specs.Filters.{Filter, Filters, Is, And, Or, Not, Nil, More}
 use Rattle.x5_model_fitting.specs.Terms.{TypeWithin, AssertionWithin, SubstringsWithin}

@@ -1,6 +1,6 @@
 -- What stays within the limits of messages: beginnings of names and names with one RDN more, the names that a file
 -- describes, trace information with one more item, and what has a normal form for its kind.
-use Rattle.std.specs.Prelude.{◌≡◌, ℕ, ◌+◌, ◌<◌, Bool, true, false, List, [], ◌∷◌, ◌++◌, length, take, Ok}
+use Rattle.std.specs.Prelude.{◌≡◌, ℕ, ◌<◌, Bool, true, false, List, [], ◌∷◌, ◌++◌, length, take, Ok}
 use Rattle.std.specs.List.{list_all}
 use Rattle.std.specs.Str.{is_utf8}
 use Rattle.x5_model.specs.Words.{has}

@@ -1,5 +1,5 @@
 -- Requests within the limits of messages (X.511, sections 7, 9 to 11).
-use Rattle.std.specs.Prelude.{◌≡◌, ℕ, ◌<◌, ◌^◌}
+use Rattle.std.specs.Prelude.{ℕ, ◌<◌, ◌^◌}
 use Rattle.std.specs.declared.option.Option.{Option}
 use Rattle.std.specs.declared.option.Option.TheVariants.{None, Some}
 use Rattle.x5_model.specs.Requests.{Selection, All, Only, Change, AddAttribute, RemoveAttribute, AddValues, RemoveValues}

@@ -1,6 +1,6 @@
 -- Types, values, attributes and assertions within the limits of messages (X.501, section 8; X.511, sections 7 and 9;
 -- X.660; X.690, section 8).
-use Rattle.std.specs.Prelude.{◌≡◌, ◌≤◌, Bool, true, false, not, ◌&&◌, List, [], ◌∷◌, length, map}
+use Rattle.std.specs.Prelude.{◌≡◌, ◌≤◌, Bool, true, false, not, ◌&&◌, List, [], ◌∷◌, length}
 use Rattle.x5_model.specs.Words.{is_empty}
 use Rattle.x5_model.specs.Values.{TypeRef, Value, TextValue, OctetsValue, OidValue, NameOf, Offered}
 use Rattle.x5_model.specs.Types.{is_type}
