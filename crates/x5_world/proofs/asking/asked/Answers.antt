@@ -55,13 +55,13 @@ returns-clause-asked g c =
     let first : (x : Carried) → c.in_ok-send.field-0 ≡ x → IsFirst s c.args.most n.names j x =
     (λ x e. first_is at s c.args.most n.names j x scene_0 begin.2 refl (λ i. journal_of n.names (begin.3 i) (begin.4 i))
     refl user e sent) in
-    elim c.match-branch-3.branch [
+    elim c.match-branch-2.branch [
       | in-Undelivered+in_ok-reply-in-Undelivered w ↦
-          lost s c.args.most n.names j out (reply_view n.names c.match-branch-3.reply)
+          lost s c.args.most n.names j out (reply_view n.names c.match-branch-2.reply)
           (first Undelivered w.in-Undelivered.is)
           (λ i. journal_of n.names ((c.into_parts-world.ensures.1 ∙ (λ k. (w.exchange-is k).lines)) i).items
           ((c.into_parts-world.ensures.2 ∙ (λ k. (w.exchange-is k).accepted)) i).items)
-          (subst (λ (ns : List (List ℕ)). reply_view ns c.match-branch-3.reply
+          (subst (λ (ns : List (List ℕ)). reply_view ns c.match-branch-2.reply
           ≡ user_in_vain_at c.args.first (chained_view ns c.args.message)) w.names.ensures
           (ap (reply_view w.names.result.now) w.reply-is ∙ w.in_ok-reply-in-Undelivered.ensures)
           ∙ ap (user_in_vain_at c.args.first) user)
@@ -71,7 +71,7 @@ returns-clause-asked g c =
           let has : chained_view n.names w.in-Unheard.taken ≡ s.message =
           unheard_has s c.args.most n.names j w.in-Unheard.taken was in
           in_vain s c.args.most n.names j out w.in-Unheard.taken told.served.0
-          (reply_view n.names c.match-branch-3.reply) was
+          (reply_view n.names c.match-branch-2.reply) was
           (served s (scene_of n c.send.new.self.first (chained_view n.names c.send.new.self.message.now)) c.args.most
           c.send.new.self.most c.args.first (chained_view n.names w.in-Unheard.taken) told.served.0 told.served.0 j
           (journal_of n.names w.served_in_vain.new.net.lines.items w.served_in_vain.new.net.accepted.items) out scene_1
@@ -84,10 +84,10 @@ returns-clause-asked g c =
           (let was = first (Taken w.in-Taken.taken) w.in-Taken.is in
           let has : chained_view n.names w.in-Taken.taken ≡ s.message =
           taken_has s c.args.most n.names j w.in-Taken.taken was in
-          heard s c.args.most n.names j out w.in-Taken.taken (reply_view n.names c.match-branch-3.reply) was
+          heard s c.args.most n.names j out w.in-Taken.taken (reply_view n.names c.match-branch-2.reply) was
           (served s (scene_of n c.send.new.self.first (chained_view n.names c.send.new.self.message.now)) c.args.most
           c.send.new.self.most c.args.first (chained_view n.names w.in-Taken.taken)
-          (reply_view n.names c.match-branch-3.reply) _ j
+          (reply_view n.names c.match-branch-2.reply) _ j
           (journal_of n.names w.user_served.new.net.lines.items w.user_served.new.net.accepted.items) out scene_1 most_1
           refl has (sym (ap (reply_view n.names) w.reply-is))
           (λ i. journal_of n.names ((c.into_parts-world.ensures.1 ∙ (λ k. (w.exchange-is k).lines)) i).items
@@ -106,8 +106,8 @@ returns-clause-held g c =
     (λ i. scene_of n (begin.0 i) (chained_view n.names (begin.1 i).now)) ∙ ap (scene_of n c.args.first) user in
     let scene_1 : scene_of n c.send.new.self.first (chained_view n.names c.send.new.self.message.now) ≡ s =
     (λ i. scene_of n (stays.0 i) (chained_view n.names (stays.1 i).now)) ∙ scene_0 in
-    let scene : scene_of n c.match-branch-3.exchange.first (chained_view n.names c.match-branch-3.exchange.message.now) ≡ s =
-    elim c.match-branch-3.branch [
+    let scene : scene_of n c.match-branch-2.exchange.first (chained_view n.names c.match-branch-2.exchange.message.now) ≡ s =
+    elim c.match-branch-2.branch [
       | in-Undelivered+in_ok-reply-in-Undelivered w ↦
           (λ i. scene_of n (w.exchange-is i).first (chained_view n.names (w.exchange-is i).message.now)) ∙ scene_1
       | in-Unheard+in_ok-reply-in-Unheard w ↦
@@ -117,11 +117,11 @@ returns-clause-held g c =
           (λ i. scene_of n (w.exchange-is i).first (chained_view n.names (w.exchange-is i).message.now))
           ∙ w.user_served.ensures.stays.scene_is ∙ scene_1
     ] in
-    changed_is n c.match-branch-3.exchange.world c.into_parts-world.result.0
-    (chained_view n.names c.match-branch-3.exchange.message.now).request (request_view c.args.message.request)
-    c.match-branch-3.exchange.accepted.items c.into_parts-world.result.2.items c.into_parts-world.ensures.0
+    changed_is n c.match-branch-2.exchange.world c.into_parts-world.result.0
+    (chained_view n.names c.match-branch-2.exchange.message.now).request (request_view c.args.message.request)
+    c.match-branch-2.exchange.accepted.items c.into_parts-world.result.2.items c.into_parts-world.ensures.0
     (ap (λ (x : Scene). x.message.request) scene) (λ i. (c.into_parts-world.ensures.2 i).items)
-    c.match-branch-3.exchange.under_way.changed
+    c.match-branch-2.exchange.under_way.changed
 
 pub returns-clause-named : goal.returns-clause-named
 returns-clause-named g c =
@@ -129,7 +129,7 @@ returns-clause-named g c =
     let s : Scene = scene_of n c.args.first (chained_view n.names c.args.message) in
     replies_name_agents (length n.names) s c.args.most
     (journal_of n.names c.into_parts-world.result.1.items c.into_parts-world.result.2.items)
-    (reply_view n.names c.match-branch-3.reply)
+    (reply_view n.names c.match-branch-2.reply)
     (hold_agents n c.args.first (chained_view n.names c.args.message) c.requires.net)
     (are_themselves n c.args.first (chained_view n.names c.args.message) c.requires.net)
     (lt-ltb c.args.first (length n.names) c.requires.there) (returns-clause-asked g c)
