@@ -290,23 +290,25 @@ impl World {
         Ok(((self.contexts + 34) * (self.names.len() + 9) + self.pairs) * (1 + losses))
     }
 
-    /// What a message of the user is answered by this agent, the messages that it takes, in their order, and who accepts its update.
-    /// What an agent accepted it holds afterwards. After want of memory nobody is left in the network.
+    /// What a message of the user is answered by this agent, the messages that it takes, in their order, and who accepts its update,
+    /// where it may take so many. What an agent accepted it holds afterwards. After want of memory nobody is left in the network.
     fn send(
         &mut self,
         alloc: Global,
         first: AgentId,
         message: Chained,
+        most: usize,
     ) -> Result<(Reply, Journal), NoMemory>
         requires there { first < length self.old.names }
         requires short { HasShortNames (body_view message.request.body) }
+        requires is { most ≡ ((self.old.contexts + 34) * (length self.old.names + 9) + self.old.pairs) * (1 + length (once_each (filter (λ number. nat_lt self.old.sent number) self.old.network.lost_replies))) }
+        requires most { most ≤ most_messages }
         requires room { (lines : ℕ) × (HasRoom self.old lines × (lines < 100000)) }
         ensures names { IfOk result (λ _. self.new.names ≡ self.old.names) }
         ensures answered { IfOk result (λ out. (p : Point) → StandsAt self.old p → IsAnswered self.old self.new p first (chained_view self.old.names message) out.0 out.1) }
         ensures named { IfOk result (λ out. NamesAgents self.old.names out.0 out.1) }
         ensures room_after { IfOk result (λ _. (lines : ℕ) → HasRoom self.old lines → HasRoom self.new (lines + 1)) }
     {
-        let most = self.budget(alloc)?;
         let before = replace(self, World::nobody(alloc));
         let told = asked::<Brand>(alloc, before, first, message, most)?;
         let names = told.world.names();
@@ -334,8 +336,9 @@ impl World {
         ensures named { IfOk result (λ out. NamesAgents self.old.names out.0 out.1) }
         ensures room_after { IfOk result (λ _. (lines : ℕ) → HasRoom self.old lines → HasRoom self.new (lines + 1)) }
     {
+        let most = self.budget(alloc)?;
         let message = opening(alloc, request)?;
-        self.send(alloc, first, message)
+        self.send(alloc, first, message, most)
     }
 
     /// A message of the user to this agent that is none: what becomes of it. No memory.
@@ -367,17 +370,25 @@ impl World {
         Ok(Delivered::Rejected(name, fate, breach))
     }
 
-    /// Hands a message that octets spell to this agent.
-    fn take(&mut self, alloc: Global, to: AgentId, message: Chained) -> Result<Delivered, NoMemory>
+    /// Hands a message that octets spell to this agent; it may take so many messages.
+    fn take(
+        &mut self,
+        alloc: Global,
+        to: AgentId,
+        message: Chained,
+        most: usize,
+    ) -> Result<Delivered, NoMemory>
         requires there { to < length self.old.names }
         requires short { HasShortNames (body_view message.request.body) }
+        requires is { most ≡ ((self.old.contexts + 34) * (length self.old.names + 9) + self.old.pairs) * (1 + length (once_each (filter (λ number. nat_lt self.old.sent number) self.old.network.lost_replies))) }
+        requires most { most ≤ most_messages }
         requires room { (lines : ℕ) × (HasRoom self.old lines × (lines < 100000)) }
         ensures names { IfOk result (λ _. self.new.names ≡ self.old.names) }
         ensures taken { IfOk result (λ d. (p : Point) (via : Protocol) (count : ℕ) → StandsAt self.old p → IsDelivered self.old self.new p via to count (Ok (chained_view self.old.names message)) d) }
         ensures named { IfOk result (λ d. NamesAgentsIn self.old.names d) }
         ensures room_after { IfOk result (λ _. (lines : ℕ) → HasRoom self.old lines → HasRoom self.new (lines + 1)) }
     {
-        let (reply, journal) = self.send(alloc, to, message)?;
+        let (reply, journal) = self.send(alloc, to, message, most)?;
         Ok(Delivered::Answered(reply, journal))
     }
 
@@ -395,10 +406,11 @@ impl World {
         ensures named { IfOk result (λ d. NamesAgentsIn self.old.names d) }
         ensures room_after { IfOk result (λ _. (lines : ℕ) → HasRoom self.old lines → HasRoom self.new (lines + 1)) }
     {
+        let most = self.budget(alloc)?;
         match decode_request(alloc, octets) {
             Ok((_, request)) => {
                 let message = opening(alloc, &request)?;
-                self.take(alloc, to, message)
+                self.take(alloc, to, message, most)
             }
             Err(fault) => self.reject(to, fault),
         }
@@ -418,8 +430,9 @@ impl World {
         ensures named { IfOk result (λ d. NamesAgentsIn self.old.names d) }
         ensures room_after { IfOk result (λ _. (lines : ℕ) → HasRoom self.old lines → HasRoom self.new (lines + 1)) }
     {
+        let most = self.budget(alloc)?;
         match decode_chained(alloc, octets) {
-            Ok((_, message)) => self.take(alloc, to, message),
+            Ok((_, message)) => self.take(alloc, to, message, most),
             Err(fault) => self.reject(to, fault),
         }
     }

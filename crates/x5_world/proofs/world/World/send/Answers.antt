@@ -49,9 +49,9 @@ returns-clause-answered c =
     (sym c.count.ensures)
     (subst (λ (n : Net). IsAnswered n after p c.args.first (chained_view n.names c.args.message)
     c.in_ok-told.told.reply c.in_ok-journal.journal) was
-    (answered old after p c.args.first c.in_ok-most.most (chained_view old.names c.args.message) sent
+    (answered old after p c.args.first c.args.most (chained_view old.names c.args.message) sent
     c.in_ok-told.told.accepted.items c.in_ok-told.told.reply c.in_ok-journal.journal
-    c.in_ok-told.ensures.asked (c.in_ok-most.ensures.is ∙ ap most_of (sym was)) printed called
+    c.in_ok-told.ensures.asked (c.requires.is ∙ ap most_of (sym was)) printed called
     (is_after old mid mid (request_view c.args.message.request) c.in_ok-told.told.accepted.items
     c.len-messages.result (length sent) c.in_ok-told.ensures.held refl count)
     (subst (λ (n : Net). c.args.first < length n.names) (sym was) c.requires.there)
