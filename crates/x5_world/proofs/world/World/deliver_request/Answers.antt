@@ -12,16 +12,16 @@ use Rattle.x5_world.proofs.world.World.deliver_request.Goals as goal
 
 pub take-requires-clause-short : goal.take-requires-clause-short
 take-requires-clause-short c =
-    subst (λ (m : Chained). HasShortNames m.request.body) (sym (c.in_ok-message.ensures c.args.self.now.names)) c.in-Ok.ensures.short
+    subst (λ (m : Chained). HasShortNames m.request.body) (sym (c.in_ok-message-in-Ok.ensures c.args.self.now.names)) c.in-Ok.ensures.short
 
-pub returns-in_ok-message-clause-delivered : goal.returns-in_ok-message-clause-delivered
-returns-in_ok-message-clause-delivered c =
+pub returns-in_ok-message-in-Ok-clause-delivered : goal.returns-in_ok-message-in-Ok-clause-delivered
+returns-in_ok-message-in-Ok-clause-delivered c =
     let names = c.args.self.now.names in
     let found = c.in-Ok.ensures.comes in
-    let opened = c.in_ok-message.ensures names in
+    let opened = c.in_ok-message-in-Ok.ensures names in
     IfOk-weaker c.take.result _ _ (λ d is p s.
     message_told c.args.self.now c.take.new.self p Dap c.args.to c.args.octets.now d
-    (chained_view names c.in_ok-message.message)
+    (chained_view names c.in_ok-message-in-Ok.message)
     (record {
       node = found.0;
       comes = found.1;
@@ -31,8 +31,8 @@ returns-in_ok-message-clause-delivered c =
     (subst (λ (m : Chained). HasShortNames m.request.body) (sym opened) c.in-Ok.ensures.short)
     (is p Dap (length c.args.octets.now) s)) c.take.ensures.taken
 
-pub returns-in_Err-clause-delivered : goal.returns-in-Err-clause-delivered
-returns-in_Err-clause-delivered c =
+pub returns-in-Err-clause-delivered : goal.returns-in-Err-clause-delivered
+returns-in-Err-clause-delivered c =
     let names = c.args.self.now.names in
     let found = c.in-Err.ensures.comes in
     IfOk-weaker c.reject.result _ _ (λ d told p s.
