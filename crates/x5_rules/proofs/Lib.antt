@@ -2,6 +2,7 @@ mod Controls
 mod InOrder
 mod Keys
 mod Pairs
-mod TwoParts
+pub mod TwoParts
 mod Traces
 mod Targets
+mod Once
