@@ -6,3 +6,4 @@ pub mod TwoParts
 mod Traces
 mod Targets
 mod Once
+mod Stored

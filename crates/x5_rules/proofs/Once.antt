@@ -1,6 +1,6 @@
 -- Members that are put in order one before the other, where each passes a test and no two are the same.
 use Rattle.std.proofs.Common.{◌≡◌, ◌+◌, ◌&&◌, ◌||◌, ◌++◌, ℕ, Bool, true, false, not, List, [], ◌∷◌, length, map, take, drop, refl, ap, sym, ◌∙◌}
-use Rattle.std.proofs.Common.{append_assoc}
+use Rattle.std.proofs.Common.{append_assoc, if◌then◌else◌}
 use Rattle.std.proofs.lemmas.List.{take-append-drop, map-append}
 use Rattle.std.proofs.Math.Seq.{drop-append_seam}
 use Rattle.std.specs.List.{list_all}
@@ -37,10 +37,8 @@ has_sorted same below x (y ∷ ys) =
 pub has_mapped : {A : Type 0} (same : A → A → Bool) (f : A → A) → ((x y : A) → same (f x) y ≡ same x y) → (x : A) (ys : List A)
     → has same (map f ys) x ≡ has same ys x
 has_mapped same f h x [] = refl
-has_mapped same f h x (y ∷ ys) = by (same (f y) x) (same y x) (h y x)
-  where
-    by : (a b : Bool) → a ≡ b → (a || has same (map f ys) x) ≡ (b || has same ys x)
-    by a b e = ap (λ c. c || has same (map f ys) x) e ∙ ap (λ c. b || c) (has_mapped same f h x ys)
+has_mapped same f h x (y ∷ ys) =
+    ap (λ c. c || has same (map f ys) x) (h y x) ∙ ap (λ c. same y x || c) (has_mapped same f h x ys)
 
 -- ---- all pass, each once
 

@@ -7,6 +7,7 @@ ghost use Rattle.x5_model.specs.Words.{distinct, has, insert_sorted, octets_belo
 ghost use Rattle.x5_model_typed.specs.Leaves.{where_so};
 ghost use Rattle.x5_model_typed.specs.Nodes as nodes;
 ghost use Rattle.x5_model_typed.specs.Rules as rules;
+ghost use Rattle.x5_rules.specs.Stored.{from_entry_in, stored_type_in};
 ghost use Rattle.x5_types.specs.NodeView.{node_view, option_view};
 
 use crate::pair::{known_type, type_number};
@@ -28,13 +29,20 @@ fn is_among(normals: &[Normal], normal: &Normal) -> bool
     false
 }
 
+/// Whether the octets are below those of the other normal form.
+fn is_below(a: &Normal, b: &Normal) -> bool
+    ensures { result ≡ octets_below a.now b.now }
+{
+    a.as_slice().cmp(b.as_slice()).is_lt()
+}
+
 /// The place of the first normal form that isn't below that one.
 fn place_of(normals: &[Normal], normal: &Normal) -> usize
     ensures place { result ≡ position_or_len (λ y. not (octets_below y normal.now)) normals.now }
     ensures inside { result ≤ length normals.now }
 {
     for (i, other) in normals.iter().enumerate() {
-        if other.as_slice() >= normal.as_slice() {
+        if !is_below(other, normal) {
             return i;
         }
     }
@@ -98,6 +106,16 @@ fn members_of<'a>(alloc: Global, node: Node<'a>) -> Vec<Node<'a>>
     }
 }
 
+/// The type of an attribute with these parts, where they are a type that agents know, and values.
+fn stored_type(parts: &[Node<'_>]) -> Option<TypeId>
+    ensures { result ≡ stored_type_in (map node_view parts.now) }
+{
+    match parts {
+        [kind, _] => known_type(kind),
+        _ => None,
+    }
+}
+
 /// The attribute with its values in order, where it is of a type that agents know and its values are of the type's kind, each once.
 fn stored<'a>(alloc: Global, node: Node<'a>) -> Result<Option<Node<'a>>, NoMemory>
     ensures { IfOk result (λ n. option_view n ≡ where_so (rules.is_stored (node_view node.entry)) (rules.in_order (node_view node.entry))) }
@@ -105,14 +123,13 @@ fn stored<'a>(alloc: Global, node: Node<'a>) -> Result<Option<Node<'a>>, NoMemor
     let Node::Many(mut parts) = node else {
         return Ok(None);
     };
-    if parts.len() != 2 {
-        return Ok(None);
-    }
-    let Some(kind) = known_type(&parts[0]) else {
+    let Some(kind) = stored_type(&parts) else {
         return Ok(None);
     };
-    let values = members_of(alloc, parts.swap_remove(1));
-    let Some(values) = in_order(alloc, kind, values)? else {
+    let Some(values) = parts.pop() else {
+        return Ok(None);
+    };
+    let Some(values) = in_order(alloc, kind, members_of(alloc, values))? else {
         return Ok(None);
     };
     parts.push(Node::Many(values))?;
@@ -209,6 +226,16 @@ fn is_true(node: &Node<'_>) -> bool
     matches!(node, Node::Flag(true))
 }
 
+/// Whether the parts are a name, that it's from the entry itself, and attributes.
+fn is_from_entry(parts: &[Node<'_>]) -> bool
+    ensures { result ≡ from_entry_in (map node_view parts.now) }
+{
+    match parts {
+        [_, from_entry, _] => is_true(from_entry),
+        _ => false,
+    }
+}
+
 /// An entry of a refresh.
 pub(crate) fn entry<'a>(alloc: Global, node: Node<'a>) -> Result<Option<Node<'a>>, NoMemory>
     ensures { IfOk result (λ n. option_view n ≡ rules.entry_rule (node_view node.entry)) }
@@ -216,11 +243,13 @@ pub(crate) fn entry<'a>(alloc: Global, node: Node<'a>) -> Result<Option<Node<'a>
     let Node::Many(mut parts) = node else {
         return Ok(None);
     };
-    if parts.len() != 3 || !is_true(&parts[1]) {
+    if !is_from_entry(&parts) {
         return Ok(None);
     }
-    let attributes = members_of(alloc, parts.swap_remove(2));
-    let Some(attributes) = all_stored(alloc, attributes)? else {
+    let Some(attributes) = parts.pop() else {
+        return Ok(None);
+    };
+    let Some(attributes) = all_stored(alloc, members_of(alloc, attributes))? else {
         return Ok(None);
     };
     parts.push(Node::Many(attributes))?;

@@ -21,13 +21,23 @@ fn is_copy(node: &Node<'_>) -> bool
 fn are_copies(nodes: &[Node<'_>]) -> bool
     ensures { result ≡ list_all rules.is_copy (map node_view nodes.now) }
 {
-    nodes.iter().all(|node| is_copy(node))
+    for node in nodes {
+        if !is_copy(node) {
+            return false;
+        }
+    }
+    true
 }
 
 fn are_masters(nodes: &[Node<'_>]) -> bool
     ensures { result ≡ list_all (λ a. not (rules.is_copy a)) (map node_view nodes.now) }
 {
-    nodes.iter().all(|node| !is_copy(node))
+    for node in nodes {
+        if is_copy(node) {
+            return false;
+        }
+    }
+    true
 }
 
 /// Whether the first of the agents is the master, and the others have copies.

@@ -17,9 +17,9 @@ loop-value-preserved c =
     let new = c.pop.new.self.items in
     let v = c.in-Some.value in
     let rest = map node_view (drop (length old) all) in
-    let put : c.in_ok-put.put ≡ true = cc (c.if-not-put.false) in
+    let put : c.in_ok-put.put ≡ true = c.if-not-put.false in
     let both = last_taken node_view (rules.value_below c.args.kind) all old new v (map node_view c.loop-value.done.items)
-    (map node_view c.put_value-put.new.nodes.items) i.left c.in-Some.ensures.items i.same (c.in_ok-put.ensures.put put) in
+    (map node_view c.put_value.new.nodes.items) i.left c.in-Some.ensures.items i.same (c.in_ok-put.ensures.put put) in
     let there : has (rules.same_value c.args.kind) (map node_view c.loop-value.done.items) (node_view v) ≡ has (rules.same_value c.args.kind) rest (node_view v) =
     ap (λ (l : List nodes.Node). has (rules.same_value c.args.kind) l (node_view v)) i.same
     ∙ has_sorted (rules.same_value c.args.kind) (rules.value_below c.args.kind) (node_view v) rest in
@@ -33,7 +33,18 @@ loop-value-preserved c =
     }
 
 pub returns-then-not-put : goal.returns-then-not-put
-returns-then-not-put c = ?
-
-pub returns : goal.returns
-returns c = ?
+returns-then-not-put c =
+    let i = c.loop-value.invariant in
+    let all = c.args.values.items in
+    let old = c.loop-value.values.items in
+    let v = c.in-Some.value in
+    let rest = map node_view (drop (length old) all) in
+    let there : has (rules.same_value c.args.kind) (map node_view c.loop-value.done.items) (node_view v) ≡ has (rules.same_value c.args.kind) rest (node_view v) =
+    ap (λ (l : List nodes.Node). has (rules.same_value c.args.kind) l (node_view v)) i.same
+    ∙ has_sorted (rules.same_value c.args.kind) (rules.value_below c.args.kind) (node_view v) rest in
+    let fails : (rules.is_of_type c.args.kind (node_view v) && not (has (rules.same_value c.args.kind) rest (node_view v))) ≡ false =
+    ap (λ (b : Bool). rules.is_of_type c.args.kind (node_view v) && not b) (sym there) ∙ sym c.in_ok-put.ensures.new ∙ c.if-not-put.true in
+    sym (none_so (each_once (rules.is_of_type c.args.kind) (rules.same_value c.args.kind) (map node_view all))
+    (sorted (rules.value_below c.args.kind) (map node_view all))
+    (last_fails node_view (rules.is_of_type c.args.kind) (rules.same_value c.args.kind) all old c.pop.new.self.items v i.left
+    c.in-Some.ensures.items fails))
