@@ -7,3 +7,4 @@ mod Traces
 mod Targets
 mod Once
 mod Stored
+mod Keyed
