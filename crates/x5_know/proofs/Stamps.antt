@@ -1,5 +1,7 @@
 -- A moment's text as digits, which say its date and its second of the day; so no two moments of a start have one text.
-use Rattle.std.proofs.Common.{◌≡◌, ℕ, zero, suc, ◌+◌, ◌-◌, ◌*◌, ◌/◌, ◌%◌, ◌<◌, ◌≤◌, Bool, true, false, List, [], ◌∷◌, refl, sym, ap, ◌∙◌, subst, length, arith, ℤ, pos, negsuc, IsSome, IfSome, ◌+ℤ◌, ◌≤ℤ◌, unsigned_abs, slice_index, if◌then◌else◌}
+use Rattle.std.proofs.Common.{◌≡◌, ℕ, zero, suc, ◌+◌, ◌-◌, ◌*◌, ◌/◌, ◌%◌, ◌<◌, ◌≤◌, Bool, true, false, List, []}
+use Rattle.std.proofs.Common.{◌∷◌, refl, sym, ap, ◌∙◌, subst, length, arith, ℤ, pos, negsuc, IsSome, IfSome, ◌+ℤ◌}
+use Rattle.std.proofs.Common.{◌≤ℤ◌, unsigned_abs, slice_index, if◌then◌else◌}
 use Rattle.std.specs.declared.option.Option.{Option}
 use Rattle.std.specs.declared.option.Option.TheVariants.{None, Some}
 use Rattle.std.specs.Fmt.{decimal}
@@ -11,7 +13,8 @@ use Rattle.jiff_core.specs.Date.{epoch_day}
 use Rattle.jiff_core.proofs.CalendarLemmas.{days_in_month_bounds}
 use Rattle.jiff_core.proofs.SignedLemmas.{signed_arith}
 use Rattle.x5_model.specs.Words.{same_octets}
-use Rattle.x5_know.specs.Moments.{Day, Start, day_of, days_after, stamp_text, moment_text, moment_count, greatest_below}
+use Rattle.x5_know.specs.Moments.{Day, Start, day_of, days_after, stamp_text, moment_text, moment_count}
+use Rattle.x5_know.specs.Moments.{greatest_below}
 use Rattle.x5_know.proofs.Days.{days_after_is, later_date}
 
 digit : (n : ℕ) → decimal (n % 10) ≡ (48 + n % 10) ∷ []

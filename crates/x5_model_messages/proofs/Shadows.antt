@@ -13,10 +13,14 @@ use Rattle.x5_model_typed.proofs.Laws.{list_row}
 use Rattle.x5_model_messages.specs.Terms.{value_node, name_node, name_of, number_in}
 use Rattle.x5_model_messages.specs.Replies.{number_or_vacant}
 use Rattle.x5_model_messages.specs.Laws.{IsName, is_sayable}
-use Rattle.x5_model_messages.specs.Shadows.{Known, NonSpecific, Step, Add, Remove, Modify, Rename, Refresh, Nothing, Total, Steps, Shadow, Request, Coordinate, Update, Done, Failed}
-use Rattle.x5_model_messages.specs.Shadows.{stored_node, entry_node, agent_node, known_node, non_specific_node, step_node, refresh_node, strategy_node}
-use Rattle.x5_model_messages.specs.Shadows.{stored_value, stored_in, entry_in, agent_in, known_of, known_in, non_specific_in, step_in, refresh_in, is_total}
-use Rattle.x5_model_messages.specs.ShadowLaws.{IsStored, AreStored, IsEntry, AreEntries, AreKnown, AreNonSpecific, IsStep, AreSteps, IsRefresh, ShadowsReadBack}
+use Rattle.x5_model_messages.specs.Shadows.{Known, NonSpecific, Step, Add, Remove, Modify, Rename, Refresh, Nothing}
+use Rattle.x5_model_messages.specs.Shadows.{Total, Steps, Shadow, Request, Coordinate, Update, Done, Failed}
+use Rattle.x5_model_messages.specs.Shadows.{stored_node, entry_node, agent_node, known_node, non_specific_node}
+use Rattle.x5_model_messages.specs.Shadows.{step_node, refresh_node, strategy_node}
+use Rattle.x5_model_messages.specs.Shadows.{stored_value, stored_in, entry_in, agent_in, known_of, known_in}
+use Rattle.x5_model_messages.specs.Shadows.{non_specific_in, step_in, refresh_in, is_total}
+use Rattle.x5_model_messages.specs.ShadowLaws.{IsStored, AreStored, IsEntry, AreEntries, AreKnown, AreNonSpecific}
+use Rattle.x5_model_messages.specs.ShadowLaws.{IsStep, AreSteps, IsRefresh, ShadowsReadBack}
 use Rattle.x5_model_messages.proofs.Back.{known}
 use Rattle.x5_model_messages.proofs.Requests.{the_name, value_back}
 

@@ -2,7 +2,7 @@ mod Controls
 mod InOrder
 mod Keys
 mod Pairs
-pub mod TwoParts
+mod TwoParts
 mod Traces
 mod Targets
 mod Once

@@ -1,8 +1,7 @@
 //! The types of messages of shadowing (X.525, X.519), with numbers of this project's own where the standards' aren't used.
 
 use crate::form::{
-    Alternative, Codes, Component, Content, Given, Leaf, Letters, Named, Numbers, Presence,
-    Rule,
+    Alternative, Codes, Component, Content, Given, Leaf, Letters, Named, Numbers, Presence, Rule,
 };
 use crate::macros::{choice, component, universal};
 
@@ -48,11 +47,7 @@ pub(crate) const DISP_MESSAGE: &[Alternative] = &[
 
 pub(crate) const DISP_RESULT: &[Alternative] = &[universal!(
     16,
-    Content::Sequence(&[component!(
-        None,
-        Named::AnyNumber,
-        Presence::Code(Codes::ShadowResults)
-    )]),
+    Content::Sequence(&[component!(None, Named::AnyNumber, Presence::Code(Codes::ShadowResults))]),
     Rule::Any
 )];
 
@@ -108,8 +103,11 @@ pub(crate) const TOTAL: &[Alternative] = &[universal!(
     Rule::Any
 )];
 
-pub(crate) const ENTRIES: &[Alternative] =
-    &[universal!(16, Content::Members(Named::Entry), Rule::Any)];
+pub(crate) const ENTRIES: &[Alternative] = &[universal!(
+    16,
+    Content::Members(Named::Entry),
+    Rule::Any
+)];
 
 pub(crate) const ENTRY: &[Alternative] = &[universal!(
     16,
@@ -121,7 +119,11 @@ pub(crate) const ENTRY: &[Alternative] = &[universal!(
     Rule::Entry
 )];
 
-pub(crate) const KNOWNS: &[Alternative] = &[universal!(16, Content::Members(Named::Known), Rule::Any)];
+pub(crate) const KNOWNS: &[Alternative] = &[universal!(
+    16,
+    Content::Members(Named::Known),
+    Rule::Any
+)];
 
 pub(crate) const KNOWN: &[Alternative] = &[universal!(
     16,
@@ -162,7 +164,11 @@ pub(crate) const WORLD_AGENT: &[Alternative] = &[universal!(
     Rule::Any
 )];
 
-pub(crate) const STEPS: &[Alternative] = &[universal!(16, Content::Members(Named::Step), Rule::Any)];
+pub(crate) const STEPS: &[Alternative] = &[universal!(
+    16,
+    Content::Members(Named::Step),
+    Rule::Any
+)];
 
 pub(crate) const STEP: &[Alternative] = &[
     choice!(0, Content::Explicit(Named::Entry)),

@@ -86,7 +86,13 @@ pub(crate) fn put_content(
     ensures { OnOk result (out.new ≡ octets_in (written.leaf_octets (content_view (around surroundings.entry) content) (node_view node.now)) ++ out.old) }
 {
     match content {
-        Content::Primitive(leaf) | Content::Joined(leaf) => put_leaf(alloc, out, surroundings, leaf, node),
+        Content::Primitive(leaf) | Content::Joined(leaf) => put_leaf(
+            alloc,
+            out,
+            surroundings,
+            leaf,
+            node,
+        ),
         Content::JoinedBits(leaf) => put_bits(out, leaf, node),
         Content::Explicit(_)
         | Content::Sequence(_)

@@ -14,5 +14,5 @@ mod writer;
 
 pub use crate::fault::WriteFault;
 pub use crate::writer::{write, write_in};
-pub use x5_types::Surroundings;
 pub use x5_memory::NoMemory;
+pub use x5_types::Surroundings;

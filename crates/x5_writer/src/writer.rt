@@ -143,7 +143,13 @@ fn write_content(
         Content::Explicit(form) if chosen => write_node(alloc, out, surroundings, form, node),
         Content::Sequence(components) => write_parts(alloc, out, surroundings, components, node),
         Content::Set(components) => write_parts(alloc, out, surroundings, components, node),
-        Content::Members(form) if is_many(node) => write_members(alloc, out, surroundings, form, node.parts()),
+        Content::Members(form) if is_many(node) => write_members(
+            alloc,
+            out,
+            surroundings,
+            form,
+            node.parts(),
+        ),
         _ => Err(WriteFault::Misfit),
     }
 }
@@ -160,7 +166,13 @@ fn write_parts(
     ensures { Puts canonical_all (components_of (table_in surroundings.entry) (node_view node.now) (components_view components.now)) out.old out.new result }
 {
     if is_many(node) {
-        write_components(alloc, out, surroundings, Left::Listed(components), node.parts())
+        write_components(
+            alloc,
+            out,
+            surroundings,
+            Left::Listed(components),
+            node.parts(),
+        )
     } else {
         Err(WriteFault::Misfit)
     }
@@ -205,7 +217,13 @@ fn write_components(
     if is_default(alloc, component, value)? {
         return write_components(alloc, out, surroundings, others, behind);
     }
-    write_components(alloc, out, surroundings, others.behind(component.presence, value), behind)?;
+    write_components(
+        alloc,
+        out,
+        surroundings,
+        others.behind(component.presence, value),
+        behind,
+    )?;
     write_component(alloc, out, surroundings, component, value)
 }
 

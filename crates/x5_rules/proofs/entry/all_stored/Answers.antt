@@ -1,5 +1,6 @@
 -- The last attribute that is left goes where the order has it, or the attributes aren't stored so.
-use Rattle.std.proofs.Common.{◌≡◌, ◌&&◌, ◌++◌, Bool, true, false, not, List, [], ◌∷◌, map, drop, take, length, refl, ap, sym, ◌∙◌}
+use Rattle.std.proofs.Common.{◌≡◌, ◌&&◌, ◌++◌, Bool, true, false, not, List, [], ◌∷◌, map, drop, take, length, refl}
+use Rattle.std.proofs.Common.{ap, sym, ◌∙◌}
 use Rattle.x5_model.specs.Words.{has, insert_sorted, sorted}
 use Rattle.x5_model_typed.specs.Nodes as nodes
 use Rattle.x5_model_typed.specs.Rules as rules

@@ -1,5 +1,6 @@
 -- The last value that is left goes where the order has it, or the values aren't stored so.
-use Rattle.std.proofs.Common.{◌≡◌, ◌&&◌, ◌++◌, Bool, true, false, not, List, [], ◌∷◌, map, drop, take, length, ap, sym, ◌∙◌}
+use Rattle.std.proofs.Common.{◌≡◌, ◌&&◌, ◌++◌, Bool, true, false, not, List, [], ◌∷◌, map, drop, take, length, ap}
+use Rattle.std.proofs.Common.{sym, ◌∙◌}
 use Rattle.x5_model.specs.Words.{has, sorted}
 use Rattle.x5_model_typed.specs.Nodes as nodes
 use Rattle.x5_model_typed.specs.Rules as rules
