@@ -4,3 +4,4 @@ mod ChainedSpelled
 mod Five
 mod MessagesShort
 mod ResultIsSayable
+pub mod ToldWithin
