@@ -26,7 +26,7 @@ use x5_know::AgentNames;
 use x5_match::Entry;
 use x5_memory::NoMemory;
 use x5_ops::{
-    Answer, Body, Chained, DirError, EntryInfo, Reply, Selection, Source, compares, problems,
+    Answer, Body, Chained, DirError, EntryInfo, Reply, Selection, Source, compares, attribute_problem,
     selection_fault, shown,
 };
 use x5_syntax::{TypeRef, Value};
@@ -36,7 +36,7 @@ fn lacking(kind: &TypeRef) -> Result<Reply, NoMemory>
     ensures { IfOk result (λ reply. (names : List (List ℕ)) → reply_view names reply ≡ answers.Failed (answers.AttributeProblem 1 (type_view kind.now))) }
 {
     Ok(Reply::Failed(DirError::Attribute {
-        problem: problems::NO_SUCH_ATTRIBUTE_OR_VALUE,
+        problem: attribute_problem::NO_SUCH_ATTRIBUTE_OR_VALUE,
         kind: kind.clone()?,
     }))
 }

@@ -71,7 +71,7 @@ fn new_name(
 ) -> Result<AgentName, LoadFault>
     ensures { ReadsPart (λ n. n) result (model.new_name (path_of place.now) (map (λ a. a.name) (map described_agent_view before.now)) text.now) }
 {
-    if !AgentName::is_name(text) {
+    if !AgentName::is_plain(text) {
         return Err(place.bad_name(alloc));
     }
     if has_agent(before, text) {

@@ -8,7 +8,7 @@ use std::mem::replace;
 use x5_ops::{Answer, Listed, Outcome};
 
 /// The first `count` members.
-fn first_of<T: Drop>(members: Listed<T>, count: usize) -> Listed<T>
+fn front_of<T: Drop>(members: Listed<T>, count: usize) -> Listed<T>
     ensures { result ≡ take count members }
 {
     let mut kept = members.into_vec();
@@ -38,7 +38,7 @@ fn limited(answer: Answer, count: usize) -> Answer
         } => {
             let cut = subs.len() > count;
             Answer::Listed {
-                subs: first_of(subs, count),
+                subs: front_of(subs, count),
                 sources,
                 outcome: marked(outcome, cut),
             }
@@ -50,7 +50,7 @@ fn limited(answer: Answer, count: usize) -> Answer
         } => {
             let cut = entries.len() > count;
             Answer::Found {
-                entries: first_of(entries, count),
+                entries: front_of(entries, count),
                 sources,
                 outcome: marked(outcome, cut),
             }

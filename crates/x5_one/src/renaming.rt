@@ -23,7 +23,7 @@ use crate::updating::{no_object, refused, with_entry};
 use std::alloc::Global;
 use x5_memory::NoMemory;
 use x5_names::{Name, Rdn};
-use x5_ops::{ChangeFault, DirError, Entry, Named, doubled, problems, with_rdn, without_rdn};
+use x5_ops::{ChangeFault, DirError, Entry, Named, doubled, attribute_problem, update_problem, with_rdn, without_rdn};
 use x5_syntax::TypeRef;
 
 /// The run of entries that moves, with its new names: it stands from `at` to before `end`, and its new names would go to `place`.
@@ -109,7 +109,7 @@ fn renamed(
     match doubled(&entry) {
         None => Ok(entry),
         Some(kind) => Err(ChangeFault::Refused(DirError::Attribute {
-            problem: problems::CONSTRAINT_VIOLATION,
+            problem: attribute_problem::CONSTRAINT_VIOLATION,
             kind: TypeRef::Known(kind),
         })),
     }
@@ -193,7 +193,7 @@ fn planned(
         Err(_) => return Err(no_object(alloc, entries, object.key())),
     };
     if above {
-        return Err(refused(problems::AFFECTS_MULTIPLE_DSAS));
+        return Err(refused(update_problem::AFFECTS_MULTIPLE_DSAS));
     }
     let old = last_of(alloc, object)?;
     let named = &entries[at];
@@ -203,7 +203,7 @@ fn planned(
     };
     let name = new_name(alloc, object, rdn)?;
     let Some(place) = new_place(entries, object, at, &name) else {
-        return Err(refused(problems::ENTRY_ALREADY_EXISTS));
+        return Err(refused(update_problem::ENTRY_ALREADY_EXISTS));
     };
     let end = run_end(entries, at, object.key());
     let run = moved(alloc, &entries[at..end], object.len() - 1, rdn, entry)?;

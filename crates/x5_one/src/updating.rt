@@ -24,7 +24,7 @@ use x5_memory::NoMemory;
 use x5_names::{Key, Name};
 use x5_ops::{
     Answer, AttributeList, Body, ChangeFault, ChangeList, DirError, Entry, Named, Reply,
-    added_entry, change, problems,
+    added_entry, change, update_problem,
 };
 
 /// noSuchObject, where no entry has the key.
@@ -83,7 +83,7 @@ pub(crate) fn add(
         Err(_) => return Err(no_object(alloc, entries, above.key())),
     };
     let place = match place_of(entries, object.key()) {
-        Ok(_) => return Err(refused(problems::ENTRY_ALREADY_EXISTS)),
+        Ok(_) => return Err(refused(update_problem::ENTRY_ALREADY_EXISTS)),
         Err(place) => place,
     };
     let rdn = last_of(alloc, object)?;
@@ -121,10 +121,10 @@ pub(crate) fn remove(
         Err(_) => return Err(no_object(alloc, entries, object.key())),
     };
     if above {
-        return Err(refused(problems::AFFECTS_MULTIPLE_DSAS));
+        return Err(refused(update_problem::AFFECTS_MULTIPLE_DSAS));
     }
     if has_below(entries, at, object.key()) {
-        return Err(refused(problems::NOT_ALLOWED_ON_NON_LEAF));
+        return Err(refused(update_problem::NOT_ALLOWED_ON_NON_LEAF));
     }
     let _removed = entries.remove(at);
     Ok(())

@@ -80,7 +80,7 @@ fn is_user(octets: &[u8]) -> bool
 
 impl AgentName {
     /// Whether the text may name an agent: one to 32 ASCII letters, digits and `-`, the first a letter, and not `user`. No memory.
-    pub fn is_name(text: &str) -> bool
+    pub fn is_plain(text: &str) -> bool
         ensures { result ≡ is_agent_name text.now }
     {
         let octets = text.as_bytes();

@@ -19,7 +19,8 @@ use crate::answers::DirError;
 use crate::entries::{
     doubled, drop_value, has_rdn, insert_value, put_value, with_rdn, with_values,
 };
-use crate::problems;
+use crate::attribute_problem;
+use crate::update_problem;
 use crate::requests::{Attribute, AttributeList, Change, ChangeList};
 use crate::statics::{Refusal, attribute_repeats};
 use std::alloc::{AllocError, AllocFailed, Global};
@@ -151,7 +152,7 @@ fn add_value(
     ensures { IsChanged result (model.put_new kind (record { value = value_view value; normal = normal }) entry) }
 {
     if entry.has_value(kind, &normal) {
-        let problem = problems::ATTRIBUTE_OR_VALUE_ALREADY_EXISTS;
+        let problem = attribute_problem::ATTRIBUTE_OR_VALUE_ALREADY_EXISTS;
         let kind = TypeRef::Known(kind);
         return Err(Stop::Refused(Refusal::Attribute { problem, kind }));
     }
@@ -163,7 +164,7 @@ fn remove_value(alloc: Global, entry: Entry, kind: TypeId, normal: &Normal) -> R
     ensures { IsChanged result (model.drop_old kind (record { value = model_values.TextValue []; normal = normal.now }) entry) }
 {
     if !entry.has_value(kind, normal) {
-        let problem = problems::NO_SUCH_ATTRIBUTE_OR_VALUE;
+        let problem = attribute_problem::NO_SUCH_ATTRIBUTE_OR_VALUE;
         let kind = TypeRef::Known(kind);
         return Err(Stop::Refused(Refusal::Attribute { problem, kind }));
     }
@@ -236,7 +237,7 @@ fn add_attribute(alloc: Global, entry: Entry, attribute: &Attribute) -> Result<E
         return Ok(entry);
     };
     if entry.is_present(*kind) {
-        let problem = problems::ATTRIBUTE_OR_VALUE_ALREADY_EXISTS;
+        let problem = attribute_problem::ATTRIBUTE_OR_VALUE_ALREADY_EXISTS;
         let kind = TypeRef::Known(*kind);
         return Err(Stop::Refused(Refusal::Attribute { problem, kind }));
     }
@@ -251,7 +252,7 @@ fn remove_attribute(alloc: Global, entry: Entry, kind: &TypeRef) -> Result<Entry
         return Ok(entry);
     };
     if !entry.is_present(*kind) {
-        let problem = problems::NO_SUCH_ATTRIBUTE_OR_VALUE;
+        let problem = attribute_problem::NO_SUCH_ATTRIBUTE_OR_VALUE;
         let kind = TypeRef::Known(*kind);
         return Err(Stop::Refused(Refusal::Attribute { problem, kind }));
     }
@@ -295,7 +296,7 @@ fn keeps_rdn(entry: Entry, rdn: &Rdn) -> Result<Entry, Stop>
         Ok(entry)
     } else {
         Err(Stop::Refused(Refusal::Update {
-            problem: problems::NOT_ALLOWED_ON_RDN,
+            problem: update_problem::NOT_ALLOWED_ON_RDN,
         }))
     }
 }
@@ -307,7 +308,7 @@ fn single_valued(entry: Entry) -> Result<Entry, Stop>
     match doubled(&entry) {
         None => Ok(entry),
         Some(kind) => Err(Stop::Refused(Refusal::Attribute {
-            problem: problems::CONSTRAINT_VIOLATION,
+            problem: attribute_problem::CONSTRAINT_VIOLATION,
             kind: TypeRef::Known(kind),
         })),
     }

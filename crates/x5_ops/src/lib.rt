@@ -3,16 +3,18 @@
 
 mod agents;
 mod answers;
+pub mod attribute_problem;
 mod changes;
 mod entries;
 mod journal;
 mod knowledge;
 mod lists;
-pub mod problems;
 mod reading;
 mod references;
 mod requests;
+pub mod service_problem;
 mod statics;
+pub mod update_problem;
 
 pub use agents::{AgentId, AgentList, AgentName, AgentNameList, MOST_AGENTS};
 pub use answers::{

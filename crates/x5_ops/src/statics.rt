@@ -20,7 +20,8 @@ ghost use Rattle.x5_ops.specs.RequestViews.{attribute_view, change_view, body_vi
 use crate::answers::DirError;
 use crate::changes::stored_entry;
 use crate::entries::doubled;
-use crate::problems;
+use crate::attribute_problem;
+use crate::update_problem;
 use crate::requests::{Attribute, AttributeList, Body, Change, ChangeList, Request};
 use std::alloc::Global;
 use x5_match::{Entry, normal_for};
@@ -91,11 +92,11 @@ fn values_refusal(
     ensures { IfOk result (λ r. option_map refusal_view r ≡ first_of (model.value_refusals (record { kind = type_view kind.now; values = given_values (type_view kind.now) values.now }))) }
 {
     if !is_defined(kind) {
-        let refusal = Refusal::of_attribute(problems::UNDEFINED_ATTRIBUTE_TYPE, kind)?;
+        let refusal = Refusal::of_attribute(attribute_problem::UNDEFINED_ATTRIBUTE_TYPE, kind)?;
         return Ok(Some(refusal));
     }
     if has_unfit(alloc, kind, values)? {
-        let refusal = Refusal::of_attribute(problems::INVALID_ATTRIBUTE_SYNTAX, kind)?;
+        let refusal = Refusal::of_attribute(attribute_problem::INVALID_ATTRIBUTE_SYNTAX, kind)?;
         return Ok(Some(refusal));
     }
     Ok(None)
@@ -221,7 +222,7 @@ pub(crate) fn attribute_repeats(
 {
     for (i, attribute) in attributes.iter().enumerate() {
         if is_repeated(alloc, &attributes[..i], attribute)? {
-            let problem = problems::ATTRIBUTE_OR_VALUE_ALREADY_EXISTS;
+            let problem = attribute_problem::ATTRIBUTE_OR_VALUE_ALREADY_EXISTS;
             let refusal = Refusal::of_attribute(problem, &attribute.kind)?;
             return Ok(Some(refusal));
         }
@@ -259,7 +260,7 @@ fn added_repeats(alloc: Global, attribute: &Attribute) -> Result<Option<Refusal>
     ensures { IfOk result (λ r. option_map refusal_view r ≡ first_of (model.change_repeats (requests.AddValues (attribute_view attribute.now)))) }
 {
     if has_equal_values(alloc, &attribute.kind, attribute.values.as_slice())? {
-        let problem = problems::ATTRIBUTE_OR_VALUE_ALREADY_EXISTS;
+        let problem = attribute_problem::ATTRIBUTE_OR_VALUE_ALREADY_EXISTS;
         let refusal = Refusal::of_attribute(problem, &attribute.kind)?;
         return Ok(Some(refusal));
     }
@@ -343,11 +344,11 @@ fn value_refusal(alloc: Global, kind: &TypeRef, value: &Value) -> Result<Option<
     ensures { IfOk result (λ r. option_map refusal_view r ≡ first_of (model.value_refusals (record { kind = type_view kind.now; values = assertions.offered (type_view kind.now) (value_view value.now) ∷ [] }))) }
 {
     if !is_defined(kind) {
-        let refusal = Refusal::of_attribute(problems::UNDEFINED_ATTRIBUTE_TYPE, kind)?;
+        let refusal = Refusal::of_attribute(attribute_problem::UNDEFINED_ATTRIBUTE_TYPE, kind)?;
         return Ok(Some(refusal));
     }
     if normal_for(alloc, kind, value)?.is_none() {
-        let refusal = Refusal::of_attribute(problems::INVALID_ATTRIBUTE_SYNTAX, kind)?;
+        let refusal = Refusal::of_attribute(attribute_problem::INVALID_ATTRIBUTE_SYNTAX, kind)?;
         return Ok(Some(refusal));
     }
     Ok(None)
@@ -376,13 +377,13 @@ fn entry_refusal(entry: &Entry) -> Option<Refusal>
 {
     if let Some(kind) = doubled(entry) {
         return Some(Refusal::Attribute {
-            problem: problems::CONSTRAINT_VIOLATION,
+            problem: attribute_problem::CONSTRAINT_VIOLATION,
             kind: TypeRef::Known(kind),
         });
     }
     if !entry.is_present(TypeId(0)) {
         return Some(Refusal::Update {
-            problem: problems::OBJECT_CLASS_VIOLATION,
+            problem: update_problem::OBJECT_CLASS_VIOLATION,
         });
     }
     None
@@ -410,7 +411,7 @@ fn add_refusal(
 {
     if object.len() < 2 {
         return Ok(Some(Refusal::Update {
-            problem: problems::NAMING_VIOLATION,
+            problem: update_problem::NAMING_VIOLATION,
         }));
     }
     let refusal = attributes_refusal(alloc, attributes.as_slice())?;
@@ -448,7 +449,7 @@ fn modify_refusal(
     }
     if name_class(changes.as_slice()) {
         return Ok(Some(Refusal::Update {
-            problem: problems::OBJECT_CLASS_MODIFICATION_PROHIBITED,
+            problem: update_problem::OBJECT_CLASS_MODIFICATION_PROHIBITED,
         }));
     }
     Ok(None)

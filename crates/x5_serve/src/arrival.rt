@@ -16,7 +16,7 @@ use crate::passing::fits;
 use crate::replies::{limit_exceeded, own_item, stuck, unfit};
 use std::alloc::Global;
 use x5_memory::NoMemory;
-use x5_ops::problems::LOOP_DETECTED;
+use x5_ops::service_problem::LOOP_DETECTED;
 use x5_ops::{AgentId, Answer, Chained, DirError, Reference, ReferenceList, Reply, fault_of};
 use x5_trace::{MOST_ITEMS, repeats};
 

@@ -16,7 +16,7 @@ ghost use Rattle.x5_ops.specs.declared.answers.DirError.TheVariants.{Service};
 use std::alloc::Global;
 use x5_memory::NoMemory;
 use x5_merge::{limit, merge};
-use x5_ops::problems::UNAVAILABLE;
+use x5_ops::service_problem::UNAVAILABLE;
 use x5_ops::{
     Answer, Chained, DirError, Listed, Outcome, Reference, ReferenceList, Reply, TraceItem,
 };

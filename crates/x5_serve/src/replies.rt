@@ -18,10 +18,10 @@ use std::alloc::Global;
 use x5_know::AgentNames;
 use x5_memory::NoMemory;
 use x5_names::Name;
-use x5_ops::problems::{
-    ADMINISTRATIVE_LIMIT_EXCEEDED, ENTRY_ALREADY_EXISTS, INVALID_REFERENCE, UNABLE_TO_PROCEED,
-    UNAVAILABLE,
+use x5_ops::service_problem::{
+    ADMINISTRATIVE_LIMIT_EXCEEDED, INVALID_REFERENCE, UNABLE_TO_PROCEED, UNAVAILABLE,
 };
+use x5_ops::update_problem::ENTRY_ALREADY_EXISTS;
 use x5_ops::{
     AccessList, AccessPoint, AgentId, Chained, DirError, Listed, Progress, RdnList, Reference,
     Reply, TraceItem,

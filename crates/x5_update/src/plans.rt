@@ -30,7 +30,7 @@ use x5_memory::NoMemory;
 use x5_names::{Name, Rdn};
 use x5_ops::{
     AttributeList, Body, ChangeFault, ChangeList, Named, Request, Step, added_entry, change,
-    problems,
+    update_problem,
 };
 
 /// A change of the target's context, made ready, and the step that tells it.
@@ -76,7 +76,7 @@ fn add(
     ensures { IsPlanned result state.now place.own (AddEntry object.now (map attribute_view attributes.now)) (model.add (ground_in state.now (request_view request.now)) object.now (map attribute_view attributes.now)) }
 {
     if is_taken(state, request, object) {
-        return Err(refused(problems::ENTRY_ALREADY_EXISTS));
+        return Err(refused(update_problem::ENTRY_ALREADY_EXISTS));
     }
     let rdn = last_of(alloc, object)?;
     let entry = added_entry(alloc, &rdn, attributes)?;
@@ -108,11 +108,11 @@ fn remove(
 {
     let _ = request;
     if is_above_pin(state, place, object) {
-        return Err(refused(problems::AFFECTS_MULTIPLE_DSAS));
+        return Err(refused(update_problem::AFFECTS_MULTIPLE_DSAS));
     }
     let tree = tree_at(state, place);
     if has_children(tree, place.node) {
-        return Err(refused(problems::NOT_ALLOWED_ON_NON_LEAF));
+        return Err(refused(update_problem::NOT_ALLOWED_ON_NON_LEAF));
     }
     let name = tree.name(alloc, place.node)?;
     Ok(Plan {
@@ -213,13 +213,13 @@ fn rename(
     ensures { IsPlanned result state.now place.own (ModifyDn object.now rdn.now drop_old) (model.rename (ground_in state.now (request_view request.now)) object.now rdn.now drop_old) }
 {
     if is_above_pin(state, place, object) {
-        return Err(refused(problems::AFFECTS_MULTIPLE_DSAS));
+        return Err(refused(update_problem::AFFECTS_MULTIPLE_DSAS));
     }
     let old = last_of(alloc, object)?;
     let tree = tree_at(state, place);
     let entry = renamed(alloc, tree.entry(place.node), &old, rdn, drop_old)?;
     if clashes(alloc, state, request, object, rdn)? {
-        return Err(refused(problems::ENTRY_ALREADY_EXISTS));
+        return Err(refused(update_problem::ENTRY_ALREADY_EXISTS));
     }
     let before = tree.name(alloc, place.node)?;
     Ok(renamed_plan(alloc, place.node, before, rdn, entry)?)

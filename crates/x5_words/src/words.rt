@@ -13,13 +13,16 @@ use clap::{ArgMatches, Error};
 use std::alloc::Global;
 use x5_memory::NoMemory;
 
-/// The forms of the command line, one a line.
-pub const FORMS: &str = "xdir run [--summary] WORLD SCRIPT
-xdir check WORLD
-xdir tree WORLD SCRIPT
-xdir gen N [world|script]
-xdir show FILE
-";
+/// The forms of the command line, one a line, and what their words in capitals are.
+pub const FORMS: &str = "usage:
+  xdir run [--summary] WORLD SCRIPT
+  xdir check WORLD
+  xdir tree WORLD SCRIPT
+  xdir gen N
+  xdir gen N world
+  xdir gen N script
+  xdir show FILE
+WORLD, SCRIPT and FILE are names of files, N is a number below 2^32. README.md has an example of each.";
 
 /// The names of a world file and of a script.
 #[derive(Clone, Copy, Drop)]

@@ -1,6 +1,6 @@
 // What the line of a refusal means, in words: where the file is wrong, and what is wrong there.
 ghost use Rattle.std.specs.Prelude.{◌≡◌};
-ghost use Rattle.xdir.specs.Explained.{behind_word, explained_view, explanation, first_word as first_of, line_reason as line_told, of_line as line_explained, of_octet as octet_explained, of_world as world_explained, octet_reason as octet_told, world_reason as world_told};
+ghost use Rattle.xdir.specs.Explained.{behind_word, explained_view, explanation, first_word as word_in_front, line_reason as line_told, of_line as line_explained, of_octet as octet_explained, of_world as world_explained, octet_reason as octet_told, world_reason as world_told};
 
 use std::fmt::{self, Display, Formatter};
 
@@ -73,7 +73,7 @@ impl<'a> Display for Place<'a> {
 
 // What stands before the first space, and what stands behind it.
 fn first_word(text: &str) -> (&str, &str)
-    ensures first { result.0.now ≡ first_of text.now }
+    ensures first { result.0.now ≡ word_in_front text.now }
     ensures behind { result.1.now ≡ behind_word text.now }
 {
     text.split_once(' ').unwrap_or((text, ""))

@@ -24,17 +24,7 @@ use std::{env, rt};
 use told::ToldSink;
 use top::{MOST_FILE_OCTETS, Status, xdir};
 use x5_port::{RealFiles, RealSink};
-
-// The forms, one a line.
-const USAGE: &str = "usage:
-  xdir run [--summary] WORLD SCRIPT
-  xdir check WORLD
-  xdir tree WORLD SCRIPT
-  xdir gen N
-  xdir gen N world
-  xdir gen N script
-  xdir show FILE
-WORLD, SCRIPT and FILE are names of files, N is a number below 2^32. README.md has an example of each.";
+use x5_words::FORMS;
 
 fn main(rt: HostRuntime) -> ExitCode {
     let words = match words_of(&rt) {
@@ -92,7 +82,7 @@ fn ended<R: Eprint>(rt: &R, status: Status, name: &str, line: &str) -> ExitCode 
     let _ = match status {
         Status::Done => Ok(()),
         Status::Refused => eprintln!(rt; "xdir: {name}: {}", Explained::new(line)),
-        Status::Usage => eprintln!(rt; "{USAGE}"),
+        Status::Usage => eprintln!(rt; "{FORMS}"),
         Status::ReadFault => eprintln!(rt; "xdir: can't read the file {name}"),
         Status::TooLong => eprintln!(rt;
             "xdir: the file {name} has more than {MOST_FILE_OCTETS} octets"

@@ -8,11 +8,11 @@ use Rattle.x5_merge.proofs.limiting.limited.Goals as goal
 pub returns-in-Listed : goal.returns-in-Listed
 returns-in-Listed c =
     λ names.
-    list_limited c.in-Listed.subs c.first_of.result c.in-Listed.sources c.in-Listed.outcome c.marked.result c.args.count c.len.result c.len.ensures c.first_of.ensures c.marked.ensures names
+    list_limited c.in-Listed.subs c.front_of.result c.in-Listed.sources c.in-Listed.outcome c.marked.result c.args.count c.len.result c.len.ensures c.front_of.ensures c.marked.ensures names
     ∙ ap (λ a. limited_answer (Some c.args.count) (answer_view names a)) (sym c.in-Listed.is)
 
 pub returns-in-Found : goal.returns-in-Found
 returns-in-Found c =
     λ names.
-    find_limited c.in-Found.entries c.first_of-in-Found.result c.in-Found.sources c.in-Found.outcome c.marked-in-Found.result c.args.count c.len-in-Found.result c.len-in-Found.ensures c.first_of-in-Found.ensures c.marked-in-Found.ensures names
+    find_limited c.in-Found.entries c.front_of-in-Found.result c.in-Found.sources c.in-Found.outcome c.marked-in-Found.result c.args.count c.len-in-Found.result c.len-in-Found.ensures c.front_of-in-Found.ensures c.marked-in-Found.ensures names
     ∙ ap (λ a. limited_answer (Some c.args.count) (answer_view names a)) (sym c.in-Found.is)
