@@ -1,3 +1,5 @@
+-- The references listed so far, followed by the file order of the subordinate and cross references that are left, are
+-- the file order of all references.
 use Rattle.std.proofs.Common.{◌≡◌, ◌++◌, map, drop}
 use Rattle.x5_model_tree.specs.Consistent.{in_file_order}
 use Rattle.x5_ops.specs.KnowledgeViews.{specific_view, cross_view}

@@ -1,3 +1,5 @@
+-- The agents numbered so far, followed by those left, numbered from the current place on, are the world's agents with
+-- their places.
 use Rattle.std.proofs.Common.{◌≡◌, ◌++◌, map, drop}
 use Rattle.std.specs.List.{enumerate_from}
 use Rattle.x5_model_tree.specs.Masters.{numbered}

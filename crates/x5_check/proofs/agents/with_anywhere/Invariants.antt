@@ -1,3 +1,5 @@
+-- The list so far, followed by the cross references that are left, is the one at entry followed by all cross
+-- references.
 use Rattle.std.proofs.Common.{◌≡◌, ◌++◌, map, drop}
 use Rattle.x5_model_tree.specs.Consistent.{ToAnywhere}
 use Rattle.x5_ops.specs.KnowledgeViews.{cross_view}

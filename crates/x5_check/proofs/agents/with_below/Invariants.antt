@@ -1,3 +1,5 @@
+-- The list so far, followed by the subordinate references that are left, is the list at entry followed by all
+-- subordinate references.
 use Rattle.std.proofs.Common.{◌≡◌, ◌++◌, map, drop}
 use Rattle.x5_model_tree.specs.Consistent.{ToBelow}
 use Rattle.x5_ops.specs.KnowledgeViews.{specific_view}

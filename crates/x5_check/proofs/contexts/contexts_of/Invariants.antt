@@ -1,3 +1,5 @@
+-- The contexts gathered so far, followed by those of the agents from the current place on, are all mastered contexts of
+-- the world in file order.
 use Rattle.std.proofs.Common.{◌≡◌, ◌++◌, map, drop}
 use Rattle.x5_model_tree.specs.Masters.{mastered}
 use Rattle.x5_know.specs.WorldView.{described_agent_view, world_view}

@@ -1,3 +1,5 @@
+-- The rows so far, followed by the member rows of the NSSRs that are left, are the member rows of all NSSRs of the
+-- context.
 use Rattle.std.proofs.Common.{◌≡◌, ◌++◌, map, drop}
 use Rattle.std.specs.List.{flat_map}
 use Rattle.x5_ops.specs.KnowledgeViews.{nssr_view}

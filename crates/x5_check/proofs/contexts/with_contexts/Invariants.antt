@@ -1,3 +1,5 @@
+-- The contexts so far, followed by the agent's contexts that are left, are those at entry followed by all contexts of
+-- the agent.
 use Rattle.std.proofs.Common.{◌≡◌, ◌++◌, map, drop}
 use Rattle.x5_ops.specs.KnowledgeViews.{context_view}
 use Rattle.x5_check.specs.Numbers.{of_agent}

@@ -1,3 +1,5 @@
+-- The rows so far, with one row of the NSSR's key for each of its agents that is left, are the rows at entry followed
+-- by all member rows of the NSSR.
 use Rattle.std.proofs.Common.{◌≡◌, ◌++◌, map, drop}
 use Rattle.x5_model.specs.Values.{key_of}
 use Rattle.x5_ops.specs.KnowledgeViews.{nssr_view}

@@ -1,3 +1,5 @@
+-- The first breach of condition 9 among the agents that are left is the world's first: the superiors of each agent so
+-- far end within the hops.
 use Rattle.std.proofs.Common.{◌≡◌, drop}
 use Rattle.std.specs.List.{flat_map}
 use Rattle.x5_model.specs.Words.{first_of}

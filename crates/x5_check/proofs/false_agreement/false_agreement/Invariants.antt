@@ -1,3 +1,5 @@
+-- The first breach of condition 10 among the agreements that are left is the world's first: each agreement so far
+-- supplies its consumer.
 use Rattle.std.proofs.Common.{◌≡◌, drop}
 use Rattle.std.specs.List.{flat_map}
 use Rattle.x5_model.specs.Words.{first_of}

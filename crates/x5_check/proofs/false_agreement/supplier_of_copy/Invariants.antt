@@ -1,3 +1,5 @@
+-- The agent's supplier of the context among the agreements that are left is its supplier among all: none so far gives
+-- it a copy.
 use Rattle.std.proofs.Common.{◌≡◌, drop}
 use Rattle.x5_model_tree.specs.Masters.{supplier_among, supplier_of}
 use Rattle.x5_check.proofs.false_agreement.supplier_of_copy.Given as goal

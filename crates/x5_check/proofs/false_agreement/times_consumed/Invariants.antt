@@ -1,3 +1,5 @@
+-- The count so far, plus that of the agreements left by which the agent consumes the context, is the count over all;
+-- it's at most the number of agreements passed, so it can't overflow.
 use Rattle.std.proofs.Common.{◌≡◌, ◌+◌, ◌≤◌, drop, length}
 use Rattle.std.specs.List.{filter}
 use Rattle.x5_model_tree.specs.Masters.{is_consumer}

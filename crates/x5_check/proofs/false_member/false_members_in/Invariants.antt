@@ -1,3 +1,5 @@
+-- The first breach of condition 7 among the NSSRs that are left is the context's first: no NSSR so far has a false
+-- member.
 use Rattle.std.proofs.Common.{◌≡◌, drop}
 use Rattle.std.specs.List.{flat_map}
 use Rattle.x5_model.specs.Words.{first_of}

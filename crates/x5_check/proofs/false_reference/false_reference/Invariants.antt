@@ -1,3 +1,5 @@
+-- The first breach of condition 4 among the agents that are left is the world's first: no agent so far has a false
+-- reference.
 use Rattle.std.proofs.Common.{◌≡◌, drop}
 use Rattle.std.specs.List.{flat_map}
 use Rattle.x5_model.specs.Words.{first_of}

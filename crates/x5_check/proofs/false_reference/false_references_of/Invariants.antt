@@ -1,3 +1,5 @@
+-- The first breach of condition 4 among the references that are left is the agent's first: each reference so far is
+-- right.
 use Rattle.std.proofs.Common.{◌≡◌, drop}
 use Rattle.std.specs.List.{flat_map}
 use Rattle.x5_model.specs.Words.{first_of}

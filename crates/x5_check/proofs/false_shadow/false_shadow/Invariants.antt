@@ -1,3 +1,5 @@
+-- The first breach of condition 5 among the agents that are left is the world's first: no agent so far refers to a
+-- false shadow agent.
 use Rattle.std.proofs.Common.{◌≡◌, drop}
 use Rattle.std.specs.List.{flat_map}
 use Rattle.x5_model.specs.Words.{first_of}

@@ -1,3 +1,5 @@
+-- The first breach of condition 5 among the references that are left is the agent's first: none so far has a false
+-- shadow agent.
 use Rattle.std.proofs.Common.{◌≡◌, drop}
 use Rattle.std.specs.List.{flat_map}
 use Rattle.x5_model.specs.Words.{first_of}

@@ -1,3 +1,5 @@
+-- The first breach of condition 5 among the shadow agents from the place on, with the earlier ones counted as seen, is
+-- the reference's first: the earlier ones are distinct consumers.
 use Rattle.std.proofs.Common.{◌≡◌, ◌==◌, drop}
 use Rattle.x5_model.specs.Words.{first_of, unfit}
 use Rattle.x5_model.specs.Values.{key_of}

@@ -1,3 +1,5 @@
+-- The rows so far, followed by those of the contexts that are left, are the rows of all contexts: each entry's key with
+-- the context's master.
 use Rattle.std.proofs.Common.{◌≡◌, ◌++◌, drop}
 use Rattle.x5_check.specs.Numbers.{rows_by, entry_keys}
 use Rattle.x5_check.proofs.known.entries_by_master.Given as goal

@@ -1,3 +1,5 @@
+-- The rows so far, followed by those of the contexts that are left, are the rows of all contexts: the key just above
+-- each prefix but the root's, with the context's master.
 use Rattle.std.proofs.Common.{◌≡◌, ◌++◌, drop}
 use Rattle.x5_check.specs.Numbers.{rows_by, above_key}
 use Rattle.x5_check.proofs.known.parents_by_master.Given as goal

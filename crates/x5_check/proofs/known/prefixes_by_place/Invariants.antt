@@ -1,3 +1,5 @@
+-- The rows so far, followed by those of the contexts from the current place on, are the rows of all contexts: the
+-- prefix's key with the context's place.
 use Rattle.std.proofs.Common.{◌≡◌, ◌++◌, drop}
 use Rattle.std.specs.List.{enumerate_from}
 use Rattle.x5_check.specs.Numbers.{rows_by, prefix_key}

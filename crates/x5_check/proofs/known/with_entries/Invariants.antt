@@ -1,3 +1,5 @@
+-- The rows so far, followed by the keys of the entries that are left, each with the number, are the rows at entry
+-- followed by the keys of all entries.
 use Rattle.std.proofs.Common.{◌≡◌, ◌++◌, drop}
 use Rattle.x5_model_tree.specs.Tree.{keys_of}
 use Rattle.x5_check.specs.Numbers.{keyed}

@@ -1,3 +1,5 @@
+-- The rows so far, followed by the pins of the references that are left, each with the number, are the rows at entry
+-- followed by the pins of all references.
 use Rattle.std.proofs.Common.{◌≡◌, ◌++◌, drop, map}
 use Rattle.x5_ops.specs.KnowledgeViews.{specific_view}
 use Rattle.x5_check.specs.Numbers.{keyed, pins_of}

@@ -1,3 +1,5 @@
+-- The place found so far, if any, is that of the first context whose prefix is a prefix of the entry's name, longer
+-- than its own context's prefix, and of no more RDNs than were tried.
 use Rattle.x5_model_tree.specs.Masters.{mastered}
 use Rattle.x5_check.specs.Parts.{IsPlace, is_longer_within}
 use Rattle.x5_check.proofs.longer_pin.first_longer.Given as goal

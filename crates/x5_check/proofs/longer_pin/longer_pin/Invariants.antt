@@ -1,3 +1,5 @@
+-- The first breach of condition 3 among the contexts that are left is the world's first: no entry of a context so far
+-- has a longer pin.
 use Rattle.std.proofs.Common.{◌≡◌, drop}
 use Rattle.std.specs.List.{flat_map}
 use Rattle.x5_model.specs.Words.{first_of}

@@ -1,3 +1,5 @@
+-- The first breach of condition 3 among the entries that are left is the context's first: no entry so far has a longer
+-- pin.
 use Rattle.std.proofs.Common.{◌≡◌, drop}
 use Rattle.std.specs.List.{flat_map}
 use Rattle.x5_model.specs.Words.{first_of}

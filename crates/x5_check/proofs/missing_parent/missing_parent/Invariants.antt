@@ -1,3 +1,5 @@
+-- The first breach of condition 2 among the contexts that are left is the world's first: each prefix so far has a
+-- parent.
 use Rattle.std.proofs.Common.{◌≡◌, drop}
 use Rattle.std.specs.List.{flat_map}
 use Rattle.x5_model.specs.Words.{first_of}

@@ -1,3 +1,5 @@
+-- The first breach of condition 1 among the contexts from the place on, with the earlier prefixes counted as seen, is
+-- the world's first: the earlier prefixes are distinct.
 use Rattle.std.proofs.Common.{◌≡◌, true, drop}
 use Rattle.x5_model.specs.Words.{first_of, unfit}
 use Rattle.x5_model.specs.Keys.{same_key}

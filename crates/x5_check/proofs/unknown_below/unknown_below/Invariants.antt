@@ -1,3 +1,5 @@
+-- The first breach of condition 6 among the pins that are left is the world's first: each pin so far is known to all
+-- masters of its parent.
 use Rattle.std.proofs.Common.{◌≡◌, drop}
 use Rattle.std.specs.List.{flat_map}
 use Rattle.x5_model.specs.Words.{first_of}

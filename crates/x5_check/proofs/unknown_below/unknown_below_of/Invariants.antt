@@ -1,3 +1,5 @@
+-- The first breach of condition 6 among the contexts from the place on is the pin's first: the earlier ones lack its
+-- parent or their masters know it. The loop ends since fewer contexts are left each time.
 use Rattle.std.proofs.Common.{◌≡◌, ◌-◌, drop, length}
 use Rattle.std.specs.List.{flat_map}
 use Rattle.x5_model.specs.Words.{first_of}

@@ -1,3 +1,5 @@
+-- The first breach of condition 8 among the agents that are left is the world's first: no first-level agent so far
+-- lacks a pin of one RDN.
 use Rattle.std.proofs.Common.{◌≡◌, drop}
 use Rattle.std.specs.List.{flat_map}
 use Rattle.x5_model.specs.Words.{first_of}

@@ -1,3 +1,5 @@
+-- The first breach of condition 8 among the contexts that are left is the agent's first: at top level it knows each pin
+-- of one RDN so far.
 use Rattle.std.proofs.Common.{◌≡◌, drop}
 use Rattle.std.specs.List.{flat_map}
 use Rattle.x5_model.specs.Words.{first_of}
