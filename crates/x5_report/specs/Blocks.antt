@@ -62,10 +62,11 @@ raw_of names dsp to count fate = record {
 }
 
 -- The text is that of the block, with these names and moments. Of a request it is so for every journal that the code's
--- stands for, and so of a message that octets brought; of a refresh for every block of these messages and this outcome. A
--- plain reply's is that of the one tree.
+-- stands for, and so of a message that octets brought; of a refresh for every block of these messages and this outcome.
+-- A plain reply's is that of the one tree.
 abbrev pub IsBlockText : print.Names → List (List ℕ) → ℕ → Journal → LineOutcome → Text → Type 0
-IsBlockText printing names line j Set text = (command : run.Command) → text ≡ print.block_text printing line command run.Set
+IsBlockText printing names line j Set text =
+    (command : run.Command) → text ≡ print.block_text printing line command run.Set
 IsBlockText printing names line j (Answered reply) text =
     (command : run.Command) (m : model.Journal) → IsJournal names j m → text
     ≡ print.block_text printing line command (run.Replies m (reply_view names reply))

@@ -62,8 +62,8 @@ printed_message names p =
 -- a message of a request; other lines aren't some
 abbrev pub message_text : Line → Text
 message_text (Msg from to operation progress t target fate) =
-    concat (codes "msg " ∷ sender_text from ∷ codes " " ∷ to ∷ codes " " ∷ print.operation_word (code_view operation) ∷ codes " "
-    ∷ print.progress_text (progress_view progress) ∷ [])
+    concat (codes "msg " ∷ sender_text from ∷ codes " " ∷ to ∷ codes " " ∷ print.operation_word (code_view operation)
+    ∷ codes " " ∷ print.progress_text (progress_view progress) ∷ [])
     ++ concat (codes " t=" ∷ decimal t ∷ codes " " ∷ text_of_name target ∷ codes " " ∷ print.fate_word (fate_view fate)
     ∷ codes "\n" ∷ [])
 message_text (Dis from to operation agreement fate) = []
@@ -73,8 +73,8 @@ message_text (Raw to dsp count fate) = []
 abbrev pub shadow_text : Line → Text
 shadow_text (Msg from to operation progress t target fate) = []
 shadow_text (Dis from to operation agreement fate) =
-    concat (codes "dis " ∷ from ∷ codes " " ∷ to ∷ codes " " ∷ print.shadow_operation (operation_view operation) ∷ codes " " ∷ decimal agreement
-    ∷ codes " " ∷ print.fate_word (fate_view fate) ∷ codes "\n" ∷ [])
+    concat (codes "dis " ∷ from ∷ codes " " ∷ to ∷ codes " " ∷ print.shadow_operation (operation_view operation)
+    ∷ codes " " ∷ decimal agreement ∷ codes " " ∷ print.fate_word (fate_view fate) ∷ codes "\n" ∷ [])
 shadow_text (Raw to dsp count fate) = []
 
 abbrev pub accepted_text : List ℕ → Text

@@ -1,3 +1,5 @@
+-- What reading a text gives as a name, or as an RDN alone, may be printed and read again, and with its normal forms the
+-- name is a stored one: by the lemmas of GivenNames and Names.
 use Rattle.x5_model_text_laws.proofs.GivenNames.{name_given}
 use Rattle.x5_model_text_laws.proofs.Names.{rdn_given_alone, stored_given}
 use Rattle.x5_model_text_laws.proofs.read_names_are_given.Goals as goal

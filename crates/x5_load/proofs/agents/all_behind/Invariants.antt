@@ -1,3 +1,5 @@
+-- Reading the objects that are left behind the agents and counts so far gives what reading the whole list of agents
+-- gives, agents or a fault.
 use Rattle.std.proofs.Common.{◌≡◌, drop, []}
 use Rattle.serde_json.specs.View.{items_view}
 use Rattle.x5_model_world.specs.AgentText as model

@@ -1,3 +1,5 @@
+-- The names so far, with those that the objects left have, are the names of all agents, and there are no more of them
+-- than objects read.
 use Rattle.std.proofs.Common.{◌≡◌, ◌≤◌, drop, length, []}
 use Rattle.serde_json.specs.View.{items_view}
 use Rattle.x5_model_world.specs.AgentText as model

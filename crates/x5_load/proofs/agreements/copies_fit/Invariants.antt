@@ -1,3 +1,5 @@
+-- The entries counted so far, with the copies of the agreements left, are those with all copies, and so far they are
+-- within the limit.
 use Rattle.std.proofs.Common.{◌≡◌, ◌≤◌, drop, map}
 use Rattle.std.specs.List.{flat_map}
 use Rattle.x5_know.specs.WorldView.{described_agent_view}

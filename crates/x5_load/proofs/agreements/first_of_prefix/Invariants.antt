@@ -1,3 +1,4 @@
+-- The first context of the name's key among the agents left is the first among all agents: no agent passed has one.
 use Rattle.std.proofs.Common.{◌≡◌, drop}
 use Rattle.std.specs.List.{find, flat_map}
 use Rattle.x5_model.specs.Keys.{same_key}

@@ -1,3 +1,5 @@
+-- The first supplier or consumer that is no agent in the agreements that are left is the first in the whole list of
+-- agreements.
 use Rattle.std.proofs.Common.{◌≡◌, drop}
 use Rattle.serde_json.specs.View.{items_view}
 use Rattle.x5_model_world.specs.Mentioned as model

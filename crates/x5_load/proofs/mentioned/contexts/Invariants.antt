@@ -1,3 +1,5 @@
+-- The first name that is no agent's in the naming contexts that are left is the first in the whole list of an agent's
+-- contexts.
 use Rattle.std.proofs.Common.{◌≡◌, drop}
 use Rattle.serde_json.specs.View.{items_view}
 use Rattle.x5_model_world.specs.Mentioned as model

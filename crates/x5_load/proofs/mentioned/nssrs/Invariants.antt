@@ -1,3 +1,5 @@
+-- The first name that is no agent's in the non-specific subordinate references left is the first in all those of a
+-- context.
 use Rattle.std.proofs.Common.{◌≡◌, drop}
 use Rattle.serde_json.specs.View.{items_view}
 use Rattle.x5_model_world.specs.Mentioned as model

@@ -1,3 +1,5 @@
+-- The first master or shadow that is no agent in the references that are left is the first in the whole list of an
+-- agent's references.
 use Rattle.std.proofs.Common.{◌≡◌, drop}
 use Rattle.serde_json.specs.View.{items_view}
 use Rattle.x5_model_world.specs.Mentioned as model

@@ -1,3 +1,4 @@
+-- The first text that is no agent's name among those that are left is the first in the whole list of texts.
 use Rattle.std.proofs.Common.{◌≡◌, drop}
 use Rattle.serde_json.specs.View.{items_view}
 use Rattle.x5_model_world.specs.Mentioned as model

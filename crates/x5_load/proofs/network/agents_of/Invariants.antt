@@ -1,3 +1,4 @@
+-- The agents so far are those that the texts before the place reached name, in their order.
 use Rattle.std.proofs.Common.{◌≡◌, take, map}
 use Rattle.x5_model_world.specs.ContextText.{agent_of}
 use Rattle.x5_load.proofs.network.agents_of.Given as goal

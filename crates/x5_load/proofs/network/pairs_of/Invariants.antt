@@ -1,3 +1,4 @@
+-- The pairs of agents so far are those of the pairs of names before the place reached, in their order.
 use Rattle.std.proofs.Common.{◌≡◌, take, map}
 use Rattle.x5_model_world.specs.NetworkText as model
 use Rattle.x5_load.specs.TextPairs.{texts_of}

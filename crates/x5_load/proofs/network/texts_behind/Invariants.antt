@@ -1,3 +1,5 @@
+-- Reading the values that are left behind the texts so far gives what the whole list gives: its texts, each once, or a
+-- fault.
 use Rattle.std.proofs.Common.{◌≡◌, drop, []}
 use Rattle.serde_json.specs.View.{items_view}
 use Rattle.x5_model_world.specs.NetworkText as model

@@ -1,3 +1,4 @@
+-- The texts so far, with those of the keyed RDNs that are left, are the texts of all RDNs.
 use Rattle.std.proofs.Common.{◌≡◌, ◌++◌, map, drop, string_bytes}
 use Rattle.x5_report.specs.Order.{keyed_text}
 use Rattle.x5_report.proofs.lines.rdn_texts.Given as goal

@@ -1,3 +1,4 @@
+-- The text so far, with what the journal's lines left give of messages of a refresh, is that of all lines.
 use Rattle.std.proofs.Common.{◌≡◌, ◌++◌, drop, string_bytes}
 use Rattle.std.specs.List.{flat_map}
 use Rattle.x5_report.specs.Spelled as spelled

@@ -1,3 +1,4 @@
+-- The RDNs behind their keys so far, with those that are left put behind theirs, are all RDNs behind their keys.
 use Rattle.std.proofs.Common.{◌≡◌, ◌++◌, map, drop}
 use Rattle.x5_report.specs.Order.{keyed}
 use Rattle.x5_report.proofs.order.keyed.Given as goal

@@ -1,3 +1,5 @@
+-- The text so far, with the lines of the entries that are left, none marked as a copy, is the lines of all entries
+-- found.
 use Rattle.std.proofs.Common.{◌≡◌, ◌++◌, drop, string_bytes}
 use Rattle.std.specs.List.{flat_map}
 use Rattle.x5_report.specs.Spelled as spelled

@@ -1,3 +1,5 @@
+-- The text so far, with the lines of the subordinates that are left, none marked as a copy, is the lines of all that
+-- were listed.
 use Rattle.std.proofs.Common.{◌≡◌, ◌++◌, drop, string_bytes}
 use Rattle.std.specs.List.{flat_map}
 use Rattle.x5_model_output.specs.Output as print

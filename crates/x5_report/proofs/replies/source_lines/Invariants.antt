@@ -1,3 +1,4 @@
+-- The text so far, with the lines of the sources that are left, is the lines of all sources in the order given.
 use Rattle.std.proofs.Common.{◌≡◌, ◌++◌, drop, string_bytes}
 use Rattle.std.specs.List.{flat_map}
 use Rattle.x5_report.specs.Spelled as spelled

@@ -1,3 +1,5 @@
+-- The text so far, with the lines of the references that are left, is the lines of all unexplored references in the
+-- order given.
 use Rattle.std.proofs.Common.{◌≡◌, ◌++◌, drop, string_bytes}
 use Rattle.std.specs.List.{flat_map}
 use Rattle.x5_report.specs.Spelled as spelled

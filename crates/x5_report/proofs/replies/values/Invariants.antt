@@ -1,3 +1,4 @@
+-- The text so far, with the lines of the values that are left, is the lines of all values of the attribute.
 use Rattle.std.proofs.Common.{◌≡◌, ◌++◌, drop, string_bytes}
 use Rattle.std.specs.List.{flat_map}
 use Rattle.x5_report.specs.Spelled as spelled

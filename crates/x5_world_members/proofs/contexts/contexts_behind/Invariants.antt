@@ -1,3 +1,5 @@
+-- Reading the objects that are left behind the contexts so far gives what reading the whole list of naming contexts
+-- gives.
 use Rattle.std.proofs.Common.{◌≡◌, drop}
 use Rattle.serde_json.specs.View.{items_view}
 use Rattle.x5_model_world.specs.ContextText as model

@@ -1,3 +1,5 @@
+-- Reading the objects that are left behind the entries so far gives what reading all entries of the context of the
+-- prefix gives.
 use Rattle.std.proofs.Common.{◌≡◌, [], drop}
 use Rattle.serde_json.specs.View.{items_view}
 use Rattle.x5_model_world.specs.ContextText as model

@@ -1,3 +1,5 @@
+-- The entry so far, with the values that the iterator has left, is the entry at the start with all values, or neither
+-- may have them.
 use Rattle.std.proofs.Common.{◌≡◌}
 use Rattle.std.specs.Vec.Iter.{into_iter_items}
 use Rattle.x5_model_world.specs.EntryTexts as model

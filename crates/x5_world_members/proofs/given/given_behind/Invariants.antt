@@ -1,3 +1,5 @@
+-- Reading the texts that are left behind the types and values so far gives what reading all texts of an entry's
+-- attributes gives.
 use Rattle.std.proofs.Common.{◌≡◌, [], drop}
 use Rattle.serde_json.specs.View.{items_view}
 use Rattle.x5_model_world.specs.EntryTexts as model

@@ -1,3 +1,4 @@
+-- Finding the agents of the texts that are left, behind those so far, gives what the whole list of agents' names gives.
 use Rattle.std.proofs.Common.{◌≡◌, [], drop}
 use Rattle.serde_json.specs.View.{items_view}
 use Rattle.x5_model_world.specs.ContextText as model

@@ -1,3 +1,5 @@
+-- Reading the objects left behind the non-specific subordinate references so far gives what reading the whole list of
+-- them gives.
 use Rattle.std.proofs.Common.{◌≡◌, drop}
 use Rattle.serde_json.specs.View.{items_view}
 use Rattle.x5_model_world.specs.ContextText as model
