@@ -168,7 +168,8 @@ rdn_over before (p ∷ r) =
 
 abbrev pub name_over : ℕ → NameValue → Option ℕ
 name_over before [] = None
-name_over before (r ∷ n) = first_found (over most_rdns (before + 1)) (first_found (rdn_over 0 r) (name_over (before + 1) n))
+name_over before (r ∷ n) =
+    first_found (over most_rdns (before + 1)) (first_found (rdn_over 0 r) (name_over (before + 1) n))
 
 abbrev pub normal_pair : ℕ × Text → KeyPair
 normal_pair p = (p.0, text_normal (kind_of p.0) p.1)

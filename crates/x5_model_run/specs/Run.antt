@@ -11,7 +11,8 @@ use Rattle.x5_model_tree.specs.World.{World}
 use Rattle.x5_model_typed.specs.Judged.{Breach}
 use Rattle.x5_model_run.specs.Network.{Outage, Fate, fate_of}
 use Rattle.x5_model_run.specs.Journal.{Journal}
-use Rattle.x5_model_run.specs.History.{Deed, Nothing, Outs, Loses, Accepts, Refreshes, Did, Point, network_at, sent_before}
+use Rattle.x5_model_run.specs.History.{Deed, Nothing, Outs, Loses, Accepts, Refreshes, Did}
+use Rattle.x5_model_run.specs.History.{Point, network_at, sent_before}
 use Rattle.x5_model_run.specs.Chain.{opening}
 use Rattle.x5_model_run.specs.Refresh.{RefreshOutcome, Done, RefreshBlock, refresh_block}
 
@@ -21,8 +22,8 @@ pub data Protocol : Type 0 where
   Dsp : Protocol
 
 -- a line of a script: a comment or an empty one; a request to an agent; what happens to the network; a refresh by an
--- agreement's number, pushed or pulled, total or incremental; so many octets that are handed to an agent as a message of
--- a protocol, which spell this message, or have this first breach (X.690)
+-- agreement's number, pushed or pulled, total or incremental; so many octets that are handed to an agent as a message
+-- of a protocol, which spell this message, or have this first breach (X.690)
 pub data Command : Type 0 where
   Blank : Command
   Asks : ℕ → Request → Command

@@ -1,3 +1,5 @@
+-- A fault of the header is the first fault of the element, and otherwise the header with the value's end, which the
+-- reader finds, makes the element that is spelled at the place.
 use Rattle.std.proofs.Common.{arith}
 use Rattle.std.proofs.lemmas.Result.{err_from_is_err_and}
 use Rattle.x5_model_octets.specs.Faults.{in_header}

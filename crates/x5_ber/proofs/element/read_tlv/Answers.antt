@@ -1,3 +1,5 @@
+-- Where an element is spelled it is found, and where there is a first fault it is answered: by the contract of
+-- `read_element`, since a spelling and a first fault exclude each other and each is the only one.
 use Rattle.x5_ber.proofs.Values.{only_found, exact_fault}
 use Rattle.x5_ber.proofs.element.read_tlv.Goals as goal
 

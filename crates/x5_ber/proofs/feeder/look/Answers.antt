@@ -1,3 +1,5 @@
+-- What is seen where reading on fails: a fault that is Truncated shows the beginning of a value, any other a breach, by
+-- what the reader says of the first fault from place 0.
 use Rattle.std.proofs.Common.{◌++◌}
 use Rattle.x5_ber.proofs.Pieces.{sees_fault}
 use Rattle.x5_ber.proofs.feeder.look.Goals as goal

@@ -1,3 +1,5 @@
+-- The length in the long form: the number that its octets give is the length, and the place behind them lies within the
+-- end, by the lemma that reads this form where the first octet says how many follow.
 use Rattle.std.proofs.Common.{ℕ, ◌+◌, ◌-◌, ◌≤◌, ◌++◌, take, drop, arith, ap, sym, ◌∙◌, length-append}
 use Rattle.std.specs.declared.option.Option.TheVariants.{Some}
 use Rattle.std.specs.declared.result.Result.TheVariants.{Ok}

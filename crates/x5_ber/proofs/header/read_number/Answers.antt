@@ -1,3 +1,5 @@
+-- Reading a big-endian number: with at most 7 octets before it one more leaves the number in 64 bits, and what is left
+-- gives, behind the number with this octet, what all octets give: by powers of 256.
 use Rattle.std.proofs.Common.{◌≡◌, ◌+◌, ◌-◌, arith, sym, ap, ◌∙◌}
 use Rattle.x5_model_octets.specs.Headers.{big_endian}
 use Rattle.x5_ber.proofs.Powers.{octets_room, octets_step}

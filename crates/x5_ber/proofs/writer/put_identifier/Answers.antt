@@ -1,3 +1,5 @@
+-- Where memory runs out within the tag number, what stood in the output before is still its front: the leading octet
+-- and each group only append, and what is kept over one write is kept over several.
 use Rattle.x5_ber.specs.Written.{IsPrefixOf}
 use Rattle.x5_ber.proofs.Prefixes.{kept_append, kept_on}
 use Rattle.x5_ber.proofs.writer.put_identifier.Goals as goal

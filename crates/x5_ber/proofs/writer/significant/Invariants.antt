@@ -1,3 +1,5 @@
+-- While leading zeros are dropped: the digits that are left have the same octets without leading zeros as all octets,
+-- they are no more than those, and their number falls.
 use Rattle.std.proofs.Common.{◌≡◌, ◌≤◌, length}
 use Rattle.x5_model_octets.specs.Elements.{without_zeros}
 use Rattle.x5_ber.proofs.writer.significant.Given as goal

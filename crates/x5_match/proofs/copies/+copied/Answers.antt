@@ -1,3 +1,5 @@
+-- A copy of an And or an Or has the members of the original: each copied member keeps the loop's invariant, and once
+-- none is left the copies stand for the same filters, by the lemmas about members as a list.
 use Rattle.std.proofs.Common.{sym, ap, ◌∙◌}
 use Rattle.x5_model.specs.Filters as model
 use Rattle.x5_match.specs.FilterView.{filter_view, filters_of}

@@ -1,3 +1,5 @@
+-- While the members of an And or an Or are copied: what the copies so far stand for, then what the members that are
+-- left stand for, is what all members stand for.
 use Rattle.std.proofs.Common.{◌≡◌, drop}
 use Rattle.x5_match.specs.FilterView.{filters_of}
 use Rattle.x5_match.proofs.CopyLemmas.{filters_behind}

@@ -1,3 +1,5 @@
+-- Before the first member, True and all members, or False and all members, give the truth of the And or of the Or: the
+-- truth of all members as a list is that of the filter as a tree.
 use Rattle.x5_match.proofs.FilterLemmas.{members_and, members_or}
 use Rattle.x5_match.proofs.filter.+holds.Goals as goal
 

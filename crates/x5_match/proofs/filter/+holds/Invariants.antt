@@ -1,3 +1,5 @@
+-- While the members of an And or an Or are evaluated: the truth so far, joined by that connective with the truth of the
+-- members that are left, is the truth of the filter.
 use Rattle.std.proofs.Common.{◌≡◌, drop}
 use Rattle.x5_model.specs.Truth as truth
 use Rattle.x5_match.specs.FilterView.{filter_view}

@@ -1,3 +1,5 @@
+-- A part that doesn't occur makes the answer false, and one that occurs leaves the question for the parts and the text
+-- behind it: by the definition of parts in order, at the part's first occurrence.
 use Rattle.std.proofs.Common.{◌∙◌}
 use Rattle.x5_match.proofs.OccurrenceLemmas.{in_order-found, in_order-missing}
 use Rattle.x5_match.proofs.matching.are_in_order.Goals as goal

@@ -1,3 +1,5 @@
+-- While the parts are found one after another: whether the parts that are left stand in order in the text that is left
+-- is whether all parts stand in order in the whole text.
 use Rattle.std.proofs.Common.{◌≡◌, drop}
 use Rattle.x5_model.specs.Truth.{in_order}
 use Rattle.x5_match.proofs.matching.are_in_order.Given as goal

@@ -1,3 +1,5 @@
+-- What is left behind the part where it stands at the front is the answer, and where it doesn't stand there, the search
+-- goes on one octet later: by the definition of the first occurrence, which tests the front first.
 use Rattle.std.proofs.Common.{◌≡◌, ◌∙◌, sym, ap, Some, true, false, nat_eq, rules}
 use Rattle.std.specs.List.{starts_with}
 use Rattle.x5_match.proofs.OccurrenceLemmas.{occurrence-here, occurrence-later}

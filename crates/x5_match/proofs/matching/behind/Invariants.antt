@@ -1,3 +1,5 @@
+-- While a part is sought in a text: what stands behind its first occurrence is the same in the rest as in the whole
+-- text, and the rest grows shorter.
 use Rattle.std.proofs.Common.{◌≡◌, length}
 use Rattle.x5_match.specs.Occurrence.{behind_occurrence}
 use Rattle.x5_match.proofs.matching.behind.Given as goal

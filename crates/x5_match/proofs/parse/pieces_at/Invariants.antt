@@ -1,3 +1,5 @@
+-- While the pieces of a substrings value are read: the place and the span of the parts that are left still end where
+-- all parts end, and reading these parts behind the pieces so far gives what reading all parts gives, faults included.
 use Rattle.std.proofs.Common.{◌≡◌, ◌+◌, map, drop}
 use Rattle.x5_model_text.specs.Filters as text_of
 use Rattle.x5_syntax.specs.Escapes.{span}

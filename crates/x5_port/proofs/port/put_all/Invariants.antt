@@ -1,3 +1,5 @@
+-- While octets are put into a sink: it has taken the first ones, as many as are done, its count of faults hasn't
+-- fallen, and the number of octets left falls.
 use Rattle.std.proofs.Common.{length, ◌-◌, ◌≡◌, ◌≤◌, take}
 use Rattle.x5_port.specs.Outside.{with_octets}
 use Rattle.x5_port.proofs.port.put_all.Given as goal

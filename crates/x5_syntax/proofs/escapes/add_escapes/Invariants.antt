@@ -1,3 +1,5 @@
+-- While escapes are resolved: the place and the span of the parts left end where all parts end, and the octets so far
+-- with what these parts give are the octets at the start with what all parts give, faults included.
 use Rattle.std.proofs.Common.{◌≡◌, ◌+◌, Ok, map, drop}
 use Rattle.x5_model_text.specs.ValueText.{joined, escapes_at}
 use Rattle.x5_syntax.specs.Escapes.{span}

@@ -1,3 +1,5 @@
+-- While a text is escaped: what is printed so far, then the octets that are left in their escaped form, are the whole
+-- escaped text.
 use Rattle.std.proofs.Common.{◌≡◌, ◌++◌, flat_map, drop}
 use Rattle.x5_model_text.specs.ValueText.{escaped_octet}
 use Rattle.x5_syntax.proofs.escapes.escaped.Given as goal

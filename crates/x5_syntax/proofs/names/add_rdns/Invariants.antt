@@ -1,3 +1,5 @@
+-- While the RDNs of a name are printed: the text so far, then a `/` and the RDN's text for each RDN that is left, is
+-- the text at the start followed by all of them.
 use Rattle.std.proofs.Common.{◌≡◌, ◌++◌, flat_map, drop, string_bytes}
 use Rattle.x5_model_text.specs.NameText.{slash_and_pairs}
 use Rattle.x5_syntax.proofs.names.add_rdns.Given as goal

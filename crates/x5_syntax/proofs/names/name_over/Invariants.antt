@@ -1,3 +1,5 @@
+-- While a name is checked against the limits: none is passed so far, so the first limit that the name passes is the
+-- first that the RDNs that are left pass, counted behind those before them.
 use Rattle.std.proofs.Common.{◌≡◌, drop}
 use Rattle.x5_model.specs.Normal as model
 use Rattle.x5_syntax.proofs.names.name_over.Given as goal

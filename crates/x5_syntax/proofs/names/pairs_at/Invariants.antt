@@ -1,3 +1,5 @@
+-- While the pairs of an RDN's text are read: the place and the span of the parts that are left still end where all
+-- parts end, and reading these parts behind the pairs so far gives what reading all parts gives, faults included.
 use Rattle.std.proofs.Common.{◌≡◌, ◌+◌, [], map, drop}
 use Rattle.x5_model_text.specs.NameText as text_of
 use Rattle.x5_syntax.specs.Escapes.{span}

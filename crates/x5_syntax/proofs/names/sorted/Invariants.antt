@@ -1,3 +1,5 @@
+-- While the pairs of an RDN are sorted by insertion: inserting the pairs that are left into those in order so far gives
+-- the sorted RDN.
 use Rattle.std.proofs.Common.{◌≡◌, drop}
 use Rattle.x5_model_text.specs.NameText as text_of
 use Rattle.x5_syntax.proofs.names.sorted.Given as goal

@@ -1,3 +1,5 @@
+-- While an RDN's key is added as octets: the octets so far, then those of the normal pairs that are left, are the
+-- octets at the start followed by those of all normal pairs.
 use Rattle.std.proofs.Common.{◌≡◌, ◌++◌, flat_map, map, drop}
 use Rattle.x5_model.specs.Normal as model
 use Rattle.x5_syntax.proofs.normalise.add_rdn.Given as goal

@@ -1,3 +1,5 @@
+-- While a name's key is written as octets: the octets so far, then those of the key of the RDNs that are left, are the
+-- octets of the name's key.
 use Rattle.std.proofs.Common.{◌≡◌, ◌++◌, drop}
 use Rattle.x5_model.specs.Normal as model
 use Rattle.x5_syntax.proofs.normalise.name_normal.Given as goal

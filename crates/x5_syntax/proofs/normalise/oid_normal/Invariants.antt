@@ -1,3 +1,5 @@
+-- While the normal form of an object identifier is made: the octets so far, then the normal form of the arcs that are
+-- left, are the normal form of all arcs.
 use Rattle.std.proofs.Common.{◌≡◌, ◌++◌, drop}
 use Rattle.x5_model.specs.Normal as model
 use Rattle.x5_syntax.proofs.normalise.oid_normal.Given as goal

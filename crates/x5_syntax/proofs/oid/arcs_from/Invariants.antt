@@ -1,3 +1,5 @@
+-- While the arcs of dotted decimals are read: the arcs so far in front of what the parts that are left spell, if each
+-- spells an arc, are what all parts spell.
 use Rattle.std.proofs.Common.{◌≡◌, map, drop}
 use Rattle.x5_model_text.specs.TypeText.{arcs_of}
 use Rattle.x5_syntax.proofs.OidLemmas.{behind}

@@ -1,3 +1,5 @@
+-- Whether one of the items is the same is whether the trace has the item, compared by names, and by places too where
+-- the item's agent is one of the world: by the lemmas on items of a trace.
 use Rattle.std.proofs.Common.{◌∙◌}
 use Rattle.x5_trace.specs.Items.{same_named}
 use Rattle.x5_trace.proofs.Items.{any_has, repeats_placed}

@@ -1,3 +1,4 @@
+-- A cleared feeder keeps its invariant: it has no octets, and its new reader stands at place 0 with nothing open.
 use Rattle.x5_ber.proofs.Pieces.{fresh_reading}
 use Rattle.x5_ber.proofs.feeder.Feeder.clear.Goals as goal
 

@@ -1,3 +1,4 @@
+-- A new feeder has its invariant: it has no octets, and its reader stands at place 0 with nothing open.
 use Rattle.x5_ber.proofs.Pieces.{fresh_reading}
 use Rattle.x5_ber.proofs.feeder.Feeder.new.Goals as goal
 

@@ -1,4 +1,7 @@
-use Rattle.std.proofs.Common.{◌≡◌, ℕ, ◌-◌, ◌<◌, ◌++◌, List, length, take, min, arith, sym, ap, subst, ◌∙◌, length-append, length-take, Ok, Result}
+-- How a feeder takes a piece, by what is seen of its octets with the part that still fits: a whole value is taken up to
+-- its end, a beginning that passes the longest value is too long, and a fault is the first one of the octets.
+use Rattle.std.proofs.Common.{◌≡◌, ℕ, ◌-◌, ◌<◌, ◌++◌, List, length, take, min, arith, sym, ap, subst, ◌∙◌}
+use Rattle.std.proofs.Common.{length-append, length-take, Ok, Result}
 use Rattle.x5_ber.specs.declared.feeder.FeedFault.{FeedFault}
 use Rattle.x5_ber.specs.Reading.{ValueAt, AreOpen}
 use Rattle.x5_ber.specs.States.{State, reading, whole}

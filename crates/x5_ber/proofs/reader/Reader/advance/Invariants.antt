@@ -1,3 +1,5 @@
+-- While a value is read step by step: at most 64 elements are open, those that are open at the start lead to those open
+-- around this place, and twice the octets that are left plus the number of open elements falls.
 use Rattle.std.proofs.Common.{ℕ, ◌+◌, ◌-◌, ◌*◌, ◌≤◌, ◌++◌, length}
 use Rattle.x5_ber.specs.Reading.{AreOpen}
 use Rattle.x5_ber.proofs.reader.Reader.advance.Given as goal

@@ -1,9 +1,12 @@
+-- One step of the reader, by its ways out (an element closed, a header's fault, one opened, a content cut off, or a
+-- primitive one passed): each reads as the model says, and comes nearer to the end unless it is a fault.
 use Rattle.std.proofs.Common.{ℕ, ◌++◌, arith, subst, length-append}
 use Rattle.std.proofs.lemmas.Result.{err_from_is_err_and}
 use Rattle.x5_model_octets.specs.Faults.{Truncated, FirstFault, outermost}
 use Rattle.x5_ber.specs.Views.{head_view, around_view}
 use Rattle.x5_ber.specs.Reading.{around_at}
-use Rattle.x5_ber.proofs.Steps.{octets_append, headed_here, headed_bounds, close_step, header_fault, open_step, primitive_step, content_fault}
+use Rattle.x5_ber.proofs.Steps.{octets_append, headed_here, headed_bounds, close_step, header_fault, open_step}
+use Rattle.x5_ber.proofs.Steps.{primitive_step, content_fault}
 use Rattle.x5_ber.proofs.reader.Reader.step.Goals as goal
 
 pub returns-then-is_over-clause-reads : goal.returns-then-is_over-clause-reads

@@ -1,3 +1,4 @@
+-- While an RDN's key is made: the key pairs made so far, then the key of the pairs that are left, are the RDN's key.
 use Rattle.std.proofs.Common.{◌≡◌, ◌++◌, drop}
 use Rattle.x5_model.specs.Values.{key_of_rdn}
 use Rattle.x5_names.proofs.spelled.Rdn.key.Given as goal

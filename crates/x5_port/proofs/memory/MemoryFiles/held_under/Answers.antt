@@ -1,3 +1,5 @@
+-- The file found under a name among those held is the one found among the files as they are told: a search commutes
+-- with the map from held files to files.
 use Rattle.std.proofs.Common.{List, ◌∙◌, ap, string_bytes}
 use Rattle.std.specs.List.{find}
 use Rattle.std.specs.Option.{option_map}
