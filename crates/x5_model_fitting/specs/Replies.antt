@@ -4,7 +4,8 @@ use Rattle.x5_model.specs.Words.{is_empty}
 use Rattle.x5_model.specs.Members.{In}
 use Rattle.x5_model.specs.Answers.{Shown, EntryInfo, Sub}
 use Rattle.x5_model_typed.specs.Leaves.{is_agent_name}
-use Rattle.x5_model_messages.specs.Replies.{Access, Reference, Source, Outcome, Answer, Entry, Match, Listed, Found, Changed}
+use Rattle.x5_model_messages.specs.Replies.{Access, Reference, Source, Outcome, Answer, Entry, Match}
+use Rattle.x5_model_messages.specs.Replies.{Listed, Found, Changed}
 use Rattle.x5_model_messages.specs.Replies.{Reply, Answered, NoSuchObject, AttributeProblem, UpdateProblem}
 use Rattle.x5_model_messages.specs.Replies.{ServiceProblem, Referred}
 use Rattle.x5_model_fitting.specs.Names.{Each, RdnWithin, NameWithin}

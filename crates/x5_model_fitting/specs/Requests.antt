@@ -2,8 +2,10 @@
 use Rattle.std.specs.Prelude.{ℕ, ◌<◌, ◌^◌}
 use Rattle.std.specs.declared.option.Option.{Option}
 use Rattle.std.specs.declared.option.Option.TheVariants.{None, Some}
-use Rattle.x5_model.specs.Requests.{Selection, All, Only, Change, AddAttribute, RemoveAttribute, AddValues, RemoveValues}
-use Rattle.x5_model.specs.Requests.{Controls, Body, Read, Compare, ListBelow, Search, AddEntry, RemoveEntry, ModifyEntry}
+use Rattle.x5_model.specs.Requests.{Selection, All, Only, Change, AddAttribute, RemoveAttribute}
+use Rattle.x5_model.specs.Requests.{AddValues, RemoveValues}
+use Rattle.x5_model.specs.Requests.{Controls, Body, Read, Compare, ListBelow, Search}
+use Rattle.x5_model.specs.Requests.{AddEntry, RemoveEntry, ModifyEntry}
 use Rattle.x5_model.specs.Requests.{ModifyDn, Request}
 use Rattle.x5_model_fitting.specs.Names.{Each, RdnWithin, NameWithin}
 use Rattle.x5_model_fitting.specs.Terms.{TypeWithin, AttributeWithin, AssertionWithin}

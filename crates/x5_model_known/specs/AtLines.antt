@@ -1,6 +1,6 @@
--- What agents know at a line of a run, where copies may have been refreshed (X.525, section 9): so long as the knowledge
--- that the line finds is described, each agent is itself, names agents of the world alone, and knows no name that is
--- too long for an octet to count. Whether knowledge is consistent doesn't matter.
+-- What agents know at a line of a run, where copies may have been refreshed (X.525, section 9): so long as the
+-- knowledge that the line finds is described, each agent is itself, names agents of the world alone, and knows no name
+-- that is too long for an octet to count. Whether knowledge is consistent doesn't matter.
 use Rattle.std.specs.Prelude.{◌≡◌, ℕ, true, length}
 use Rattle.x5_model_tree.specs.Described.{IsDescribed}
 use Rattle.x5_model_run.specs.History.{Point, knowledge_at, holdings_at}

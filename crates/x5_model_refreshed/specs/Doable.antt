@@ -1,6 +1,6 @@
 -- When the steps of an incremental refresh can be done on a context's entries, one after another (X.525, section 11.3:
--- update shadow; X.511, section 11: what an update may be). A step names entries as its supplier spells them, and a copy
--- spells them so too: each name goes on that of the entry above.
+-- update shadow; X.511, section 11: what an update may be). A step names entries as its supplier spells them, and a
+-- copy spells them so too: each name goes on that of the entry above.
 use Rattle.std.specs.Prelude.{◌≡◌, ◌≤◌, ◌<◌, ◌⊎◌, ℕ, true, false, not, ◌&&◌, List, [], ◌∷◌, ◌++◌, ⊤, length}
 use Rattle.std.specs.Option.{option_map}
 use Rattle.std.specs.declared.option.Option.TheVariants.{Some}

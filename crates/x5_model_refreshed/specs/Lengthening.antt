@@ -1,5 +1,5 @@
--- How logs grow by a refresh (X.525, section 9): a total one begins the consumer's log anew, and an incremental one adds
--- its steps, noted one after another at the stamp, of which the last 256 are kept.
+-- How logs grow by a refresh (X.525, section 9): a total one begins the consumer's log anew, and an incremental one
+-- adds its steps, noted one after another at the stamp, of which the last 256 are kept.
 use Rattle.std.specs.Prelude.{◌≡◌, ◌≢◌, ℕ, ◌-◌, true, false, nat_lt, if◌then◌else◌, ◌⊎◌, List, [], ◌∷◌, ◌++◌, length}
 use Rattle.std.specs.Prelude.{drop, reverse, replicate}
 use Rattle.std.specs.declared.option.Option.TheVariants.{Some}

@@ -1,5 +1,5 @@
--- What agents hold after a refresh (X.525, section 7: shadowed information): the consumer's copy by the agreement is what
--- its supplier had as of the stamp; and all else that anybody holds is as it was.
+-- What agents hold after a refresh (X.525, section 7: shadowed information): the consumer's copy by the agreement is
+-- what its supplier had as of the stamp; and all else that anybody holds is as it was.
 use Rattle.std.specs.Prelude.{◌≡◌, ◌≢◌, ℕ, slice_get, slice_set}
 use Rattle.std.specs.Option.{is_some, option_map}
 use Rattle.std.specs.declared.option.Option.TheVariants.{Some}

@@ -7,7 +7,8 @@ use Rattle.x5_model.specs.Values.{key_of}
 use Rattle.x5_model_tree.specs.World.{Agent, Agreement}
 use Rattle.x5_model_tree.specs.Masters.{Mastered, agent_at}
 use Rattle.x5_model_run.specs.Holdings.{Held, Copy, held_at, masters_pin, copy_at}
-use Rattle.x5_model_run.specs.History.{Refreshed, Point, moment_of, knowledge_at, as_of, copy_as_of, copy_by, holdings_at}
+use Rattle.x5_model_run.specs.History.{Refreshed, Point, moment_of, knowledge_at, as_of, copy_as_of}
+use Rattle.x5_model_run.specs.History.{copy_by, holdings_at}
 use Rattle.x5_model_run.specs.History.{references_below, sent_references}
 use Rattle.x5_model_run.specs.Refresh.{supplied}
 use Rattle.x5_model_refreshed.specs.Steps.{replay}

@@ -1,7 +1,7 @@
--- What agents hold at a line of a run, whether or not knowledge is consistent (X.501, section 22: DSA information tree).
--- Over consistent knowledge that is their part of the one tree, with copies as of their refreshes (X.525, section 9).
--- Over any other knowledge there is no one tree, and no copy is refreshed: they hold what their world's file describes,
--- changed by each update that they accepted (X.511, section 11). So far nothing is moved.
+-- What agents hold at a line of a run, whether or not knowledge is consistent (X.501, section 22: DSA information
+-- tree). Over consistent knowledge that is their part of the one tree, with copies as of their refreshes (X.525,
+-- section 9). Over any other knowledge there is no one tree, and no copy is refreshed: they hold what their world's
+-- file describes, changed by each update that they accepted (X.511, section 11). So far nothing is moved.
 use Rattle.std.specs.Prelude.{◌≡◌, ℕ, ◌==◌, true, if◌then◌else◌, List, [], ◌∷◌}
 use Rattle.std.specs.List.{AllByRecursion}
 use Rattle.std.specs.Option.{is_none}

@@ -27,9 +27,9 @@ line_names_agents names (Msg from to operation progress t target fate) =
 line_names_agents names (Dis from to operation agreement fate) = is_agent names from && is_agent names to
 line_names_agents names (Raw to dsp count fate) = is_agent names to
 
--- A message of the user at an agent of the network of this line: the reply, the messages and who accepted the update are
--- those of the relation of agents' steps, by what agents hold, which a journal of whole messages tells; and afterwards
--- it's the network of the next line.
+-- A message of the user at an agent of the network of this line: the reply, the messages and who accepted the update
+-- are those of the relation of agents' steps, by what agents hold, which a journal of whole messages tells; and
+-- afterwards it's the network of the next line.
 pub record IsAnswered (old new : Net) (p : Point) (first : ℕ) (m : Chained) (reply : Reply) (journal : Journal) : Type 0
   where
     pub whole : model.Journal

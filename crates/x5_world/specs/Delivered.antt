@@ -1,5 +1,5 @@
--- What comes of octets that a user hands to an agent as his message, or as another agent's (X.519, section 7: DAP and DSP;
--- X.690).
+-- What comes of octets that a user hands to an agent as his message, or as another agent's (X.519, section 7: DAP and
+-- DSP; X.690).
 use Rattle.std.specs.Prelude.{◌≡◌, ℕ, true, List, length, map, Ok, Err, Option, Some, None}
 use Rattle.std.specs.declared.result.Result.{Result}
 use Rattle.x5_dapber.specs.declared.fault.WireFault.{WireFault}
@@ -52,8 +52,8 @@ spelled names via (Err b) = Err b
 spelled names Dap (Ok n) = Ok (opening (request_in n).1)
 spelled names Dsp (Ok n) = Ok (placed names (chained_in n).1)
 
--- A message that they spell is answered as any other. Others are a message that is none, after which it's the network of
--- the next line.
+-- A message that they spell is answered as any other. Others are a message that is none, after which it's the network
+-- of the next line.
 abbrev pub IsDelivered : Net → Net → Point → Protocol → ℕ → ℕ → Result Chained Breach → Delivered → Type 0
 IsDelivered old new p via to count (Ok m) (Answered reply journal) = IsAnswered old new p to m reply journal
 IsDelivered old new p via to count (Err b) (Rejected name fate breach) =

@@ -1,6 +1,6 @@
 -- What agents keep of the changes of the contexts that they hold, as steps with their moments (X.525, section 9:
--- incremental refreshes bring the changes since the last update): at a line of a run over consistent knowledge, and once
--- an update was accepted.
+-- incremental refreshes bring the changes since the last update): at a line of a run over consistent knowledge, and
+-- once an update was accepted.
 use Rattle.std.specs.Prelude.{◌≡◌, ℕ, ◌-◌, nat_lt, if◌then◌else◌, List, [], ◌∷◌, ◌++◌, length, map}
 use Rattle.std.specs.Prelude.{drop, slice_get, slice_set}
 use Rattle.std.specs.Option.{option_map}

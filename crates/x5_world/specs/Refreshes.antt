@@ -20,4 +20,5 @@ pub record IsSound (n : Net) : Type 0 where
 pub record IsRefreshedAt (new : Net) (p : Point) (number : ℕ) (push total : Bool) (r : Refreshment) : Type 0 where
   pub lines : (refresh_block p number push total).lines ≡ shadows_view (names_of_agents p.described) r.lines
   pub outcome : (refresh_block p number push total).outcome ≡ refreshed_view r.heard number r.became
-  pub stands : StandsAt new (after (did_by (Updates number push total) (Refreshing (refresh_block p number push total))) p)
+  pub stands : StandsAt new
+      (after (did_by (Updates number push total) (Refreshing (refresh_block p number push total))) p)

@@ -87,8 +87,8 @@ is_counted names l =
 abbrev pub held_since : List ℕ → Request → ℕ → Holdings → Holdings
 held_since accepted r a h = if has ◌==◌ accepted a then committed r h else h
 
--- The network once these accepted the update at the line: nothing but what they hold, and note of it, has changed. That it
--- is noted is a fact of which there is one proof, as it's kept beside the network.
+-- The network once these accepted the update at the line: nothing but what they hold, and note of it, has changed. That
+-- it is noted is a fact of which there is one proof, as it's kept beside the network.
 pub record IsChanged (old new : Net) (r : Request) (accepted : List ℕ) : Type 0 where
   pub rest : new ≡ record old { agents = new.agents; logs = new.logs }
   pub count : length new.agents ≡ length old.agents

@@ -17,9 +17,9 @@ use Rattle.x5_model_settled.specs.Held.{held_at}
 pub use Rattle.x5_dapber.specs.ShortNames.{HasShortNames}
 use Rattle.x5_world.specs.Logs.{Logs, logs_at, no_logs}
 
--- The agents' names, what each holds and keeps of its changes, in their order; how the network stands; how many messages
--- were sent; what says how many messages a request may take: how many contexts are mastered, and the agents of all
--- NSSRs; the shadowing agreements, and of each the stamp of the last refresh that its supplier knows to be taken
+-- The agents' names, what each holds and keeps of its changes, in their order; how the network stands; how many
+-- messages were sent; what says how many messages a request may take: how many contexts are mastered, and the agents of
+-- all NSSRs; the shadowing agreements, and of each the stamp of the last refresh that its supplier knows to be taken
 -- (X.525, section 9); and how many lines were done.
 pub record Net : Type 0 where
   pub names : List (List ℕ)

@@ -20,7 +20,8 @@ use Rattle.x5_ops.specs.declared.journal.Refreshed.{Refreshed}
 use Rattle.x5_port.specs.Outside.{Rose}
 use Rattle.x5_report.specs.Blocks.{block_known, raw_of, IsJournal}
 use Rattle.x5_report.specs.declared.report.LineOutcome.{LineOutcome}
-use Rattle.x5_report.specs.declared.report.LineOutcome.TheVariants.{Set, Answered, Plain, NotConsistent, Handed, Rejected}
+use Rattle.x5_report.specs.declared.report.LineOutcome.TheVariants.{Set, Answered, Plain, NotConsistent}
+use Rattle.x5_report.specs.declared.report.LineOutcome.TheVariants.{Handed, Rejected}
 use Rattle.x5_report.specs.declared.report.LineOutcome.TheVariants as outcomes
 use Rattle.x5_typed.specs.Breaches.{breach_view}
 use Rattle.x5_world.specs.State.{Net, StandsAt, after}
@@ -39,8 +40,8 @@ pub record Gives (p : Point) (command : Command) (net : Net) (block : Block) : T
 
 -- they stand for the block of a refresh by the agreement that the command names: the same messages are printed, and the
 -- same became of it (X.525, sections 11 and 12)
-pub record IsRefresh (names : List (List ℕ)) (command : Command) (j : Journal) (number : ℕ) (f : Refreshed) (heard : Bool)
-    (b : Block) : Type 0 where
+pub record IsRefresh (names : List (List ℕ)) (command : Command) (j : Journal) (number : ℕ) (f : Refreshed)
+    (heard : Bool) (b : Block) : Type 0 where
   pub refreshing : refresh.RefreshBlock
   pub agreement : number_of command ≡ number
   pub lines : refreshing.lines ≡ shadows_view names j.lines

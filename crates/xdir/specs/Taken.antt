@@ -26,8 +26,8 @@ pub record IsBegun (d : Described) (n : Net) : Type 0 where
   pub stands : StandsAt n (point (world_view d) [])
   pub room : HasRoom n 0
 
--- The command of a run that a line asks for, where agents have these names. Octets that are handed to an agent are one by
--- what they come to, as a message of a user or of another agent (X.519, section 7: DAP and DSP).
+-- The command of a run that a line asks for, where agents have these names. Octets that are handed to an agent are one
+-- by what they come to, as a message of a user or of another agent (X.519, section 7: DAP and DSP).
 abbrev pub IsCommand : List (List ℕ) → Asked → run.Command → Type 0
 IsCommand names (lines.Runs c) command = command ≡ c
 IsCommand names (Delivers dsp to octets) command =

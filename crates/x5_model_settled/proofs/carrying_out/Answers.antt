@@ -1,3 +1,5 @@
+-- A script that agents carry out is a run, and what is printed of it is the output of one: the two theorems are those
+-- of `Runs`.
 use Rattle.x5_model_settled.proofs.Runs.{agents_run_is_run, agents_print_run}
 use Rattle.x5_model_settled.proofs.carrying_out.Goals as goal
 

@@ -1,6 +1,9 @@
+-- At lines that moved no context, and so at those of runs, what agents do with requests and with other messages is
+-- right: by the theorems of `Settled`, those on runs taken at a judge each.
 use Rattle.x5_model_run.specs.Right.{SendsRight}
 use Rattle.x5_model_settled.specs.Judges.{RightAndWhole}
-use Rattle.x5_model_settled.proofs.Settled.{lines_are_right, runs_are_right, lines_take_right, runs_take_right, lines_handle_right, runs_handle_right}
+use Rattle.x5_model_settled.proofs.Settled.{lines_are_right, runs_are_right, lines_take_right, runs_take_right}
+use Rattle.x5_model_settled.proofs.Settled.{lines_handle_right, runs_handle_right}
 use Rattle.x5_model_settled.proofs.running.Goals as goal
 
 pub returns-clause-lines : goal.returns-clause-lines

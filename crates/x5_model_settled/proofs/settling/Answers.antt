@@ -1,3 +1,5 @@
+-- Lines that moved no context are settings of a user's request, and so are those of runs: by the theorems of `Settled`,
+-- that on runs taken at the judge of right messages and at that of right and whole ones.
 use Rattle.x5_model_run.specs.Right.{SendsRight}
 use Rattle.x5_model_settled.specs.Judges.{RightAndWhole}
 use Rattle.x5_model_settled.proofs.Settled.{lines_are_settled, runs_are_settled}

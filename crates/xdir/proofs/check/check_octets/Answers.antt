@@ -1,3 +1,5 @@
+-- Octets that load give a world of 64 agents at most, and the line on its knowledge is written; others are refused by
+-- the line of what is wrong in them.
 use Rattle.std.proofs.Common.{◌≤◌, length, arith}
 use Rattle.xdir.proofs.Beginning.{few_loaded, loaded}
 use Rattle.xdir.proofs.Checks.{knows, refuses}

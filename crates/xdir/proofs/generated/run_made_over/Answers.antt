@@ -1,3 +1,5 @@
+-- The summary for the octets of the made script is that for the script file, since the file made of the number holds
+-- them.
 use Rattle.std.proofs.Common.{Some}
 use Rattle.x5_gen.specs.Script.{script_text}
 use Rattle.x5_load.specs.Views.{file_view}

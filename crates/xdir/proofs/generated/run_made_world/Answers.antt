@@ -1,3 +1,5 @@
+-- Octets that load describe a world, and the summary over it is that of the made files, since the world file holds
+-- these octets; where they don't load, the refusal is that of this file.
 use Rattle.std.proofs.Common.{Some}
 use Rattle.x5_load.specs.Views.{file_view}
 use Rattle.xdir.specs.Generated.{made_files, made_names}

@@ -1,3 +1,5 @@
+-- The reply and the messages that the network tells of are what comes of the request as a command of a run, since they
+-- name agents of the world alone.
 use Rattle.x5_ops.specs.RequestViews.{request_view}
 use Rattle.xdir.proofs.Courses.{course_of}
 use Rattle.xdir.proofs.lines.ask.Goals as goal

@@ -1,3 +1,5 @@
+-- What a line asks for is done as a command of a run, by cases on its kind: an outage, a loss, a request, a refresh or
+-- octets that are handed to an agent.
 use Rattle.std.proofs.Common.{ℕ, List, length, Some, refl, sym, subst}
 use Rattle.x5_model_run.specs.Run.{Changes, Drops, Updates}
 use Rattle.x5_model_script.specs.Lines.{Delivers}

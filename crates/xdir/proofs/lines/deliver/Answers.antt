@@ -1,3 +1,5 @@
+-- Octets that are handed to an agent are answered as the message that they spell, or rejected for their breach, with an
+-- empty journal: by cases on what the network tells.
 use Rattle.std.proofs.Common.{length, Some, sym, subst}
 use Rattle.x5_model_script.specs.Lines.{Delivers}
 use Rattle.x5_ops.specs.JournalViews.{protocol_view}

@@ -1,3 +1,5 @@
+-- What comes of a refresh, by cases on what is told of knowledge: where it isn't consistent no copy is refreshed, and
+-- where it is the messages and the outcome are those that the network tells of.
 use Rattle.std.proofs.Common.{◌≡◌, true, false, arith}
 use Rattle.xdir.proofs.Courses.{refreshed_as, unrefreshed_course}
 use Rattle.xdir.proofs.Sound.{is_unsound}

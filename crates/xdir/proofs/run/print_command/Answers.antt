@@ -1,3 +1,5 @@
+-- What came of a command is written as its block, and of a comment nothing is; in both cases agents keep their names,
+-- and the network has room after this line too.
 use Rattle.std.proofs.Common.{◌+◌}
 use Rattle.x5_know.specs.WorldView.{world_view}
 use Rattle.x5_load.specs.Views.{file_view}

@@ -1,3 +1,5 @@
+-- The text that is made of what came of a command is the text of its block, and it's written whole, or in part where
+-- the sink fails.
 use Rattle.std.proofs.Common.{◌+◌, ◌∙◌}
 use Rattle.x5_load.specs.Views.{file_view}
 use Rattle.xdir.proofs.Courses.{is_text_at}

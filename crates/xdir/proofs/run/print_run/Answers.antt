@@ -1,3 +1,5 @@
+-- The output of a run, by induction over its commands: the line on knowledge, then a block for each; where writing
+-- fails or memory runs out at a command, what is written is a first part of it.
 use Rattle.std.proofs.Common.{◌+◌, ◌∙◌, List, ℕ, length, map, take, drop, refl, sym, subst, inl, arith}
 use Rattle.std.proofs.lemmas.List.{take_all}
 use Rattle.x5_know.specs.WorldView.{world_view}
@@ -8,7 +10,8 @@ use Rattle.x5_script.specs.declared.command.Command.{Command as Line}
 use Rattle.xdir.specs.declared.top.Status.TheVariants.{Done}
 use Rattle.xdir.specs.Taken.{IsTaken}
 use Rattle.xdir.proofs.Mapped.{first_more, around, so_many}
-use Rattle.xdir.proofs.SoFar.{IsSoFar, WritesNext, none_asked, no_output, so_far_more, writes_stopped, writes_all, prints_next, taken_at}
+use Rattle.xdir.proofs.SoFar.{IsSoFar, WritesNext, none_asked, no_output, so_far_more, writes_stopped}
+use Rattle.xdir.proofs.SoFar.{writes_all, prints_next, taken_at}
 use Rattle.xdir.proofs.Sound.{is_sound}
 use Rattle.xdir.proofs.run.print_run.Goals as goal
 

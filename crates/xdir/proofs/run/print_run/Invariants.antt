@@ -1,3 +1,5 @@
+-- What stays true while a run is printed: the line on knowledge and the blocks of the commands so far are written,
+-- agents keep their names, the network has room after as many lines, and the sink's count of faults hasn't fallen.
 use Rattle.std.proofs.Common.{◌≤◌, ◌≡◌, map, take}
 use Rattle.x5_load.specs.Views.{file_view}
 use Rattle.x5_world.specs.State.{HasRoom}

@@ -1,3 +1,4 @@
+-- A described world has 64 agents at most, which is fewer than the 256 for which the line on knowledge can be made.
 use Rattle.std.proofs.Common.{arith}
 use Rattle.xdir.proofs.Beginning.{few_loaded}
 use Rattle.xdir.proofs.run.run_commands.Goals as goal

@@ -1,3 +1,5 @@
+-- The totals grow by the counts of the command's block, and a comment leaves them as they are: by cases on whether
+-- anything came of the command.
 use Rattle.x5_report.specs.Counted.{totals_view}
 use Rattle.x5_model_tree.specs.World.{names_of_agents}
 use Rattle.x5_script.specs.Views.{command_view}

@@ -1,3 +1,5 @@
+-- The text of the summary, made from the network before the first line, is the one that the script's lines ask for, and
+-- it's written whole, or in part where the sink fails.
 use Rattle.std.proofs.Common.{map, inl, sym, subst}
 use Rattle.x5_load.specs.Views.{file_view}
 use Rattle.xdir.specs.Summed.{IsAskedSummary}

@@ -1,3 +1,5 @@
+-- The line of the totals, behind the line on knowledge, is the summary of the run, since the totals count the blocks of
+-- all its commands.
 use Rattle.std.proofs.Common.{◌∙◌, map, string_bytes}
 use Rattle.x5_report.specs.Counted.{totals_view}
 use Rattle.x5_script.specs.Views.{command_view}

@@ -1,3 +1,5 @@
+-- The totals count the blocks of all commands, by induction over them; each command finds room, agents with the names
+-- at first, and a network that is sound where knowledge is consistent.
 use Rattle.std.proofs.Common.{◌∙◌, ℕ, List, length, map, take, refl, sym, subst, arith}
 use Rattle.std.proofs.lemmas.List.{take_all}
 use Rattle.x5_model_script.specs.Lines.{Asked}

@@ -1,3 +1,5 @@
+-- What stays true while commands are counted: the totals are the counts of the blocks of those so far, agents keep
+-- their names, and the network has room after as many lines.
 use Rattle.std.proofs.Common.{◌≡◌, ◌↔◌, [], IsTrue, map, take}
 use Rattle.x5_model_tree.specs.Consistent.{IsConsistent}
 use Rattle.x5_model_world.specs.WorldFile.{File}

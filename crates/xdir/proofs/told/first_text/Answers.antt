@@ -1,3 +1,4 @@
+-- Octets that are UTF-8 throughout are their own longest beginning that is UTF-8, as its length is that of the whole.
 use Rattle.std.proofs.Common.{ℕ, List, take, length, sym, ap, ◌∙◌, arith}
 use Rattle.std.proofs.lemmas.List.{take_all}
 use Rattle.std.proofs.lemmas.Str.{utf8_valid_len-IsUtf8}

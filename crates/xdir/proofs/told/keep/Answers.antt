@@ -1,3 +1,5 @@
+-- The octets kept are the first of all that were taken, by cases on the count: where there is no room nothing is
+-- copied, else as much of the piece as there is room for.
 use Rattle.xdir.proofs.Keeping.{kept_all, kept_more}
 use Rattle.xdir.proofs.told.keep.Goals as goal
 

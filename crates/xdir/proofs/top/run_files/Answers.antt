@@ -1,3 +1,5 @@
+-- The world file comes first: what is read, written and summed over its world is that of both files, and where it
+-- describes no world, its refusal is all, for the script isn't read.
 use Rattle.std.proofs.Common.{ℕ, List, Option, sym, subst}
 use Rattle.x5_load.specs.Views.{file_view}
 use Rattle.x5_port.specs.Outside.{File, IsContent}

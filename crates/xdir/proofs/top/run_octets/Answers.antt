@@ -1,3 +1,5 @@
+-- A script that is read has few lines, each of which can be taken, and what is written or summed of its commands is
+-- that of its octets; of another script it's the line of its first line that is refused.
 use Rattle.std.proofs.Common.{ℕ, List, ◌≤◌, length, map, sym, subst, ◌∙◌, All}
 use Rattle.std.proofs.lemmas.List.{length-map}
 use Rattle.std.proofs.lemmas.Result.{IfOk-at_ok}

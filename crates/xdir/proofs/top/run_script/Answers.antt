@@ -1,3 +1,5 @@
+-- What is written or summed for the octets that are read is what it is for the script's file, since they are its
+-- content.
 use Rattle.std.proofs.Common.{ℕ, List, sym, subst}
 use Rattle.x5_port.specs.Outside.{IsContent}
 use Rattle.x5_load.specs.Views.{file_view}
