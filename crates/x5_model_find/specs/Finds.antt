@@ -130,7 +130,8 @@ OwnIsTold =
 abbrev pub CopyIsTold : Type 0
 CopyIsTold =
     (p : Point) (o : ℕ) (m : Chained) (c : Copy)
-    → updates.StandsWhole p → parts.CopiesStand p → IsLooked m → find (holdings_at p o) m ≡ CopyHere c → subset_of m ≡ None
+    → updates.StandsWhole p → parts.CopiesStand p → IsLooked m → find (holdings_at p o) m ≡ CopyHere c
+    → subset_of m ≡ None
     → (t : ℕ) × (c.stamp ≡ Some t) × (may_copy m.request ≡ true) × (is_copy_source p (copy_source o c) t ≡ true)
     × (touched (knowledge_at p) (tree_at p) o m ≡ key_of c.held.prefix ∷ [])
     × (ask_marked (λ key. true) (tree_of c.held.entries []) m.request

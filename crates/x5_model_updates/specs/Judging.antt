@@ -70,7 +70,8 @@ AcceptsProbed = (p : Point) (o : ℕ) (m : Chained) (mine : List Named) → IsJu
 -- An agent that is unable to proceed with the probe holds nothing that goes as far, and so masters no such context.
 abbrev pub UnableMastersNone : Type 0
 UnableMastersNone =
-    (p : Point) (a : ℕ) (name : Name) → StandsWhole p → holds_within (holdings_at p a) (key_of name) (length name) ≡ false
+    (p : Point) (a : ℕ) (name : Name) → StandsWhole p
+    → holds_within (holdings_at p a) (key_of name) (length name) ≡ false
     → masters (knowledge_at p) a (key_of name) ≡ false
 
 -- 4. Where an agent that a probe is due at masters such a context or has a copy of it, the whole tree refuses.

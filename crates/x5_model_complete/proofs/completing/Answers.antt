@@ -1,3 +1,5 @@
+-- With nothing in the way an answer is complete, at one line and at every line of a run; the lemma on runs is taken for
+-- both judges of messages, SendsRight and RightAndWhole.
 use Rattle.x5_model_run.specs.Right.{SendsRight}
 use Rattle.x5_model_settled.specs.Judges.{RightAndWhole}
 use Rattle.x5_model_complete.proofs.Complete.{lines_are_complete, runs_are_complete}

@@ -1,3 +1,5 @@
+-- Of all service errors only `unavailable` comes to a user, at one line and at every line of a run; the lemma on runs
+-- is taken for both judges of messages, SendsRight and RightAndWhole.
 use Rattle.x5_model_run.specs.Right.{SendsRight}
 use Rattle.x5_model_settled.specs.Judges.{RightAndWhole}
 use Rattle.x5_model_complete.proofs.Complete.{lines_are_spared, runs_are_spared}

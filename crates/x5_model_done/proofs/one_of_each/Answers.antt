@@ -1,3 +1,5 @@
+-- A request, and any message at any line, has exactly one journal and one reply: it is carried through, and what is
+-- done is determined.
 use Rattle.x5_model_done.proofs.Done.{requests_have_outcomes, lines_have_outcomes}
 use Rattle.x5_model_done.proofs.one_of_each.Goals as goal
 

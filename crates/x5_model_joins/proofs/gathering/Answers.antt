@@ -1,3 +1,5 @@
+-- What is gathered of a list or search tells the whole as far as it goes: by the lemmas on how it begins, how a part or
+-- its loss takes the place of a reference, and how a reply is followed.
 use Rattle.x5_model_joins.proofs.Following.{follow_tells}
 use Rattle.x5_model_joins.proofs.Idle.{idle_tells}
 use Rattle.x5_model_joins.proofs.LeftOut.{loss_replaces}

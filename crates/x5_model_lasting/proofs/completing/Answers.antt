@@ -1,4 +1,8 @@
-use Rattle.x5_model_lasting.proofs.Finishing.{accepting_stays, line_leaves_them, accepted_stays, done_stays, not_done_stays, served_stays, served_itself_stays, settled_stays, finished_stays, thorough_stays, finished_is_thorough}
+-- Accepting lines stay where no unheard probe is added below them, and with them what was accepted, done, served,
+-- settled and finished: a lemma for each.
+use Rattle.x5_model_lasting.proofs.Finishing.{accepting_stays, line_leaves_them, accepted_stays, done_stays}
+use Rattle.x5_model_lasting.proofs.Finishing.{not_done_stays, served_stays, served_itself_stays, settled_stays}
+use Rattle.x5_model_lasting.proofs.Finishing.{finished_stays, thorough_stays, finished_is_thorough}
 use Rattle.x5_model_lasting.proofs.completing.Goals as goal
 
 pub returns-clause-accepting : goal.returns-clause-accepting

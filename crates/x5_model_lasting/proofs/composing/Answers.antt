@@ -1,3 +1,5 @@
+-- What is kept composes: nothing done keeps all, and so do two things in turn, a lost message, a served one and an
+-- accepted update, each by its lemma.
 use Rattle.x5_model_lasting.proofs.Composes.{keeps_itself, keeps_both, keeps_lost, keeps_sent, keeps_accepting}
 use Rattle.x5_model_lasting.proofs.composing.Goals as goal
 

@@ -1,4 +1,7 @@
-use Rattle.x5_model_lasting.proofs.Holds.{keeps_lasts, spent_stays, at_hand_stays, at_master_stays, may_take_stays, asked_stays, asked_apart, noted_stays, reply_stays, calm_stays}
+-- What holds of the message at hand still holds once something was done for it: that it is at hand, who may send for
+-- it, whom its references asked and which reply is right.
+use Rattle.x5_model_lasting.proofs.Holds.{keeps_lasts, spent_stays, at_hand_stays, at_master_stays, may_take_stays}
+use Rattle.x5_model_lasting.proofs.Holds.{asked_stays, asked_apart, noted_stays, reply_stays, calm_stays}
 use Rattle.x5_model_lasting.proofs.holding.Goals as goal
 
 pub returns-clause-lasts : goal.returns-clause-lasts

@@ -1,4 +1,7 @@
-use Rattle.x5_model_lasting.proofs.Lines.{heard_stays, some_line_stays, vain_stays, cleared_stays, passed_stays, taken_stays, untried_stays, lost_stays, blocked_stays}
+-- What is found in journal lines is found still where lines are added: who was heard, asked in vain, cleared, passed or
+-- taken, and what is lost or blocks a reference; a lemma for each.
+use Rattle.x5_model_lasting.proofs.Lines.{heard_stays, some_line_stays, vain_stays, cleared_stays, passed_stays}
+use Rattle.x5_model_lasting.proofs.Lines.{taken_stays, untried_stays, lost_stays, blocked_stays}
 use Rattle.x5_model_lasting.proofs.messages.Goals as goal
 
 pub returns-clause-heard : goal.returns-clause-heard

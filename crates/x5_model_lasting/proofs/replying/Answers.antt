@@ -1,3 +1,5 @@
+-- A right reply stays right where lines are added, if what it says of acceptance stays: results, who tells of an error,
+-- one line more, and then any number.
 use Rattle.x5_model_lasting.proofs.Replies.{result_stays, teller_stays, right_stays, right_lasts}
 use Rattle.x5_model_lasting.proofs.replying.Goals as goal
 

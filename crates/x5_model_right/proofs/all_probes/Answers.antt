@@ -1,3 +1,5 @@
+-- The agents that a probe goes to, in turn: nobody was asked yet, one more is unable and so cleared, one couldn't hear
+-- its own supplier, or one wasn't heard; a lemma for each.
 use Rattle.x5_model_right.proofs.Broken.{unsure_right}
 use Rattle.x5_model_right.proofs.Probing.{no_probe_right, clear_right, silent_right}
 use Rattle.x5_model_right.proofs.all_probes.Goals as goal

@@ -1,3 +1,5 @@
+-- Serving a message where nothing is sent is right, and so is handing an update to the agent that has its target to be
+-- carried out: a lemma for each of the nine cases.
 use Rattle.x5_model_right.proofs.Agents.{needed_agents}
 use Rattle.x5_model_right.proofs.Leaves.{loops_right, long_right, unfit_right, refused_right, nowhere_right}
 use Rattle.x5_model_right.proofs.Staying.{done_before_right, stuck_right, refers_right, carries_out_right}

@@ -1,3 +1,5 @@
+-- The six outcomes of an update at its master are right: refusal and acceptance by the lemmas of Updates, what a probe
+-- ends by the lemmas of Probed.
 use Rattle.x5_model_right.proofs.Agents.{needed_agents}
 use Rattle.x5_model_right.proofs.Probed.{misses_right, is_taken_right, breaks_right}
 use Rattle.x5_model_right.proofs.Updates.{not_done_right, does_alone_right, probes_all_right}

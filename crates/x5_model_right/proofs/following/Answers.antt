@@ -1,3 +1,5 @@
+-- What a sender makes of a reply is right: one with nothing left is taken as it is, and a referral, one to the agents
+-- of an NSSR, and unexplored references are followed to a right reply.
 use Rattle.x5_model_right.proofs.Agents.{needed_agents}
 use Rattle.x5_model_right.proofs.Onward.{referral_right, wide_referral_right}
 use Rattle.x5_model_right.proofs.Parts.{unexplored_right}

@@ -1,3 +1,5 @@
+-- The agents of one reference, asked in turn, by a lemma for each case: none was asked yet, one more in vain, the next
+-- is heard, or none is, which makes the reference lost.
 use Rattle.x5_model_right.proofs.Agents.{needed_agents}
 use Rattle.x5_model_right.proofs.Taking.{none_yet_right, in_vain_too_right, next_is_heard_right, none_is_heard_right}
 use Rattle.x5_model_right.proofs.one_reference.Goals as goal

@@ -1,3 +1,4 @@
+-- Adding an entry, removing one, renaming one and reordering entries each keep knowledge coherent: a lemma for each.
 use Rattle.x5_model_theory.proofs.Changes.{adding_keeps, removing_keeps, renaming_keeps, reordering_keeps}
 use Rattle.x5_model_theory.proofs.changing.Goals as goal
 

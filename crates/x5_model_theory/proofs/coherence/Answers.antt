@@ -1,3 +1,5 @@
+-- Consistent knowledge is coherent: its conditions give the facts by keys, of contexts, references, superiors and
+-- agreements.
 use Rattle.x5_model_theory.proofs.Cohering.{consistent_is_coherent}
 use Rattle.x5_model_theory.proofs.coherence.Goals as goal
 

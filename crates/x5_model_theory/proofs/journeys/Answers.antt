@@ -1,4 +1,7 @@
-use Rattle.x5_model_theory.proofs.Carrying.{journals_are_placed, opening_is_placed, names_stay_within, no_journal_is_long}
+-- Each message in the journal of a request is placed, beginning with the user's own, names keep within a given number
+-- of RDNs, and so no trace is long.
+use Rattle.x5_model_theory.proofs.Carrying.{journals_are_placed, opening_is_placed, names_stay_within}
+use Rattle.x5_model_theory.proofs.Carrying.{no_journal_is_long}
 use Rattle.x5_model_theory.proofs.journeys.Goals as goal
 
 pub returns-clause-placed : goal.returns-clause-placed

@@ -1,3 +1,5 @@
+-- Each needed reference leads on to a nearer message: stages are ordered, so a trace rises, has no item twice and has
+-- 96 items at most; by the lemmas on stages, references and traces.
 use Rattle.x5_model_theory.proofs.Stages.{never_lower, lower_chain, no_loop}
 use Rattle.x5_model_theory.proofs.Rows.{resolution_leads}
 use Rattle.x5_model_theory.proofs.Parts.{parts_lead_on, copies_lead_on}

@@ -1,4 +1,8 @@
-use Rattle.x5_model_theory.proofs.LooksFrom.{base_may_look, root_may_look, pins_may_look, entries_are_touched, specific_leads, nonspecific_leads, same_entries, same_wide_entries, specific_covers, nonspecific_covers}
+-- Where an agent begins a list or search, from a base, the root or an NSSR's pins, it may look; each sub-request looks
+-- into the scope of its reference, and the reference covers just that scope.
+use Rattle.x5_model_theory.proofs.LooksFrom.{base_may_look, root_may_look, pins_may_look, entries_are_touched}
+use Rattle.x5_model_theory.proofs.LooksFrom.{specific_leads, nonspecific_leads, same_entries, same_wide_entries}
+use Rattle.x5_model_theory.proofs.LooksFrom.{specific_covers, nonspecific_covers}
 use Rattle.x5_model_theory.proofs.looks.Goals as goal
 
 pub returns-clause-from_base : goal.returns-clause-from_base

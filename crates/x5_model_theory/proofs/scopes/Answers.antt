@@ -1,4 +1,7 @@
-use Rattle.x5_model_theory.proofs.Scoping.{all_are_taken, no_more_are_taken, spots_are_apart, wide_spots_are_apart, specific_are_apart, mixed_are_apart, nonspecific_are_apart}
+-- The contexts that a list or search looks into are partitioned: each is evaluated on the spot or is in the scope of a
+-- reference, and none is in two of them.
+use Rattle.x5_model_theory.proofs.Scoping.{all_are_taken, no_more_are_taken, spots_are_apart, wide_spots_are_apart}
+use Rattle.x5_model_theory.proofs.Scoping.{specific_are_apart, mixed_are_apart, nonspecific_are_apart}
 use Rattle.x5_model_theory.proofs.scopes.Goals as goal
 
 pub returns-clause-all : goal.returns-clause-all

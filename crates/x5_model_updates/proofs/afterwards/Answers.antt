@@ -1,3 +1,4 @@
+-- The tree after an accepted update, entry by entry, key by key and context by context: a lemma of After for each.
 use Rattle.x5_model_updates.proofs.After.{entries_after, keys_after, parts_after}
 use Rattle.x5_model_updates.proofs.afterwards.Goals as goal
 

@@ -1,4 +1,7 @@
-use Rattle.x5_model_updates.proofs.Judges.{refuses_alike, accepts_alone, probes_new_name, accepts_probed, unable_masters_none, refuses_at_probed, accepts_absent, refuses_present}
+-- What the master of a context concludes of an update from its own entries and its probes holds of the whole tree: a
+-- lemma for each refusal, each acceptance and each answer of a probe.
+use Rattle.x5_model_updates.proofs.Judges.{refuses_alike, accepts_alone, probes_new_name, accepts_probed}
+use Rattle.x5_model_updates.proofs.Judges.{unable_masters_none, refuses_at_probed, accepts_absent, refuses_present}
 use Rattle.x5_model_updates.proofs.Judged.{holder_is_master, judged_after}
 use Rattle.x5_model_updates.proofs.judging.Goals as goal
 

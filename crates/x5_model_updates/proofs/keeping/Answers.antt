@@ -1,3 +1,5 @@
+-- Accepted updates keep knowledge consistent, so at each line of a run the world with the entries of the moment meets
+-- the ten conditions and the one tree is the union of its masters' parts.
 use Rattle.x5_model_run.specs.Right.{SendsRight}
 use Rattle.x5_model_updates.proofs.Keeps.{updates_keep, order_stays}
 use Rattle.x5_model_updates.proofs.Stood.{lines_stand, runs_stand}

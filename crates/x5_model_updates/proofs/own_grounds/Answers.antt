@@ -1,3 +1,5 @@
+-- An agent holds each context that it masters with its part of the tree, and the order of its entries is nothing to
+-- what it refuses or accepts.
 use Rattle.x5_model_updates.proofs.Sorting.{holds_its_contexts, own_ground_held, order_refuses, order_accepts}
 use Rattle.x5_model_updates.proofs.own_grounds.Goals as goal
 
