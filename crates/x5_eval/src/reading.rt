@@ -26,8 +26,8 @@ use x5_know::AgentNames;
 use x5_match::Entry;
 use x5_memory::NoMemory;
 use x5_ops::{
-    Answer, Body, Chained, DirError, EntryInfo, Reply, Selection, Source, compares, attribute_problem,
-    selection_fault, shown,
+    Answer, Body, Chained, DirError, EntryInfo, Reply, Selection, Source, attribute_problem,
+    compares, selection_fault, shown,
 };
 use x5_syntax::{TypeRef, Value};
 

@@ -27,7 +27,7 @@ use x5_memory::NoMemory;
 use x5_names::{Key, Name};
 use x5_ops::{
     Answer, DirError, EntryInfo, EntryList, Listed, Named, Outcome, Reply, Selection, Source, Sub,
-    SubList, Subset, compares, attribute_problem, selection_fault, shown,
+    SubList, Subset, attribute_problem, compares, selection_fault, shown,
 };
 use x5_syntax::{TypeRef, Value};
 

@@ -23,7 +23,10 @@ use crate::updating::{no_object, refused, with_entry};
 use std::alloc::Global;
 use x5_memory::NoMemory;
 use x5_names::{Name, Rdn};
-use x5_ops::{ChangeFault, DirError, Entry, Named, doubled, attribute_problem, update_problem, with_rdn, without_rdn};
+use x5_ops::{
+    ChangeFault, DirError, Entry, Named, attribute_problem, doubled, update_problem, with_rdn,
+    without_rdn,
+};
 use x5_syntax::TypeRef;
 
 /// The run of entries that moves, with its new names: it stands from `at` to before `end`, and its new names would go to `place`.

@@ -19,10 +19,9 @@ use crate::answers::DirError;
 use crate::entries::{
     doubled, drop_value, has_rdn, insert_value, put_value, with_rdn, with_values,
 };
-use crate::attribute_problem;
-use crate::update_problem;
 use crate::requests::{Attribute, AttributeList, Change, ChangeList};
 use crate::statics::{Refusal, attribute_repeats};
+use crate::{attribute_problem, update_problem};
 use std::alloc::{AllocError, AllocFailed, Global};
 use thiserror::Error;
 use x5_match::{Entry, StoredValueList, normal_for};

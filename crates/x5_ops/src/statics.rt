@@ -20,9 +20,8 @@ ghost use Rattle.x5_ops.specs.RequestViews.{attribute_view, change_view, body_vi
 use crate::answers::DirError;
 use crate::changes::stored_entry;
 use crate::entries::doubled;
-use crate::attribute_problem;
-use crate::update_problem;
 use crate::requests::{Attribute, AttributeList, Body, Change, ChangeList, Request};
+use crate::{attribute_problem, update_problem};
 use std::alloc::Global;
 use x5_match::{Entry, normal_for};
 use x5_names::{Name, Rdn};

@@ -11,7 +11,7 @@ use std::alloc::Global;
 use x5_match::Entry;
 use x5_memory::NoMemory;
 use x5_names::{Name, Rdn};
-use x5_ops::{ChangeFault, DirError, doubled, attribute_problem, with_rdn, without_rdn};
+use x5_ops::{ChangeFault, DirError, attribute_problem, doubled, with_rdn, without_rdn};
 use x5_syntax::TypeRef;
 
 /// A problem of an update, by its number. No memory.
