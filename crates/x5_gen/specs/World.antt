@@ -50,8 +50,8 @@ prefix_entry at class =
 
 -- the entry of person j, with a surname of this number
 abbrev pub person : Text → ℕ → ℕ → Text
-person above j d =
-    concat (codes ",{\"name\":\"" ∷ above ∷ codes "/CN=P" ∷ decimal j ∷ codes "\",\"attrs\":[\"objectClass=2.5.6.7\",\"SN=S" ∷ decimal d ∷ codes "\"]}" ∷ [])
+person above j d = concat (codes ",{\"name\":\"" ∷ above ∷ codes "/CN=P" ∷ decimal j
+    ∷ codes "\",\"attrs\":[\"objectClass=2.5.6.7\",\"SN=S" ∷ decimal d ∷ codes "\"]}" ∷ [])
 
 -- so many people, each with a surname drawn, where the sequence has come to x
 unfoldable pub people : Text → ℕ → ℕ → Text
@@ -82,7 +82,8 @@ shadow c =
     if nat_le c agreements_count then concat (codes ",\"shadows\":[\"A" ∷ decimal (c + 30) ∷ codes "\"]" ∷ []) else []
 
 unfoldable pub reference : ℕ → Text
-reference c = concat (codes "{\"kind\":\"subordinate\",\"name\":\"" ∷ prefix c ∷ codes "\",\"master\":\"A" ∷ decimal c ∷ codes "\"" ∷ shadow c ∷ codes "}" ∷ [])
+reference c = concat (codes "{\"kind\":\"subordinate\",\"name\":\"" ∷ prefix c ∷ codes "\",\"master\":\"A" ∷ decimal c
+    ∷ codes "\"" ∷ shadow c ∷ codes "}" ∷ [])
 
 -- subordinate references to the agents of odd numbers just below
 abbrev pub references : ℕ → Text
@@ -122,7 +123,8 @@ agents x (suc i) = agents x i ++ (comma i ++ agent i (after x (people_count * i)
 
 abbrev pub agreement : ℕ → Text
 agreement i = concat (codes "{\"id\":" ∷ decimal i
-    ∷ codes ",\"supplier\":\"A" ∷ decimal i ∷ codes "\",\"consumer\":\"A" ∷ decimal (i + 30) ∷ codes "\",\"context\":\"" ∷ prefix i ∷ codes "\"}" ∷ [])
+    ∷ codes ",\"supplier\":\"A" ∷ decimal i ∷ codes "\",\"consumer\":\"A" ∷ decimal (i + 30)
+    ∷ codes "\",\"context\":\"" ∷ prefix i ∷ codes "\"}" ∷ [])
 
 unfoldable pub agreements : ℕ → Text
 agreements zero = []

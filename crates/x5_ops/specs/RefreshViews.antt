@@ -1,5 +1,5 @@
--- What the messages of a refresh and what became of it stand for, given the names of the world's agents (X.525, sections
--- 11 and 12).
+-- What the messages of a refresh and what became of it stand for, given the names of the world's agents (X.525,
+-- sections 11 and 12).
 use Rattle.std.specs.Prelude.{ℕ, Bool, true, false, ◌==◌, if◌then◌else◌, List, [], ◌∷◌}
 use Rattle.std.specs.List.{flat_map}
 use Rattle.std.specs.declared.option.Option.{Option}

@@ -1,3 +1,5 @@
+-- What reading by type judges an element to be, it is, by induction on the element (Soundness); so octets where it
+-- lies spell that value.
 use Rattle.x5_model_typed.proofs.Soundness.{judged_is}
 use Rattle.x5_model_typed.proofs.judged_is_spelled.Goals as goal
 

@@ -1,3 +1,5 @@
+-- Octets are one element at most, with its places, and no spelling begins another, as Places shows; and octets spell
+-- one value of a type at most, as Values shows.
 use Rattle.x5_model_typed.proofs.Places.{placed_once, whole_spelling}
 use Rattle.x5_model_typed.proofs.Values.{one_value}
 use Rattle.x5_model_typed.proofs.spellings_are_apart.Goals as goal

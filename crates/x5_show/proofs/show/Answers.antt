@@ -1,3 +1,4 @@
+-- Octets with a first fault aren't values, and the text that refuses them is the line of that fault.
 use Rattle.x5_ber.specs.Views.{fault_view}
 use Rattle.x5_show.proofs.show.Goals as goal
 

@@ -1,3 +1,4 @@
+-- The sequence has gone on from the seed by as many numbers as have been drawn.
 use Rattle.std.proofs.Common.{◌≡◌}
 use Rattle.x5_gen.specs.Draws.{after}
 use Rattle.x5_gen.proofs.script.after_world.Given as goal

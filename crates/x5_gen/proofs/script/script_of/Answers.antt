@@ -1,3 +1,4 @@
+-- At first there is no line and the sequence is behind the world's draws; each step adds the next line and four draws.
 use Rattle.std.proofs.Common.{sym, ◌∙◌, string_bytes}
 use Rattle.x5_gen.specs.Draws.{after}
 use Rattle.x5_gen.specs.Script.{world_draws}

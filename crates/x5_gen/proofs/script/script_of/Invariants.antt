@@ -1,3 +1,4 @@
+-- The text is the lines so far, and the sequence is four draws for each of them further on than the world's draws.
 use Rattle.std.proofs.Common.{◌≡◌, ◌*◌, string_bytes}
 use Rattle.x5_gen.specs.Draws.{after}
 use Rattle.x5_gen.specs.Script.{lines, world_draws}

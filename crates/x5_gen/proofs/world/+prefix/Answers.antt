@@ -1,3 +1,4 @@
+-- The prefix of agent 0 is the country; another's is the superior's prefix with the agent's own unit behind it.
 use Rattle.std.proofs.Common.{◌∙◌, ◌++◌, codes, sym, ap, arith}
 use Rattle.std.specs.Fmt.{decimal}
 use Rattle.x5_gen.specs.World.{prefix}

@@ -1,3 +1,4 @@
+-- No agent is added at first; each step adds the next, behind a comma unless it is the first, and draws for its people.
 use Rattle.std.proofs.Common.{sym, string_bytes}
 use Rattle.x5_gen.specs.World.{people_count}
 use Rattle.x5_gen.proofs.Making.{none_drawn, no_agents, nothing_added, agent_added, drawn_more}

@@ -1,3 +1,4 @@
+-- The agents so far are behind the text before, and the sequence has gone on by the draws for the people of each.
 use Rattle.std.proofs.Common.{◌≡◌, ◌*◌, ◌++◌, string_bytes}
 use Rattle.x5_gen.specs.Draws.{after}
 use Rattle.x5_gen.specs.World.{people_count, agents}

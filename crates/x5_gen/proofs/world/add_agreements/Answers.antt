@@ -1,3 +1,4 @@
+-- No agreement is added at first; each step adds the next one, behind a comma unless it is the first.
 use Rattle.std.proofs.Common.{string_bytes}
 use Rattle.x5_gen.proofs.Making.{no_agreements, nothing_added, agreement_added}
 use Rattle.x5_gen.proofs.world.add_agreements.Goals as goal

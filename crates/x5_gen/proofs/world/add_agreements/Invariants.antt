@@ -1,3 +1,4 @@
+-- The text is the one before with the agreements so far behind it.
 use Rattle.std.proofs.Common.{◌≡◌, ◌++◌, string_bytes}
 use Rattle.x5_gen.specs.World.{agreements}
 use Rattle.x5_gen.proofs.world.add_agreements.Given as goal

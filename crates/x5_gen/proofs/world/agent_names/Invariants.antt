@@ -1,3 +1,4 @@
+-- The quoted names so far, with those of the agents whose numbers are left, are the names of all the agents.
 use Rattle.std.proofs.Common.{◌≡◌, ◌++◌, map, drop, string_bytes}
 use Rattle.x5_gen.specs.World.{agent_name}
 use Rattle.x5_gen.proofs.world.agent_names.Given as goal

@@ -1,3 +1,4 @@
+-- Adding the values that are left to the entry so far gives what adding all of them to the given entry gives.
 use Rattle.std.proofs.Common.{◌≡◌, drop}
 use Rattle.x5_model.specs.Changes as model
 use Rattle.x5_model.specs.Values.{Known}

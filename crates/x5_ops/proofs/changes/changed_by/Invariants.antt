@@ -1,3 +1,4 @@
+-- The changes that are left, made to the entry so far, give what all the changes give when made to the given entry.
 use Rattle.std.proofs.Common.{◌≡◌, map, drop}
 use Rattle.x5_model.specs.Changes as model
 use Rattle.x5_ops.specs.RequestViews.{change_view}

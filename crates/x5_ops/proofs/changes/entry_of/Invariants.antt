@@ -1,3 +1,4 @@
+-- The entry so far is that of the attributes from the place on, the last put in first; the place goes down to zero.
 use Rattle.std.proofs.Common.{◌≡◌, ◌≤◌, map, length, drop}
 use Rattle.x5_model.specs.Attributes as attributes
 use Rattle.x5_ops.specs.RequestViews.{attribute_view}

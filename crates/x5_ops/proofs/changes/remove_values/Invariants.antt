@@ -1,3 +1,4 @@
+-- Removing the values that are left from the entry so far gives what removing all of them from the given entry gives.
 use Rattle.std.proofs.Common.{◌≡◌, drop}
 use Rattle.x5_model.specs.Changes as model
 use Rattle.x5_model.specs.Values.{Known}

@@ -1,3 +1,4 @@
+-- Stored so far are the values from the place on that have a normal form, ordered by it; the place goes down to zero.
 use Rattle.std.proofs.Common.{◌≡◌, ◌≤◌, length, drop}
 use Rattle.x5_model.specs.Attributes as attributes
 use Rattle.x5_model.specs.Values.{Known}

@@ -1,3 +1,4 @@
+-- The lowest single-valued type with more than one value is the same among the attributes that are left as among all.
 use Rattle.std.proofs.Common.{◌≡◌, drop}
 use Rattle.x5_model.specs.Attributes as model
 use Rattle.x5_ops.proofs.entries.doubled.Given as goal

@@ -1,3 +1,4 @@
+-- The copies kept so far, with the values left that have another normal form, are all values that have another.
 use Rattle.std.proofs.Common.{◌≡◌, ◌++◌, not, drop}
 use Rattle.std.specs.List.{filter}
 use Rattle.x5_model.specs.Words.{same_octets}

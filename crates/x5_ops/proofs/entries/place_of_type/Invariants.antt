@@ -1,3 +1,4 @@
+-- The attributes passed and those left before the first whose type's number isn't smaller are as many as all before it.
 use Rattle.std.proofs.Common.{◌≡◌, ◌+◌, not, nat_lt, drop}
 use Rattle.std.specs.List.{position_or_len}
 use Rattle.x5_ops.proofs.entries.place_of_type.Given as goal

@@ -1,3 +1,4 @@
+-- The values passed and those left before the first whose normal form isn't smaller are as many as all before it.
 use Rattle.std.proofs.Common.{◌≡◌, ◌+◌, not, drop}
 use Rattle.std.specs.List.{position_or_len}
 use Rattle.x5_model.specs.Words.{octets_below}

@@ -1,3 +1,4 @@
+-- The entry so far, with the RDN's pairs that are left where it lacks them, is the given entry with all of them.
 use Rattle.std.proofs.Common.{◌≡◌, drop}
 use Rattle.x5_model.specs.Attributes as model
 use Rattle.x5_ops.proofs.entries.with_rdn.Given as goal

@@ -1,3 +1,5 @@
+-- The entry so far, without the pairs left of the old RDN that aren't kept, is the given entry without the old RDN's
+-- pairs that aren't kept.
 use Rattle.std.proofs.Common.{◌≡◌, drop}
 use Rattle.x5_model.specs.Attributes as model
 use Rattle.x5_ops.proofs.entries.without_rdn.Given as goal

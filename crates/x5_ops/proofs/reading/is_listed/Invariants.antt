@@ -1,3 +1,4 @@
+-- The type is among the listed types that are left exactly where it is among all that are listed.
 use Rattle.std.proofs.Common.{◌≡◌, map, drop}
 use Rattle.std.specs.List.{list_any}
 use Rattle.x5_model.specs.Selections as model

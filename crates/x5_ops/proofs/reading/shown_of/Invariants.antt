@@ -1,3 +1,4 @@
+-- What is shown so far, with what is shown of the selected attributes that are left, is what is shown of all selected.
 use Rattle.std.proofs.Common.{◌≡◌, ◌++◌, map, drop}
 use Rattle.std.specs.List.{filter}
 use Rattle.x5_model.specs.Selections as model

@@ -1,3 +1,4 @@
+-- The values copied so far, with the values of the stored ones that are left, are the values of all stored ones.
 use Rattle.std.proofs.Common.{◌≡◌, ◌++◌, map, drop}
 use Rattle.x5_syntax.specs.ValueView.{value_view}
 use Rattle.x5_ops.proofs.reading.values_of.Given as goal

@@ -1,3 +1,5 @@
+-- The first refusal of the attributes left, for equal values or the type of one that comes before, passed or left, is
+-- the first of all attributes.
 use Rattle.std.proofs.Common.{◌≡◌, [], map, take, drop}
 use Rattle.x5_model.specs.Statics as model
 use Rattle.x5_model.specs.Words.{first_of}

@@ -1,3 +1,4 @@
+-- The first refusal of the types and values that the changes left give is the first of all changes.
 use Rattle.std.proofs.Common.{◌≡◌, map, drop}
 use Rattle.std.specs.List.{flat_map}
 use Rattle.x5_model.specs.Statics as model

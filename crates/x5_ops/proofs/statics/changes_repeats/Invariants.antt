@@ -1,3 +1,4 @@
+-- The first refusal for equal values in one of the changes that are left is the first for those in all changes.
 use Rattle.std.proofs.Common.{◌≡◌, map, drop}
 use Rattle.std.specs.List.{flat_map}
 use Rattle.x5_model.specs.Statics as model

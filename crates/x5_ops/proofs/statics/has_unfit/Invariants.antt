@@ -1,3 +1,4 @@
+-- A value that is left has no normal form for the type exactly where one of all the values has none.
 use Rattle.std.proofs.Common.{◌≡◌, drop}
 use Rattle.std.specs.List.{list_any}
 use Rattle.std.specs.Option.{is_none}

@@ -1,3 +1,4 @@
+-- The normal form is the same as one of the others that are left exactly where it is the same as one of all others.
 use Rattle.std.proofs.Common.{◌≡◌, drop}
 use Rattle.x5_model.specs.Words.{has}
 use Rattle.x5_ops.specs.RefusalView.{same_normal}

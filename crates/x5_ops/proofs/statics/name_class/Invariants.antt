@@ -1,3 +1,4 @@
+-- One of the changes that are left names objectClass exactly where one of all the changes does.
 use Rattle.std.proofs.Common.{◌≡◌, map, drop}
 use Rattle.std.specs.List.{list_any}
 use Rattle.x5_model.specs.Statics as model

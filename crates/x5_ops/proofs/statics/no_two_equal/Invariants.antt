@@ -1,3 +1,4 @@
+-- No two of the normal forms from the place on are the same exactly where no two of all are.
 use Rattle.std.proofs.Common.{◌≡◌, drop}
 use Rattle.x5_model.specs.Words.{distinct}
 use Rattle.x5_ops.specs.RefusalView.{same_normal}

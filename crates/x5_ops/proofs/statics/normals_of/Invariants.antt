@@ -1,3 +1,4 @@
+-- The normal forms so far, with those of the values that are left, are the normal forms of all values, in their order.
 use Rattle.std.proofs.Common.{◌≡◌, ◌++◌, map, drop}
 use Rattle.x5_model.specs.Assertions.{normal_for}
 use Rattle.x5_syntax.specs.TypeView.{type_view}

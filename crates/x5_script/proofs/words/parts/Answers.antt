@@ -1,3 +1,4 @@
+-- What is collected is the line split at its spaces, since that is what the iterator over the split slice yields.
 use Rattle.std.proofs.Common.{rules, tests}
 use Rattle.std.proofs.lemmas.Iterator.Consumers.{map_from_collect}
 use Rattle.std.proofs.lemmas.Iterator.Splits.{YieldsList-from_slice_split}

@@ -1,3 +1,5 @@
+-- Each element that is read is one more value before the place, and at the end all octets are values; where reading
+-- fails, they aren't, and its fault is their first.
 use Rattle.std.proofs.Common.{◌≡◌, ℕ, ◌+◌, length, subst, sym}
 use Rattle.x5_ber.specs.Views.{fault_view}
 use Rattle.x5_model_octets.specs.Elements.{Nil, More}

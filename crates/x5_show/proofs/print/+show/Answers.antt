@@ -1,4 +1,7 @@
-use Rattle.std.proofs.Common.{◌≡◌, ℕ, ◌+◌, ◌-◌, ◌++◌, List, [], length, take, drop, arith, sym, ap, subst, ◌∙◌, append_assoc}
+-- An element that is read is the one spelled there, and its lines come before those of the elements that are left;
+-- elements that are spelled there are read without a fault, up to the end.
+use Rattle.std.proofs.Common.{◌≡◌, ℕ, ◌+◌, ◌-◌, ◌++◌, List, [], length, take, drop, arith, sym}
+use Rattle.std.proofs.Common.{ap, subst, ◌∙◌, append_assoc}
 use Rattle.std.specs.Prelude.{string_bytes}
 use lib.Chars.{codes}
 use Rattle.x5_show.specs.Show.{line, LinesAll}

@@ -1,3 +1,4 @@
+-- The octets are values, whose lines are put from place 0 on at level 0 into an empty text, which is then those lines.
 use Rattle.std.proofs.Common.{ℕ, ◌++◌, List, arith, sym, ap, subst, ◌∙◌}
 use Rattle.x5_show.specs.Show.{LinesAll}
 use Rattle.x5_show.proofs.Printing.{whole_stands}

@@ -1,3 +1,4 @@
+-- The text is the one before with two spaces behind it for each step so far.
 use Rattle.std.proofs.Common.{◌≡◌, ◌++◌}
 use Rattle.std.specs.Prelude.{string_bytes}
 use Rattle.x5_show.specs.Show.{indent}
