@@ -1,0 +1,5 @@
+pub mod Holding
+pub mod Messages
+pub mod Doing
+pub mod Described
+pub mod Laws
