@@ -1,2 +1,5 @@
 pub mod Lists
+pub mod Spelling
 pub mod Carrying
+pub mod Finding
+pub mod Needing
