@@ -3,3 +3,4 @@ pub mod Spelling
 pub mod Carrying
 pub mod Finding
 pub mod Needing
+pub mod Doing
