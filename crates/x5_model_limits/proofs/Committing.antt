@@ -328,7 +328,7 @@ in_beginning (suc k) x [] i = elim i [ ]
 in_beginning (suc k) x (y ∷ xs) here = here
 in_beginning (suc k) x (y ∷ xs) (there i) = there (in_beginning k x xs i)
 
-in_end : {X : Type 0} (k : ℕ) (x : X) (xs : List X) → In x (drop k xs) → In x xs
+pub in_end : {X : Type 0} (k : ℕ) (x : X) (xs : List X) → In x (drop k xs) → In x xs
 in_end zero x xs i = i
 in_end (suc k) x [] i = elim i [ ]
 in_end (suc k) x (y ∷ xs) i = there (in_end k x xs i)

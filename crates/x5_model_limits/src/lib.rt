@@ -2,7 +2,7 @@
 //! written, and is read back (X.518, sections 18 to 21). Each function here does nothing; its clauses are the theorems.
 #![tactic(auto)]
 
-ghost use Rattle.x5_model_limits.specs.Laws.{CarriedBounded, CommittedBounded};
+ghost use Rattle.x5_model_limits.specs.Laws.{CarriedBounded, CommittedBounded, DescribedBounded, LinesBounded};
 
 /// What is carried by a reference is within the limits, where the message that it's carried for has room in its trace.
 pub fn what_is_carried()
@@ -12,4 +12,15 @@ pub fn what_is_carried()
 /// What an agent holds once it accepted an update that is within the limits is within them (X.511, section 11).
 pub fn committed_bounded()
     ensures { CommittedBounded }
+{}
+
+/// What a world's file describes of an agent is within the limits, where its texts are UTF-8 (X.501, section 22).
+pub fn described_bounded()
+    ensures { DescribedBounded }
+{}
+
+/// At every line of a run what an agent holds is within the limits, copies refreshed or not, so long as the updates that
+/// were accepted are, and a moment has four octets (X.525, section 9).
+pub fn lines_bounded()
+    ensures { LinesBounded }
 {}
