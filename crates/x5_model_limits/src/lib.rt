@@ -2,7 +2,16 @@
 //! written, and is read back (X.518, sections 18 to 21). Each function here does nothing; its clauses are the theorems.
 #![tactic(auto)]
 
-ghost use Rattle.x5_model_limits.specs.Laws.{CarriedBounded, CommittedBounded, DescribedBounded, LinesBounded};
+ghost use Rattle.x5_model_limits.specs.Laws.{CarriedBounded, FindsBounded, RestBounded, ProbesBounded};
+ghost use Rattle.x5_model_limits.specs.Laws.{CommittedBounded, DescribedBounded, LinesBounded};
+
+/// Where what an agent holds and the message are within the limits, so is what it finds of the name, and what it needs for a
+/// list or search, and for probes.
+pub fn what_is_found()
+    ensures found { FindsBounded }
+    ensures rest { RestBounded }
+    ensures probes { ProbesBounded }
+{}
 
 /// What is carried by a reference is within the limits, where the message that it's carried for has room in its trace.
 pub fn what_is_carried()
