@@ -37,7 +37,7 @@ request_within by_user asked target r w t = by (is_probe asked.body target) (ask
     by false true = record { controls = tt; body = part_within (is_wide r.kind) target asked.body t w.body }
     by false false = w
 
-item_within : (a : ℕ) (m : Chained) → BoundedMessage m → BoundedItem (item_of a m)
+pub item_within : (a : ℕ) (m : Chained) → BoundedMessage m → BoundedItem (item_of a m)
 item_within a m w = record { target = w.target; progress = w.progress }
 
 shorter : (n : ℕ) → nat_le 128 n ≡ false → n < 128

@@ -1,8 +1,9 @@
 -- Where each member of a list is so, of lists that are made of lists.
 use Rattle.std.proofs.Common.{◌≡◌, Bool, true, false, inl, inr, List, [], ◌∷◌, ◌++◌, map, refl, sym, subst, Option, Some, None, if◌then◌else◌}
 use Rattle.std.specs.List.{filter, flat_map}
-use Rattle.x5_model.specs.Words.{in_option, when}
+use Rattle.x5_model.specs.Words.{in_option, when, sorted}
 use Rattle.x5_model.specs.Members.{In}
+use Rattle.x5_model.proofs.Ascending.{of_sorted}
 use Rattle.x5_model.proofs.Lists.{in_first, in_either, of_map, of_filter, of_flat}
 use Rattle.x5_model_fitting.specs.Names.{Each}
 
@@ -16,8 +17,8 @@ module _ {X : Type 0} (P : X → Type 0) where
   pub each_both : (xs ys : List X) → Each P xs → Each P ys → Each P (xs ++ ys)
   each_both xs ys f g x i = elim (in_either x xs ys i) [ inl j ↦ f x j | inr j ↦ g x j ]
 
-  pub each_when : (b : Bool) (x : X) → P x → Each P (when b x)
-  each_when true x p = each_one x p
+  pub each_when : (b : Bool) (x : X) → (b ≡ true → P x) → Each P (when b x)
+  each_when true x p = each_one x (p refl)
   each_when false x p = each_none
 
   pub each_if : (b : Bool) (xs : List X) → Each P xs → Each P (if b then xs else [])
@@ -30,6 +31,9 @@ module _ {X : Type 0} (P : X → Type 0) where
 
   pub each_kept : (test : X → Bool) (xs : List X) → Each P xs → Each P (filter test xs)
   each_kept test xs f x i = f x (of_filter test x xs i).0
+
+  pub each_sorted : (below : X → X → Bool) (xs : List X) → Each P xs → Each P (sorted below xs)
+  each_sorted below xs f x i = f x (of_sorted below x xs i)
 
   pub each_or : {Y : Type 0} (xs : List X) (f : Y → List X) (o : Option Y) → Each P xs
       → ((y : Y) → o ≡ Some y → Each P (f y)) → Each P (in_option xs f o)

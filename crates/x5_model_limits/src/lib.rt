@@ -2,9 +2,34 @@
 //! written, and is read back (X.518, sections 18 to 21). Each function here does nothing; its clauses are the theorems.
 #![tactic(auto)]
 
-ghost use Rattle.x5_model_limits.specs.Laws.{CarriedBounded};
+ghost use Rattle.x5_model_limits.specs.Laws.{CarriedBounded, FindsBounded, RestBounded, ProbesBounded};
+ghost use Rattle.x5_model_limits.specs.Laws.{CommittedBounded, DescribedBounded, LinesBounded};
+
+/// Where what an agent holds and the message are within the limits, so is what it finds of the name, and what it needs for a
+/// list or search, and for probes.
+pub fn what_is_found()
+    ensures found { FindsBounded }
+    ensures rest { RestBounded }
+    ensures probes { ProbesBounded }
+{}
 
 /// What is carried by a reference is within the limits, where the message that it's carried for has room in its trace.
 pub fn what_is_carried()
     ensures { CarriedBounded }
+{}
+
+/// What an agent holds once it accepted an update that is within the limits is within them (X.511, section 11).
+pub fn committed_bounded()
+    ensures { CommittedBounded }
+{}
+
+/// What a world's file describes of an agent is within the limits, where its texts are UTF-8 (X.501, section 22).
+pub fn described_bounded()
+    ensures { DescribedBounded }
+{}
+
+/// At every line of a run what an agent holds is within the limits, copies refreshed or not, so long as the updates that
+/// were accepted are, and a moment has four octets (X.525, section 9).
+pub fn lines_bounded()
+    ensures { LinesBounded }
 {}
