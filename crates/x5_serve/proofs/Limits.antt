@@ -22,8 +22,11 @@ use Rattle.x5_model_known.proofs.Replying.{served_name_agents}
 use Rattle.x5_model_limits.specs.Holding.{BoundedHoldings}
 use Rattle.x5_model_limits.specs.Messages.{BoundedReference, BoundedMessage, BoundedReply}
 use Rattle.x5_model_limits.specs.Doing.{BoundedFound}
-use Rattle.x5_model_limits.specs.Laws.{FindsBounded, RestBounded, ProbesBounded, CommittedBounded, AnswersBounded, DoesBounded}
+use Rattle.x5_model_limits.specs.Laws.{AnswersBounded, DoesBounded}
 use Rattle.x5_model_limits.proofs.Carrying.{carried_bounded}
+use Rattle.x5_model_limits.proofs.Finding.{finds_bounded}
+use Rattle.x5_model_limits.proofs.Needing.{rest_bounded, probes_bounded}
+use Rattle.x5_model_limits.proofs.Committing.{committed_bounded}
 use Rattle.x5_ops.specs.ReferenceViews.{chained_view, reference_view, item_view}
 use Rattle.x5_ops.specs.AnswerViews.{answer_view, reply_view}
 use Rattle.x5_ops.specs.RequestViews.{body_view}
@@ -36,18 +39,6 @@ use Rattle.x5_trace.specs.Items.{same_named, IsNamed}
 use Rattle.x5_trace.proofs.Items.{any_has, distinct_push, repeats_placed}
 use Rattle.x5_serve.specs.Sendable.{replies_to, MayBeSent, MayBeReplied, MayBePassedOn, KeepsLimits}
 use Rattle.x5_serve.proofs.Operations.{served_answers}
-
-finds_bounded : FindsBounded
-finds_bounded = ?
-
-rest_bounded : RestBounded
-rest_bounded = ?
-
-probes_bounded : ProbesBounded
-probes_bounded = ?
-
-committed_bounded : CommittedBounded
-committed_bounded = ?
 
 answers_bounded : AnswersBounded
 answers_bounded = ?

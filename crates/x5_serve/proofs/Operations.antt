@@ -339,18 +339,21 @@ early k y e f = record { suits = f; passable = λ g. absurd (false_true (sym_of 
     sym_of : {b : Bool} → b ≡ false → b ≡ true → false ≡ true
     sym_of {b} g h = subst (λ (c : Bool). c ≡ true) g h
 
+early_error : (k : Hand) (x : DirError) → Served k (Failed x)
+early_error k x = early k (Failed x) refl (error_suits k x)
+
 late : (s : Scene) (k : Hand) (y : Reply) (j : Journal) → Arrives s k j → Suits k y → Served k y
 late s k y j a f = record { suits = f; passable = λ g. arrived s k j a }
 
 module _ (s : Scene) (most : ℕ) where
   replies : (x : Act) (i j : Journal) → Does s most x i j → Replies x
-  replies _ _ _ (loops {k} e) = early k _ refl (error_suits k _)
-  replies _ _ _ (is_long {k} e f) = early k _ refl (error_suits k _)
+  replies _ _ _ (loops {k} e) = early_error k _
+  replies _ _ _ (is_long {k} e f) = early_error k _
   replies _ _ _ (done_before {k} e f g) =
       early k (Answered Changed) refl
       (changed_suits k (both_true (is_update k.message.request.body) _ g).0)
-  replies _ _ _ (refused {k} x e f g h) = early k (Failed x) refl (error_suits k x)
-  replies _ _ _ (unfit {k} e f g h i) = early k _ refl (error_suits k _)
+  replies _ _ _ (refused {k} x e f g h) = early_error k x
+  replies _ _ _ (unfit {k} e f g h i) = early_error k _
   replies _ _ _ (stuck {k} {j} a e) = late s k _ j a (error_suits k _)
   replies _ _ _ (nowhere {k} {j} m a e) = late s k _ j a (error_suits k _)
   replies _ _ _ (refers {k} {j} r a e f) =

@@ -27,7 +27,6 @@ use Rattle.x5_serve.specs.declared.arrival.Step.{Step}
 use Rattle.x5_serve.specs.declared.arrival.Step.TheVariants as step
 use Rattle.x5_serve.specs.declared.network.Carried.{Carried}
 use Rattle.x5_serve.specs.declared.network.Carried.TheVariants as carried
-use Rattle.x5_serve.specs.declared.network.Verdict.{Verdict}
 use Rattle.x5_serve.proofs.Cycle.{is_more}
 use Rattle.x5_serve.proofs.Limits.{onward_bounded, parts_bounded, probe_bounded, may_be_replied, left_bounded}
 use Rattle.x5_serve.proofs.Operations.{served_passable}
@@ -79,7 +78,7 @@ module _ {N : Type 0} (scene : N → Scene) (most : N → ℕ) (names : N → Li
   -- ---- a message that goes further
   module _ (old : N) (me : ℕ) (m : Chained) (x : Step)
       (is : IsStep (scene old) (most old) (names old) (journal old) (hand me (chained_view (names old) m)) x)
-      (limits : KeepsLimits (length (names old)) (scene old) (journal old)) (there : me < length (names old))
+      (limits : KeepsLimits (length (names old)) (scene old) (journal old)) (inside : me < length (names old))
       (sent : MayBeSent (names old) m) where
     pub goes_passable : (r : Reference) → x ≡ step.Goes r → MayBePassedOn (hand me (chained_view (names old) m))
     goes_passable r e =
@@ -92,7 +91,7 @@ module _ {N : Type 0} (scene : N → Scene) (most : N → ℕ) (names : N → Li
         let w = subst (IsStep (scene old) (most old) (names old) (journal old) (hand me (chained_view (names old) m))) e
         is in
         onward_bounded (length (names old)) (scene old) (journal old) limits (journal old)
-        (hand me (chained_view (names old) m)) there sent.bounded (reference_view (names old) r) w.1
+        (hand me (chained_view (names old) m)) inside sent.bounded (reference_view (names old) r) w.1
 
     pub joins_passable : (a : Answer) (rs : List Reference) → x ≡ step.Joins a rs
         → MayBePassedOn (hand me (chained_view (names old) m))
@@ -107,7 +106,7 @@ module _ {N : Type 0} (scene : N → Scene) (most : N → ℕ) (names : N → Li
         let w = subst (IsStep (scene old) (most old) (names old) (journal old) (hand me (chained_view (names old) m))) e
         is in
         parts_bounded (length (names old)) (scene old) (journal old) limits (journal old)
-        (hand me (chained_view (names old) m)) there sent.bounded (map (reference_view (names old)) rs) w.2.rest
+        (hand me (chained_view (names old) m)) inside sent.bounded (map (reference_view (names old)) rs) w.2.rest
 
   -- ---- what is replied, and heard back
   module _ (now then : N) (me : ℕ) (m : Chained) (y : Reply) (s : Stays scene most names now then)
@@ -116,9 +115,9 @@ module _ {N : Type 0} (scene : N → Scene) (most : N → ℕ) (names : N → Li
     pub back_replied : (operation : ℕ) → KeepsLimits (length (names now)) (scene now) (journal now)
         → me < length (names now) → MayBeSent (names now) m → operation ≡ operation_of (body_view m.request.body)
         → MayBeReplied (names then) operation y
-    back_replied operation limits there sent same =
+    back_replied operation limits inside sent same =
         subst (λ (ns : List (List ℕ)). MayBeReplied ns operation y) (sym s.names_are)
-        (may_be_replied (names now) (scene now) (most now) (journal now) (journal then) me m y operation limits there
+        (may_be_replied (names now) (scene now) (most now) (journal now) (journal then) me m y operation limits inside
         sent same d)
 
     pub back_passable : (back : Reply) → reply_view (names then) back ≡ reply_view (names then) y
