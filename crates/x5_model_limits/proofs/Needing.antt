@@ -46,7 +46,7 @@ in_once r (x ∷ rs) i = elim (in_first r x (filter (λ y. not (same_spelled_rdn
       (in_once r rs (of_filter (λ y. not (same_spelled_rdn x y)) r (once rs) j).0)
 ]
 
-module _ (h : Holdings) (m : Chained) (w : BoundedHoldings h) (b : BoundedMessage m) where
+module _ (h : Holdings) (m : Chained) (w : BoundedHoldings h) where
   abbrev all : List Held
   all = served m.request h
 
@@ -108,7 +108,7 @@ module _ (h : Holdings) (m : Chained) (w : BoundedHoldings h) (b : BoundedMessag
       by true g = each_none BoundedContext
       by false g = each_both BoundedContext level (and_below k all target subset (filter (under subset level) all)) f g
 
-  evaluated_bounded : AreContexts (evaluated h m)
+  pub evaluated_bounded : AreContexts (evaluated h m)
   evaluated_bounded =
       each_some BoundedContext (λ (subset : Subset). and_below 16 all target subset (begins_at h m subset)) (subset_of m)
       (λ subset e. level_served 16 subset (begins_at h m subset) (begins_served subset m.progress))
@@ -242,14 +242,14 @@ module _ (h : Holdings) (m : Chained) (w : BoundedHoldings h) (b : BoundedMessag
           let is : name_above n ++ rdn ∷ [] ≡ name = cc in
           subst NameWithin is (beside_within n rdn t.0 t.1)
 
-  probes_within : AreBounded (due_probes h m)
-  probes_within =
+  probes_within : BoundedMessage m → AreBounded (due_probes h m)
+  probes_within b =
       each_unless BoundedReference (is_some (fault_of m.request.body)) (probe_needs h m)
       (each_some BoundedReference (probe_due h m) (new_name m.request.body)
       (λ name q. due_bounded name (new_within m.request.body name b.request.body q)))
 
 pub rest_bounded : RestBounded
-rest_bounded h m w b r i = parts_bounded h m w b r (rest_is_needed h m r i)
+rest_bounded h m w b r i = parts_bounded h m w r (rest_is_needed h m r i)
 
 pub probes_bounded : ProbesBounded
 probes_bounded h m w b = probes_within h m w b

@@ -3,6 +3,8 @@
 #![tactic(auto)]
 
 ghost use Rattle.x5_model_limits.specs.Laws.{CarriedBounded, FindsBounded, RestBounded, ProbesBounded};
+ghost use Rattle.x5_model_limits.specs.Laws.{OwnPartBounded, CopyPartBounded, LocalPartBounded};
+ghost use Rattle.x5_model_limits.specs.Laws.{RefusalsBounded, JudgedBounded, GroundBounded, AnswersBounded};
 
 /// Where what an agent holds and the message are within the limits, so is what it finds of the name, and what it needs for a
 /// list or search, and for probes.
@@ -15,4 +17,25 @@ pub fn what_is_found()
 /// What is carried by a reference is within the limits, where the message that it's carried for has room in its trace.
 pub fn what_is_carried()
     ensures { CarriedBounded }
+{}
+
+/// What an agent answers from a context or a copy within the limits, and its part of a list or search, is within them (X.518,
+/// section 19).
+pub fn parts_bounded()
+    ensures own { OwnPartBounded }
+    ensures copy { CopyPartBounded }
+    ensures local { LocalPartBounded }
+{}
+
+/// What an agent refuses a request with within the limits, by the request alone or by the entries of its own contexts, is within
+/// them (X.511, sections 9 to 12).
+pub fn refusals_bounded()
+    ensures refused { RefusalsBounded }
+    ensures judged { JudgedBounded }
+    ensures ground { GroundBounded }
+{}
+
+/// What is made of answers and references within the limits stays within them (X.518, section 21).
+pub fn answers_bounded()
+    ensures { AnswersBounded }
 {}
