@@ -29,8 +29,8 @@ use Rattle.x5_model_fitting.specs.Requests.{CountWithin, IfThere, RequestWithin}
 use Rattle.x5_model_limits.specs.Holding.{BoundedEntry, BoundedSpecific, BoundedContext, BoundedCopy, BoundedHoldings}
 use Rattle.x5_model_limits.specs.Described.{world_is_utf8, BoundedDeed, BoundedPast}
 use Rattle.x5_model_limits.specs.Laws.{LinesBounded}
-use Rattle.x5_model_limits.proofs.Lists.{each_none, each_both, each_kept, each_map, each_some}
-use Rattle.x5_model_limits.proofs.Committing.{in_end, applied_bounded}
+use Rattle.x5_model_limits.proofs.Lists.{in_end, each_none, each_both, each_kept, each_map, each_some}
+use Rattle.x5_model_limits.proofs.Committing.{applied_bounded}
 use Rattle.x5_model_limits.proofs.Described.{ContextWithin, AgentWithin, agent_within, copied_within, held_within, below_within, root_within, nothing_held}
 
 -- ---- the one tree

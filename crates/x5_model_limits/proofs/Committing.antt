@@ -38,6 +38,8 @@ use Rattle.x5_model_fitting.proofs.Texts.{naming_known}
 use Rattle.x5_model_fitting.proofs.Kept.{longer_name_within}
 use Rattle.x5_model_limits.specs.Holding.{BoundedValue, BoundedStored, BoundedEntry, BoundedContext, BoundedHoldings}
 use Rattle.x5_model_limits.specs.Laws.{CommittedBounded}
+use Rattle.x5_model_limits.proofs.Lists.{in_beginning, in_end}
+use Rattle.x5_model_limits.proofs.Spelling.{last_within}
 
 -- ---- the values of one type
 
@@ -312,26 +314,6 @@ modified_keeps rdn cs each e f h q =
     rdn_is_kept false x y r = absurd (cc r)
 
 -- ---- names
-
--- the last RDN of a name that isn't the root's is one of its RDNs
-last_in : (n : Name) → 0 < length n → In (last_rdn n) n
-last_in [] l = absurd (omega (arith, l))
-last_in (r ∷ []) l = here
-last_in (r ∷ s ∷ n) l = there (last_in (s ∷ n) (omega arith))
-
-last_within : (n : Name) → 0 < length n → NameWithin n → RdnWithin (last_rdn n)
-last_within n l h = h.rdns (last_rdn n) (last_in n l)
-
-in_beginning : {X : Type 0} (k : ℕ) (x : X) (xs : List X) → In x (take k xs) → In x xs
-in_beginning zero x xs i = elim i [ ]
-in_beginning (suc k) x [] i = elim i [ ]
-in_beginning (suc k) x (y ∷ xs) here = here
-in_beginning (suc k) x (y ∷ xs) (there i) = there (in_beginning k x xs i)
-
-pub in_end : {X : Type 0} (k : ℕ) (x : X) (xs : List X) → In x (drop k xs) → In x xs
-in_end zero x xs i = i
-in_end (suc k) x [] i = elim i [ ]
-in_end (suc k) x (y ∷ xs) i = there (in_end k x xs i)
 
 -- a name with another RDN in one place is as long as it was
 respelled_within : (k : ℕ) (r : Rdn) (n : Name) → k < length n → RdnWithin r → NameWithin n → NameWithin (respelled k r n)
