@@ -1,13 +1,13 @@
 -- What is made of answers and references within the limits stays within them: by their cases.
-use Rattle.std.proofs.Common.{ℕ, zero, suc, Bool, true, false, not, ◌&&◌, ◌||◌, List, [], ◌∷◌, ◌++◌, take}
+use Rattle.std.proofs.Common.{ℕ, Bool, not, ◌&&◌, ◌||◌, List, [], ◌∷◌}
 use Rattle.std.specs.List.{filter, list_any}
 use Rattle.std.specs.declared.option.Option.{Option}
 use Rattle.std.specs.declared.option.Option.TheVariants.{None, Some}
-use Rattle.x5_model.specs.Members.{In, here, there}
+use Rattle.x5_model.specs.Members.{here, there}
 use Rattle.x5_model.specs.References.{Reference}
-use Rattle.x5_model.specs.Answers.{EntryInfo, Sub, Source, Outcome, Answer, EntryFound, Matched, Listed, Found, Changed}
+use Rattle.x5_model.specs.Answers.{Answer, EntryFound, Matched, Listed, Found, Changed}
 use Rattle.x5_model_tree.specs.Ask.{unexplored_of, limited}
-use Rattle.x5_model_serve.specs.Answering.{first_each, before_sub, before_info, joined, both_outcomes, merged, with_unexplored, only_unexplored, limited_answer, to_follow, passed_by, in_vain, of_these}
+use Rattle.x5_model_serve.specs.Answering.{first_each, before_sub, before_info, joined, merged, with_unexplored, only_unexplored, limited_answer, to_follow, passed_by, in_vain, of_these}
 use Rattle.x5_model_fitting.specs.Names.{Each}
 use Rattle.x5_model_fitting.specs.Replies.{InfoWithin, SubWithin}
 use Rattle.x5_model_limits.specs.Messages.{BoundedReference, BoundedSource, BoundedAnswer}
@@ -31,12 +31,16 @@ module _ {A : Type 0} (P : A → Type 0) where
   each_limited (Some n) xs f = λ x i. f x (in_beginning n x xs i)
 
 merged_bounded : (a b : Answer) → BoundedAnswer a → BoundedAnswer b → BoundedAnswer (merged a b)
-merged_bounded (Listed subs sources o) (Listed more others q) f g =
-    (each_joined SubWithin before_sub subs more f.0 g.0, each_both BoundedSource sources others f.1 g.1,
-    each_both BoundedReference o.unexplored q.unexplored f.2 g.2)
-merged_bounded (Found infos sources o) (Found more others q) f g =
-    (each_joined InfoWithin before_info infos more f.0 g.0, each_both BoundedSource sources others f.1 g.1,
-    each_both BoundedReference o.unexplored q.unexplored f.2 g.2)
+merged_bounded (Listed subs sources o) (Listed more others q) f g = (
+  each_joined SubWithin before_sub subs more f.0 g.0,
+  each_both BoundedSource sources others f.1 g.1,
+  each_both BoundedReference o.unexplored q.unexplored f.2 g.2,
+)
+merged_bounded (Found infos sources o) (Found more others q) f g = (
+  each_joined InfoWithin before_info infos more f.0 g.0,
+  each_both BoundedSource sources others f.1 g.1,
+  each_both BoundedReference o.unexplored q.unexplored f.2 g.2,
+)
 merged_bounded (EntryFound info source) b f g = f
 merged_bounded (Matched equal copy source) b f g = f
 merged_bounded Changed b f g = f

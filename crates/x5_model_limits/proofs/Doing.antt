@@ -1,25 +1,24 @@
--- By one induction over all that is done: what is told is what the agent found, answered or heard, and each message that
--- is sent is carried by a reference of its own or of a reply that it follows.
-use Rattle.std.proofs.Common.{◌≡◌, ℕ, ◌-◌, ◌==◌, nat_lt, Bool, true, false, not, inl, inr, List, [], ◌∷◌, ◌++◌, take, refl, sym, subst, ◌∙◌, arith, Option, Some, None, Err, if◌then◌else◌}
+-- By one induction over all that is done: what is told is what the agent found, answered or heard, and each message
+-- that is sent is carried by a reference of its own or of a reply that it follows.
+use Rattle.std.proofs.Common.{◌≡◌, ℕ, ◌-◌, ◌==◌, nat_lt, Bool, true, false, not, inl, inr, List, [], ◌∷◌, ◌++◌, refl, sym, subst, ◌∙◌, arith, Option, Err, if◌then◌else◌}
 use Rattle.std.specs.List.{list_all, filter}
 use Rattle.x5_model.specs.Words.{has}
-use Rattle.x5_model.specs.Members.{In, here}
-use Rattle.x5_model.specs.References.{Progress, Start, Next, Done, Reference, Chained}
+use Rattle.x5_model.specs.Members.{here}
+use Rattle.x5_model.specs.References.{Progress, Start, Next, Done, Reference}
 use Rattle.x5_model.specs.Answers.{Answer, DirError, Reply, Answered, Failed}
 use Rattle.x5_model.proofs.Lists.{in_first, in_left, in_right, of_filter, of_all, all_in}
 use Rattle.x5_model_tree.specs.Ask.{unexplored_of}
-use Rattle.x5_model_run.specs.Holdings.{ground_at, Holdings}
+use Rattle.x5_model_run.specs.Holdings.{ground_at}
 use Rattle.x5_model_run.specs.Journal.{Line, Journal, is_wide}
 use Rattle.x5_model_run.specs.Needs.{due_probes}
 use Rattle.x5_model_run.specs.Chain.{Scene}
 use Rattle.x5_model_theory.proofs.Tests.{false_true}
 use Rattle.x5_model_serve.specs.Committed.{committed}
 use Rattle.x5_model_serve.specs.Finding as finding
-use Rattle.x5_model_serve.specs.Answering.{local_part, with_unexplored, only_unexplored, passed_by, to_follow, in_vain, of_these, is_unavailable, above_next}
-use Rattle.x5_model_serve.specs.Serving.{Hand, hand, hand_of, Heard, Unheard, Hears, Gathered, Whole, Broken, Act, Serves, Follows, Sends, Tries, Takes, Spreads, Casts, Gathers, Probes, Updates, Does, Arrives, asked_by, holds_now, found_at, gathered_reply, heard_or, is_final, is_too_long, judged, limit_reply, parts_refs, stuck_problem, carried_for, next_line, with_line, user_line, user_in_vain, nothing_yet, IsRequest, not_heard, not_told, answers, loops, is_long, done_before, refused, unfit, stuck, nowhere, refers, goes, casts, reads, reads_copy, gives_parts, asks_parts, updates, not_done, does, probes_all, misses, taken, breaks, no_probe, clear, unsure, silent, spent, lost, dropped, sends, final, referral, wide_referral, unexplored, none_yet, in_vain_too, heard, unheard, none_asked, unable_too, silent_too, answered, nobody_has, some_silent, no_part, part_unheard, part_unavailable, part_answered, part_breaks}
-use Rattle.x5_model_heard.specs.Told.{are_agents, name_agents, reply_names, KnowsAgents, IsTold}
+use Rattle.x5_model_serve.specs.Answering.{local_part, with_unexplored, passed_by, in_vain, is_unavailable, above_next}
+use Rattle.x5_model_serve.specs.Serving.{Hand, hand, hand_of, Heard, Unheard, Hears, Gathered, Whole, Broken, Act, Does, asked_by, holds_now, found_at, gathered_reply, heard_or, is_final, is_too_long, judged, limit_reply, parts_refs, stuck_problem, carried_for, next_line, with_line, user_line, user_in_vain, nothing_yet, IsRequest, not_heard, not_told, answers, loops, is_long, done_before, refused, unfit, stuck, nowhere, refers, goes, casts, reads, reads_copy, gives_parts, asks_parts, updates, not_done, does, probes_all, misses, taken, breaks, no_probe, clear, unsure, silent, spent, lost, dropped, sends, final, referral, wide_referral, unexplored, none_yet, in_vain_too, heard, unheard, none_asked, unable_too, silent_too, answered, nobody_has, some_silent, no_part, part_unheard, part_unavailable, part_answered, part_breaks}
+use Rattle.x5_model_heard.specs.Told.{are_agents, name_agents, KnowsAgents, IsTold}
 use Rattle.x5_model_heard.proofs.Told.{replies_are_told}
-use Rattle.x5_model_known.specs.Holding.{HoldAgents}
 use Rattle.x5_model_known.proofs.Finding.{knowledge_names_agents}
 use Rattle.x5_model_fitting.specs.Names.{Each, NameWithin}
 use Rattle.x5_model_fitting.specs.Requests.{RequestWithin}
@@ -29,7 +28,7 @@ use Rattle.x5_model_limits.specs.Holding.{BoundedHoldings, HoldBounded}
 use Rattle.x5_model_limits.specs.Messages.{BoundedReference, BoundedMessage, BoundedAnswer, BoundedReply}
 use Rattle.x5_model_limits.specs.Doing.{BoundedFound, BoundedHand, BoundedJournal, BoundedOpener, BoundedAsking, BoundedTelling, GivenBounded, BoundedHeard, BoundedWhole, ToldBounded}
 use Rattle.x5_model_limits.specs.Laws.{DoesBounded, RequestsBounded}
-use Rattle.x5_model_limits.proofs.Lists.{each_none, each_one}
+use Rattle.x5_model_limits.proofs.Lists.{each_one}
 use Rattle.x5_model_limits.proofs.Spelling.{root_within}
 use Rattle.x5_model_limits.proofs.Carrying.{item_within, carried_bounded}
 use Rattle.x5_model_limits.proofs.Finding.{finds_bounded}
@@ -103,7 +102,8 @@ module _ (n : ℕ) where
   abbrev Comes : Act → Journal → Journal → Type 0
   Comes x i j = GivenBounded n x → BoundedJournal n i → ToldBounded x × BoundedJournal n j
 
-  one_line : (l : Line) (j : Journal) → BoundedHand n (hand_of l) → BoundedJournal n j → BoundedJournal n (with_line l j)
+  one_line : (l : Line) (j : Journal) → BoundedHand n (hand_of l) → BoundedJournal n j
+      → BoundedJournal n (with_line l j)
   one_line l j w f x i = elim (in_first x l j.lines i) [
     | inl e ↦ subst (λ (y : Line). BoundedHand n (hand_of y)) (sym e) w
     | inr k ↦ f x k
@@ -152,7 +152,8 @@ module _ (n : ℕ) where
     local_bounded : (j : Journal) (k : Hand) (a : Answer) → BoundedHand n k
         → local_part (holds_now s j k) k.message ≡ Answered a → BoundedAnswer a
     local_bounded j k a g e =
-        subst BoundedReply e (local_part_is_bounded (holds_now s j k) k.message g.message.request (now_bounded j k g.receiver))
+        subst BoundedReply e
+        (local_part_is_bounded (holds_now s j k) k.message g.message.request (now_bounded j k g.receiver))
 
     parts_bounded : (j : Journal) (k : Hand) → BoundedHand n k → Each BoundedReference (parts_refs s j k)
     parts_bounded j k g = rest_bounded (holds_now s j k) k.message (now_bounded j k g.receiver) g.message
@@ -364,8 +365,7 @@ module _ (n : ℕ) where
         λ g f.
         let w = each_middle BoundedReference r rs [] g.1 in
         let x = first (g.0, each_left BoundedReference rs (r ∷ []) g.1, all_left is_named rs (r ∷ []) g.2, g.3) f in
-        let y = next (asking o r g.0 w, middle is_named r rs [] g.2) x.1 in
-        (
+        let y = next (asking o r g.0 w, middle is_named r rs [] g.2) x.1 in (
           answers_are_bounded.more (in_vain r ∷ []) b
               (each_one BoundedReference (in_vain r) (answers_are_bounded.vain r w)) x.0,
           y.1,
@@ -376,8 +376,7 @@ module _ (n : ℕ) where
         λ g f.
         let w = each_middle BoundedReference r rs [] g.1 in
         let x = first (g.0, each_left BoundedReference rs (r ∷ []) g.1, all_left is_named rs (r ∷ []) g.2, g.3) f in
-        let y = next (asking o r g.0 w, middle is_named r rs [] g.2) x.1 in
-        (
+        let y = next (asking o r g.0 w, middle is_named r rs [] g.2) x.1 in (
           answers_are_bounded.more (in_vain v ∷ []) b
               (each_one BoundedReference (in_vain v) (answers_are_bounded.vain v y.0.1)) x.0,
           y.1,

@@ -1,13 +1,12 @@
 -- The contexts that are evaluated on the spot are those that are served; what a list or search needs below them is made
 -- of their entries and references; and a probe goes to an entry's name with one RDN more.
-use Rattle.std.proofs.Common.{◌≡◌, ℕ, zero, suc, ◌-◌, ◌≤◌, ◌==◌, min, Bool, true, false, not, ◌&&◌, inl, inr, List, [], ◌∷◌, ◌++◌, length, map, take, refl, sym, ap, subst, ◌∙◌, arith, length-take, Option, Some, None, if◌then◌else◌}
+use Rattle.std.proofs.Common.{◌≡◌, ℕ, zero, suc, ◌-◌, ◌≤◌, ◌==◌, Bool, true, false, not, ◌&&◌, inl, inr, List, [], ◌∷◌, ◌++◌, length, map, sym, ap, subst, arith, length-take, Option, Some, None, if◌then◌else◌}
 use Rattle.std.specs.List.{filter, flat_map, list_any}
 use Rattle.std.specs.Option.{is_some, is_none}
-use Rattle.x5_model.specs.Words.{is_empty, in_option, when, sorted}
+use Rattle.x5_model.specs.Words.{is_empty, in_option}
 use Rattle.x5_model.specs.Members.{In, here, there}
 use Rattle.x5_model.specs.Keys.{Key, same_key, is_child, is_root, parent}
 use Rattle.x5_model.specs.Values.{Rdn, Name, key_of, name_above, last_rdn}
-use Rattle.x5_model.specs.Normal.{most_rdns}
 use Rattle.x5_model.specs.Entries.{Named}
 use Rattle.x5_model.specs.Requests.{Subset, Body, Read, Compare, ListBelow, Search, AddEntry, RemoveEntry, ModifyEntry, ModifyDn}
 use Rattle.x5_model.specs.References.{Progress, Start, Next, Done, NonSpecific, Subordinate, Reference, Chained}
@@ -19,9 +18,8 @@ use Rattle.x5_model_tree.specs.Tree.{key_at, is_there, entry_at}
 use Rattle.x5_model_tree.specs.Ask.{in_subset}
 use Rattle.x5_model_run.specs.Journal.{same_name, same_spelled_rdn, is_wide}
 use Rattle.x5_model_run.specs.Holdings.{Held, Holdings, usable_agents, held_at, served, known_pin, is_first_level}
-use Rattle.x5_model_run.specs.Needs.{others, reference, proceeding, resolves, subset_of, is_excluded, begins_at, begins_by, found_below, found_by_name, and_below, evaluated, answers_root, below_needs, in_scope, rdn_below, once, treated_below, to_each, wide_needs, subset_needs, part_needs, nssr_at, new_name, is_refused_here, probe_by, probe_from, probe_of, probe_at_master, probe_due, probe_needs, due_probes}
+use Rattle.x5_model_run.specs.Needs.{others, reference, proceeding, resolves, subset_of, is_excluded, begins_at, and_below, evaluated, answers_root, below_needs, in_scope, rdn_below, once, treated_below, to_each, wide_needs, subset_needs, part_needs, nssr_at, new_name, is_refused_here, probe_by, probe_from, probe_of, probe_at_master, probe_due, probe_needs, due_probes}
 use Rattle.x5_model_theory.proofs.Stages.{key_length}
-use Rattle.x5_model_serve.specs.Answering.{rest_of_parts}
 use Rattle.x5_model_serve.proofs.Walks.{rest_is_needed}
 use Rattle.x5_model_fitting.specs.Names.{Each, RdnWithin, NameWithin}
 use Rattle.x5_model_fitting.specs.Requests.{BodyWithin}
@@ -110,7 +108,8 @@ module _ (h : Holdings) (m : Chained) (w : BoundedHoldings h) where
 
   pub evaluated_bounded : AreContexts (evaluated h m)
   evaluated_bounded =
-      each_some BoundedContext (λ (subset : Subset). and_below 16 all target subset (begins_at h m subset)) (subset_of m)
+      each_some BoundedContext (λ (subset : Subset). and_below 16 all target subset (begins_at h m subset))
+      (subset_of m)
       (λ subset e. level_served 16 subset (begins_at h m subset) (begins_served subset m.progress))
 
   -- ---- a list or search

@@ -1,38 +1,38 @@
 -- What an agent answers from entries within the limits is within them: by the cases of a request, and by where what is
 -- listed and found comes from.
-use Rattle.std.proofs.Common.{◌≡◌, ℕ, Bool, true, false, ◌&&◌, if◌then◌else◌, List, [], ◌∷◌, map, refl, sym, ap, subst, ◌∙◌, Option, Some, None, Ok, Err, cond, inl, inr}
+use Rattle.std.proofs.Common.{◌≡◌, ℕ, Bool, true, false, ◌&&◌, if◌then◌else◌, List, [], ◌∷◌, map, refl, sym, subst, Option, Some, None, cond, inl, inr}
 use Rattle.std.specs.List.{filter, flat_map}
 use Rattle.std.specs.Option.{is_some}
-use Rattle.x5_model.specs.Words.{is_empty, in_option, sorted}
-use Rattle.x5_model.specs.Members.{In, here, there}
+use Rattle.x5_model.specs.Words.{is_empty, in_option}
+use Rattle.x5_model.specs.Members.{here}
 use Rattle.x5_model.specs.Keys.{Key, same_key, is_child}
-use Rattle.x5_model.specs.Values.{TypeRef, Value, StoredValue, Rdn, Name, key_of, last_rdn}
+use Rattle.x5_model.specs.Values.{TypeRef, StoredValue, Name, key_of}
 use Rattle.x5_model.specs.Entries.{Stored, Entry, Named}
 use Rattle.x5_model.specs.Filters.{Assertion, Filter}
 use Rattle.x5_model.specs.Truth.{selects_entry}
 use Rattle.x5_model.specs.Requests.{Subset, Selection, All, Only, Body, Read, Compare, ListBelow, Search, AddEntry, RemoveEntry, ModifyEntry, ModifyDn, Request}
 use Rattle.x5_model.specs.References.{Chained}
-use Rattle.x5_model.specs.Answers.{Shown, EntryInfo, Sub, Source, DirError, NoSuchObject, AttributeProblem, ServiceProblem, Reply}
+use Rattle.x5_model.specs.Answers.{Source, DirError, ServiceProblem}
 use Rattle.x5_model.specs.Problems.{unavailable}
 use Rattle.x5_model.specs.Selections.{is_selected, shown_attribute, shown, selection_fault}
 use Rattle.x5_model.specs.Statics.{fault_of}
-use Rattle.x5_model.proofs.Lists.{in_either, of_map, of_filter, of_find}
+use Rattle.x5_model.proofs.Lists.{of_filter, of_find}
 use Rattle.x5_model_tree.specs.Tree.{Tree, key_at, named_below, tree_of, entry_at, is_there_or_root}
 use Rattle.x5_model_tree.specs.Apply.{Applied, apply_over, apply, ground_of}
 use Rattle.x5_model_tree.specs.Ask as ask
 use Rattle.x5_model_tree.specs.Ask.{Told, Shows, Compares, Lists, Finds, Changes, Refuses, in_subset, info_of, sub_of, has_type, just_below, searched, limited_list, limited_found, at_object, updated, ask_body, ask_marked}
 use Rattle.x5_model_updates.proofs.Outcomes.{ok_or_err, tree_accepts, tree_refuses}
-use Rattle.x5_model_run.specs.Holdings.{Held, Copy, Holdings, copy_at, masters_pin, usable_copies, served, may_copy}
+use Rattle.x5_model_run.specs.Holdings.{Held, Copy, Holdings, copy_at, masters_pin}
 use Rattle.x5_model_parts.specs.Parts.{asks_for}
 use Rattle.x5_model_serve.specs.Walking.{entered}
-use Rattle.x5_model_serve.specs.Answering.{reply_from, own_source, copy_source, reply_in_own, reply_in_copy, stamp_at, local_sources, subs_in, infos_in, first_each, before_sub, before_info, told_in, local_told, local_part}
+use Rattle.x5_model_serve.specs.Answering.{reply_from, own_source, copy_source, stamp_at, local_sources, subs_in, infos_in, before_sub, before_info, told_in, local_told}
 use Rattle.x5_model_serve.proofs.Walks.{of_walk}
-use Rattle.x5_model_fitting.specs.Names.{Each, RdnWithin, NameWithin}
+use Rattle.x5_model_fitting.specs.Names.{Each}
 use Rattle.x5_model_fitting.specs.Terms.{TypeWithin, ValueWithin}
 use Rattle.x5_model_fitting.specs.Requests.{CountWithin, IfThere, SelectionWithin, BodyWithin, RequestWithin}
 use Rattle.x5_model_fitting.specs.Replies.{ShownWithin, InfoWithin, SubWithin}
 use Rattle.x5_model_fitting.proofs.Texts.{known_within}
-use Rattle.x5_model_limits.specs.Holding.{BoundedValue, BoundedStored, BoundedEntry, BoundedContext, BoundedCopy, BoundedHoldings}
+use Rattle.x5_model_limits.specs.Holding.{BoundedStored, BoundedEntry, BoundedContext, BoundedCopy, BoundedHoldings}
 use Rattle.x5_model_limits.specs.Messages.{BoundedSource, BoundedError, BoundedReply}
 use Rattle.x5_model_limits.specs.Laws.{OwnPartBounded, CopyPartBounded, LocalPartBounded}
 use Rattle.x5_model_limits.proofs.Lists.{each_one, each_sorted, each_flat, each_map}

@@ -1,8 +1,8 @@
--- What a request within the limits is refused with is within them: by the cases of what refuses it, since the types that
--- are told are the request's own or of the table, and the names that are told are of entries.
-use Rattle.std.proofs.Common.{◌≡◌, ℕ, zero, suc, Bool, true, false, ◌&&◌, ◌||◌, ◌==◌, nat_lt, nat_le, not, List, [], ◌∷◌, ◌++◌, map, length, refl, sym, ap, subst, ◌∙◌, Option, Some, None, Ok, Err, cond, inl, inr}
+-- What a request within the limits is refused with is within them: by the cases of what refuses it, since the types
+-- that are told are the request's own or of the table, and the names that are told are of entries.
+use Rattle.std.proofs.Common.{◌≡◌, ℕ, zero, suc, Bool, true, false, ◌&&◌, ◌||◌, nat_lt, nat_le, not, List, [], ◌∷◌, ◌++◌, map, length, refl, sym, ap, subst, ◌∙◌, Option, Some, None, Ok, Err, cond, inl, inr}
 use Rattle.std.proofs.lemmas.Bool.{leb-true}
-use Rattle.std.specs.List.{flat_map, filter, list_any}
+use Rattle.std.specs.List.{flat_map, list_any}
 use Rattle.std.specs.Option.{is_none}
 use Rattle.x5_model.specs.Words.{has, is_empty, first_of, in_option, when}
 use Rattle.x5_model.specs.Members.{In, here, there}
@@ -11,22 +11,21 @@ use Rattle.x5_model.specs.Values.{TypeRef, Known, Unknown, StoredValue, Offered,
 use Rattle.x5_model.specs.Types.{Row, row_of, in_row, is_known, is_single}
 use Rattle.x5_model.specs.Entries.{Stored, Entry, Named}
 use Rattle.x5_model.specs.Attributes.{is_present, has_value, entry_with, put_value, drop_value, has_rdn, doubled, stored_value, added_entry}
-use Rattle.x5_model.specs.Filters.{Assertion}
-use Rattle.x5_model.specs.Requests.{Attribute, Change, AddAttribute, RemoveAttribute, AddValues, RemoveValues, Body, Read, Compare, ListBelow, Search, AddEntry, RemoveEntry, ModifyEntry, ModifyDn, Request}
-use Rattle.x5_model.specs.Answers.{DirError, NoSuchObject, AttributeProblem, UpdateProblem, ServiceProblem}
+use Rattle.x5_model.specs.Requests.{Attribute, Change, AddAttribute, RemoveAttribute, AddValues, RemoveValues, Body, Read, Compare, ListBelow, Search, AddEntry, RemoveEntry, ModifyEntry, ModifyDn}
+use Rattle.x5_model.specs.Answers.{DirError, NoSuchObject, AttributeProblem, UpdateProblem}
 use Rattle.x5_model.specs.Statics.{attribute_of, name_refusals, given, value_refusals, attribute_repeats, change_repeats, repeat_refusals, entry_refusals, added_refusals, static_refusals, fault_of, names_class, is_defined, has_equal_values, same_type, repeated}
 use Rattle.x5_model.specs.Changes.{ChangedEntry, and_then, each_value, put_new, drop_old, on_known, changed, changed_by, single_valued, keeps_rdn, modified, renamed}
 use Rattle.x5_model.proofs.Lists.{both_true, of_filter, of_find, of_map, of_flat}
 use Rattle.x5_model_tree.specs.Tree.{entry_at, has_below, lowest_within, or_shorter, matched}
-use Rattle.x5_model_tree.specs.Apply.{Ground, UpdatedEntries, absent, is_taken, above_pin, at_entry, modify, rename, update, apply_over}
+use Rattle.x5_model_tree.specs.Apply.{Ground, UpdatedEntries, is_taken, above_pin, at_entry, modify, rename, update, apply_over}
 use Rattle.x5_model_updates.proofs.Outcomes.{none_or_some, modify_none, modify_some, clashes, rename_none, rename_some, over_fault, over_update}
-use Rattle.x5_model_run.specs.Holdings.{Holdings, as_context, ground_at}
+use Rattle.x5_model_run.specs.Holdings.{as_context}
 use Rattle.x5_model_fitting.specs.Names.{Each, NameWithin}
-use Rattle.x5_model_fitting.specs.Terms.{TypeWithin, AttributeWithin, AssertionWithin}
-use Rattle.x5_model_fitting.specs.Requests.{ChangeWithin, BodyWithin, RequestWithin}
+use Rattle.x5_model_fitting.specs.Terms.{TypeWithin}
+use Rattle.x5_model_fitting.specs.Requests.{ChangeWithin, BodyWithin}
 use Rattle.x5_model_fitting.specs.Replies.{ProblemWithin}
 use Rattle.x5_model_fitting.proofs.Texts.{known_within}
-use Rattle.x5_model_limits.specs.Holding.{BoundedEntry, BoundedContext, BoundedHoldings}
+use Rattle.x5_model_limits.specs.Holding.{BoundedEntry}
 use Rattle.x5_model_limits.specs.Messages.{BoundedError}
 use Rattle.x5_model_limits.specs.Laws.{RefusalsBounded, JudgedBounded, GroundBounded}
 use Rattle.x5_model_limits.proofs.Spelling.{root_within}

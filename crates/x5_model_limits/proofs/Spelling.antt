@@ -1,20 +1,19 @@
 -- Names that are spelled partly as an agent keeps them, and names on the way to others, are within the limits.
-use Rattle.std.proofs.Common.{◌≡◌, ℕ, ◌+◌, ◌-◌, ◌<◌, ◌≤◌, min, nat_lt, Bool, true, false, not, List, [], ◌∷◌, ◌++◌, length, take, drop, refl, sym, arith, ◌∙◌, length-append, length-take, length-drop, inl, inr}
+use Rattle.std.proofs.Common.{◌≡◌, ℕ, ◌-◌, ◌<◌, ◌≤◌, nat_lt, Bool, true, false, List, [], ◌∷◌, ◌++◌, length, take, drop, refl, sym, arith, ◌∙◌, length-append, length-take, length-drop}
 use Rattle.std.proofs.lemmas.Bool.{ltb-true, ltb-false}
 use Rattle.x5_model.specs.Words.{is_empty}
 use Rattle.x5_model.specs.Members.{In, here, there}
-use Rattle.x5_model.specs.Keys.{Key, IsPrefix, same_key}
+use Rattle.x5_model.specs.Keys.{IsPrefix}
 use Rattle.x5_model.specs.Values.{Rdn, Name, key_of, name_above, last_rdn}
 use Rattle.x5_model.specs.Normal.{most_rdns}
-use Rattle.x5_model.specs.References.{RefType, Next}
+use Rattle.x5_model.specs.References.{RefType}
 use Rattle.x5_model.proofs.KeyLaws.{key_decides}
-use Rattle.x5_model.proofs.Lists.{in_either}
 use Rattle.x5_model.proofs.Prefixes.{prefix_itself, prefix_length, same_by_length}
 use Rattle.x5_model_run.specs.Journal.{same_name}
 use Rattle.x5_model_run.specs.Needs.{proceeding}
 use Rattle.x5_model_theory.proofs.Stages.{key_length}
 use Rattle.x5_model_theory.proofs.Tests.{false_true}
-use Rattle.x5_model_fitting.specs.Names.{Each, RdnWithin, NameWithin}
+use Rattle.x5_model_fitting.specs.Names.{RdnWithin, NameWithin}
 use Rattle.x5_model_fitting.proofs.Kept.{beginning_within, longer_name_within}
 use Rattle.x5_model_limits.specs.Messages.{BoundedReference}
 use Rattle.x5_model_limits.proofs.Lists.{in_end, each_none, each_both}
