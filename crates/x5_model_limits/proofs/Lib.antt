@@ -10,3 +10,4 @@ pub mod Committing
 pub mod Doing
 pub mod Described
 pub mod AtLines
+pub mod Stepping
