@@ -6,6 +6,7 @@ ghost use Rattle.x5_model_limits.specs.Laws.{FindsBounded, RestBounded, ProbesBo
 ghost use Rattle.x5_model_limits.specs.Laws.{OwnPartBounded, CopyPartBounded, LocalPartBounded, AnswersBounded};
 ghost use Rattle.x5_model_limits.specs.Laws.{RefusalsBounded, JudgedBounded, GroundBounded, CommittedBounded};
 ghost use Rattle.x5_model_limits.specs.Laws.{DoesBounded, RequestsBounded, DescribedBounded, LinesBounded};
+ghost use Rattle.x5_model_limits.specs.Operations.{RepliesToAsked, RequestsAnswered};
 
 /// Where what an agent holds and the message are within the limits, so is what it finds of the name, and what it needs for a
 /// list or search, and for probes.
@@ -51,6 +52,12 @@ pub fn committed_bounded()
 pub fn what_is_done()
     ensures does { DoesBounded }
     ensures requests { RequestsBounded }
+{}
+
+/// Over any knowledge a reply is one to what was asked: its answer is the result of that operation (X.511, sections 9 to 11).
+pub fn what_is_answered()
+    ensures does { RepliesToAsked }
+    ensures requests { RequestsAnswered }
 {}
 
 /// What a world's file describes of an agent is within the limits, where its texts are UTF-8 (X.501, section 22).
