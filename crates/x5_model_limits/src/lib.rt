@@ -2,7 +2,7 @@
 //! written, and is read back (X.518, sections 18 to 21). Each function here does nothing; its clauses are the theorems.
 #![tactic(auto)]
 
-ghost use Rattle.x5_model_limits.specs.Laws.{FindsBounded, RestBounded, ProbesBounded, CarriedBounded};
+ghost use Rattle.x5_model_limits.specs.Laws.{FindsBounded, RestBounded, ProbesBounded, CarriedBounded, OpeningBounded};
 ghost use Rattle.x5_model_limits.specs.Laws.{OwnPartBounded, CopyPartBounded, LocalPartBounded, AnswersBounded};
 ghost use Rattle.x5_model_limits.specs.Laws.{RefusalsBounded, JudgedBounded, GroundBounded, CommittedBounded};
 ghost use Rattle.x5_model_limits.specs.Laws.{DoesBounded, RequestsBounded, DescribedBounded, LinesBounded};
@@ -16,9 +16,11 @@ pub fn what_is_found()
     ensures probes { ProbesBounded }
 {}
 
-/// What is carried by a reference is within the limits, where the message that it's carried for has room in its trace.
+/// What is carried by a reference is within the limits, where the message that it's carried for has room in its trace; and so is
+/// what a user asks.
 pub fn what_is_carried()
-    ensures { CarriedBounded }
+    ensures carried { CarriedBounded }
+    ensures opening { OpeningBounded }
 {}
 
 /// What an agent answers from a context or a copy within the limits, and its part of a list or search, is within them (X.518,
