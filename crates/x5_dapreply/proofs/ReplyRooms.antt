@@ -5,7 +5,7 @@ use Rattle.std.specs.declared.option.Option.{Option}
 use Rattle.std.specs.declared.option.Option.TheVariants.{None, Some}
 use Rattle.x5_model.specs.References.{Progress, Start, Next, Done}
 use Rattle.x5_model.specs.Answers.{Shown, EntryInfo, Sub}
-use Rattle.x5_model_messages.specs.Terms.{type_node, rdn_node, value_node}
+use Rattle.x5_model_messages.specs.Terms.{node_of, type_node, rdn_node, name_node, value_node}
 use Rattle.x5_model_messages.specs.Replies.{Access, Reference, TraceItem, Source, Outcome, Answer, Entry, Match, Listed}
 use Rattle.x5_model_messages.specs.Replies.{Found, Changed, Reply, Answered, NoSuchObject, AttributeProblem}
 use Rattle.x5_model_messages.specs.Replies.{UpdateProblem, ServiceProblem, Referred, progress_node, access_node}
@@ -14,7 +14,7 @@ use Rattle.x5_model_messages.specs.Replies.{info_node, sub_node, limit_node, out
 use Rattle.x5_model_messages.specs.Replies.{reference_or_vacant, item_or_vacant, error_node, reply_node, to_user}
 use Rattle.x5_model_octets.specs.Elements.{deepest}
 use Rattle.x5_model_typed.specs.Named as named
-use Rattle.x5_model_typed.specs.Nodes.{Node}
+use Rattle.x5_model_typed.specs.Nodes.{Node, whole}
 use Rattle.x5_model_typed.specs.Typed.{Spells}
 use Rattle.x5_model_typed.specs.Written.{canonical_octets}
 use Rattle.x5_model_typed_laws.specs.Fits.{Fits}
@@ -158,24 +158,32 @@ reply_room referral id (Answered code answer) =
     let fits : 1 + 1 + 2 + 2 + 18 ≤ deepest = omega arith in
     let result = answer_takes answer (1 + 1 + 2 + 2) fits in
     (omega arith, (omega arith, (omega arith, ((omega arith, (omega arith, (result, tt))), tt))))
-reply_room referral id (AttributeProblem problem type) = error_room id 1 _ (λ d le.
-    (omega (arith, le), (omega (arith, le), (type_takes type (d + 2) (omega (arith, le)), tt))))
-reply_room referral id (NoSuchObject matched) = error_room id 2 _ (λ d le.
-    (omega (arith, le), (omega (arith, le), (name_takes matched (d + 2) (omega (arith, le)), tt))))
-reply_room referral id (ServiceProblem problem reference item) = error_room id 3 _ (λ d le. (
-  omega (arith, le),
-  (
-    omega (arith, le),
-    (
-      reference_or_vacant_takes reference (d + 2) (omega (arith, le)),
-      (item_or_vacant_takes item (d + 2) (omega (arith, le)), tt),
-    ),
-  ),
-))
+reply_room referral id (AttributeProblem problem type) =
+    let takes : Takes 10 (node_of (whole problem ∷ type_node type ∷ [])) = λ d le.
+    (omega (arith, le), (omega (arith, le), (type_takes type (d + 2) (omega (arith, le)), tt))) in
+    error_room id 1 (node_of (whole problem ∷ type_node type ∷ [])) takes
+reply_room referral id (NoSuchObject matched) =
+    let takes : Takes 10 (node_of (whole 1 ∷ name_node matched ∷ [])) = λ d le.
+    (omega (arith, le), (omega (arith, le), (name_takes matched (d + 2) (omega (arith, le)), tt))) in
+    error_room id 2 (node_of (whole 1 ∷ name_node matched ∷ [])) takes
+reply_room referral id (ServiceProblem problem reference item) =
+    let takes : Takes 10 (node_of (whole problem ∷ reference_or_vacant reference ∷ item_or_vacant item ∷ [])) = λ d le. (
+      omega (arith, le),
+      (
+        omega (arith, le),
+        (
+          reference_or_vacant_takes reference (d + 2) (omega (arith, le)),
+          (item_or_vacant_takes item (d + 2) (omega (arith, le)), tt),
+        ),
+      ),
+    ) in
+    error_room id 3 (node_of (whole problem ∷ reference_or_vacant reference ∷ item_or_vacant item ∷ [])) takes
 reply_room referral id (UpdateProblem problem) =
-    error_room id 8 _ (λ d le. (omega (arith, le), (omega (arith, le), tt)))
+    let takes : Takes 10 (node_of (whole problem ∷ [])) = λ d le. (omega (arith, le), (omega (arith, le), tt)) in
+    error_room id 8 (node_of (whole problem ∷ [])) takes
 reply_room referral id (Referred reference) =
-    error_room id referral _ (λ d le. reference_takes reference d (omega (arith, le)))
+    let takes : Takes 10 (reference_node reference) = λ d le. reference_takes reference d (omega (arith, le)) in
+    error_room id referral (reference_node reference) takes
 
 pub answer_spelled : (id : ℕ) (r : Reply) (octets : List ℕ)
     → Fits table (table named.DapAnswer) (reply_node to_user id r)

@@ -19,7 +19,9 @@ returns-clause-spelled c = λ fit.
     let items = c.in_ok-write.field-0.items in
     let short : length items < 2 ^ 64 = omega (arith, c.in_ok-write.field-0.ok.0, c.in_ok-write.field-0.small) in
     let written : canonical_octets table named.DapAnswer n ≡ Some items =
-    subst (λ (x : nodes.Node). canonical_octets table named.DapAnswer x ≡ Some items) c.in_ok-node.ensures
-    c.in_ok-write.ensures in
+    subst (λ (k : ℕ). canonical_octets table named.DapAnswer (reply_node to_user c.args.id (told_reply k c.args.reply.now))
+    ≡ Some items) c.code.ensures
+    (subst (λ (x : nodes.Node). canonical_octets table named.DapAnswer x ≡ Some items) c.in_ok-node.ensures
+    c.in_ok-write.ensures) in
     subst (λ (os : List ℕ). Spells table named.DapAnswer os n) (sym c.new.ensures)
     (answer_spelled c.args.id r items fit written short)

@@ -21,8 +21,10 @@ returns-clause-spelled c = λ fit.
     let items = c.in_ok-write.field-0.items in
     let short : length items < 2 ^ 64 = omega (arith, c.in_ok-write.field-0.ok.0, c.in_ok-write.field-0.small) in
     let written : canonical_octets table named.DspAnswer n ≡ Some items =
-    subst (λ (x : nodes.Node). canonical_octets table named.DspAnswer x ≡ Some items) c.in_ok-node.ensures
-    c.in_ok-write.ensures in
+    subst (λ (k : ℕ). canonical_octets table named.DspAnswer (reply_node to_agent c.args.id (told_reply k c.args.reply.now))
+    ≡ Some items) c.code.ensures
+    (subst (λ (x : nodes.Node). canonical_octets table named.DspAnswer x ≡ Some items) c.in_ok-node.ensures
+    c.in_ok-write.ensures) in
     let room = reply_room to_agent c.args.id (told_reply (code_view c.args.operation) c.args.reply.now) in
     let spells = written_spells nowhere named.DspAnswer n items refl fit
     (has_spelling table (good_tags nowhere) named.DspAnswer n items room written short) written in
