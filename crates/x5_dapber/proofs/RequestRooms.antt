@@ -29,7 +29,7 @@ many_take f r takes xs d le = (omega (arith, le), mapped_take f r takes xs (d + 
 
 -- ---- names, values and attributes
 
-type_takes : (t : TypeRef) → Takes 0 (type_node t)
+pub type_takes : (t : TypeRef) → Takes 0 (type_node t)
 type_takes t d le = omega (arith, le)
 
 pair_takes : (p : ℕ × Text) → Takes 2 (pair_node p)
@@ -47,7 +47,7 @@ rdn_takes r = pairs_take (map written_pair r)
 pub name_takes : (n : Name) → Takes 6 (name_node n)
 name_takes n = name_value_takes (written n)
 
-value_takes : (v : Value) → Takes 6 (value_node v)
+pub value_takes : (v : Value) → Takes 6 (value_node v)
 value_takes (TextValue t) d le = omega (arith, le)
 value_takes (OctetsValue o) d le = omega (arith, le)
 value_takes (OidValue arcs) d le = omega (arith, le)

@@ -1,4 +1,5 @@
 mod ReferenceParts
+pub mod ReplyRooms
 pub mod RepliesBack
 pub mod ReplyIsSayable
 pub mod Sequences

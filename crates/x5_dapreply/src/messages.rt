@@ -9,6 +9,7 @@ ghost use Rattle.x5_model_typed.specs.Named as named;
 ghost use Rattle.x5_model_typed.specs.Nodes as nodes;
 ghost use Rattle.x5_model_typed.specs.Typed.{Spells};
 ghost use Rattle.x5_model_typed.specs.Written.{canonical_octets};
+ghost use Rattle.x5_model_typed_laws.specs.Fits.{Fits};
 ghost use Rattle.x5_typed.specs.Comes.{ComesTo};
 ghost use Rattle.x5_ops.specs.JournalViews.{code_view};
 ghost use Rattle.x5_types.specs.FormView.{table};
@@ -40,7 +41,10 @@ pub fn encode_answer(
     operation: Operation,
     reply: &Reply,
 ) -> Result<Octets, WriteFault>
-    ensures { IsWritten (canonical_octets table named.DapAnswer (replies.reply_node replies.to_user id (told_reply (code_view operation) reply.now))) result }
+    ensures written { IsWritten (canonical_octets table named.DapAnswer (replies.reply_node replies.to_user id (told_reply (code_view operation) reply.now))) result }
+    // They spell the answer that they are written of, where it is a value of the type by all rules. Then they are read back, by `back` below.
+    ensures spelled { Fits table (table named.DapAnswer) (replies.reply_node replies.to_user id (told_reply (code_view operation) reply.now))
+        → IfOk result (λ octets. Spells table named.DapAnswer octets (replies.reply_node replies.to_user id (told_reply (code_view operation) reply.now))) }
 {
     let node = reply_node(alloc, REFERRAL, id, operation.code(), reply)?;
     Ok(Octets::new(write(alloc, Named::DapAnswer, &node)?))

@@ -2,10 +2,9 @@
 -- isn't too deep.
 use Rattle.std.proofs.Common.{◌≡◌, ℕ, ◌+◌, ◌<◌, ◌≤◌, ◌^◌, ℤ, pos, List, [], ◌∷◌, map, length, refl, sym, ap, subst, ◌∙◌, arith}
 use Rattle.std.specs.declared.option.Option.TheVariants.{Some}
-use Rattle.x5_model.specs.References.{Progress, Start, Next, Done}
 use Rattle.x5_model.specs.Requests.{Controls, Body, Read, Compare, ListBelow, Search, AddEntry, RemoveEntry, ModifyEntry, ModifyDn}
 use Rattle.x5_model_messages.specs.Chained.{Chained, chaining_node, carried_node, chained_node}
-use Rattle.x5_model_messages.specs.Replies.{TraceItem, progress_node, item_node}
+use Rattle.x5_model_messages.specs.Replies.{item_node}
 use Rattle.x5_model_messages.specs.Requests.{argument_node}
 use Rattle.x5_model_messages.specs.Terms.{node_of, rdn_node}
 use Rattle.x5_model_octets.specs.Elements.{deepest}
@@ -25,6 +24,7 @@ use Rattle.x5_dapber.proofs.Levels.{IsShallow}
 use Rattle.x5_dapber.proofs.RequestRooms.{Takes, many_take, rdn_takes, name_takes, argument_takes}
 use Rattle.x5_dapber.proofs.Rooms.{Room, has_spelling}
 use Rattle.x5_dapber.proofs.Tags.{good_tags}
+use Rattle.x5_dapreply.proofs.ReplyRooms.{progress_takes, item_takes}
 use Rattle.x5_dspber.proofs.ChainedIsSayable.{codes, invoke_of}
 
 -- ---- the filter
@@ -65,23 +65,6 @@ chained_shallow id m fit =
     (subst (λ (x : Node). Fits table (table i.form) x) carried i.fits_carried)
 
 -- ---- room
-
-progress_takes : (p : Progress) → Takes 2 (progress_node p)
-progress_takes Start d le = (omega (arith, le), (omega (arith, le), (omega (arith, le), tt)))
-progress_takes (Next k) d le = (omega (arith, le), (omega (arith, le), (omega (arith, le), tt)))
-progress_takes Done d le = (omega (arith, le), (omega (arith, le), (omega (arith, le), tt)))
-
-item_takes : (i : TraceItem) → Takes 8 (item_node i)
-item_takes i d le = (
-  omega (arith, le),
-  (
-    omega (arith, le),
-    (
-      name_takes i.target (d + 2) (omega (arith, le)),
-      (progress_takes i.progress (d + 2) (omega (arith, le)), (omega (arith, le), tt)),
-    ),
-  ),
-)
 
 chaining_takes : (m : Chained) → Takes 12 (chaining_node m)
 chaining_takes m d le = (

@@ -90,7 +90,10 @@ pub fn encode_result(
     operation: Operation,
     reply: &Reply,
 ) -> Result<Octets, WriteFault>
-    ensures { IsWritten (canonical_octets table named.DspAnswer (replies.reply_node replies.to_agent id (told_reply (code_view operation) reply.now))) result }
+    ensures written { IsWritten (canonical_octets table named.DspAnswer (replies.reply_node replies.to_agent id (told_reply (code_view operation) reply.now))) result }
+    // They spell the answer that they are written of, where it is a value of the type by all rules. Then they are read back, by `back` below.
+    ensures spelled { Fits table (table named.DspAnswer) (replies.reply_node replies.to_agent id (told_reply (code_view operation) reply.now))
+        → IfOk result (λ octets. Spells table named.DspAnswer octets (replies.reply_node replies.to_agent id (told_reply (code_view operation) reply.now))) }
 {
     let node = reply_node(alloc, REFERRAL, id, operation.code(), reply)?;
     Ok(Octets::new(write(alloc, Named::DspAnswer, &node)?))

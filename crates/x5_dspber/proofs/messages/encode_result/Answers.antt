@@ -1,0 +1,31 @@
+-- The octets that are written are those of the answer, and they spell it.
+use Rattle.std.proofs.Common.{◌≡◌, ℕ, ◌<◌, ◌^◌, List, length, refl, sym, subst, arith}
+use Rattle.std.specs.declared.option.Option.TheVariants.{Some}
+use Rattle.x5_model_messages.specs.Replies.{reply_node, to_agent}
+use Rattle.x5_model_typed.specs.Named as named
+use Rattle.x5_model_typed.specs.Nodes as nodes
+use Rattle.x5_model_typed.specs.Typed.{Spells}
+use Rattle.x5_model_typed.specs.Written.{canonical_octets}
+use Rattle.x5_ops.specs.JournalViews.{code_view}
+use Rattle.x5_types.specs.FormView.{nowhere, table}
+use Rattle.x5_dapber.proofs.Clockless.{written_spells}
+use Rattle.x5_dapber.proofs.Rooms.{has_spelling}
+use Rattle.x5_dapber.proofs.Tags.{good_tags}
+use Rattle.x5_dapreply.specs.ReplyViews.{told_reply}
+use Rattle.x5_dapreply.proofs.ReplyRooms.{reply_room}
+use Rattle.x5_dspber.proofs.messages.encode_result.Goals as goal
+
+pub returns-clause-spelled : goal.returns-clause-spelled
+returns-clause-spelled c = λ fit.
+    let n = reply_node to_agent c.args.id (told_reply (code_view c.args.operation) c.args.reply.now) in
+    let items = c.in_ok-write.field-0.items in
+    let short : length items < 2 ^ 64 = omega (arith, c.in_ok-write.field-0.ok.0, c.in_ok-write.field-0.small) in
+    let written : canonical_octets table named.DspAnswer n ≡ Some items =
+    subst (λ (k : ℕ). canonical_octets table named.DspAnswer (reply_node to_agent c.args.id (told_reply k c.args.reply.now))
+    ≡ Some items) c.code.ensures
+    (subst (λ (x : nodes.Node). canonical_octets table named.DspAnswer x ≡ Some items) c.in_ok-node.ensures
+    c.in_ok-write.ensures) in
+    let room = reply_room to_agent c.args.id (told_reply (code_view c.args.operation) c.args.reply.now) in
+    let spells = written_spells nowhere named.DspAnswer n items refl fit
+    (has_spelling table (good_tags nowhere) named.DspAnswer n items room written short) written in
+    subst (λ (os : List ℕ). Spells table named.DspAnswer os n) (sym c.new.ensures) spells
