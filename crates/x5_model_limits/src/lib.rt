@@ -62,6 +62,8 @@ pub fn what_is_done()
 pub fn steps_bounded()
     ensures noted { NotedBounded }
     ensures replay { ReplayBounded }
+{}
+
 /// Over any knowledge a reply is one to what was asked: its answer is the result of that operation (X.511, sections 9 to 11).
 pub fn what_is_answered()
     ensures does { RepliesToAsked }
