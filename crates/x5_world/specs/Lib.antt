@@ -1,5 +1,6 @@
 pub mod Logs
 pub mod LogViews
+pub mod LogLimits
 pub mod State
 pub mod Answered
 pub mod Counts
