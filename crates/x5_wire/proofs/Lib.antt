@@ -1,5 +1,5 @@
 mod Written
 mod Told
-mod Seen
+pub mod Seen
 pub mod Names
 pub mod Within

@@ -1,9 +1,11 @@
 -- What messages and replies stand for in a world is determined by what they tell, where agents go by their names: so what
 -- is read as it was sent stands for the same.
-use Rattle.std.proofs.Common.{◌≡◌, ℕ, List, [], ◌∷◌, map, refl, sym, ap, ap₂, ◌∙◌}
+use Rattle.std.proofs.Common.{◌≡◌, ℕ, ◌+◌, Bool, true, false, List, [], ◌∷◌, map, refl, sym, ap, ap₂, ◌∙◌, arith}
 use Rattle.std.specs.Option.{option_map}
 use Rattle.std.specs.declared.option.Option.{Option}
 use Rattle.std.specs.declared.option.Option.TheVariants.{None, Some}
+use Rattle.std.specs.Cmp.Lexicographic.{bytes_decides}
+use Rattle.x5_model.specs.Words.{same_octets}
 use Rattle.x5_model.specs.References as model
 use Rattle.x5_model.specs.Answers as model_answers
 use Rattle.x5_model_messages.specs.Chained as chains
@@ -159,3 +161,58 @@ module _ (names : List (List ℕ)) where
       → reply_view names back ≡ reply_view names y
   reply_seen code back y e =
       reply_placed 0 back ∙ ap reply_at e ∙ without_code (told_reply code y) ∙ sym (reply_placed code y)
+
+-- ---- what stands for the same in every world tells the same
+
+alone : (x y : List ℕ) → same_octets x y ≡ false → agent_of (x ∷ []) y ≡ 1
+alone x y e = rw e refl
+
+itself : (x : List ℕ) → same_octets x x ≡ true → agent_of (x ∷ []) x ≡ 0
+itself x e = rw e refl
+
+agent_alike : (x y : List ℕ) → ((names : List (List ℕ)) → agent_of names x ≡ agent_of names y) → x ≡ y
+agent_alike x y h = by (same_octets x y) refl
+  where
+    by : (b : Bool) → same_octets x y ≡ b → x ≡ y
+    by true e = (bytes_decides x y).0 e
+    by false e =
+        let one = alone x y e in
+        let zero_at = itself x ((bytes_decides x x).1 refl) in
+        let same = h (x ∷ []) in
+        absurd (omega (arith, one, zero_at, same))
+
+items_alike : (a b : List TraceItem) → ((names : List (List ℕ)) → map (item_view names) a ≡ map (item_view names) b)
+    → map told_item a ≡ map told_item b
+items_alike [] [] h = refl
+items_alike [] (y ∷ b) h = let no = h [] in absurd (cc no)
+items_alike (x ∷ a) [] h = let no = h [] in absurd (cc no)
+items_alike (x ∷ a) (y ∷ b) h =
+    let first : (names : List (List ℕ)) → item_view names x ≡ item_view names y = λ names. first_same _ _ _ _ (h names) in
+    let agent = agent_alike x.agent y.agent (λ names. ap (λ (i : model.TraceItem). i.agent) (first names)) in
+    let item : told_item x ≡ told_item y =
+    λ i. record {
+      agent = agent i;
+      target = ap (λ (j : model.TraceItem). j.target) (first []) i;
+      progress = ap (λ (j : model.TraceItem). j.progress) (first []) i;
+      wide = ap (λ (j : model.TraceItem). j.wide) (first []) i;
+    } in
+    ap₂ ◌∷◌ item (items_alike a b (λ names. rest_same _ _ _ _ (h names)))
+  where
+    first_same : {A : Type 0} (p q : A) (ps qs : List A) → p ∷ ps ≡ q ∷ qs → p ≡ q
+    first_same p q ps qs e = cc
+
+    rest_same : {A : Type 0} (p q : A) (ps qs : List A) → p ∷ ps ≡ q ∷ qs → ps ≡ qs
+    rest_same p q ps qs e = cc
+
+pub message_alike : (a b : Chained) → ((names : List (List ℕ)) → chained_view names a ≡ chained_view names b)
+    → told_chained a ≡ told_chained b
+message_alike a b h =
+    let items = items_alike a.trace b.trace (λ names. ap (λ (m : model.Chained). m.trace) (h names)) in
+    λ i. record {
+      target = ap (λ (m : model.Chained). m.target) (h []) i;
+      progress = ap (λ (m : model.Chained). m.progress) (h []) i;
+      kind = ap (λ (m : model.Chained). m.kind) (h []) i;
+      exclusions = ap (λ (m : model.Chained). m.exclusions) (h []) i;
+      trace = items i;
+      request = ap (λ (m : model.Chained). m.request) (h []) i;
+    }

@@ -5,6 +5,7 @@ pub mod Standing
 pub mod Journals
 pub mod Repeating
 pub mod Sending
+pub mod Carrying
 pub mod Holders
 pub mod Holding
 pub mod Users

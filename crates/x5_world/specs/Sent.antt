@@ -16,6 +16,7 @@ use Rattle.x5_model_known.specs.Holding.{holdings_name}
 use Rattle.x5_model_known.specs.Counted.{holdings_counted}
 use Rattle.x5_model_fitting.specs.Requests.{RequestWithin}
 use Rattle.x5_model_limits.specs.Holding.{BoundedHoldings}
+use Rattle.x5_model_limits.specs.Doing.{BoundedJournal}
 use Rattle.x5_ops.specs.JournalViews.{fate_view}
 use Rattle.x5_ops.specs.ReferenceViews.{chained_view}
 use Rattle.x5_world.specs.Logs.{AreNoted, Logs}
@@ -114,14 +115,16 @@ pub record IsCommittedAt (agent : ℕ) (r : Request) (old new : Net) : Type 0 wh
   pub noted : AreNoted (old.line + 1) r (holdings_in old agent) (logs_in old agent) (logs_in new agent)
 
 -- A user's request on its way, within the limits of messages, which began in the one network and has led to the other,
--- with the messages so far and those who accepted its update.
+-- with the messages so far, all of them within the limits too, and those who accepted its update.
 pub record IsUnderWay (n now : Net) (first : ℕ) (m : Chained) (most : ℕ) (lines : List Sent) (accepted : List ℕ) :
     Type 0 where
   pub net : IsNet n
   pub changed : IsChanged n now m.request accepted
   pub there : first < length n.names
   pub short : HasShortNames m.request.body
+  pub request : RequestWithin m.request
   pub room : n.sent + most ≤ 18446744073709551615
   pub within : length lines ≤ most
   pub counted : list_all (is_counted n.names) lines ≡ true
   pub agents : are_agents (length n.names) accepted ≡ true
+  pub journal : BoundedJournal (length n.names) (journal_of n.names lines accepted)
