@@ -335,6 +335,7 @@ still_with n now new first m most lines accepted more me msg w there ready is e 
           (sym (has_reverse accepted me) ∙ ready.fresh) within same (sym (ap is_update same) ∙ ready.due.update) is;
       there = w.there;
       short = w.short;
+      request = w.request;
       room = w.room;
       within = w.within;
       counted = w.counted;

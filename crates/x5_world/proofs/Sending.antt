@@ -118,6 +118,7 @@ still_under_way n now first m most lines more accepted x w within counted e = re
   changed = w.changed;
   there = w.there;
   short = w.short;
+  request = w.request;
   room = w.room;
   within =
       (let l : length more ≡ length lines + 1 = ap length e ∙ length-append lines (x ∷ []) in omega (arith, l, within));
