@@ -1,5 +1,6 @@
 pub mod Keeping
 pub mod Noted
+pub mod Limits
 pub mod Logging
 pub mod Standing
 pub mod Journals
@@ -23,6 +24,7 @@ pub mod Onward
 pub mod Concluding
 pub mod Delivering
 pub mod Knowing
+pub mod Supplying
 pub mod Stopping
 pub mod Agents
 pub mod Rounding

@@ -24,7 +24,7 @@ nobody_yet e = cc
 pub begun : (n now : Net) (first most : ℕ) (m : Chained) → now ≡ n → IsNet n → first < length n.names
     → HasShortNames m.request.body → RequestWithin m.request → n.sent + most ≤ 18446744073709551615
     → IsUnderWay n now first m most [] []
-begun n now first most m same net there short request room =
+begun n now first most m same net there short within room =
     record {
       net = net;
       changed = record {
@@ -37,7 +37,7 @@ begun n now first most m same net there short request room =
       };
       there = there;
       short = short;
-      request = request;
+      request = within;
       room = room;
       within = (let z : 0 ≤ most = omega arith in z);
       counted = refl;

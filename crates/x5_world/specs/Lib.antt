@@ -11,3 +11,4 @@ pub mod Users
 pub mod Refreshing
 pub mod Refreshes
 pub mod Delivered
+pub mod Once

@@ -2,6 +2,7 @@
 
 ghost use Rattle.std.specs.Prelude.{◌≡◌, ℕ, List, ◌<◌, ◌≤◌, ◌+◌, true, length, IfOk};
 ghost use Rattle.std.specs.List.{list_all};
+ghost use Rattle.x5_model_fitting.specs.Requests.{RequestWithin};
 ghost use Rattle.x5_model_heard.specs.Told.{are_agents};
 ghost use Rattle.x5_model_known.specs.Replying.{reply_agents};
 ghost use Rattle.x5_model_run.specs.Chain as chain;
@@ -104,6 +105,7 @@ pub(crate) fn asked<B: Begun>(
     requires begun { world ≡ B.net }
     requires there { first < length B.net.names }
     requires short { HasShortNames (body_view message.request.body) }
+    requires within { RequestWithin (request_view message.request) }
     requires net { IsNet B.net }
     requires room { B.net.sent + most ≤ 18446744073709551615 }
     requires some { 0 < most }

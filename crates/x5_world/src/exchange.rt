@@ -15,6 +15,7 @@ ghost use Rattle.x5_serve.specs.Networks.{IsCarriedBy, IsVerdict};
 ghost use Rattle.x5_serve.specs.Sendable.{IsTaken, MayBeSent};
 ghost use Rattle.x5_update.specs.Judging as judging;
 ghost use Rattle.x5_world.specs.Arrivals.{arrival_by};
+ghost use Rattle.x5_world.specs.Once.{under_way_once};
 ghost use Rattle.x5_world.specs.Sent.{IsUnderWay, scene_of, journal_of};
 
 use crate::begin::Begun;
@@ -46,7 +47,7 @@ pub(crate) struct Exchange<'a, B: Begun> {
     lines: Vec<Sent>,
     accepted: Vec<AgentId>,
     begun: PhantomData<B>,
-    ghost under_way: { IsUnderWay B.net world first (chained_view B.net.names message.now) most lines.items accepted.items },
+    ghost under_way: { IsUnderWay B.net world first (chained_view B.net.names message.now) most lines.items accepted.items } by { under_way_once B.net world first (chained_view B.net.names message.now) most lines.items accepted.items },
 }
 
 /// What becomes of a message that was sent. No memory.

@@ -22,7 +22,7 @@ use Rattle.x5_world.proofs.asking.asked.Goals as goal
 pub new-exchange-requires : goal.new-exchange-requires
 new-exchange-requires g c =
     let n : Net = g.B.Begun.net in
-    begun n c.args.world c.args.first c.args.most (chained_view n.names c.args.message) c.requires.begun c.requires.net c.requires.there c.requires.short c.requires.room
+    begun n c.args.world c.args.first c.args.most (chained_view n.names c.args.message) c.requires.begun c.requires.net c.requires.there c.requires.short c.requires.within c.requires.room
 
 pub returns-clause-asked : goal.returns-clause-asked
 returns-clause-asked g c =
