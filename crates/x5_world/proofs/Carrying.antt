@@ -4,21 +4,30 @@ use Rattle.std.proofs.Common.{◌≡◌, ℕ, ◌≤◌, ◌==◌, nat_le, ◌&&
 use Rattle.std.specs.List.{list_all}
 use Rattle.std.proofs.lemmas.List.{length-map}
 use Rattle.x5_model.specs.Members.{In, here, there}
+use Rattle.x5_model.specs.Words.{distinct}
+use Rattle.x5_model.specs.References as model
+use Rattle.x5_model.specs.Requests.{Request}
 use Rattle.x5_model.specs.Answers.{Answer, EntryFound, Matched, Listed, Found, Changed, Answered}
 use Rattle.x5_model_tree.specs.Described.{is_agent_name}
+use Rattle.x5_model_run.specs.Chain.{opening}
 use Rattle.x5_model_run.specs.Network as fates
+use Rattle.x5_model_fitting.specs.Requests.{RequestWithin}
 use Rattle.x5_model_fitting.specs.Chained.{ChainedWithin}
 use Rattle.x5_model_fitting.specs.Replies.{ReplyWithin}
+use Rattle.x5_model_limits.specs.Messages.{BoundedMessage}
 use Rattle.x5_model_limits.specs.Operations.{answered_by}
+use Rattle.x5_model_limits.proofs.Carrying.{opening_bounded}
 use Rattle.x5_dapreply.specs.ReplyViews.{told_reply}
 use Rattle.x5_dspber.specs.ChainedViews.{told_chained}
 use Rattle.x5_ops.specs.AnswerViews.{reply_view}
 use Rattle.x5_ops.specs.JournalViews.{code_view}
-use Rattle.x5_ops.specs.ReferenceViews.{item_view}
+use Rattle.x5_ops.specs.ReferenceViews.{chained_view, item_view}
 use Rattle.x5_ops.specs.declared.answers.Reply.{Reply}
 use Rattle.x5_ops.specs.declared.journal.Operation.{Operation}
 use Rattle.x5_ops.specs.declared.journal.Operation.TheVariants as operations
 use Rattle.x5_ops.specs.declared.references.Chained.{Chained}
+use Rattle.x5_ops.specs.declared.references.TraceItem.{TraceItem}
+use Rattle.x5_trace.specs.Items.{same_named}
 use Rattle.x5_serve.specs.Sendable.{MayBeSent, MayBeReplied, IsTaken, is_answer_to, replies_to}
 use Rattle.x5_serve.specs.declared.network.Carried.{Carried}
 use Rattle.x5_serve.specs.declared.network.Carried.TheVariants.{Unheard, Taken}
@@ -61,6 +70,21 @@ pub short_trace : (names : List (List ℕ)) (m : Chained) → MayBeSent names m 
 short_trace names m h =
     let few : length (map (item_view names) m.trace) ≤ 128 = h.bounded.few in
     let same = length-map m.trace (item_view names) in omega (arith, few, same)
+
+-- what a user asks
+no_items : (names : List (List ℕ)) (l : List TraceItem) → map (item_view names) l ≡ [] → l ≡ []
+no_items names [] e = refl
+no_items names (x ∷ l) e = absurd (cc e)
+
+pub opening_sent : (names : List (List ℕ)) (m : Chained) (r : Request) → chained_view names m ≡ opening r
+    → RequestWithin r → MayBeSent names m
+opening_sent names m r e h =
+    let none = no_items names m.trace (ap (λ (x : model.Chained). x.trace) e) in
+    record {
+      bounded = subst BoundedMessage (sym e) (opening_bounded r h);
+      apart = ap (distinct same_named) none;
+      plain = ap (list_all (λ (i : TraceItem). is_agent_name i.agent)) none;
+    }
 
 -- ---- replies
 

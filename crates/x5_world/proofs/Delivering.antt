@@ -11,6 +11,7 @@ use Rattle.x5_dspber.specs.ChainedViews.{told_chained}
 use Rattle.x5_model.specs.References.{Chained, TraceItem}
 use Rattle.x5_model.specs.Requests as model
 use Rattle.x5_model_fitting.specs.Requests.{RequestWithin}
+use Rattle.x5_model_fitting.specs.Chained.{ChainedWithin}
 use Rattle.x5_model_fitting.proofs.ChainedSaid.{chained_spelled}
 use Rattle.x5_model_fitting.proofs.RequestsSaid.{request_spelled}
 use Rattle.x5_model_messages.specs.Chained as chains
@@ -80,9 +81,9 @@ request_within octets x are w =
     subst (λ (p : ℕ × model.Request). RequestWithin p.1) (sym w.2) (request_spelled nowhere octets w.0 are w.1).1
 
 pub message_within : (octets : List ℕ) (x : ℕ × code.Chained) → list_all is_octet octets ≡ true
-    → ((n : Node) × Spells table named.DspRequest octets n × (told x ≡ chained_in n)) → RequestWithin (request_view x.1.request)
+    → ((n : Node) × Spells table named.DspRequest octets n × (told x ≡ chained_in n)) → ChainedWithin (told_chained x.1)
 message_within octets x are w =
-    subst (λ (p : ℕ × chains.Chained). RequestWithin p.1.request) (sym w.2) (chained_spelled nowhere octets w.0 are w.1).1.request
+    subst (λ (p : ℕ × chains.Chained). ChainedWithin p.1) (sym w.2) (chained_spelled nowhere octets w.0 are w.1).1
 
 -- or a first breach
 module _ {X Y : Type 0} (view : X → Y) (said : Node → Y) where

@@ -149,4 +149,5 @@ net_set = hlevel props
 
 pub under_way_once : (n now : Net) (first : ℕ) (m : Chained) (most : ℕ) (lines : List Sent) (accepted : List ℕ)
     → IsProp (IsUnderWay n now first m most lines accepted)
-under_way_once n now first m most lines accepted = hlevel (net_set, holdings_once, logs_once, request_once, props)
+under_way_once n now first m most lines accepted =
+    hlevel (net_set, holdings_once, logs_once, request_once, journal_once, props)

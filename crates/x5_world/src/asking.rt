@@ -2,7 +2,6 @@
 
 ghost use Rattle.std.specs.Prelude.{◌≡◌, ℕ, List, ◌<◌, ◌≤◌, ◌+◌, true, length, IfOk};
 ghost use Rattle.std.specs.List.{list_all};
-ghost use Rattle.x5_model_fitting.specs.Requests.{RequestWithin};
 ghost use Rattle.x5_model_heard.specs.Told.{are_agents};
 ghost use Rattle.x5_model_known.specs.Replying.{reply_agents};
 ghost use Rattle.x5_model_run.specs.Chain as chain;
@@ -13,6 +12,7 @@ ghost use Rattle.x5_ops.specs.AnswerViews.{reply_view};
 ghost use Rattle.x5_ops.specs.ReferenceViews.{chained_view};
 ghost use Rattle.x5_ops.specs.RequestViews.{body_view, request_view};
 ghost use Rattle.x5_serve.specs.Networks.{Stays, DoesAt};
+ghost use Rattle.x5_serve.specs.Sendable.{MayBeSent};
 ghost use Rattle.x5_world.specs.Users.{IsUsers, user_in_vain_at};
 ghost use Rattle.x5_world.specs.State.{HasShortNames};
 ghost use Rattle.x5_world.specs.Sent.{IsChanged, IsNet, is_counted, journal_of, scene_of};
@@ -70,6 +70,7 @@ fn served_in_vain<N: Network>(
 ) -> Result<Reply, NoMemory>
     requires there { first < length (N.names net.old) }
     requires user { IsUsers (N.scene net.old) first (chained_view (N.names net.old) message.now) }
+    requires sent { MayBeSent (N.names net.old) message.now }
     ensures stays { Stays N.scene N.most N.names net.old net.new }
     ensures served { IfOk result (λ _. (y : model.Reply) × DoesAt N.scene N.most N.journal net.old net.new (Serves (hand first (chained_view (N.names net.old) message.now)) y)) }
     ensures told { IfOk result (λ reply. reply_view (N.names net.old) reply ≡ user_in_vain_at first (chained_view (N.names net.old) message.now)) }
@@ -87,6 +88,7 @@ fn user_served<N: Network>(
 ) -> Result<Reply, NoMemory>
     requires there { first < length (N.names net.old) }
     requires user { IsUsers (N.scene net.old) first (chained_view (N.names net.old) message.now) }
+    requires sent { MayBeSent (N.names net.old) message.now }
     ensures stays { Stays N.scene N.most N.names net.old net.new }
     ensures served { IfOk result (λ reply. DoesAt N.scene N.most N.journal net.old net.new (Serves (hand first (chained_view (N.names net.old) message.now)) (reply_view (N.names net.old) reply))) }
 {
@@ -105,7 +107,7 @@ pub(crate) fn asked<B: Begun>(
     requires begun { world ≡ B.net }
     requires there { first < length B.net.names }
     requires short { HasShortNames (body_view message.request.body) }
-    requires within { RequestWithin (request_view message.request) }
+    requires sent { MayBeSent B.net.names message }
     requires net { IsNet B.net }
     requires room { B.net.sent + most ≤ 18446744073709551615 }
     requires some { 0 < most }

@@ -21,6 +21,7 @@ ghost use Rattle.x5_ops.specs.JournalViews.{fate_view, outage_view, protocol_vie
 ghost use Rattle.x5_ops.specs.ReferenceViews.{chained_view};
 ghost use Rattle.x5_ops.specs.RequestViews.{body_view, request_view};
 ghost use Rattle.x5_update.specs.Judging.{IsReady};
+ghost use Rattle.x5_serve.specs.Sendable.{MayBeSent};
 ghost use Rattle.x5_world.specs.Answered.{IsAnswered, NamesAgents, line_names_agents};
 ghost use Rattle.x5_typed.specs.Breaches.{breach_view};
 ghost use Rattle.x5_typed.specs.declared.fault.Breach as typed;
@@ -314,7 +315,7 @@ impl World {
     ) -> Result<(Reply, Journal), NoMemory>
         requires there { first < length self.old.names }
         requires short { HasShortNames (body_view message.request.body) }
-        requires within { RequestWithin (request_view message.request) }
+        requires sent { MayBeSent self.old.names message }
         requires is { most ≡ ((self.old.contexts + 34) * (length self.old.names + 9) + self.old.pairs) * (1 + length (once_each (filter (λ number. nat_lt self.old.sent number) self.old.network.lost_replies))) }
         requires most { most ≤ most_messages }
         requires room { (lines : ℕ) × (HasRoom self.old lines × (lines < 100000)) }
@@ -395,7 +396,7 @@ impl World {
     ) -> Result<Delivered, NoMemory>
         requires there { to < length self.old.names }
         requires short { HasShortNames (body_view message.request.body) }
-        requires within { RequestWithin (request_view message.request) }
+        requires sent { MayBeSent self.old.names message }
         requires is { most ≡ ((self.old.contexts + 34) * (length self.old.names + 9) + self.old.pairs) * (1 + length (once_each (filter (λ number. nat_lt self.old.sent number) self.old.network.lost_replies))) }
         requires most { most ≤ most_messages }
         requires room { (lines : ℕ) × (HasRoom self.old lines × (lines < 100000)) }
