@@ -9,8 +9,10 @@ use Rattle.std.specs.declared.result.Result.TheVariants.{Ok, Err}
 use Rattle.x5_dapber.specs.Results.{IsWritten}
 use Rattle.x5_dapber.proofs.Clockless.{asks_nothing, agree}
 use Rattle.x5_dapber.proofs.Tables.{value_fits_in_both, octets_the_same}
+use Rattle.x5_model.specs.Requests as model
 use Rattle.x5_model_messages.specs.Chained as chains
 use Rattle.x5_model_messages.specs.Replies as replies
+use Rattle.x5_model_messages.specs.Requests as requests
 use Rattle.x5_model_typed.specs.Nodes.{Node}
 use Rattle.x5_model_typed.specs.Named as named
 use Rattle.x5_model_typed.specs.Written.{canonical_octets}
@@ -18,8 +20,10 @@ use Rattle.x5_model_typed.specs.Layouts.{Surroundings, layout}
 use Rattle.x5_model_typed_laws.specs.Fits.{Fits, IsTable}
 use Rattle.x5_model_typed_laws.proofs.Back.{fits_is_written}
 use Rattle.x5_model_typed_laws.proofs.Table.{messages_apart, messages_read_back}
+use Rattle.x5_model_fitting.specs.Requests.{RequestWithin}
 use Rattle.x5_model_fitting.specs.Chained.{ChainedWithin}
 use Rattle.x5_model_fitting.specs.Replies.{ReplyWithin}
+use Rattle.x5_model_fitting.proofs.Requests as fitting
 use Rattle.x5_model_fitting.proofs.Chained.{chained_fits}
 use Rattle.x5_model_fitting.proofs.Replies.{reply_to_agent_fits}
 use Rattle.x5_types.specs.FormView.{nowhere, table}
@@ -60,6 +64,15 @@ pub message_written : (id : ℕ) (m : chains.Chained) → id < 2 ^ 32 → Chaine
     → IsWritten (canonical_octets table named.DspRequest (chains.chained_node id m)) (Err Misfit) → ⊥
 message_written id m small h =
     no_misfit named.DspRequest (chains.chained_node id m) refl (message_fits id m small h)
+
+pub request_fits : (id : ℕ) (r : model.Request) → id < 2 ^ 32 → RequestWithin r
+    → Fits table (table named.DapRequest) (requests.request_node id r)
+request_fits id r small h = fitting.request_fits nowhere id r small h
+
+pub request_written : (id : ℕ) (r : model.Request) → id < 2 ^ 32 → RequestWithin r
+    → IsWritten (canonical_octets table named.DapRequest (requests.request_node id r)) (Err Misfit) → ⊥
+request_written id r small h =
+    no_misfit named.DapRequest (requests.request_node id r) refl (request_fits id r small h)
 
 pub reply_fits : (id : ℕ) (r : replies.Reply) → id < 2 ^ 32 → ReplyWithin r
     → Fits table (table named.DspAnswer) (replies.reply_node replies.to_agent id r)

@@ -2,6 +2,7 @@
 
 ghost use Rattle.std.specs.Prelude.{◌≡◌, ℕ, List, ◌<◌, ◌≤◌, ◌+◌, true, length, IfOk};
 ghost use Rattle.std.specs.List.{list_all};
+ghost use Rattle.x5_model_fitting.specs.Requests.{RequestWithin};
 ghost use Rattle.x5_model_heard.specs.Told.{are_agents};
 ghost use Rattle.x5_model_known.specs.Replying.{reply_agents};
 ghost use Rattle.x5_model_run.specs.Chain as chain;
@@ -18,7 +19,7 @@ ghost use Rattle.x5_world.specs.State.{HasShortNames};
 ghost use Rattle.x5_world.specs.Sent.{IsChanged, IsNet, is_counted, journal_of, scene_of};
 
 use crate::begin::Begun;
-use crate::exchange::Exchange;
+use crate::exchange::{Exchange, ID};
 use crate::journal::Sent;
 use crate::world::World;
 use std::alloc::Global;
@@ -26,6 +27,7 @@ use x5_memory::NoMemory;
 use x5_names::Name;
 use x5_ops::{AgentId, Body, Chained, Listed, Progress, RefType, Reply, Request};
 use x5_serve::{Carried, Network, serve, user_in_vain};
+use x5_wire::carried_request;
 
 /// The network after a request, what the user is told, the messages that it took, and the agents that accepted the update, each in
 /// their order.
@@ -59,6 +61,15 @@ pub(crate) fn opening(alloc: Global, request: &Request) -> Result<Chained, NoMem
         trace: Listed::new(alloc),
         request: request.copy(alloc)?,
     })
+}
+
+/// What a user asks as the agent has it, which reads it in the octets that it goes by (X.519, section 7: DAP).
+pub(crate) fn heard(alloc: Global, request: &Request) -> Result<Chained, NoMemory>
+    requires { RequestWithin (request_view request.now) }
+    ensures { IfOk result (λ message. (names : List (List ℕ)) → chained_view names message ≡ chain.opening (request_view request.now)) }
+{
+    let request = carried_request(alloc, ID, request)?;
+    opening(alloc, &request)
 }
 
 /// Serves the user's message, whose reply is lost; so the user has `unavailable`.

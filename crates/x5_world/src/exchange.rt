@@ -33,8 +33,8 @@ use x5_ops::{
 use x5_serve::{Carried, Found, Network, Verdict};
 use x5_wire::{carried_message, carried_reply};
 
-/// The id of a message between agents, and of the reply to it: each message goes by an association of its own (X.519, section 7).
-const ID: u32 = 1;
+/// The id of a message, and of the reply to it: each message goes by an association of its own (X.519, section 7).
+pub(crate) const ID: u32 = 1;
 
 /// A user's request in the network of all agents, with the messages that were sent for it so far and the agents that accepted its
 /// update, in their order. These hold what they accepted; all else is as it was when the request began.

@@ -32,7 +32,7 @@ ghost use Rattle.x5_world.specs.Sent.{IsCommittedAt, IsHolder, no_net};
 ghost use Rattle.x5_world.specs.State.{StandsAt, HasRoom, HasShortNames, after, holdings_in, most_messages};
 ghost use Rattle.x5_model_tree.specs.World.{names_of_agents};
 
-use crate::asking::{asked, opening};
+use crate::asking::{asked, heard, opening};
 use crate::counts::{contexts, pairs};
 use crate::delivered::{Delivered, breach_of, receiver};
 use crate::journal;
@@ -353,7 +353,7 @@ impl World {
         ensures room_after { IfOk result (λ _. (lines : ℕ) → HasRoom self.old lines → HasRoom self.new (lines + 1)) }
     {
         let most = self.budget(alloc)?;
-        let message = opening(alloc, request)?;
+        let message = heard(alloc, request)?;
         self.send(alloc, first, message, most)
     }
 
