@@ -1,6 +1,6 @@
 -- What messages and replies stand for in a world is determined by what they tell, where agents go by their names: so what
 -- is read as it was sent stands for the same.
-use Rattle.std.proofs.Common.{◌≡◌, ℕ, ◌+◌, Bool, true, false, List, [], ◌∷◌, map, refl, sym, ap, ap₂, ◌∙◌, arith}
+use Rattle.std.proofs.Common.{◌≡◌, ℕ, Bool, true, false, List, [], ◌∷◌, map, refl, sym, ap, ap₂, ◌∙◌, arith}
 use Rattle.std.specs.Option.{option_map}
 use Rattle.std.specs.declared.option.Option.{Option}
 use Rattle.std.specs.declared.option.Option.TheVariants.{None, Some}
@@ -16,7 +16,6 @@ use Rattle.x5_dspber.specs.ChainedViews.{told_chained}
 use Rattle.x5_ops.specs.AgentNames.{agent_of}
 use Rattle.x5_ops.specs.AnswerViews.{info_view, sub_view, source_view, outcome_view, answer_view, error_view, reply_view}
 use Rattle.x5_ops.specs.ReferenceViews.{access_view, reference_view, item_view, chained_view}
-use Rattle.x5_ops.specs.declared.references.AccessPoint.{AccessPoint}
 use Rattle.x5_ops.specs.declared.references.Reference.{Reference}
 use Rattle.x5_ops.specs.declared.references.TraceItem.{TraceItem}
 use Rattle.x5_ops.specs.declared.references.Chained.{Chained}

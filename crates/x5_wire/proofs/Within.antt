@@ -1,12 +1,12 @@
 -- What is within the limits of messages with agents by their places is so with agents by their names, where those names
 -- are as agents may be named; and the other way round. So what may be sent or replied between agents has octets.
-use Rattle.std.proofs.Common.{◌≡◌, ℕ, ◌<◌, ◌≤◌, nat_lt, nat_le, ◌==◌, Bool, true, false, not, ◌&&◌, ◌||◌, List, [], ◌∷◌, length, map, refl, sym, ap, ap₂, subst, ◌∙◌}
+use Rattle.std.proofs.Common.{◌≡◌, ℕ, ◌≤◌, nat_lt, Bool, true, false, not, ◌&&◌, ◌||◌, List, [], ◌∷◌, length, map, refl, sym, ap, ap₂, subst, ◌∙◌}
 use Rattle.std.proofs.lemmas.List.{length-map}
 use Rattle.std.specs.List.{list_all}
 use Rattle.std.specs.Option.{option_map}
 use Rattle.std.specs.declared.option.Option.{Option}
 use Rattle.std.specs.declared.option.Option.TheVariants.{None, Some}
-use Rattle.x5_model.specs.Members.{In, here, there}
+use Rattle.x5_model.specs.Members.{In}
 use Rattle.x5_model.specs.Words.{has, distinct, same_octets}
 use Rattle.x5_model.specs.Answers as model
 use Rattle.x5_model.specs.References as references
@@ -17,10 +17,9 @@ use Rattle.x5_model_typed.specs.Nodes.{same_bit}
 use Rattle.x5_model_typed.specs.Rules.{most_items}
 use Rattle.x5_model_heard.specs.Told.{are_agents, name_agents, option_names, reply_names}
 use Rattle.x5_model_known.specs.Replying.{reply_agents, reply_sources, sources_name, item_names}
-use Rattle.x5_model_messages.specs.Replies as replies
 use Rattle.x5_model_fitting.specs.Names.{Each}
 use Rattle.x5_model_fitting.specs.Requests.{IfThere}
-use Rattle.x5_model_fitting.specs.Chained.{ItemWithin, same_item, TraceWithin, ChainedWithin}
+use Rattle.x5_model_fitting.specs.Chained.{ItemWithin, same_item, ChainedWithin}
 use Rattle.x5_model_fitting.specs.Replies.{AccessWithin, ReferenceWithin, SourceWithin, OutcomeWithin, AnswerWithin}
 use Rattle.x5_model_fitting.specs.Replies.{ReplyWithin}
 use Rattle.x5_model_fitting.specs.Replies as fitting
@@ -41,7 +40,6 @@ use Rattle.x5_ops.specs.declared.answers.Source.{Source}
 use Rattle.x5_ops.specs.declared.answers.Outcome.{Outcome}
 use Rattle.x5_ops.specs.declared.answers.Answer.{Answer}
 use Rattle.x5_ops.specs.declared.answers.Answer.TheVariants as answers
-use Rattle.x5_ops.specs.declared.answers.DirError.{DirError}
 use Rattle.x5_ops.specs.declared.answers.DirError.TheVariants as errors
 use Rattle.x5_ops.specs.declared.answers.Reply.{Reply}
 use Rattle.x5_ops.specs.declared.answers.Reply.TheVariants.{Done, Failed, Refer}

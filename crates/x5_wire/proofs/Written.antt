@@ -1,11 +1,11 @@
 -- A value of a type that asks neither a clock nor the agents of a world has canonical octets, whatever the surroundings;
 -- so messages within the limits are always written, and what they are written as is read back.
-use Rattle.std.proofs.Common.{◌≡◌, ℕ, ◌<◌, ◌^◌, true, List, length, replicate, refl, sym, ap, subst, ◌∙◌}
+use Rattle.std.proofs.Common.{◌≡◌, ℕ, ◌<◌, ◌^◌, true, List, length, refl, sym, ap, ◌∙◌}
+use Rattle.std.specs.Prelude.{replicate}
 use Rattle.std.proofs.lemmas.List.{length-replicate}
 use Rattle.std.specs.declared.option.Option.{Option}
 use Rattle.std.specs.declared.option.Option.TheVariants.{None, Some}
-use Rattle.std.specs.declared.result.Result.{Result}
-use Rattle.std.specs.declared.result.Result.TheVariants.{Ok, Err}
+use Rattle.std.specs.declared.result.Result.TheVariants.{Err}
 use Rattle.x5_dapber.specs.Results.{IsWritten}
 use Rattle.x5_dapber.proofs.Clockless.{asks_nothing, agree}
 use Rattle.x5_dapber.proofs.Tables.{value_fits_in_both, octets_the_same}
@@ -27,7 +27,6 @@ use Rattle.x5_model_fitting.proofs.Requests as fitting
 use Rattle.x5_model_fitting.proofs.Chained.{chained_fits}
 use Rattle.x5_model_fitting.proofs.Replies.{reply_to_agent_fits}
 use Rattle.x5_types.specs.FormView.{nowhere, table}
-use Rattle.x5_writer.specs.declared.fault.WriteFault.{WriteFault}
 use Rattle.x5_writer.specs.declared.fault.WriteFault.TheVariants.{Misfit}
 
 -- a clock that reads the times that it writes

@@ -7,7 +7,7 @@ use Rattle.x5_model.specs.Members.{In, here, there}
 use Rattle.x5_model.specs.Words.{distinct}
 use Rattle.x5_model.specs.References as model
 use Rattle.x5_model.specs.Requests.{Request}
-use Rattle.x5_model.specs.Answers.{Answer, EntryFound, Matched, Listed, Found, Changed, Answered}
+use Rattle.x5_model.specs.Answers.{Answer, EntryFound, Matched, Listed, Found, Changed}
 use Rattle.x5_model_tree.specs.Described.{is_agent_name}
 use Rattle.x5_model_run.specs.Chain.{opening}
 use Rattle.x5_model_run.specs.Network as fates
@@ -19,7 +19,6 @@ use Rattle.x5_model_limits.specs.Operations.{answered_by}
 use Rattle.x5_model_limits.proofs.Carrying.{opening_bounded}
 use Rattle.x5_dapreply.specs.ReplyViews.{told_reply}
 use Rattle.x5_dspber.specs.ChainedViews.{told_chained}
-use Rattle.x5_ops.specs.AnswerViews.{reply_view}
 use Rattle.x5_ops.specs.JournalViews.{code_view}
 use Rattle.x5_ops.specs.ReferenceViews.{chained_view, item_view}
 use Rattle.x5_ops.specs.declared.answers.Reply.{Reply}

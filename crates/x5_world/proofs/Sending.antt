@@ -13,7 +13,6 @@ use Rattle.x5_model_run.specs.Network as fates
 use Rattle.x5_model_run.specs.Journal.{Line, Journal}
 use Rattle.x5_model_run.specs.Chain.{Scene}
 use Rattle.x5_model_serve.specs.Serving.{hand_of, line_of, with_line, is_spent}
-use Rattle.x5_model_fitting.specs.Names.{Each}
 use Rattle.x5_model_limits.specs.Messages.{BoundedMessage}
 use Rattle.x5_model_limits.specs.Doing.{BoundedHand, BoundedJournal}
 use Rattle.x5_model_limits.proofs.Lists.{each_both, each_one}

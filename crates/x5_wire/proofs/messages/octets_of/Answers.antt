@@ -1,5 +1,5 @@
 -- A message within the limits is a value of its type, so it has octets.
-use Rattle.std.proofs.Common.{ℕ, ◌<◌, ◌^◌, arith}
+use Rattle.std.proofs.Common.{◌<◌, ◌^◌, arith}
 use Rattle.x5_dspber.specs.ChainedViews.{told_chained}
 use Rattle.x5_wire.proofs.Written.{message_fits, message_written}
 use Rattle.x5_wire.proofs.messages.octets_of.Goals as goal

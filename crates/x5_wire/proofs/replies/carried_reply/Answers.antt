@@ -1,5 +1,5 @@
 -- What is read is what was written.
-use Rattle.std.proofs.Common.{◌≡◌, ℕ, List, sym, subst}
+use Rattle.std.proofs.Common.{ℕ, List, sym, subst}
 use Rattle.std.proofs.lemmas.Result.{IfOk-weaker}
 use Rattle.x5_dapreply.specs.ReplyViews.{told_reply}
 use Rattle.x5_model_messages.specs.Replies.{reply_node, to_agent}

@@ -1,5 +1,5 @@
 -- A reply within the limits is a value of its type, so it has octets.
-use Rattle.std.proofs.Common.{ℕ, ◌<◌, ◌^◌, arith}
+use Rattle.std.proofs.Common.{◌<◌, ◌^◌, arith}
 use Rattle.x5_dapreply.specs.ReplyViews.{told_reply}
 use Rattle.x5_ops.specs.JournalViews.{code_view}
 use Rattle.x5_wire.proofs.Written.{reply_fits, reply_written}

@@ -1,5 +1,5 @@
 -- What is read is what was written.
-use Rattle.std.proofs.Common.{◌≡◌, ℕ, List, sym, subst}
+use Rattle.std.proofs.Common.{ℕ, List, sym, subst}
 use Rattle.x5_model_messages.specs.Requests.{request_node}
 use Rattle.x5_model_typed.specs.Named.{DapRequest}
 use Rattle.x5_model_typed.specs.Typed.{Spells}

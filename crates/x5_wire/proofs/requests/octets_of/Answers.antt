@@ -1,5 +1,5 @@
 -- A request within the limits is a value of its type, so it has octets.
-use Rattle.std.proofs.Common.{ℕ, ◌<◌, ◌^◌, arith}
+use Rattle.std.proofs.Common.{◌<◌, ◌^◌, arith}
 use Rattle.x5_ops.specs.RequestViews.{request_view}
 use Rattle.x5_wire.proofs.Written.{request_fits, request_written}
 use Rattle.x5_wire.proofs.requests.octets_of.Goals as goal

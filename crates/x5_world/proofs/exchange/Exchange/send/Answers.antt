@@ -1,9 +1,8 @@
 -- What was pushed is the next line of the journal.
-use Rattle.std.proofs.Common.{◌≡◌, ℕ, ◌+◌, ◌<◌, ◌≤◌, is_ok, length, refl, sym, ap, subst, ◌∙◌, arith}
+use Rattle.std.proofs.Common.{◌≡◌, ◌+◌, ◌<◌, ◌≤◌, is_ok, length, refl, sym, ap, subst, ◌∙◌, arith}
 use Rattle.x5_ops.specs.JournalViews.{fate_view}
 use Rattle.x5_ops.specs.ReferenceViews.{chained_view}
 use Rattle.x5_model_run.specs.Network as fates
-use Rattle.x5_model_tree.specs.World.{Network}
 use Rattle.x5_model_limits.specs.Messages.{BoundedMessage}
 use Rattle.x5_serve.specs.Networks.{IsCarriedBy}
 use Rattle.x5_serve.specs.Sendable.{IsTaken}

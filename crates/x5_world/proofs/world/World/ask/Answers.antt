@@ -1,5 +1,5 @@
 -- A request of the user is a message for which nothing is resolved yet.
-use Rattle.std.proofs.Common.{◌≡◌, sym, subst}
+use Rattle.std.proofs.Common.{sym, subst}
 use Rattle.std.proofs.lemmas.Result.{IfOk-weaker}
 use Rattle.x5_model.specs.References.{Chained}
 use Rattle.x5_ops.specs.RequestViews.{request_view}

@@ -1,5 +1,5 @@
 -- What octets come to is what is done with them: the request that they say is asked, a first breach is told.
-use Rattle.std.proofs.Common.{◌≡◌, ◌∙◌, List, ℕ, Ok, length, ap, sym, subst, arith}
+use Rattle.std.proofs.Common.{◌∙◌, Ok, length, ap, sym, subst, arith}
 use Rattle.std.proofs.lemmas.Result.{IfOk-weaker}
 use Rattle.x5_dapber.proofs.Octets.{are_octets}
 use Rattle.x5_model.specs.References.{Chained}
