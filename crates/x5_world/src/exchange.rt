@@ -210,5 +210,7 @@ impl<'a, B: Begun> Network for Exchange<'a, B> {
 
     ghost apart = { λ e. e.under_way.net.apart };
 
+    ghost plain = { λ e. e.under_way.net.plain };
+
     ghost knows = { λ e. knows B.net e.first (chained_view B.net.names e.message.now) e.under_way.net };
 }
