@@ -1,5 +1,5 @@
 -- One agent of the network sends what is supplied, or takes it: nothing else of the network changes.
-use Rattle.std.proofs.Common.{◌≡◌, ℕ, zero, suc, ◌+◌, ◌<◌, ◌⊎◌, inl, inr, Bool, true, List, [], ◌∷◌, length, map, slice_get, slice_set, refl, sym, ap, subst, ◌∙◌, Option, Some, Ok, arith}
+use Rattle.std.proofs.Common.{◌≡◌, ℕ, zero, suc, ◌+◌, ◌<◌, ◌⊎◌, inl, inr, Bool, true, List, [], ◌∷◌, length, map, slice_get, slice_set, refl, sym, ap, subst, ◌∙◌, Option, Some, Result, Ok, OnOk, arith}
 use Rattle.std.proofs.lemmas.List.{length-map, length-set, map-set}
 use Rattle.x5_model.specs.Words.{in_option}
 use Rattle.x5_model.specs.Keys.{Key}
@@ -41,6 +41,10 @@ set_has (x ∷ xs) (suc i) (suc a) y h e = elim (set_has xs i a y h e) [
   | inl z ↦ inl (ap suc z.0, z.1)
   | inr z ↦ inr z
 ]
+
+-- what a call says where it did what it was to do
+pub when_ok : {T E : Type 0} (P : Type 0) (result : Result T E) (x : T) → result ≡ Ok x → OnOk result P → P
+when_ok {T} {E} P result x e h = subst (λ (r : Result T E). OnOk r P) e h
 
 module _ (n : Net) (items : List State) (i : ℕ) (s : State) (at : slice_get items i ≡ Some s) where
   abbrev old : Net

@@ -192,7 +192,7 @@ module _ (s t : State) (pin : Key) (m : ℕ) (b : Brought) (stamp : CountWithin 
       (subst (λ (xs : List Logged). Each IsFit (map logged_view xs)) (sym r.content_is.changes) (λ x i. elim i [ ]))
   notes_good (Steps given) k u r was =
       let before : BoundedNotes (notes_view r.old.log) =
-      subst (λ (o : Option (Kept × ℕ)). IfThere BoundedNotes (option_map (λ x. notes_view x.0.log) o)) r.was was in
+      subst (λ (o : Option (Kept × ℕ)). IfThere BoundedNotes (option_map (λ (x : Kept × ℕ). notes_view x.0.log) o)) r.was was in
       subst (λ (v : CopyKept). IfThere BoundedNotes (copy_notes v)) (sym r.after_is)
       (steps_noted m given r.old.log r.kept.log r.done.noted k before)
 

@@ -148,7 +148,7 @@ module _ (s : State) (h : BoundedHoldings (holdings_view s)) (l : BoundedLogs (l
       from d f (Some y) r q =
           let at = (of_find (λ (z : CopyKept). same_key (key_of z.prefix) pin) d s.copies f).0 in
           let noted : BoundedNotes (notes_view y.0.log) =
-          subst (λ (o : Option (Kept × ℕ)). IfThere BoundedNotes (option_map (λ x. notes_view x.0.log) o)) r
+          subst (λ (o : Option (Kept × ℕ)). IfThere BoundedNotes (option_map (λ (x : Kept × ℕ). notes_view x.0.log) o)) r
           (l.copies (copy_notes d) (in_map copy_notes d s.copies at)) in
           subst (λ (k : Kept). BoundedNotes (notes_view k.log)) (some_is q) noted
 

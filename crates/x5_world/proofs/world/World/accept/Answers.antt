@@ -1,16 +1,15 @@
 -- What the agreement's consumer takes becomes its copy, and it's a network as before.
-use Rattle.std.proofs.Common.{◌≡◌, ℕ, ◌<◌, length, map, subst, sym, ap, ◌∙◌, arith, OnOk, Result, true}
+use Rattle.std.proofs.Common.{◌≡◌, ℕ, ◌<◌, length, map, subst, sym, ap, ◌∙◌, arith, true}
 use Rattle.std.proofs.lemmas.List.{length-map}
 use Rattle.x5_model.specs.Values.{key_of}
 use Rattle.x5_model_tree.specs.World.{Agreement}
-use Rattle.x5_memory.specs.declared.lib.NoMemory.{NoMemory}
 use Rattle.x5_holdings.specs.State.{holdings_view}
 use Rattle.x5_consume.specs.Taken.{IsTaken}
 use Rattle.x5_refresh.specs.Sent.{IsRefreshed}
 use Rattle.x5_world.specs.LogViews.{logs_view}
 use Rattle.x5_world.specs.Refreshing.{is_known_in}
 use Rattle.x5_world.specs.State.{Net}
-use Rattle.x5_world.proofs.Agents.{is_taken, taken_net}
+use Rattle.x5_world.proofs.Agents.{is_taken, taken_net, when_ok}
 use Rattle.x5_world.proofs.Changing.{later}
 use Rattle.x5_world.proofs.Holders.{got_place}
 use Rattle.x5_world.proofs.world.World.accept.Goals as goal
@@ -35,8 +34,8 @@ invariant_of-self c =
       acked = c.self.inside.acked.items;
       line = c.self.inside.line;
     } in
-    let taken = subst (λ (r : Result ℕ NoMemory). OnOk r (IsTaken c.set_moment.new.self (key_of c.agreement.inside.context)
-    (IsRefreshed c.args.brought c.args.stamp) c.accept.new.consumer)) c.in-Ok.is c.accept.ensures.ok in
+    let taken = when_ok (IsTaken c.set_moment.new.self (key_of c.agreement.inside.context)
+    (IsRefreshed c.args.brought c.args.stamp) c.accept.new.consumer) c.accept.result _ c.in-Ok.is c.accept.ensures.ok in
     taken_net n c.self.inside.agents.items c.agent.inside.0 c.index_mut-held.result.now
     (got_place c.self.inside.agents.items c.agent.inside.0 c.index_mut-held.result.now few c.index_mut-held.ensures.value)
     (key_of c.agreement.inside.context) c.args.stamp c.args.brought c.set_moment.new.self c.accept.new.consumer
@@ -64,8 +63,8 @@ returns-clause-taken c =
       acked = c.self.inside.acked.items;
       line = c.self.inside.line;
     } in
-    let taken = subst (λ (r : Result ℕ NoMemory). OnOk r (IsTaken c.set_moment.new.self (key_of c.agreement.inside.context)
-    (IsRefreshed c.args.brought c.args.stamp) c.accept.new.consumer)) c.in-Ok.is c.accept.ensures.ok in
+    let taken = when_ok (IsTaken c.set_moment.new.self (key_of c.agreement.inside.context)
+    (IsRefreshed c.args.brought c.args.stamp) c.accept.new.consumer) c.accept.result _ c.in-Ok.is c.accept.ensures.ok in
     is_taken n c.self.inside.agents.items c.agent.inside.0 c.index_mut-held.result.now
     (got_place c.self.inside.agents.items c.agent.inside.0 c.index_mut-held.result.now few c.index_mut-held.ensures.value)
     c.args.agreement.now c.args.stamp c.args.brought c.set_moment.new.self c.accept.new.consumer c.args.self.now
