@@ -12,4 +12,4 @@ returns-in-Ok c =
 pub unreachable-requires : goal.unreachable-requires
 unreachable-requires c =
     let small : c.args.id < 2 ^ 32 = omega (arith, c.type_inv.id) in
-    message_written c.args.id (told_chained c.args.message.now) small c.requires c.in-Misfit.ensures.written
+    message_written c.args.id (told_chained c.args.message.now) small c.requires (rw c.in-Err-Misfit.field-0-is at c.in-Err-Misfit.ensures.written)

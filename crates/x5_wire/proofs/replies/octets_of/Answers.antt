@@ -13,4 +13,4 @@ returns-in-Ok c =
 pub unreachable-requires : goal.unreachable-requires
 unreachable-requires c =
     let small : c.args.id < 2 ^ 32 = omega (arith, c.type_inv.id) in
-    reply_written c.args.id (told_reply (code_view c.args.operation) c.args.reply.now) small c.requires c.in-Misfit.ensures.written
+    reply_written c.args.id (told_reply (code_view c.args.operation) c.args.reply.now) small c.requires (rw c.in-Err-Misfit.field-0-is at c.in-Err-Misfit.ensures.written)

@@ -12,4 +12,4 @@ returns-in-Ok c =
 pub unreachable-requires : goal.unreachable-requires
 unreachable-requires c =
     let small : c.args.id < 2 ^ 32 = omega (arith, c.type_inv.id) in
-    request_written c.args.id (request_view c.args.request.now) small c.requires c.in-Misfit.ensures.written
+    request_written c.args.id (request_view c.args.request.now) small c.requires (rw c.in-Err-Misfit.field-0-is at c.in-Err-Misfit.ensures.written)

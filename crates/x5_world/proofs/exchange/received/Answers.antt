@@ -2,5 +2,6 @@
 use Rattle.x5_wire.proofs.Seen.{message_alike}
 use Rattle.x5_world.proofs.exchange.received.Goals as goal
 
-pub returns-clause-told : goal.returns-clause-told
-returns-clause-told c = ?
+pub returns-in_ok-copy-in-None-clause-told : goal.returns-in_ok-copy-in-None-clause-told
+returns-in_ok-copy-in-None-clause-told c =
+    message_alike c.in_ok-copy-in-None.field-0 c.args.message.now c.in_ok-copy-in-None.ensures
