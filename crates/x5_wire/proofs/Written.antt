@@ -6,7 +6,9 @@ use Rattle.std.proofs.lemmas.List.{length-replicate}
 use Rattle.std.specs.declared.option.Option.{Option}
 use Rattle.std.specs.declared.option.Option.TheVariants.{None, Some}
 use Rattle.std.specs.declared.result.Result.TheVariants.{Err}
-use Rattle.x5_dapber.specs.Results.{IsWritten}
+use Rattle.x5_dapber.specs.Results.{IsWritten, IsRead}
+use Rattle.x5_dapber.specs.declared.fault.WireFault.{WireFault}
+use Rattle.x5_dapber.specs.declared.fault.WireFault.TheVariants as wire
 use Rattle.x5_dapber.proofs.Clockless.{asks_nothing, agree}
 use Rattle.x5_dapber.proofs.Tables.{value_fits_in_both, octets_the_same}
 use Rattle.x5_model.specs.Requests as model
@@ -81,3 +83,9 @@ pub reply_written : (id : ℕ) (r : replies.Reply) → id < 2 ^ 32 → ReplyWith
     → IsWritten (canonical_octets table named.DspAnswer (replies.reply_node replies.to_agent id r)) (Err Misfit) → ⊥
 reply_written id r small h =
     no_misfit named.DspAnswer (replies.reply_node replies.to_agent id r) refl (reply_fits id r small h)
+
+-- what is read fails for want of memory alone
+pub only_want : {X Y : Type 0} (view : X → Y) (y : Y) (f : WireFault) → IsRead view y (Err f) → f ≡ wire.NoMemory
+only_want view y (wire.Ber fault) h = absurd h
+only_want view y (wire.Unrecognised code) h = absurd h
+only_want view y wire.NoMemory h = refl

@@ -2,6 +2,7 @@
 //! X.518, section 10; X.519, section 7; X.690), and what whoever has them reads in them. Within the limits of messages that is what was sent, so nothing is refused on the way.
 #![tactic(auto)]
 
+mod fault;
 mod messages;
 mod replies;
 mod requests;

@@ -8,8 +8,9 @@ ghost use Rattle.x5_model_typed.specs.Typed.{Spells};
 ghost use Rattle.x5_ops.specs.ReferenceViews.{chained_view};
 ghost use Rattle.x5_types.specs.FormView.{table};
 
+use crate::fault::want;
 use std::alloc::Global;
-use x5_dspber::{WireFault, WriteFault, decode_chained, encode_chained};
+use x5_dspber::{WriteFault, decode_chained, encode_chained};
 use x5_memory::NoMemory;
 use x5_ops::Chained;
 use x5_syntax::Octets;
@@ -34,8 +35,7 @@ fn read(alloc: Global, octets: &[u8]) -> Result<Chained, NoMemory>
 {
     match decode_chained(alloc, octets) {
         Ok((_, message)) => Ok(message),
-        Err(WireFault::NoMemory) => Err(NoMemory),
-        Err(WireFault::Ber(_) | WireFault::Unrecognised(_)) => unreachable!(),
+        Err(fault) => Err(want(fault)),
     }
 }
 

@@ -9,8 +9,9 @@ ghost use Rattle.x5_ops.specs.AnswerViews.{reply_view};
 ghost use Rattle.x5_ops.specs.JournalViews.{code_view};
 ghost use Rattle.x5_types.specs.FormView.{table};
 
+use crate::fault::want;
 use std::alloc::Global;
-use x5_dspber::{WireFault, WriteFault, decode_result, encode_result};
+use x5_dspber::{WriteFault, decode_result, encode_result};
 use x5_memory::NoMemory;
 use x5_ops::{Operation, Reply};
 use x5_syntax::Octets;
@@ -40,8 +41,7 @@ fn read(alloc: Global, octets: &[u8]) -> Result<Reply, NoMemory>
 {
     match decode_result(alloc, octets) {
         Ok((_, reply)) => Ok(reply),
-        Err(WireFault::NoMemory) => Err(NoMemory),
-        Err(WireFault::Ber(_) | WireFault::Unrecognised(_)) => unreachable!(),
+        Err(fault) => Err(want(fault)),
     }
 }
 

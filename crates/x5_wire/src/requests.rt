@@ -8,8 +8,9 @@ ghost use Rattle.x5_model_typed.specs.Typed.{Spells};
 ghost use Rattle.x5_ops.specs.RequestViews.{request_view};
 ghost use Rattle.x5_types.specs.FormView.{table};
 
+use crate::fault::want;
 use std::alloc::Global;
-use x5_dapber::{WireFault, WriteFault, decode_request, encode_request};
+use x5_dapber::{WriteFault, decode_request, encode_request};
 use x5_memory::NoMemory;
 use x5_ops::Request;
 use x5_syntax::Octets;
@@ -34,8 +35,7 @@ fn read(alloc: Global, octets: &[u8]) -> Result<Request, NoMemory>
 {
     match decode_request(alloc, octets) {
         Ok((_, request)) => Ok(request),
-        Err(WireFault::NoMemory) => Err(NoMemory),
-        Err(WireFault::Ber(_) | WireFault::Unrecognised(_)) => unreachable!(),
+        Err(fault) => Err(want(fault)),
     }
 }
 

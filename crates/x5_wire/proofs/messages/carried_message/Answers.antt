@@ -9,14 +9,14 @@ use Rattle.x5_types.specs.FormView.{table}
 use Rattle.x5_wire.proofs.Seen.{message_seen}
 use Rattle.x5_wire.proofs.messages.carried_message.Goals as goal
 
-pub read-requires-clause-spelled : goal.read-requires-clause-spelled
-read-requires-clause-spelled c = (
+pub read-requires : goal.read-requires
+read-requires c = record { spelled = (
   c.args.id,
   told_chained c.args.message.now,
   c.requires.within,
   subst (λ (os : List ℕ). Spells table DspRequest os (chained_node c.args.id (told_chained c.args.message.now)))
       (sym c.as_slice.ensures) c.in_ok-octets.ensures,
-)
+); }
 
 pub returns-clause-told : goal.returns-clause-told
 returns-clause-told c =

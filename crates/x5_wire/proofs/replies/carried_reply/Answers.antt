@@ -10,15 +10,15 @@ use Rattle.x5_types.specs.FormView.{table}
 use Rattle.x5_wire.proofs.Seen.{reply_seen}
 use Rattle.x5_wire.proofs.replies.carried_reply.Goals as goal
 
-pub read-requires-clause-spelled : goal.read-requires-clause-spelled
-read-requires-clause-spelled c =
-    let r = told_reply (code_view c.args.operation) c.args.reply.now in (
+pub read-requires : goal.read-requires
+read-requires c =
+    let r = told_reply (code_view c.args.operation) c.args.reply.now in record { spelled = (
       c.args.id,
       r,
       c.requires.within,
       subst (λ (os : List ℕ). Spells table DspAnswer os (reply_node to_agent c.args.id r)) (sym c.as_slice.ensures)
           c.in_ok-octets.ensures,
-    )
+    ); }
 
 pub returns-clause-told : goal.returns-clause-told
 returns-clause-told c =

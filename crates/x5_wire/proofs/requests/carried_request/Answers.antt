@@ -7,15 +7,15 @@ use Rattle.x5_ops.specs.RequestViews.{request_view}
 use Rattle.x5_types.specs.FormView.{table}
 use Rattle.x5_wire.proofs.requests.carried_request.Goals as goal
 
-pub read-requires-clause-spelled : goal.read-requires-clause-spelled
-read-requires-clause-spelled c =
-    let r = request_view c.args.request.now in (
+pub read-requires : goal.read-requires
+read-requires c =
+    let r = request_view c.args.request.now in record { spelled = (
       c.args.id,
       r,
       c.requires.within,
       subst (λ (os : List ℕ). Spells table DapRequest os (request_node c.args.id r)) (sym c.as_slice.ensures)
           c.in_ok-octets.ensures,
-    )
+    ); }
 
 pub returns : goal.returns
 returns c =

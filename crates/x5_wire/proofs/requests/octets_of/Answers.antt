@@ -6,10 +6,11 @@ use Rattle.x5_wire.proofs.requests.octets_of.Goals as goal
 
 pub returns-in-Ok : goal.returns-in-Ok
 returns-in-Ok c =
-    let small : c.args.id < 2 ^ 32 = omega (arith, c.type_inv.id) in
+    let small : c.args.id < 2 ^ 32 = omega (arith, c.ranges.id.fits) in
     c.in-Ok.ensures.spelled (request_fits c.args.id (request_view c.args.request.now) small c.requires)
 
 pub unreachable-requires : goal.unreachable-requires
 unreachable-requires c =
-    let small : c.args.id < 2 ^ 32 = omega (arith, c.type_inv.id) in
-    request_written c.args.id (request_view c.args.request.now) small c.requires (rw c.in-Err-Misfit.field-0-is at c.in-Err-Misfit.ensures.written)
+    let small : c.args.id < 2 ^ 32 = omega (arith, c.ranges.id.fits) in
+    request_written c.args.id (request_view c.args.request.now) small c.requires
+    (rw c.in-Err-Misfit.field-0-is at c.in-Err-Misfit.ensures.written)
