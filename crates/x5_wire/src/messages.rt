@@ -42,7 +42,7 @@ fn read(alloc: Global, octets: &[u8]) -> Result<Chained, NoMemory>
 /// A message between agents as its receiver has it: what is read in the octets that it's written as, with this id (X.519, section 7:
 /// DSP). It is just what was sent, so its agents stand for whom they stood, whatever the names of the world's agents.
 pub fn carried_message(alloc: Global, id: u32, message: &Chained) -> Result<Chained, NoMemory>
-    requires within { ChainedWithin (told_chained message.now) }
+    requires { ChainedWithin (told_chained message.now) }
     ensures told { IfOk result (λ taken. told_chained taken ≡ told_chained message.now) }
     ensures seen { IfOk result (λ taken. (names : List (List ℕ)) → chained_view names taken ≡ chained_view names message.now) }
 {

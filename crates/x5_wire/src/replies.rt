@@ -53,7 +53,7 @@ pub fn carried_reply(
     operation: Operation,
     reply: &Reply,
 ) -> Result<Reply, NoMemory>
-    requires within { ReplyWithin (told_reply (code_view operation) reply.now) }
+    requires { ReplyWithin (told_reply (code_view operation) reply.now) }
     ensures told { IfOk result (λ back. heard back ≡ unnumbered (told_reply (code_view operation) reply.now)) }
     ensures seen { IfOk result (λ back. (names : List (List ℕ)) → reply_view names back ≡ reply_view names reply.now) }
 {

@@ -42,7 +42,7 @@ fn read(alloc: Global, octets: &[u8]) -> Result<Request, NoMemory>
 /// A user's request as the agent has it: what is read in the octets that it's written as, with this id (X.519, section 7: DAP). It is
 /// just what was asked.
 pub fn carried_request(alloc: Global, id: u32, request: &Request) -> Result<Request, NoMemory>
-    requires within { RequestWithin (request_view request.now) }
+    requires { RequestWithin (request_view request.now) }
     ensures { IfOk result (λ heard. request_view heard ≡ request_view request.now) }
 {
     let octets = octets_of(alloc, id, request)?;

@@ -13,7 +13,7 @@ pub read-requires : goal.read-requires
 read-requires c = record { spelled = (
   c.args.id,
   told_chained c.args.message.now,
-  c.requires.within,
+  c.requires,
   subst (λ (os : List ℕ). Spells table DspRequest os (chained_node c.args.id (told_chained c.args.message.now)))
       (sym c.as_slice.ensures) c.in_ok-octets.ensures,
 ); }
@@ -21,7 +21,7 @@ read-requires c = record { spelled = (
 pub returns-clause-told : goal.returns-clause-told
 returns-clause-told c =
     let m = told_chained c.args.message.now in
-    c.read.ensures.read c.args.id m c.requires.within
+    c.read.ensures.read c.args.id m c.requires
     (subst (λ (os : List ℕ). Spells table DspRequest os (chained_node c.args.id m)) (sym c.as_slice.ensures)
     c.in_ok-octets.ensures)
 

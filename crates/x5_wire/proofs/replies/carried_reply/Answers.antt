@@ -15,7 +15,7 @@ read-requires c =
     let r = told_reply (code_view c.args.operation) c.args.reply.now in record { spelled = (
       c.args.id,
       r,
-      c.requires.within,
+      c.requires,
       subst (λ (os : List ℕ). Spells table DspAnswer os (reply_node to_agent c.args.id r)) (sym c.as_slice.ensures)
           c.in_ok-octets.ensures,
     ); }
@@ -23,7 +23,7 @@ read-requires c =
 pub returns-clause-told : goal.returns-clause-told
 returns-clause-told c =
     let r = told_reply (code_view c.args.operation) c.args.reply.now in
-    c.read.ensures.read c.args.id r c.requires.within
+    c.read.ensures.read c.args.id r c.requires
     (subst (λ (os : List ℕ). Spells table DspAnswer os (reply_node to_agent c.args.id r)) (sym c.as_slice.ensures)
     c.in_ok-octets.ensures)
 

@@ -12,7 +12,7 @@ read-requires c =
     let r = request_view c.args.request.now in record { spelled = (
       c.args.id,
       r,
-      c.requires.within,
+      c.requires,
       subst (λ (os : List ℕ). Spells table DapRequest os (request_node c.args.id r)) (sym c.as_slice.ensures)
           c.in_ok-octets.ensures,
     ); }
@@ -20,6 +20,6 @@ read-requires c =
 pub returns : goal.returns
 returns c =
     let r = request_view c.args.request.now in
-    c.read.ensures.read c.args.id r c.requires.within
+    c.read.ensures.read c.args.id r c.requires
     (subst (λ (os : List ℕ). Spells table DapRequest os (request_node c.args.id r)) (sym c.as_slice.ensures)
     c.in_ok-octets.ensures)
