@@ -8,4 +8,4 @@ pub mod Cycle
 pub mod Sent
 pub mod Asked
 pub mod Served
-pub mod Passing
+pub mod Sending

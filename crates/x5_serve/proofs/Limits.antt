@@ -22,11 +22,12 @@ use Rattle.x5_model_known.proofs.Replying.{served_name_agents}
 use Rattle.x5_model_limits.specs.Holding.{BoundedHoldings}
 use Rattle.x5_model_limits.specs.Messages.{BoundedReference, BoundedMessage, BoundedReply}
 use Rattle.x5_model_limits.specs.Doing.{BoundedFound}
-use Rattle.x5_model_limits.specs.Laws.{AnswersBounded, DoesBounded}
 use Rattle.x5_model_limits.proofs.Carrying.{carried_bounded}
 use Rattle.x5_model_limits.proofs.Finding.{finds_bounded}
 use Rattle.x5_model_limits.proofs.Needing.{rest_bounded, probes_bounded}
 use Rattle.x5_model_limits.proofs.Committing.{committed_bounded}
+use Rattle.x5_model_limits.proofs.Answering.{answers_are_bounded}
+use Rattle.x5_model_limits.proofs.Doing.{does_bounded}
 use Rattle.x5_ops.specs.ReferenceViews.{chained_view, reference_view, item_view}
 use Rattle.x5_ops.specs.AnswerViews.{answer_view, reply_view}
 use Rattle.x5_ops.specs.RequestViews.{body_view}
@@ -39,12 +40,6 @@ use Rattle.x5_trace.specs.Items.{same_named, IsNamed}
 use Rattle.x5_trace.proofs.Items.{any_has, distinct_push, repeats_placed}
 use Rattle.x5_serve.specs.Sendable.{replies_to, MayBeSent, MayBeReplied, MayBePassedOn, KeepsLimits}
 use Rattle.x5_serve.proofs.Operations.{served_answers}
-
-answers_bounded : AnswersBounded
-answers_bounded = ?
-
-does_bounded : DoesBounded
-does_bounded = ?
 
 -- ---- what an agent of the network finds and needs
 
@@ -107,7 +102,7 @@ pub left_bounded : (names : List (List ℕ)) (a : Answer) (rs : List model.Refer
     → Each BoundedReference rs
 left_bounded names a rs e bounded =
     subst (λ (xs : List model.Reference). Each BoundedReference xs) (sym e)
-    (answers_bounded.follow (answer_view names a) bounded)
+    (answers_are_bounded.follow (answer_view names a) bounded)
 
 -- ---- what is passed on
 

@@ -5,14 +5,15 @@ use Rattle.std.proofs.Common.{rules, ◌≡◌, ◌<◌, [], ◌∷◌, ◌++◌
 use Rattle.std.proofs.lemmas.Result.{IfOk-weaker}
 use Rattle.x5_model_serve.specs.Serving.{hand, none_yet, none_asked, no_probe}
 use Rattle.x5_model_run.specs.Journal.{operation_of}
+use Rattle.x5_ops.specs.JournalViews.{code_view}
 use Rattle.x5_ops.specs.RequestViews.{body_view}
 use Rattle.x5_ops.specs.ReferenceViews.{chained_view, reference_view, access_view}
 use Rattle.x5_serve.specs.Steps.{heard_view, IsHeardBy}
 use Rattle.x5_serve.proofs.Walks.{Carries}
 use Rattle.x5_serve.proofs.Sent.{no_change, stays_on, first_goes, goes_on, agent_stays, user_stays, user_taken, user_onward, next_agent, next_to, next_reference, ask_spent, ask_lost, ask_dropped, ask_heard, taken_is, taken_less, back_told, last_told}
 use Rattle.x5_serve.proofs.Asked.{turn_in_vain, turn_heard, turn_unheard, cast_silent, cast_unable, cast_answered, cast_nobody, cast_some, probe_unheard, probe_noted, probe_passed, probe_ends, probe_through, first_part, part_lost, part_joins, part_leaves, part_ends}
-use Rattle.x5_serve.proofs.Passing.{sent_stays, passable_stays, next_bounded, taken_sent, goes_passable, goes_bounded, joins_passable, joins_bounded, back_replied, back_passable, back_bounded, referral_passable, referral_bounded, rest_passable, rest_bounded, due_passable}
-use Rattle.x5_serve.proofs.Served.{step_named, step_goes, rest_named, own_alike, step_joins, step_updates, follows_none, follows_error, follows_referral, follows_rest, rest_is_named, update_refused, alone_does, probed_named, probed_bounded, probed_missed, probed_ready, probed_does}
+use Rattle.x5_serve.proofs.Sending.{sent_stays, passable_stays, next_bounded, taken_sent, goes_passable, goes_bounded, joins_passable, joins_bounded, back_replied, back_passable, back_bounded, referral_passable, referral_bounded, rest_passable, rest_bounded, due_passable}
+use Rattle.x5_serve.proofs.Served.{step_named, step_goes, rest_named, own_alike, step_joins, step_updates, follows_none, follows_error, follows_referral, follows_rest, referral_named, rest_is_named, update_refused, alone_does, probed_named, probed_bounded, probed_missed, probed_ready, probed_does}
 use Rattle.x5_serve.proofs.dispatch.+dispatch.Goals.{cast-in-Unheard+in_ok-clone-in-Unheard+in_ok-push-in-Unheard, cast-in-Hears+else-not-is_unable, gather-in-Unheard+in_ok-clone-in-Unheard+in_ok-leave_out-in-Unheard, gather-in-Hears+in-Joins+in_ok-take_up-in-Joins, gather-in-Hears+in-Leaves+in_ok-leave_out-in-Leaves, probe-in-Unheard+in_ok-clone-in-Unheard+in_ok-push-in-Unheard, probe-in-Hears+in-Unable, probe-in-Hears+in-Unsure+in_ok-clone-in-Unsure+in_ok-push-in-Unsure}
 use Rattle.x5_serve.proofs.dispatch.+dispatch.Goals as goal
 
@@ -36,6 +37,18 @@ ask-returns-in_ok-serve-in-Unheard-clause-does g t c =
     c.args.message.now c.in_ok-carry.field-0 c.in_ok-carry.ensures.carried o r e c.serve.new.net c.in-Unheard.taken
     c.in_ok-serve-in-Unheard.field-0 c.in-Unheard.is c.in_ok-carry.ensures.stays
     c.in_ok-serve-in-Unheard.ensures.does
+
+pub ask-carry_back-requires : goal.ask-carry_back-requires
+ask-carry_back-requires g t c =
+    let n = g.N.Network in
+    let s1 = c.in_ok-carry.ensures.stays in
+    let s2 = c.in_ok-reply-in-Taken.ensures.stays in
+    let to = agent_stays n.scene n.most n.names n.journal c.args.net.now c.carry.new.self c.args.to s1 c.requires.to in
+    let taken = taken_sent n.scene n.most n.names n.journal c.args.net.now c.carry.new.self c.in_ok-carry.field-0
+    c.in-Taken.taken s1 c.in_ok-carry.ensures.taken c.in-Taken.is in
+    back_replied n.scene n.most n.names n.journal c.carry.new.self c.serve-in-Taken.new.net c.args.to c.in-Taken.taken
+    c.in_ok-reply-in-Taken.reply s2 c.in_ok-reply-in-Taken.ensures.does (code_view c.operation.result)
+    (g.met.N.Network.bounded c.carry.new.self) to taken c.operation.ensures
 
 pub ask-follow-requires : goal.ask-follow-requires
 ask-follow-requires g t c κs within =
@@ -590,6 +603,18 @@ follow-returns-then-len-eq0-clause-does g t c =
     follows_none n.scene n.most n.names n.journal c.args.net.now c.args.from c.args.owner c.args.message.now
     c.args.reply c.in-Done.answer c.in_ok-references-in-Done.references c.in-Done.is
     (omega (arith, c.len.ensures, c.if-len-eq0.true)) c.in_ok-references-in-Done.ensures.view
+
+pub follow-go-requires : goal.follow-go-requires
+follow-go-requires g t c κs within =
+    let n = g.N.Network in
+    let agents = referral_named n.scene n.most n.names n.journal c.args.net.now c.args.from c.args.owner
+    c.args.message.now c.args.reply c.in-Refer.reference c.in-Refer.is c.requires.told in
+    let passable = referral_passable n.scene n.most n.names n.journal c.args.net.now c.args.owner c.args.message.now
+    c.args.reply c.requires.passable c.requires.bounded c.in-Refer.reference c.in-Refer.is in
+    let bounded = referral_bounded n.scene n.most n.names n.journal c.args.net.now c.args.owner c.args.message.now
+    c.args.reply c.requires.passable c.requires.bounded c.in-Refer.reference c.in-Refer.is in
+    (omega arith,
+    (within, (c.requires.from, (c.requires.owner, (c.requires.of_user, (agents, (c.requires.sent, (passable, bounded))))))))
 
 pub follow-gather-requires : goal.follow-gather-requires
 follow-gather-requires g t c κs within =
