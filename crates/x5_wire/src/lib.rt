@@ -1,5 +1,6 @@
 //! What a user asks of agents, and what they send each other, as it is carried: the octets of a request, a message or a reply (X.511;
-//! X.518, section 10; X.519, section 7; X.690), and what whoever has them reads in them. Within the limits of messages that is what was sent, so nothing is refused on the way.
+//! X.518, section 10; X.519, section 7; X.690), and what whoever has them reads in them. Within the limits of messages that is what was
+//! sent, so nothing is refused on the way.
 #![tactic(auto)]
 
 mod fault;

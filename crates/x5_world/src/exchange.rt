@@ -63,11 +63,7 @@ fn arrival(fate: Fate, taken: Chained) -> Carried
 
 /// A message as its receiver has it: an agent's as it is read in the octets that it goes by (X.519, section 7: DSP), a user's as it was
 /// handed over.
-fn received(
-    alloc: Global,
-    from: Option<AgentId>,
-    message: &Chained,
-) -> Result<Chained, NoMemory>
+fn received(alloc: Global, from: Option<AgentId>, message: &Chained) -> Result<Chained, NoMemory>
     requires { ChainedWithin (told_chained message.now) }
     ensures told { IfOk result (λ taken. told_chained taken ≡ told_chained message.now) }
     ensures seen { IfOk result (λ taken. (names : List (List ℕ)) → chained_view names taken ≡ chained_view names message.now) }

@@ -10,13 +10,15 @@ use Rattle.x5_wire.proofs.Seen.{message_seen}
 use Rattle.x5_wire.proofs.messages.carried_message.Goals as goal
 
 pub read-requires : goal.read-requires
-read-requires c = record { spelled = (
-  c.args.id,
-  told_chained c.args.message.now,
-  c.requires,
-  subst (λ (os : List ℕ). Spells table DspRequest os (chained_node c.args.id (told_chained c.args.message.now)))
-      (sym c.as_slice.ensures) c.in_ok-octets.ensures,
-); }
+read-requires c = record {
+  spelled = (
+    c.args.id,
+    told_chained c.args.message.now,
+    c.requires,
+    subst (λ (os : List ℕ). Spells table DspRequest os (chained_node c.args.id (told_chained c.args.message.now)))
+        (sym c.as_slice.ensures) c.in_ok-octets.ensures,
+  );
+}
 
 pub returns-clause-told : goal.returns-clause-told
 returns-clause-told c =

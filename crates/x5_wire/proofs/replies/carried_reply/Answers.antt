@@ -12,13 +12,15 @@ use Rattle.x5_wire.proofs.replies.carried_reply.Goals as goal
 
 pub read-requires : goal.read-requires
 read-requires c =
-    let r = told_reply (code_view c.args.operation) c.args.reply.now in record { spelled = (
-      c.args.id,
-      r,
-      c.requires,
-      subst (λ (os : List ℕ). Spells table DspAnswer os (reply_node to_agent c.args.id r)) (sym c.as_slice.ensures)
-          c.in_ok-octets.ensures,
-    ); }
+    let r = told_reply (code_view c.args.operation) c.args.reply.now in record {
+      spelled = (
+        c.args.id,
+        r,
+        c.requires,
+        subst (λ (os : List ℕ). Spells table DspAnswer os (reply_node to_agent c.args.id r)) (sym c.as_slice.ensures)
+            c.in_ok-octets.ensures,
+      );
+    }
 
 pub returns-clause-told : goal.returns-clause-told
 returns-clause-told c =

@@ -9,13 +9,15 @@ use Rattle.x5_wire.proofs.requests.carried_request.Goals as goal
 
 pub read-requires : goal.read-requires
 read-requires c =
-    let r = request_view c.args.request.now in record { spelled = (
-      c.args.id,
-      r,
-      c.requires,
-      subst (λ (os : List ℕ). Spells table DapRequest os (request_node c.args.id r)) (sym c.as_slice.ensures)
-          c.in_ok-octets.ensures,
-    ); }
+    let r = request_view c.args.request.now in record {
+      spelled = (
+        c.args.id,
+        r,
+        c.requires,
+        subst (λ (os : List ℕ). Spells table DapRequest os (request_node c.args.id r)) (sym c.as_slice.ensures)
+            c.in_ok-octets.ensures,
+      );
+    }
 
 pub returns : goal.returns
 returns c =
