@@ -1,6 +1,6 @@
 -- A value of a type that asks neither a clock nor the agents of a world has canonical octets, whatever the surroundings;
 -- so messages within the limits are always written, and what they are written as is read back.
-use Rattle.std.proofs.Common.{◌≡◌, ℕ, ◌<◌, ◌^◌, true, List, length, refl, sym, ap, ◌∙◌}
+use Rattle.std.proofs.Common.{◌≡◌, ℕ, ◌<◌, ◌^◌, true, false, List, length, refl, sym, ap, ◌∙◌}
 use Rattle.std.specs.Prelude.{replicate}
 use Rattle.std.proofs.lemmas.List.{length-replicate}
 use Rattle.std.specs.declared.option.Option.{Option}

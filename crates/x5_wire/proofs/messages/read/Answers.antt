@@ -15,5 +15,5 @@ returns-in-Ok c = record {
 pub want-requires : goal.want-requires
 want-requires c =
     let w = c.requires.spelled in
-    only_want (λ (p : ℕ × code.Chained). (p.0, told_chained p.1)) (w.0, w.1) c.in-Err.fault
+    only_want {Y = ℕ × Chained} (λ (p : ℕ × code.Chained). (p.0, told_chained p.1)) (w.0, w.1) c.in-Err.fault
     (c.in-Err.ensures.back w.0 w.1 (chained_is w.1 w.2) w.3)

@@ -15,5 +15,5 @@ returns-in-Ok c = record {
 pub want-requires : goal.want-requires
 want-requires c =
     let w = c.requires.spelled in
-    only_want (λ (p : ℕ × code.Reply). (p.0, heard p.1)) (w.0, unnumbered w.1) c.in-Err.fault
+    only_want {Y = ℕ × Reply} (λ (p : ℕ × code.Reply). (p.0, heard p.1)) (w.0, unnumbered w.1) c.in-Err.fault
     (c.in-Err.ensures.back w.0 w.1 (told_within w.1 w.2) w.3)

@@ -15,5 +15,5 @@ returns-in-Ok c = record {
 pub want-requires : goal.want-requires
 want-requires c =
     let w = c.requires.spelled in
-    only_want (λ (p : ℕ × code.Request). (p.0, request_view p.1)) (w.0, w.1) c.in-Err.fault
+    only_want {Y = ℕ × Request} (λ (p : ℕ × code.Request). (p.0, request_view p.1)) (w.0, w.1) c.in-Err.fault
     (c.in-Err.ensures.back w.0 w.1 (request_is w.1 w.2) w.3)
