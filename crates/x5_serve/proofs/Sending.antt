@@ -20,7 +20,7 @@ use Rattle.x5_ops.specs.declared.references.Reference.{Reference}
 use Rattle.x5_ops.specs.declared.answers.Answer.{Answer}
 use Rattle.x5_ops.specs.declared.answers.Reply.{Reply}
 use Rattle.x5_ops.specs.declared.answers.Reply.TheVariants as reply
-use Rattle.x5_serve.specs.Networks.{Stays, DoesAt, IsDue}
+use Rattle.x5_serve.specs.Networks.{left_of, Stays, DoesAt, IsCarriedBy, IsDue}
 use Rattle.x5_serve.specs.Steps.{IsStep}
 use Rattle.x5_serve.specs.Sendable.{MayBeSent, IsTaken, MayBeReplied, MayBePassedOn, KeepsLimits}
 use Rattle.x5_serve.specs.declared.arrival.Step.{Step}
@@ -28,6 +28,7 @@ use Rattle.x5_serve.specs.declared.arrival.Step.TheVariants as step
 use Rattle.x5_serve.specs.declared.network.Carried.{Carried}
 use Rattle.x5_serve.specs.declared.network.Carried.TheVariants as carried
 use Rattle.x5_serve.proofs.Cycle.{is_more}
+use Rattle.x5_serve.proofs.Sent.{not_spent}
 use Rattle.x5_serve.proofs.Limits.{onward_bounded, parts_bounded, probe_bounded, may_be_replied, left_bounded}
 use Rattle.x5_serve.proofs.Operations.{served_passable}
 
@@ -74,6 +75,28 @@ module _ {N : Type 0} (scene : N → Scene) (most : N → ℕ) (names : N → Li
       → IsTaken (names old) x → x ≡ carried.Unheard taken → MayBeSent (names now) taken
   dropped_sent old now x taken s is e =
       sent_stays old now taken s (subst (λ (y : Carried). IsTaken (names old) y) e is)
+
+  -- a message whose reply will be lost is taken as it was sent too, and takes one of those that were left
+  pub dropped_is : (old now : N) (from to : ℕ) (m : Chained) (x : Carried) (taken : Chained)
+      → IsCarriedBy (scene old) (most old) (names old) (journal old) (journal now) (Some from) to
+      (chained_view (names old) m) x
+      → x ≡ carried.Unheard taken → chained_view (names old) taken ≡ chained_view (names old) m
+  dropped_is old now from to m x taken is e =
+      (subst (IsCarriedBy (scene old) (most old) (names old) (journal old) (journal now) (Some from) to
+      (chained_view (names old) m)) e is).3
+
+  pub dropped_less : (old now : N) (from to : ℕ) (m : Chained) (x : Carried) (taken : Chained)
+      → IsCarriedBy (scene old) (most old) (names old) (journal old) (journal now) (Some from) to
+      (chained_view (names old) m) x
+      → x ≡ carried.Unheard taken → Stays scene most names old now
+      → left_of (most now) (journal now) < left_of (most old) (journal old)
+  dropped_less old now from to m x taken is e s =
+      let w = subst (IsCarriedBy (scene old) (most old) (names old) (journal old) (journal now) (Some from) to
+      (chained_view (names old) m)) e is in
+      let more : length (journal now).lines ≡ suc (length (journal old).lines) = ap (λ (j : Journal). length j.lines)
+      w.2 in
+      let some : length (journal old).lines < most old = not_spent (most old) (length (journal old).lines) w.0 in
+      omega (arith, more, some, s.most_is)
 
   -- ---- a message that goes further
   module _ (old : N) (me : ℕ) (m : Chained) (x : Step)

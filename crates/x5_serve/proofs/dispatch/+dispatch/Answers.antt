@@ -12,7 +12,7 @@ use Rattle.x5_serve.specs.Steps.{heard_view, IsHeardBy}
 use Rattle.x5_serve.proofs.Walks.{Carries}
 use Rattle.x5_serve.proofs.Sent.{no_change, stays_on, first_goes, goes_on, agent_stays, user_stays, user_taken, user_onward, next_agent, next_to, next_reference, ask_spent, ask_lost, ask_dropped, ask_heard, taken_is, taken_less, back_told, last_told}
 use Rattle.x5_serve.proofs.Asked.{turn_in_vain, turn_heard, turn_unheard, cast_silent, cast_unable, cast_answered, cast_nobody, cast_some, probe_unheard, probe_noted, probe_passed, probe_ends, probe_through, first_part, part_lost, part_joins, part_leaves, part_ends}
-use Rattle.x5_serve.proofs.Sending.{sent_stays, passable_stays, next_bounded, taken_sent, goes_passable, goes_bounded, joins_passable, joins_bounded, back_replied, back_passable, back_bounded, referral_passable, referral_bounded, rest_passable, rest_bounded, due_passable}
+use Rattle.x5_serve.proofs.Sending.{sent_stays, passable_stays, next_bounded, taken_sent, dropped_sent, dropped_is, dropped_less, goes_passable, goes_bounded, joins_passable, joins_bounded, back_replied, back_passable, back_bounded, referral_passable, referral_bounded, rest_passable, rest_bounded, due_passable}
 use Rattle.x5_serve.proofs.Served.{step_named, step_goes, rest_named, own_alike, step_joins, step_updates, follows_none, follows_error, follows_referral, follows_rest, referral_named, rest_is_named, update_refused, alone_does, probed_named, probed_bounded, probed_missed, probed_ready, probed_does}
 use Rattle.x5_serve.proofs.dispatch.+dispatch.Goals.{cast-in-Unheard+in_ok-clone-in-Unheard+in_ok-push-in-Unheard, cast-in-Hears+else-not-is_unable, gather-in-Unheard+in_ok-clone-in-Unheard+in_ok-leave_out-in-Unheard, gather-in-Hears+in-Joins+in_ok-take_up-in-Joins, gather-in-Hears+in-Leaves+in_ok-leave_out-in-Leaves, probe-in-Unheard+in_ok-clone-in-Unheard+in_ok-push-in-Unheard, probe-in-Hears+in-Unable, probe-in-Hears+in-Unsure+in_ok-clone-in-Unsure+in_ok-push-in-Unsure}
 use Rattle.x5_serve.proofs.dispatch.+dispatch.Goals as goal
