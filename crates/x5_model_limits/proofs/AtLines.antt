@@ -27,11 +27,11 @@ use Rattle.x5_model_known.proofs.Describing.{at_place}
 use Rattle.x5_model_fitting.specs.Names.{Each, NameWithin}
 use Rattle.x5_model_fitting.specs.Requests.{CountWithin, IfThere, RequestWithin}
 use Rattle.x5_model_limits.specs.Holding.{BoundedEntry, BoundedSpecific, BoundedContext, BoundedCopy, BoundedHoldings}
-use Rattle.x5_model_limits.specs.Described.{world_is_utf8, BoundedDeed, BoundedPast}
+use Rattle.x5_model_limits.specs.Described.{world_is_utf8, BoundedDeed, BoundedPast, BoundedMoments}
 use Rattle.x5_model_limits.specs.Laws.{LinesBounded}
 use Rattle.x5_model_limits.proofs.Lists.{each_none, each_both, each_kept, each_map, each_some}
 use Rattle.x5_model_limits.proofs.Committing.{in_end, applied_bounded}
-use Rattle.x5_model_limits.proofs.Described.{ContextWithin, AgentWithin, agent_within, copied_within, held_within, below_within, root_within, nothing_held}
+use Rattle.x5_model_limits.proofs.Described.{ContextWithin, AgentWithin, agent_within, agreement_there, copied_within, held_within, below_within, root_within, nothing_held}
 
 -- ---- the one tree
 
@@ -119,43 +119,11 @@ module _ (w : World) (described : IsDescribed w) (utf8 : world_is_utf8 w ≡ tru
   tree_within (d ∷ before) b e i =
       deed_within d.deed (tree_by w before) (b d here) (tree_within before (λ x j. b x (there j))) e i
 
--- ---- moments
-
-stamp_within : (past : List Did) (agreement : ℕ) → BoundedPast past
-    → Each (λ (f : Refreshed). CountWithin f.stamp) (refreshes_of past agreement)
-stamp_within [] agreement b f i = elim i [ ]
-stamp_within (d ∷ before) agreement b f i =
-    elim (in_either f (refresh_of d.deed agreement) (refreshes_of before agreement) i) [
-      | inl j ↦ one d.deed (b d here) j
-      | inr j ↦ stamp_within before agreement (λ x k. b x (there k)) f j
-    ]
-  where
-    its : (t : Bool) (g : Refreshed) → CountWithin g.stamp → In f (when t g) → CountWithin f.stamp
-    its true g c j = elim (in_first f g [] j) [ inl s ↦ subst (λ (x : Refreshed). CountWithin x.stamp) (sym s) c | inr k ↦ elim k [ ] ]
-    its false g c j = elim j [ ]
-
-    one : (x : Deed) → BoundedDeed x → In f (refresh_of x agreement) → CountWithin f.stamp
-    one Nothing c j = elim j [ ]
-    one (Outs o) c j = elim j [ ]
-    one (Loses reply k) c j = elim j [ ]
-    one (Accepts accepted) c j = elim j [ ]
-    one (Splits name a) c j = elim j [ ]
-    one (Unsplits name) c j = elim j [ ]
-    one (Refreshes g) c j = its (g.agreement == agreement) g c j
-
-as_of_within : (p : Point) (agreement : ℕ) → BoundedPast p.past → IfThere CountWithin (as_of p agreement)
-as_of_within p agreement b = by (refreshes_of p.past agreement) (stamp_within p.past agreement b)
-  where
-    by : (fs : List Refreshed) → Each (λ (f : Refreshed). CountWithin f.stamp) fs
-        → IfThere CountWithin (stamp_of (first_of fs))
-    by [] each = tt
-    by (f ∷ fs) each = each f here
-
 -- ---- what agents hold
 
 module _ (p : Point) (first : IsDescribed p.described) (utf8_first : world_is_utf8 p.described ≡ true)
     (described : IsDescribed (knowledge_at p)) (utf8 : world_is_utf8 (knowledge_at p) ≡ true) (past : BoundedPast p.past)
-    where
+    (moments : BoundedMoments p) where
   abbrev w : World
   w = knowledge_at p
 
@@ -239,7 +207,7 @@ module _ (p : Point) (first : IsDescribed p.described) (utf8_first : world_is_ut
       let x = copied_within w described utf8 me g i in
       record {
         held = copy_within g (as_of p g.number) x.context x.some;
-        stamp = as_of_within p g.number past;
+        stamp = moments g (agreement_there w me g i);
       })
 
   held_then : (me : ℕ) (a : Agent) → AgentWithin a → BoundedHoldings (agent_holdings p me a)
@@ -251,11 +219,11 @@ module _ (p : Point) (first : IsDescribed p.described) (utf8_first : world_is_ut
   }
 
 pub lines_bounded : LinesBounded
-lines_bounded p me first utf8_first described utf8 past = by (agent_at (knowledge_at p) me) refl
+lines_bounded p me first utf8_first described utf8 past moments = by (agent_at (knowledge_at p) me) refl
   where
     by : (x : Option Agent) → agent_at (knowledge_at p) me ≡ x
         → BoundedHoldings (in_option (no_holdings me) (agent_holdings p me) x)
     by None e = nothing_held me
     by (Some a) e =
-        held_then p first utf8_first described utf8 past me a
+        held_then p first utf8_first described utf8 past moments me a
         (agent_within (knowledge_at p) described utf8 a (at_place (knowledge_at p).agents me a e))

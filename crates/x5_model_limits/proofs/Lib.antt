@@ -6,3 +6,4 @@ pub mod Needing
 pub mod Committing
 pub mod Described
 pub mod AtLines
+pub mod Runs
