@@ -1,20 +1,20 @@
 -- A reference's target and exclusions are carried as they are; the request asks for the target; and the trace, which is
 -- shorter than 128 items, has the agent's own item more.
-use Rattle.std.proofs.Common.{◌≡◌, ℕ, ◌<◌, Bool, true, false, nat_le, ◌&&◌, List, [], ◌∷◌, ◌++◌, length, arith, length-append, None, Option, if◌then◌else◌}
+use Rattle.std.proofs.Common.{◌≡◌, ℕ, ◌<◌, Bool, true, false, nat_le, [], ◌∷◌, length, arith, length-append, if◌then◌else◌}
 use Rattle.std.proofs.lemmas.Bool.{leb-false}
 use Rattle.x5_model.specs.Values.{Name}
 use Rattle.x5_model.specs.Requests.{Body, Read, Compare, ListBelow, Search, AddEntry, RemoveEntry, ModifyEntry, ModifyDn, Request}
 use Rattle.x5_model.specs.References.{Reference, Chained}
 use Rattle.x5_model_run.specs.Journal.{item_of, is_wide}
 use Rattle.x5_model_run.specs.Chain.{probe_request, is_probe, part_body, part_request, asks_part, request_for, is_user}
-use Rattle.x5_model_serve.specs.Serving.{Hand, carried_for, is_too_long}
 use Rattle.x5_model_fitting.specs.Names.{NameWithin}
 use Rattle.x5_model_fitting.specs.Requests.{BodyWithin, RequestWithin}
-use Rattle.x5_model_limits.specs.Messages.{BoundedReference, BoundedItem, BoundedMessage}
+use Rattle.x5_model_limits.specs.Messages.{BoundedItem, BoundedMessage}
 use Rattle.x5_model_limits.specs.Laws.{CarriedBounded}
-use Rattle.x5_model_limits.proofs.Lists.{each_none, each_one, each_both}
+use Rattle.x5_model_limits.proofs.Lists.{each_one, each_both}
 
-part_within : (wide : Bool) (base : Name) (b : Body) → NameWithin base → BodyWithin b → BodyWithin (part_body wide base b)
+part_within : (wide : Bool) (base : Name) (b : Body) → NameWithin base → BodyWithin b
+    → BodyWithin (part_body wide base b)
 part_within wide base (Read name selection) t w = w
 part_within wide base (Compare name assertion) t w = w
 part_within wide base (ListBelow name) t w = t
@@ -37,7 +37,7 @@ request_within by_user asked target r w t = by (is_probe asked.body target) (ask
     by false true = record { controls = tt; body = part_within (is_wide r.kind) target asked.body t w.body }
     by false false = w
 
-item_within : (a : ℕ) (m : Chained) → BoundedMessage m → BoundedItem (item_of a m)
+pub item_within : (a : ℕ) (m : Chained) → BoundedMessage m → BoundedItem (item_of a m)
 item_within a m w = record { target = w.target; progress = w.progress }
 
 shorter : (n : ℕ) → nat_le 128 n ≡ false → n < 128

@@ -1,6 +1,6 @@
 -- An accepted update leaves what an agent holds within the limits: each value that comes in was offered within them,
 -- and each name that changes is no longer than one that is there or that the request gives.
-use Rattle.std.proofs.Common.{◌≡◌, ℕ, zero, suc, ◌+◌, ◌-◌, ◌<◌, ◌≤◌, Bool, true, false, not, ◌&&◌, ◌==◌, nat_lt, inl, inr, List, [], ◌∷◌, ◌++◌, length, map, take, drop, refl, sym, ap, subst, ◌∙◌, arith, length-append, Option, Some, None, Ok, Err, if◌then◌else◌}
+use Rattle.std.proofs.Common.{◌≡◌, ℕ, ◌+◌, ◌-◌, ◌<◌, ◌≤◌, Bool, true, false, not, ◌&&◌, ◌==◌, nat_lt, inl, inr, List, [], ◌∷◌, ◌++◌, length, map, take, drop, refl, sym, ap, subst, ◌∙◌, arith, length-append, Option, Some, None, Ok, Err, if◌then◌else◌}
 use Rattle.std.proofs.lemmas.List.{length-take, length-drop}
 use Rattle.std.specs.List.{filter, filter_map, list_any, list_all, flat_map}
 use Rattle.core.specs.List.{cons_option}
@@ -10,7 +10,7 @@ use Rattle.x5_model.specs.Members.{In, here, there}
 use Rattle.x5_model.specs.Keys.{same_key, is_prefix, parent}
 use Rattle.x5_model.specs.Values.{TypeRef, Known, Unknown, StoredValue, Offered, Pair, Rdn, Name, key_of, last_rdn, name_above, written_pair}
 use Rattle.x5_model.specs.Types.{is_known, may_name, kind_of}
-use Rattle.x5_model.specs.Normal.{most_octets, most_pairs, most_rdns, over, first_found, rdn_over, ascends, is_pair, is_part_of_kind, is_enough, is_text_of_kind, written_rdn}
+use Rattle.x5_model.specs.Normal.{most_octets, most_pairs, over, first_found, rdn_over, ascends, is_pair, is_part_of_kind, is_enough, is_text_of_kind, written_rdn}
 use Rattle.x5_model.specs.Entries.{Stored, Entry, Named}
 use Rattle.x5_model.specs.Attributes.{value_below, kind_below, attribute_at, values_at, is_present, has_value, entry_with, put_value, drop_value, value_of_pair, has_pair, has_rdn, with_rdn, without_rdn, stored_value, stored_values, with_offered, entry_of}
 use Rattle.x5_model.specs.Changes.{ChangedEntry, and_then, each_value, put_new, drop_old, on_known, changed, changed_by, single_valued, keeps_rdn, modified, renamed}
@@ -38,6 +38,8 @@ use Rattle.x5_model_fitting.proofs.Texts.{naming_known}
 use Rattle.x5_model_fitting.proofs.Kept.{longer_name_within}
 use Rattle.x5_model_limits.specs.Holding.{BoundedValue, BoundedStored, BoundedEntry, BoundedContext, BoundedHoldings}
 use Rattle.x5_model_limits.specs.Laws.{CommittedBounded}
+use Rattle.x5_model_limits.proofs.Lists.{in_beginning, in_end}
+use Rattle.x5_model_limits.proofs.Spelling.{last_within}
 
 -- ---- the values of one type
 
@@ -63,7 +65,7 @@ with_kept kind values e known each h = by (is_empty values) refl
 
     by : (b : Bool) → is_empty values ≡ b
         → Each BoundedStored (if b then others
-            else insert_sorted kind_below (record { kind = kind; values = values }) others)
+        else insert_sorted kind_below (record { kind = kind; values = values }) others)
     by true q a i = other a i
     by false q a i = elim (of_insert kind_below a (record { kind = kind; values = values }) others i) [
       | inl s ↦ subst BoundedStored (sym s) (record { type = known; some = q; values = each })
@@ -215,7 +217,8 @@ Keeps change = (e f : Entry) → Kept e → change e ≡ Ok f → Kept f
 put_keeps : (kind : ℕ) (v : StoredValue) → is_known kind ≡ true → BoundedValue v → Keeps (put_new kind v)
 put_keeps kind v known b e f h = by (has_value e kind v.normal)
   where
-    by : (c : Bool) → (if c then Err (AttributeProblem attribute_or_value_already_exists (Known kind)) else Ok (put_value kind v e))
+    by : (c : Bool)
+        → (if c then Err (AttributeProblem attribute_or_value_already_exists (Known kind)) else Ok (put_value kind v e))
         ≡ Ok f → Kept f
     by true q = absurd (cc q)
     by false q = subst Kept (same_entry (put_value kind v e) f q) (put_kept kind v e known b h)
@@ -313,28 +316,9 @@ modified_keeps rdn cs each e f h q =
 
 -- ---- names
 
--- the last RDN of a name that isn't the root's is one of its RDNs
-last_in : (n : Name) → 0 < length n → In (last_rdn n) n
-last_in [] l = absurd (omega (arith, l))
-last_in (r ∷ []) l = here
-last_in (r ∷ s ∷ n) l = there (last_in (s ∷ n) (omega arith))
-
-last_within : (n : Name) → 0 < length n → NameWithin n → RdnWithin (last_rdn n)
-last_within n l h = h.rdns (last_rdn n) (last_in n l)
-
-in_beginning : {X : Type 0} (k : ℕ) (x : X) (xs : List X) → In x (take k xs) → In x xs
-in_beginning zero x xs i = elim i [ ]
-in_beginning (suc k) x [] i = elim i [ ]
-in_beginning (suc k) x (y ∷ xs) here = here
-in_beginning (suc k) x (y ∷ xs) (there i) = there (in_beginning k x xs i)
-
-pub in_end : {X : Type 0} (k : ℕ) (x : X) (xs : List X) → In x (drop k xs) → In x xs
-in_end zero x xs i = i
-in_end (suc k) x [] i = elim i [ ]
-in_end (suc k) x (y ∷ xs) i = there (in_end k x xs i)
-
 -- a name with another RDN in one place is as long as it was
-respelled_within : (k : ℕ) (r : Rdn) (n : Name) → k < length n → RdnWithin r → NameWithin n → NameWithin (respelled k r n)
+respelled_within : (k : ℕ) (r : Rdn) (n : Name) → k < length n → RdnWithin r → NameWithin n
+    → NameWithin (respelled k r n)
 respelled_within k r n l one h = record {
   few = omega (arith, l, h.few, length-append (take k n) (r ∷ drop (k + 1) n), length-take k n, length-drop (k + 1) n);
   rdns = λ x i. elim (in_either x (take k n) (r ∷ drop (k + 1) n) i) [
@@ -370,7 +354,8 @@ two_rdns name ts e = by (nat_lt (length name) 2) refl
     refused = no_name_refusals (AddEntry name ts) e
 
     by : (b : Bool) → nat_lt (length name) 2 ≡ b → 2 ≤ length name
-    by true q = absurd (true_is_false (sym q ∙ when_empty (nat_lt (length name) 2) (UpdateProblem naming_violation) refused))
+    by true q =
+        absurd (true_is_false (sym q ∙ when_empty (nat_lt (length name) 2) (UpdateProblem naming_violation) refused))
     by false q = grind arith
 
 one_rdn : (name : Name) → root_refusals name ≡ [] → 0 < length name
@@ -389,7 +374,8 @@ new_entry_bounded above name ts h same two n each =
     let last : RdnWithin (last_rdn name) = last_within name (omega (arith, two)) n in
     let a : length (key_at above) ≡ length above.name = key_length above.name in
     let b : length (key_of name) ≡ length name = key_length name in
-    let c : length (parent (key_of name)) + 1 ≡ length (key_of name) = parent_length (key_of name) (omega (arith, b, two)) in
+    let c : length (parent (key_of name)) + 1 ≡ length (key_of name) =
+    parent_length (key_of name) (omega (arith, b, two)) in
     let d : length (key_at above) ≡ length (parent (key_of name)) = ap length same in
     record {
       name = longer_name_within above.name (last_rdn name) h.name last (omega (arith, a, b, c, d, n.few));
@@ -480,7 +466,8 @@ module _ (g : Ground) (h : Each BoundedEntry g.entries) where
       let x = of_map (λ (y : Named). if same_key (key_at y) (key_of name) then new else y) e g.entries i in
       subst BoundedEntry (sym x.2) (either (same_key (key_at x.0) (key_of name)) new x.0 n (h x.0 x.1)))
     where
-      either : (b : Bool) (new old : Named) → BoundedEntry new → BoundedEntry old → BoundedEntry (if b then new else old)
+      either : (b : Bool) (new old : Named) → BoundedEntry new → BoundedEntry old
+          → BoundedEntry (if b then new else old)
       either true new old n o = n
       either false new old n o = o
 
@@ -510,7 +497,8 @@ module _ (g : Ground) (h : Each BoundedEntry g.entries) where
   update_bounded (RemoveEntry name) us none within q = removed_bounded name us q
   update_bounded (ModifyEntry name cs) us none within q = modified_bounded name cs us within.1 q
   update_bounded (ModifyDn name rdn drops) us none within q =
-      renamed_bounded name rdn drops us (one_rdn name (no_name_refusals (ModifyDn name rdn drops) none)) within.0 within.1 q
+      renamed_bounded name rdn drops us (one_rdn name (no_name_refusals (ModifyDn name rdn drops) none)) within.0
+      within.1 q
 
   pub applied_bounded : (body : Body) (us : List Named) → BodyWithin body → apply_over g body ≡ Ok us
       → Each BoundedEntry us

@@ -1,6 +1,6 @@
--- What a file describes of an agent is within the limits: its names have the normal forms of their texts and keep to the
--- limits of names, each value has a normal form for its type's kind, and what an agent holds is made of these.
-use Rattle.std.proofs.Common.{◌≡◌, ℕ, ◌==◌, Bool, true, false, not, ◌&&◌, List, [], ◌∷◌, length, map, refl, sym, ap, subst, ◌∙◌, Option, Some, None, Result, Ok, Err, if◌then◌else◌}
+-- What a file describes of an agent is within the limits: its names have the normal forms of their texts and keep to
+-- the limits of names, each value has a normal form for its type's kind, and what an agent holds is made of these.
+use Rattle.std.proofs.Common.{◌≡◌, ℕ, ◌==◌, Bool, true, false, not, ◌&&◌, List, [], ◌∷◌, length, map, refl, ap, ◌∙◌, Option, Some, None, Result, Ok, Err, if◌then◌else◌}
 use Rattle.std.specs.List.{filter, list_all}
 use Rattle.std.specs.Option.{is_none}
 use Rattle.x5_model.specs.Words.{is_empty, in_option, ascending}
@@ -12,21 +12,19 @@ use Rattle.x5_model.specs.Normal.{ValueFault, normal_of}
 use Rattle.x5_model.specs.Entries.{Stored, Named}
 use Rattle.x5_model.specs.Attributes.{kind_below, value_below, is_ordered, has_rdn}
 use Rattle.x5_model.specs.Statics.{entry_refusals}
-use Rattle.x5_model.proofs.Lists.{both_true, not_true, of_all, of_map, of_filter}
-use Rattle.x5_model_tree.specs.World.{Specific, Nssr, Context, Agent, Agreement, World}
+use Rattle.x5_model.proofs.Lists.{both_true, not_true, of_all, of_filter}
+use Rattle.x5_model_tree.specs.World.{Specific, Context, Agent, Agreement, World}
 use Rattle.x5_model_tree.specs.Tree.{is_there, sorted_entries}
 use Rattle.x5_model_tree.specs.Masters.{agent_at, held_contexts}
 use Rattle.x5_model_tree.specs.Described.{is_stored, is_normal, is_stored_value, is_stored_attribute, is_stored_entry, is_stored_context, is_stored_agent, is_entry_name, is_kept, is_rooted, is_grown, same_spelling, is_context, is_agent_name, is_reference, are_references, is_agent, is_number, is_agreement, IsDescribed}
 use Rattle.x5_model_tree.specs.Tree.{named_below}
 use Rattle.x5_model_tree.proofs.Stored.{stored_is, same_name_is}
 use Rattle.x5_model.proofs.Ascending.{of_sorted}
-use Rattle.x5_model_run.specs.Holdings.{Held, Copy, Holdings}
 use Rattle.x5_model_run.specs.History.{references_below, agreements_of, no_holdings}
-use Rattle.x5_model_held.specs.Beginning.{described_context, described_copy, described_holdings, holdings_described}
+use Rattle.x5_model_held.specs.Beginning.{described_context, described_copy, described_holdings}
 use Rattle.x5_model_known.proofs.Describing.{at_place, of_held, of_first}
 use Rattle.x5_model_fitting.specs.Names.{Each, NameWithin}
 use Rattle.x5_model_fitting.specs.Keeping.{has_utf8}
-use Rattle.x5_model_fitting.specs.Requests.{CountWithin, IfThere}
 use Rattle.x5_model_fitting.proofs.Kept.{stored_name_within, normal_within}
 use Rattle.x5_model_limits.specs.Holding.{BoundedValue, BoundedStored, BoundedEntry, BoundedSpecific, BoundedContext, BoundedCopy, BoundedHoldings}
 use Rattle.x5_model_limits.specs.Described.{name_is_utf8, stored_is_utf8, entry_is_utf8, context_is_utf8, references_are_utf8, agent_is_utf8, world_is_utf8}
@@ -68,7 +66,8 @@ entry_within e stored kept utf8 =
     let x = both_true (is_stored e.name) (list_all is_stored_attribute e.entry.attributes) stored in
     let y = both_true (is_entry_name e.name)
     (is_ordered e.entry && (has_rdn e.entry (last_rdn e.name) && is_empty (entry_refusals e.entry))) kept in
-    let z = both_true (is_ordered e.entry) (has_rdn e.entry (last_rdn e.name) && is_empty (entry_refusals e.entry)) y.1 in
+    let z = both_true (is_ordered e.entry)
+    (has_rdn e.entry (last_rdn e.name) && is_empty (entry_refusals e.entry)) y.1 in
     let o = both_true (ascending kind_below e.entry.attributes) (list_all has_values e.entry.attributes) z.0 in
     let u = both_true (name_is_utf8 e.name) (list_all stored_is_utf8 e.entry.attributes) utf8 in
     record {
@@ -153,7 +152,8 @@ module _ (w : World) (described : IsDescribed w) (utf8 : world_is_utf8 w ≡ tru
       let bi = both_true (are_references w a.subordinate) (are_references w a.cross) ai.1 in
       record {
         contexts = λ c j.
-            context_within w c (of_all is_stored_context c a.contexts ts.0 j) (of_all (is_context w) c a.contexts ai.0 j)
+            context_within w c (of_all is_stored_context c a.contexts ts.0 j)
+            (of_all (is_context w) c a.contexts ai.0 j)
             (of_all context_is_utf8 c a.contexts au.0 j);
         subordinate = references_within w a.subordinate bs.0 bi.0 bu.0;
         cross = references_within w a.cross bs.1 bi.1 bu.1;
@@ -165,7 +165,8 @@ module _ (w : World) (described : IsDescribed w) (utf8 : world_is_utf8 w ≡ tru
 
   pub agreement_within : (g : Agreement) → In g w.agreements → AgreementWithin g
   agreement_within g i =
-      let u = both_true (list_all agent_is_utf8 w.agents) (list_all (λ (x : Agreement). name_is_utf8 x.context) w.agreements)
+      let u = both_true (list_all agent_is_utf8 w.agents)
+      (list_all (λ (x : Agreement). name_is_utf8 x.context) w.agreements)
       utf8 in
       let s = both_true (list_all is_stored_agent w.agents)
       (list_all (λ (x : Agreement). is_stored x.context) w.agreements) described.stored in
@@ -184,7 +185,8 @@ module _ (w : World) (described : IsDescribed w) (utf8 : world_is_utf8 w ≡ tru
   pub held_within : (a : Agent) → AgentWithin a → Each ContextWithin (held_contexts [] a.contexts)
   held_within a b c i = b.contexts c (of_held [] a.contexts c i)
 
-  pub below_within : (a : Agent) (es : List Named) → AgentWithin a → Each BoundedSpecific (references_below es a.subordinate)
+  pub below_within : (a : Agent) (es : List Named) → AgentWithin a
+      → Each BoundedSpecific (references_below es a.subordinate)
   below_within a es b =
       each_kept BoundedSpecific (λ (k : Specific). is_there es (parent (key_of k.pin))) a.subordinate b.subordinate
 

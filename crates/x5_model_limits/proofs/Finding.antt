@@ -1,15 +1,15 @@
 -- Each reference by which a name goes on is made of a name that the agent holds and of the message's; and what is found
 -- is among what it holds.
-use Rattle.std.proofs.Common.{◌≡◌, ℕ, ◌+◌, ◌≤◌, Bool, true, false, not, ◌&&◌, inl, inr, List, [], ◌∷◌, ◌++◌, length, refl, sym, subst, arith, Option, Some, None, if◌then◌else◌}
+use Rattle.std.proofs.Common.{◌≡◌, ◌+◌, Bool, true, false, not, ◌&&◌, List, [], ◌∷◌, ◌++◌, length, refl, sym, subst, arith, Option, Some, None, if◌then◌else◌}
 use Rattle.std.specs.List.{filter, flat_map}
 use Rattle.std.specs.Option.{is_some, is_none}
-use Rattle.x5_model.specs.Words.{is_empty, in_option, when}
-use Rattle.x5_model.specs.Members.{In, here}
+use Rattle.x5_model.specs.Words.{is_empty, in_option}
+use Rattle.x5_model.specs.Members.{here}
 use Rattle.x5_model.specs.Keys.{Key, same_key, is_root}
 use Rattle.x5_model.specs.Values.{key_of}
 use Rattle.x5_model.specs.Entries.{Named}
 use Rattle.x5_model.specs.References.{Progress, Start, Next, Done, RefType, Superior, Cross, NonSpecific, Subordinate, Supplier, Reference, Chained}
-use Rattle.x5_model.proofs.Lists.{both_true, not_true, in_either, of_flat, of_filter, of_find}
+use Rattle.x5_model.proofs.Lists.{both_true, not_true, of_find}
 use Rattle.x5_model_tree.specs.World.{Specific, Nssr}
 use Rattle.x5_model_tree.specs.Tree.{lowest}
 use Rattle.x5_model_run.specs.Journal.{same_name, is_wide}
@@ -17,8 +17,8 @@ use Rattle.x5_model_run.specs.Holdings.{Held, Copy, Holdings, usable_agents, hel
 use Rattle.x5_model_run.specs.Needs.{others, reference, proceeding, subset_of, by_pin, to_supplier, copied_needs, to_superior, superior_needs, nssr_at, to_nssr, from_lowest, multicast_needs, copy_answers, supplier_needs, specific_at, to_specific, specific_needs}
 use Rattle.x5_model_theory.proofs.Holding.{usable_is}
 use Rattle.x5_model_theory.proofs.Longest.{lowest_is}
-use Rattle.x5_model_serve.specs.Finding.{Found, Here, CopyHere, Root, Below, Onward, Nowhere, Stuck, by_first, in_own, in_copy, at_pin, resolved, completed_copy, completed_own, completed, found_by, find}
-use Rattle.x5_model_fitting.specs.Names.{Each, RdnWithin, NameWithin}
+use Rattle.x5_model_serve.specs.Finding.{Found, CopyHere, Root, Below, Nowhere, Stuck, by_first, in_own, in_copy, at_pin, resolved, completed_copy, completed_own, completed, found_by}
+use Rattle.x5_model_fitting.specs.Names.{Each, RdnWithin}
 use Rattle.x5_model_limits.specs.Holding.{BoundedSpecific, BoundedContext, BoundedCopy, BoundedHoldings}
 use Rattle.x5_model_limits.specs.Messages.{BoundedReference, BoundedMessage}
 use Rattle.x5_model_limits.specs.Doing.{BoundedFound}
@@ -151,7 +151,8 @@ module _ (h : Holdings) (m : Chained) (w : BoundedHoldings h) (b : BoundedMessag
       at e q true k = rw (q, k) t
       at e q false k =
           let on = lowest_is c.entries (key_of m.target) e q in
-          rw (q, k) (first_bounded (multicast_needs h m c) (Nowhere e.name) (multicast_bounded c t) (t.entries e on.0).name)
+          rw (q, k) (first_bounded (multicast_needs h m c) (Nowhere e.name) (multicast_bounded c t)
+          (t.entries e on.0).name)
 
       by : (o : Option Named) → lowest c.entries (key_of m.target) ≡ o → BoundedFound (in_own h m c)
       by None q = rw q root_within

@@ -3,7 +3,11 @@ pub mod Spelling
 pub mod Carrying
 pub mod Finding
 pub mod Needing
+pub mod Answering
+pub mod Refusing
+pub mod Parting
 pub mod Committing
+pub mod Doing
 pub mod Described
 pub mod AtLines
 pub mod Runs

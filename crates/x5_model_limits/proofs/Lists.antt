@@ -1,11 +1,22 @@
 -- Where each member of a list is so, of lists that are made of lists.
-use Rattle.std.proofs.Common.{◌≡◌, Bool, true, false, inl, inr, List, [], ◌∷◌, ◌++◌, map, refl, sym, subst, Option, Some, None, if◌then◌else◌}
+use Rattle.std.proofs.Common.{◌≡◌, ℕ, zero, suc, Bool, true, false, inl, inr, List, [], ◌∷◌, ◌++◌, map, take, drop, refl, sym, subst, Option, Some, None, if◌then◌else◌}
 use Rattle.std.specs.List.{filter, flat_map}
 use Rattle.x5_model.specs.Words.{in_option, when, sorted}
-use Rattle.x5_model.specs.Members.{In}
+use Rattle.x5_model.specs.Members.{In, here, there}
 use Rattle.x5_model.proofs.Ascending.{of_sorted}
 use Rattle.x5_model.proofs.Lists.{in_first, in_either, of_map, of_filter, of_flat}
 use Rattle.x5_model_fitting.specs.Names.{Each}
+
+pub in_beginning : {X : Type 0} (k : ℕ) (x : X) (xs : List X) → In x (take k xs) → In x xs
+in_beginning zero x xs i = elim i [ ]
+in_beginning (suc k) x [] i = elim i [ ]
+in_beginning (suc k) x (y ∷ xs) here = here
+in_beginning (suc k) x (y ∷ xs) (there i) = there (in_beginning k x xs i)
+
+pub in_end : {X : Type 0} (k : ℕ) (x : X) (xs : List X) → In x (drop k xs) → In x xs
+in_end zero x xs i = i
+in_end (suc k) x [] i = elim i [ ]
+in_end (suc k) x (y ∷ xs) i = there (in_end k x xs i)
 
 module _ {X : Type 0} (P : X → Type 0) where
   pub each_none : Each P []

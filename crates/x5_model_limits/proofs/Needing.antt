@@ -1,13 +1,12 @@
 -- The contexts that are evaluated on the spot are those that are served; what a list or search needs below them is made
 -- of their entries and references; and a probe goes to an entry's name with one RDN more.
-use Rattle.std.proofs.Common.{◌≡◌, ℕ, zero, suc, ◌-◌, ◌≤◌, ◌==◌, min, Bool, true, false, not, ◌&&◌, inl, inr, List, [], ◌∷◌, ◌++◌, length, map, take, refl, sym, ap, subst, ◌∙◌, arith, length-take, Option, Some, None, if◌then◌else◌}
+use Rattle.std.proofs.Common.{◌≡◌, ℕ, zero, suc, ◌-◌, ◌≤◌, ◌==◌, Bool, true, false, not, ◌&&◌, inl, inr, List, [], ◌∷◌, ◌++◌, length, map, sym, ap, subst, arith, length-take, Option, Some, None, if◌then◌else◌}
 use Rattle.std.specs.List.{filter, flat_map, list_any}
 use Rattle.std.specs.Option.{is_some, is_none}
-use Rattle.x5_model.specs.Words.{is_empty, in_option, when, sorted}
-use Rattle.x5_model.specs.Members.{In}
+use Rattle.x5_model.specs.Words.{is_empty, in_option}
+use Rattle.x5_model.specs.Members.{In, here, there}
 use Rattle.x5_model.specs.Keys.{Key, same_key, is_child, is_root, parent}
 use Rattle.x5_model.specs.Values.{Rdn, Name, key_of, name_above, last_rdn}
-use Rattle.x5_model.specs.Normal.{most_rdns}
 use Rattle.x5_model.specs.Entries.{Named}
 use Rattle.x5_model.specs.Requests.{Subset, Body, Read, Compare, ListBelow, Search, AddEntry, RemoveEntry, ModifyEntry, ModifyDn}
 use Rattle.x5_model.specs.References.{Progress, Start, Next, Done, NonSpecific, Subordinate, Reference, Chained}
@@ -19,9 +18,8 @@ use Rattle.x5_model_tree.specs.Tree.{key_at, is_there, entry_at}
 use Rattle.x5_model_tree.specs.Ask.{in_subset}
 use Rattle.x5_model_run.specs.Journal.{same_name, same_spelled_rdn, is_wide}
 use Rattle.x5_model_run.specs.Holdings.{Held, Holdings, usable_agents, held_at, served, known_pin, is_first_level}
-use Rattle.x5_model_run.specs.Needs.{others, reference, proceeding, resolves, subset_of, is_excluded, begins_at, begins_by, found_below, found_by_name, and_below, evaluated, answers_root, below_needs, in_scope, rdn_below, once, treated_below, to_each, wide_needs, subset_needs, part_needs, nssr_at, new_name, is_refused_here, probe_by, probe_from, probe_of, probe_at_master, probe_due, probe_needs, due_probes}
+use Rattle.x5_model_run.specs.Needs.{others, reference, proceeding, resolves, subset_of, is_excluded, begins_at, and_below, evaluated, answers_root, below_needs, in_scope, rdn_below, once, treated_below, to_each, wide_needs, subset_needs, part_needs, nssr_at, new_name, is_refused_here, probe_by, probe_from, probe_of, probe_at_master, probe_due, probe_needs, due_probes}
 use Rattle.x5_model_theory.proofs.Stages.{key_length}
-use Rattle.x5_model_serve.specs.Answering.{rest_of_parts}
 use Rattle.x5_model_serve.proofs.Walks.{rest_is_needed}
 use Rattle.x5_model_fitting.specs.Names.{Each, RdnWithin, NameWithin}
 use Rattle.x5_model_fitting.specs.Requests.{BodyWithin}
@@ -41,12 +39,12 @@ entry_bounded c k e t q = t.entries e (of_find (λ (x : Named). same_key (key_at
 in_once : (r : Rdn) (rs : List Rdn) → In r (once rs) → In r rs
 in_once r [] i = i
 in_once r (x ∷ rs) i = elim (in_first r x (filter (λ y. not (same_spelled_rdn x y)) (once rs)) i) [
-  | inl e ↦ subst (λ (y : Rdn). In y (x ∷ rs)) (sym e) Rattle.x5_model.specs.Members.here
-  | inr j ↦ Rattle.x5_model.specs.Members.there
+  | inl e ↦ subst (λ (y : Rdn). In y (x ∷ rs)) (sym e) here
+  | inr j ↦ there
       (in_once r rs (of_filter (λ y. not (same_spelled_rdn x y)) r (once rs) j).0)
 ]
 
-module _ (h : Holdings) (m : Chained) (w : BoundedHoldings h) (b : BoundedMessage m) where
+module _ (h : Holdings) (m : Chained) (w : BoundedHoldings h) where
   abbrev all : List Held
   all = served m.request h
 
@@ -108,9 +106,10 @@ module _ (h : Holdings) (m : Chained) (w : BoundedHoldings h) (b : BoundedMessag
       by true g = each_none BoundedContext
       by false g = each_both BoundedContext level (and_below k all target subset (filter (under subset level) all)) f g
 
-  evaluated_bounded : AreContexts (evaluated h m)
+  pub evaluated_bounded : AreContexts (evaluated h m)
   evaluated_bounded =
-      each_some BoundedContext (λ (subset : Subset). and_below 16 all target subset (begins_at h m subset)) (subset_of m)
+      each_some BoundedContext (λ (subset : Subset). and_below 16 all target subset (begins_at h m subset))
+      (subset_of m)
       (λ subset e. level_served 16 subset (begins_at h m subset) (begins_served subset m.progress))
 
   -- ---- a list or search
@@ -143,11 +142,11 @@ module _ (h : Holdings) (m : Chained) (w : BoundedHoldings h) (b : BoundedMessag
         | inl j ↦
             let d = of_map (λ (x : Held). x.prefix) n all j in
             subst (λ (y : Name). RdnWithin (last_rdn y)) (sym d.2)
-            (last_within d.0.prefix (are_served d.0 d.1).prefix (are_served d.0 d.1).some)
+            (last_within d.0.prefix (some_rdn d.0.prefix (are_served d.0 d.1).some) (are_served d.0 d.1).prefix)
         | inr j ↦
             let k = of_map (λ (x : Specific). x.pin) n c.subordinate j in
             subst (λ (y : Name). RdnWithin (last_rdn y)) (sym k.2)
-            (last_within k.0.pin (t.subordinate k.0 k.1).pin (t.subordinate k.0 k.1).some)
+            (last_within k.0.pin (some_rdn k.0.pin (t.subordinate k.0 k.1).some) (t.subordinate k.0 k.1).pin)
       ]
 
       last : (r : Rdn) → In r (map last_rdn (filter (λ p. is_child at (key_of p)) pins)) → RdnWithin r
@@ -242,14 +241,14 @@ module _ (h : Holdings) (m : Chained) (w : BoundedHoldings h) (b : BoundedMessag
           let is : name_above n ++ rdn ∷ [] ≡ name = cc in
           subst NameWithin is (beside_within n rdn t.0 t.1)
 
-  probes_within : AreBounded (due_probes h m)
-  probes_within =
+  probes_within : BoundedMessage m → AreBounded (due_probes h m)
+  probes_within b =
       each_unless BoundedReference (is_some (fault_of m.request.body)) (probe_needs h m)
       (each_some BoundedReference (probe_due h m) (new_name m.request.body)
       (λ name q. due_bounded name (new_within m.request.body name b.request.body q)))
 
 pub rest_bounded : RestBounded
-rest_bounded h m w b r i = parts_bounded h m w b r (rest_is_needed h m r i)
+rest_bounded h m w b r i = parts_bounded h m w r (rest_is_needed h m r i)
 
 pub probes_bounded : ProbesBounded
 probes_bounded h m w b = probes_within h m w b

@@ -1,31 +1,25 @@
 -- Names that are spelled partly as an agent keeps them, and names on the way to others, are within the limits.
-use Rattle.std.proofs.Common.{◌≡◌, ℕ, zero, suc, ◌+◌, ◌-◌, ◌<◌, ◌≤◌, min, nat_lt, Bool, true, false, not, List, [], ◌∷◌, ◌++◌, length, take, drop, refl, sym, arith, ◌∙◌, length-append, length-take, length-drop, inl, inr}
+use Rattle.std.proofs.Common.{◌≡◌, ℕ, ◌-◌, ◌<◌, ◌≤◌, nat_lt, Bool, true, false, List, [], ◌∷◌, ◌++◌, length, take, drop, refl, sym, arith, ◌∙◌, length-append, length-take, length-drop}
 use Rattle.std.proofs.lemmas.Bool.{ltb-true, ltb-false}
 use Rattle.x5_model.specs.Words.{is_empty}
 use Rattle.x5_model.specs.Members.{In, here, there}
-use Rattle.x5_model.specs.Keys.{Key, IsPrefix, same_key}
+use Rattle.x5_model.specs.Keys.{IsPrefix}
 use Rattle.x5_model.specs.Values.{Rdn, Name, key_of, name_above, last_rdn}
 use Rattle.x5_model.specs.Normal.{most_rdns}
-use Rattle.x5_model.specs.References.{RefType, Next}
+use Rattle.x5_model.specs.References.{RefType}
 use Rattle.x5_model.proofs.KeyLaws.{key_decides}
-use Rattle.x5_model.proofs.Lists.{in_either}
-use Rattle.x5_model.proofs.Prefixes.{prefix_itself, same_by_length}
+use Rattle.x5_model.proofs.Prefixes.{prefix_itself, prefix_length, same_by_length}
 use Rattle.x5_model_run.specs.Journal.{same_name}
 use Rattle.x5_model_run.specs.Needs.{proceeding}
 use Rattle.x5_model_theory.proofs.Stages.{key_length}
 use Rattle.x5_model_theory.proofs.Tests.{false_true}
-use Rattle.x5_model_fitting.specs.Names.{Each, RdnWithin, NameWithin}
+use Rattle.x5_model_fitting.specs.Names.{RdnWithin, NameWithin}
 use Rattle.x5_model_fitting.proofs.Kept.{beginning_within, longer_name_within}
 use Rattle.x5_model_limits.specs.Messages.{BoundedReference}
-use Rattle.x5_model_limits.proofs.Lists.{each_none, each_both}
+use Rattle.x5_model_limits.proofs.Lists.{in_end, each_none, each_both}
 
 pub root_within : NameWithin []
 root_within = record { few = omega arith; rdns = each_none RdnWithin }
-
-in_end : {X : Type 0} (k : ℕ) (x : X) (xs : List X) → In x (drop k xs) → In x xs
-in_end zero x xs i = i
-in_end (suc k) x [] i = elim i [ ]
-in_end (suc k) x (y ∷ xs) i = there (in_end k x xs i)
 
 -- a name with another's end
 pub respelled_within : (k : ℕ) (kept name : Name) → k < most_rdns → NameWithin kept → NameWithin name
@@ -47,17 +41,18 @@ proceeding_bounded k kept name kind agents low high p q = record {
   exclusions = each_none RdnWithin;
 }
 
-pub some_rdn : (n : Name) → is_empty n ≡ false → 1 ≤ length n
+pub some_rdn : (n : Name) → is_empty n ≡ false → 0 < length n
 some_rdn [] e = cc
 some_rdn (r ∷ n) e = omega arith
 
-pub last_in : (n : Name) → is_empty n ≡ false → In (last_rdn n) n
-last_in [] e = cc
-last_in (r ∷ []) e = here
-last_in (r ∷ s ∷ n) e = there (last_in (s ∷ n) refl)
+-- the last RDN of a name that isn't the root's is one of its RDNs
+last_in : (n : Name) → 0 < length n → In (last_rdn n) n
+last_in [] l = absurd (omega (arith, l))
+last_in (r ∷ []) l = here
+last_in (r ∷ s ∷ n) l = there (last_in (s ∷ n) (omega arith))
 
-pub last_within : (n : Name) → NameWithin n → is_empty n ≡ false → RdnWithin (last_rdn n)
-last_within n w e = w.rdns (last_rdn n) (last_in n e)
+pub last_within : (n : Name) → 0 < length n → NameWithin n → RdnWithin (last_rdn n)
+last_within n l w = w.rdns (last_rdn n) (last_in n l)
 
 -- the name of what would stand beside another
 pub beside_within : (n : Name) (rdn : Rdn) → NameWithin n → RdnWithin rdn → NameWithin (name_above n ++ rdn ∷ [])
@@ -76,7 +71,7 @@ shorter_on_way e n on other = by (nat_lt (length e) (length n)) refl
         let k : length n ≤ length e = ltb-false (length e) (length n) q in
         let l : length (key_of e) ≡ length e = key_length e in
         let m : length (key_of n) ≡ length n = key_length n in
-        let up : length (key_of e) ≤ length (key_of n) = Rattle.x5_model.proofs.Prefixes.prefix_length (key_of e) (key_of n) on in
+        let up : length (key_of e) ≤ length (key_of n) = prefix_length (key_of e) (key_of n) on in
         let same : key_of e ≡ key_of n =
         same_by_length (key_of e) (key_of n) (key_of n) on (prefix_itself (key_of n)) (omega arith) in
         absurd (false_true (sym other ∙ (key_decides (key_of e) (key_of n)).1 same))

@@ -1,5 +1,5 @@
--- What agents do keeps to the limits of messages: what they find, need and carry, what they reply, what an update leaves
--- of what they hold, and what a file describes.
+-- What agents do keeps to the limits of messages: what they find, need and carry, what they reply, what an update
+-- leaves of what they hold, and what a file describes.
 use Rattle.std.specs.Prelude.{◌≡◌, ℕ, nat_lt, true, false, List, Option, Some, Err}
 use Rattle.x5_model.specs.References.{Reference, Chained}
 use Rattle.x5_model.specs.Answers.{Answer, DirError, Reply}

@@ -1,6 +1,6 @@
--- Messages and replies within the limits of messages, with agents by their numbers (X.511, sections 7, 10 and 12; X.518,
--- section 10). That agents have names, and that no item of a trace comes twice, is a matter of these names.
-use Rattle.std.specs.Prelude.{ℕ, ◌≤◌, length}
+-- Messages and replies within the limits of messages, with agents by their numbers (X.511, sections 7, 10 and 12;
+-- X.518, section 10). That agents have names, and that no item of a trace comes twice, is a matter of these names.
+use Rattle.std.specs.Prelude.{◌≤◌, length}
 use Rattle.x5_model.specs.References.{Reference, TraceItem, Chained}
 use Rattle.x5_model.specs.Answers.{Source, Outcome, Answer, EntryFound, Matched, Listed, Found, Changed, DirError}
 use Rattle.x5_model.specs.Answers.{NoSuchObject, AttributeProblem, UpdateProblem, ServiceProblem, Reply, Answered}

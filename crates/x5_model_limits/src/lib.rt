@@ -2,8 +2,10 @@
 //! written, and is read back (X.518, sections 18 to 21). Each function here does nothing; its clauses are the theorems.
 #![tactic(auto)]
 
-ghost use Rattle.x5_model_limits.specs.Laws.{CarriedBounded, FindsBounded, RestBounded, ProbesBounded};
-ghost use Rattle.x5_model_limits.specs.Laws.{CommittedBounded, DescribedBounded, LinesBounded};
+ghost use Rattle.x5_model_limits.specs.Laws.{FindsBounded, RestBounded, ProbesBounded, CarriedBounded};
+ghost use Rattle.x5_model_limits.specs.Laws.{OwnPartBounded, CopyPartBounded, LocalPartBounded, AnswersBounded};
+ghost use Rattle.x5_model_limits.specs.Laws.{RefusalsBounded, JudgedBounded, GroundBounded, CommittedBounded};
+ghost use Rattle.x5_model_limits.specs.Laws.{DoesBounded, RequestsBounded, DescribedBounded, LinesBounded};
 ghost use Rattle.x5_model_limits.specs.Runs.{MomentsBounded, RunsBounded};
 ghost use Rattle.x5_model_run.specs.Right.{SendsRight};
 
@@ -20,9 +22,37 @@ pub fn what_is_carried()
     ensures { CarriedBounded }
 {}
 
+/// What an agent answers from a context or a copy within the limits, and its part of a list or search, is within them (X.518,
+/// section 19).
+pub fn parts_bounded()
+    ensures own { OwnPartBounded }
+    ensures copy { CopyPartBounded }
+    ensures local { LocalPartBounded }
+{}
+
+/// What is made of answers and references within the limits stays within them (X.518, section 21).
+pub fn answers_bounded()
+    ensures { AnswersBounded }
+{}
+
+/// What an agent refuses a request with within the limits, by the request alone or by the entries of its own contexts, is within
+/// them (X.511, sections 9 to 12).
+pub fn refusals_bounded()
+    ensures refused { RefusalsBounded }
+    ensures judged { JudgedBounded }
+    ensures ground { GroundBounded }
+{}
+
 /// What an agent holds once it accepted an update that is within the limits is within them (X.511, section 11).
 pub fn committed_bounded()
     ensures { CommittedBounded }
+{}
+
+/// Where all that the agents of a world hold is within the limits, and names agents of that world alone, so is whatever they
+/// tell when something within them comes to one, and each message that they send meanwhile. So it is of a user's request.
+pub fn what_is_done()
+    ensures does { DoesBounded }
+    ensures requests { RequestsBounded }
 {}
 
 /// What a world's file describes of an agent is within the limits, where its texts are UTF-8 (X.501, section 22).
