@@ -11,3 +11,6 @@ pub mod Doing
 pub mod Described
 pub mod AtLines
 pub mod Runs
+pub mod Texts
+pub mod Filters
+pub mod Scripts

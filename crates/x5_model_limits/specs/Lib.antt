@@ -4,3 +4,4 @@ pub mod Doing
 pub mod Described
 pub mod Laws
 pub mod Runs
+pub mod Scripts

@@ -7,6 +7,7 @@ ghost use Rattle.x5_model_limits.specs.Laws.{OwnPartBounded, CopyPartBounded, Lo
 ghost use Rattle.x5_model_limits.specs.Laws.{RefusalsBounded, JudgedBounded, GroundBounded, CommittedBounded};
 ghost use Rattle.x5_model_limits.specs.Laws.{DoesBounded, RequestsBounded, DescribedBounded, LinesBounded};
 ghost use Rattle.x5_model_limits.specs.Runs.{MomentsBounded, RunsBounded};
+ghost use Rattle.x5_model_limits.specs.Scripts.{ScriptsBounded};
 ghost use Rattle.x5_model_run.specs.Right.{SendsRight};
 
 /// Where what an agent holds and the message are within the limits, so is what it finds of the name, and what it needs for a
@@ -71,4 +72,9 @@ pub fn lines_bounded()
 pub fn runs_bounded()
     ensures accepted { RunsBounded SendsRight }
     ensures moments { MomentsBounded }
+{}
+
+/// Each request that a script spells is within the limits: reading refuses all else.
+pub fn scripts_bounded()
+    ensures { ScriptsBounded }
 {}
