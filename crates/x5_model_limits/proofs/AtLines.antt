@@ -1,7 +1,7 @@
 -- At a line agents hold the same knowledge as at first, with other entries: parts of the one tree, now or at the moment
 -- of a refresh. That tree has the described entries, and what accepted updates within the limits made of them; where a
 -- context went back to the one above, names begin as that one's entry is spelled.
-use Rattle.std.proofs.Common.{◌≡◌, ℕ, ◌-◌, ◌==◌, Bool, true, false, not, ◌&&◌, inl, inr, List, [], ◌∷◌, ◌++◌, length, map, drop, refl, sym, subst, arith, length-append, Option, Some, None, Ok, Err, if◌then◌else◌}
+use Rattle.std.proofs.Common.{◌≡◌, ℕ, ◌-◌, ◌==◌, Bool, true, false, not, ◌&&◌, inl, inr, List, [], ◌∷◌, ◌++◌, length, map, drop, refl, arith, length-append, Option, Some, None, Ok, Err, if◌then◌else◌}
 use Rattle.std.proofs.lemmas.List.{length-drop}
 use Rattle.std.specs.List.{filter}
 use Rattle.x5_model.specs.Words.{is_empty, in_option}

@@ -1,9 +1,8 @@
 -- What a text gives as a filter is within the limits: each item by the type and the values in it, parts of a value by
 -- where they stand between stars, and the filter by the grammar, which has no deeper nesting.
-use Rattle.std.proofs.Common.{◌≡◌, ℕ, zero, suc, ◌+◌, ◌-◌, ◌≤◌, Bool, true, false, not, ◌&&◌, ◌==◌, nat_lt, List, [], ◌∷◌, ◌++◌, length, refl, sym, ap, ap₂, subst, ◌∙◌, arith, Option, Some, None, Result, Ok, Err, IfOk, if◌then◌else◌}
+use Rattle.std.proofs.Common.{◌≡◌, ℕ, zero, suc, ◌+◌, ◌-◌, Bool, true, false, not, ◌&&◌, ◌==◌, nat_lt, List, [], ◌∷◌, ◌++◌, length, refl, ap, subst, arith, Option, Some, None, Result, Ok, Err, IfOk, if◌then◌else◌}
 use Rattle.std.specs.List.{list_all, position_or_len, before_first, after_first, slice_split}
 use Rattle.x5_model.specs.Words.{is_empty, in_option, same_octets}
-use Rattle.x5_model.specs.Members.{In, here, there}
 use Rattle.x5_model.specs.Values.{Text, TypeRef, Unknown, Value}
 use Rattle.x5_model.specs.Types.{TextKind}
 use Rattle.x5_model.specs.Normal.{ValueFault}
@@ -12,11 +11,11 @@ use Rattle.x5_model.specs.Filters.{Assertion, PiecePlace, Initial, Any, Last, Pi
 use Rattle.x5_model.proofs.Lists.{both_true, and_true}
 use Rattle.x5_model_text.specs.TypeText.{type_of_text}
 use Rattle.x5_model_text.specs.NameText.{equals, kind_of_type, value_of_text}
-use Rattle.x5_model_text.specs.Filters.{deepest, star, ◌>>=◌, spelled_at, or_place, value_at, assertion_at, piece_at, with_piece, behind_star, pieces_at, all_pieces, some_pieces, substrings_at, has_star, asserted, equal_at, type_at, before_last, compared_at, item_of_sides, item_at, filter_of_text}
+use Rattle.x5_model_text.specs.Filters.{deepest, star, ◌>>=◌, spelled_at, or_place, value_at, assertion_at, piece_at, with_piece, pieces_at, all_pieces, some_pieces, substrings_at, has_star, asserted, equal_at, type_at, before_last, compared_at, item_of_sides, item_at, filter_of_text}
 use Rattle.x5_model_text.specs.FilterGrammar.{Spells, SpellsAll}
 use Rattle.x5_model_text.proofs.FilterLaws.{read_is_spelled}
 use Rattle.x5_model_fitting.specs.Names.{Each}
-use Rattle.x5_model_fitting.specs.Terms.{TypeWithin, ValueWithin, AssertionWithin, PartWithin, stand_right, SubstringsWithin}
+use Rattle.x5_model_fitting.specs.Terms.{TypeWithin, ValueWithin, AssertionWithin, PartWithin, stand_right}
 use Rattle.x5_model_fitting.specs.Filters.{ItemWithin, FilterWithin, FiltersWithin, most_levels}
 use Rattle.x5_model_limits.proofs.Lists.{each_none, each_one, each_both}
 use Rattle.x5_model_limits.proofs.Texts.{type_within, value_within, part_within}

@@ -1,14 +1,12 @@
 -- A line accepts at most the update that it carries; so what the lines of a run accepted is within the limits where they
 -- are. Moments of lines before are no more than these lines.
-use Rattle.std.proofs.Common.{◌≡◌, ◌<◌, ◌≤◌, ◌^◌, ℕ, List, [], ◌∷◌, ◌++◌, length, map, reverse, refl, sym, subst, arith, Option, Some, None, inl, inr, Ok, Err}
-use Rattle.x5_model.specs.Members.{In, here, there}
+use Rattle.std.proofs.Common.{◌≡◌, ◌≤◌, ℕ, List, [], ◌∷◌, length, map, reverse, refl, sym, subst, arith, Option, Some, None, inl, inr, Ok, Err}
+use Rattle.x5_model.specs.Members.{here}
 use Rattle.x5_model.specs.Requests.{Request}
 use Rattle.x5_model.proofs.Lists.{in_first, in_left, in_right}
-use Rattle.x5_model_tree.specs.World.{World}
 use Rattle.x5_model_run.specs.Refresh.{RefreshOutcome, Done, Unheard, Problem, Missed, NotConsistent}
 use Rattle.x5_model_run.specs.History.{Acceptance, Deed, Nothing, Accepts, Did, as_of}
-use Rattle.x5_model_run.specs.Run.{Command, Blank, Asks, Changes, Drops, Updates, Hands, Block, Silent, Set, Replies, Refreshing, Handed, Rejected, Judge, refreshed_by, did_by, IsRun, begin, next}
-use Rattle.x5_model_fitting.specs.Names.{Each}
+use Rattle.x5_model_run.specs.Run.{Command, Blank, Asks, Changes, Drops, Updates, Hands, Block, Silent, Set, Replies, Refreshing, Handed, Rejected, Judge, refreshed_by, did_by, begin, next}
 use Rattle.x5_model_fitting.specs.Requests.{CountWithin, IfThere, RequestWithin}
 use Rattle.x5_model_limits.specs.Described.{BoundedDeed, BoundedPast}
 use Rattle.x5_model_limits.specs.Runs.{BoundedCommand, RunsBounded, MomentsBounded}

@@ -1,6 +1,6 @@
 -- Whatever a line of a script asks for is within the limits: each word is read as something within them, and a request
 -- is made of these.
-use Rattle.std.proofs.Common.{◌≡◌, ℕ, ◌+◌, ◌<◌, ◌^◌, Bool, true, false, not, ◌&&◌, nat_lt, All, List, [], ◌∷◌, ◌++◌, length, map, drop, codes, refl, subst, Option, Some, None, Result, Ok, Err, IfOk, if◌then◌else◌, cond}
+use Rattle.std.proofs.Common.{◌≡◌, ℕ, ◌+◌, ◌^◌, Bool, true, false, not, ◌&&◌, nat_lt, All, List, [], ◌∷◌, ◌++◌, length, map, drop, codes, refl, subst, Option, Some, None, Result, Ok, Err, IfOk, if◌then◌else◌, cond}
 use Rattle.std.specs.Prelude.{option_map, option_and_then, nat_eq}
 use Rattle.std.specs.List.{list_any, slice_split, onto_first, starts_with, before_first, after_first}
 use Rattle.std.specs.Result.{result_ok}

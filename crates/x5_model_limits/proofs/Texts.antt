@@ -2,7 +2,7 @@
 use Rattle.std.proofs.Common.{◌≡◌, ℕ, Bool, true, false, not, ◌&&◌, ◌==◌, List, [], ◌∷◌, ◌+◌, length, refl, sym, ap, ap₂, subst, ◌∙◌, Option, Some, None, Result, Ok, Err, IfOk, if◌then◌else◌}
 use Rattle.std.specs.Prelude.{is_some}
 use Rattle.std.specs.List.{list_all}
-use Rattle.x5_model.specs.Values.{Text, TypeRef, Known, Unknown, NameValue, Value, TextValue, OctetsValue, OidValue, NameOf, written, written_pair}
+use Rattle.x5_model.specs.Values.{Text, TypeRef, Known, Unknown, NameValue, Value, TextValue, OctetsValue, OidValue, NameOf, written}
 use Rattle.x5_model.specs.Types.{Kind, TextKind, NameKind, in_table, is_known}
 use Rattle.x5_model.specs.Normal.{most_octets, most_rdns, is_oid, is_rdn, oid_content_len, first_found, over, rdn_over, name_over, written_key, key_octets, ValueFault, WrongSyntax, within, normal_of, stored, stored_rdn, written_rdn}
 use Rattle.x5_model.proofs.Lists.{both_true, not_true}

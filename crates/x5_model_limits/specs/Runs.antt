@@ -1,6 +1,6 @@
 -- Runs whose lines are within the limits of messages: so are the updates that are accepted at them, and the moments of
 -- copies.
-use Rattle.std.specs.Prelude.{◌^◌, ◌<◌, List, length}
+use Rattle.std.specs.Prelude.{List, length}
 use Rattle.std.specs.declared.result.Result.TheVariants.{Ok, Err}
 use Rattle.x5_model_tree.specs.World.{World}
 use Rattle.x5_model_run.specs.History.{Did, Point}
