@@ -195,7 +195,12 @@ module _ (p : Point) (first : IsDescribed p.described) (utf8_first : world_is_ut
 
         by : (o : Option Mastered)
             → BoundedContext (in_option (record { prefix = g.context; entries = es; subordinate = []; nssrs = [] })
-            (λ c. record { prefix = g.context; entries = es; subordinate = sent_references w c es; nssrs = c.context.nssrs }) o)
+            (λ c. record {
+              prefix = g.context;
+              entries = es;
+              subordinate = sent_references w c es;
+              nssrs = c.context.nssrs;
+            }) o)
         by None = record {
           prefix = name;
           some = some;

@@ -10,7 +10,3 @@ pub mod Committing
 pub mod Doing
 pub mod Described
 pub mod AtLines
-pub mod Runs
-pub mod Texts
-pub mod Filters
-pub mod Scripts

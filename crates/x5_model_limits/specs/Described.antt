@@ -1,10 +1,9 @@
 -- Worlds whose texts are UTF-8, as those that were read from a file, and histories whose updates and moments are within
 -- the limits of messages.
-use Rattle.std.specs.Prelude.{◌≡◌, ◌≤◌, ℕ, Bool, ◌&&◌, List, length}
+use Rattle.std.specs.Prelude.{◌≡◌, Bool, ◌&&◌, List}
 use Rattle.std.specs.List.{list_all}
 use Rattle.x5_model.specs.Values.{Name, written}
 use Rattle.x5_model.specs.Entries.{Stored, Named}
-use Rattle.std.specs.declared.option.Option.TheVariants.{Some}
 use Rattle.x5_model.specs.Members.{In}
 use Rattle.x5_model_tree.specs.World.{Specific, Context, Agent, Agreement, World}
 use Rattle.x5_model_run.specs.History.{Acceptance, Deed, Nothing, Outs, Loses, Accepts, Refreshes, Splits, Unsplits, Did}
@@ -51,9 +50,3 @@ BoundedPast past = Each (λ (d : Did). BoundedDeed d.deed) past
 -- the moments of copies, by their agreements (X.525, section 9: last update): four octets have them
 abbrev pub BoundedMoments : Point → Type 0
 BoundedMoments p = (g : Agreement) → In g (knowledge_at p).agreements → IfThere CountWithin (as_of p g.number)
-
--- they are those of lines before
-abbrev pub EarlyMoments : Point → Type 0
-EarlyMoments p =
-    (g : Agreement) (moment : ℕ)
-    → In g (knowledge_at p).agreements → as_of p g.number ≡ Some moment → moment ≤ length p.past

@@ -3,5 +3,3 @@ pub mod Messages
 pub mod Doing
 pub mod Described
 pub mod Laws
-pub mod Runs
-pub mod Scripts

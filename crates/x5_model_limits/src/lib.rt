@@ -6,9 +6,6 @@ ghost use Rattle.x5_model_limits.specs.Laws.{FindsBounded, RestBounded, ProbesBo
 ghost use Rattle.x5_model_limits.specs.Laws.{OwnPartBounded, CopyPartBounded, LocalPartBounded, AnswersBounded};
 ghost use Rattle.x5_model_limits.specs.Laws.{RefusalsBounded, JudgedBounded, GroundBounded, CommittedBounded};
 ghost use Rattle.x5_model_limits.specs.Laws.{DoesBounded, RequestsBounded, DescribedBounded, LinesBounded};
-ghost use Rattle.x5_model_limits.specs.Runs.{MomentsBounded, RunsBounded};
-ghost use Rattle.x5_model_limits.specs.Scripts.{ScriptsBounded};
-ghost use Rattle.x5_model_run.specs.Right.{SendsRight};
 
 /// Where what an agent holds and the message are within the limits, so is what it finds of the name, and what it needs for a
 /// list or search, and for probes.
@@ -62,19 +59,7 @@ pub fn described_bounded()
 {}
 
 /// At every line of a run what an agent holds is within the limits, copies refreshed or not, so long as the updates that
-/// were accepted are, and moments have four octets (X.525, section 9).
+/// were accepted are, and the moments of copies have four octets (X.525, section 9).
 pub fn lines_bounded()
     ensures { LinesBounded }
-{}
-
-/// So are the updates that the lines of a run accepted, where its requests are; and moments of lines before have four octets
-/// where these count the lines.
-pub fn runs_bounded()
-    ensures accepted { RunsBounded SendsRight }
-    ensures moments { MomentsBounded }
-{}
-
-/// Each request that a script spells is within the limits: reading refuses all else.
-pub fn scripts_bounded()
-    ensures { ScriptsBounded }
 {}

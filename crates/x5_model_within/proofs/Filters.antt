@@ -18,7 +18,7 @@ use Rattle.x5_model_fitting.specs.Names.{Each}
 use Rattle.x5_model_fitting.specs.Terms.{TypeWithin, ValueWithin, AssertionWithin, PartWithin, stand_right}
 use Rattle.x5_model_fitting.specs.Filters.{ItemWithin, FilterWithin, FiltersWithin, most_levels}
 use Rattle.x5_model_limits.proofs.Lists.{each_none, each_one, each_both}
-use Rattle.x5_model_limits.proofs.Texts.{type_within, value_within, part_within}
+use Rattle.x5_model_within.proofs.Texts.{type_within, value_within, part_within}
 
 -- ---- what holds of what is read holds through a step
 
@@ -96,7 +96,8 @@ one_behind (p ∷ []) q places goes_on behind =
     and_true (not (ends_value p.place) && not (begins_value q.place)) true
     (and_true (not (ends_value p.place)) (not (begins_value q.place)) a.0 behind) refl
 one_behind (p ∷ r ∷ ps) q places goes_on behind =
-    let a = both_true (not (ends_value p.place)) (list_all (λ (x : Piece). not (ends_value x.place)) (r ∷ ps)) goes_on in
+    let a = both_true (not (ends_value p.place)) (list_all (λ (x : Piece). not (ends_value x.place)) (r ∷ ps))
+    goes_on in
     let b = both_true (not (ends_value p.place) && not (begins_value r.place)) (stand_right (r ∷ ps)) places in
     and_true (not (ends_value p.place) && not (begins_value r.place)) (stand_right (r ∷ ps ++ q ∷ [])) b.0
     (one_behind (r ∷ ps) q b.1 a.1 behind)
@@ -123,7 +124,8 @@ IsPiece place (Some p) = PieceWithin p × (p.place ≡ place)
 piece_within : (place : PiecePlace) (at : ℕ) (t : Text) → IfOk (piece_at place at t) (IsPiece place)
 piece_within place at [] = tt
 piece_within place at (b ∷ t) =
-    given (IsPiece place) PartWithin (value_at TextKind at (b ∷ t)) (λ v. Ok (Some (record { place = place; value = v })))
+    given (IsPiece place) PartWithin (value_at TextKind at (b ∷ t))
+    (λ v. Ok (Some (record { place = place; value = v })))
     (part_at_within at (b ∷ t)) (λ v h. (h, refl))
 
 last_within : (before : List Piece) (o : Option Piece) → Open before → IsPiece Last o → Right (with_piece before o)
@@ -232,12 +234,14 @@ spelled_within : (n : ℕ) (f : Filter) (t : Text) → Spells n f t → FilterWi
 spelled_within zero f t s = absurd s
 spelled_within (suc n) (Is item) t s =
     (omega arith, subst (λ (r : Result Item ℕ). IfOk r ItemWithin) s.2 (item_within s.0 s.1))
-spelled_within (suc n) (And fs) t s =
-    (omega arith,
-    subst (λ (m : ℕ). FiltersWithin m fs) (one_less n) (each_within n (spelled_within n) fs s.0 s.1))
-spelled_within (suc n) (Or fs) t s =
-    (omega arith,
-    subst (λ (m : ℕ). FiltersWithin m fs) (one_less n) (each_within n (spelled_within n) fs s.0 s.1))
+spelled_within (suc n) (And fs) t s = (
+  omega arith,
+  subst (λ (m : ℕ). FiltersWithin m fs) (one_less n) (each_within n (spelled_within n) fs s.0 s.1),
+)
+spelled_within (suc n) (Or fs) t s = (
+  omega arith,
+  subst (λ (m : ℕ). FiltersWithin m fs) (one_less n) (each_within n (spelled_within n) fs s.0 s.1),
+)
 spelled_within (suc n) (Not f) t s =
     (omega arith, subst (λ (m : ℕ). FilterWithin m f) (one_less n) (spelled_within n f s.0 s.1))
 

@@ -5,8 +5,9 @@ use Rattle.std.specs.Prelude.{option_map, option_and_then, nat_eq}
 use Rattle.std.specs.List.{list_any, slice_split, onto_first, starts_with, before_first, after_first}
 use Rattle.std.specs.Result.{result_ok}
 use Rattle.std.specs.Str.Parse.{digits_value}
-use Rattle.std.proofs.lemmas.Bool.{ltb-true}
+use Rattle.std.proofs.lemmas.Bool.{ltb-true, lt-ltb}
 use Rattle.std.proofs.lemmas.List.Elements.{All-nil, All-cons}
+use Rattle.std.proofs.lemmas.List.Quantifiers.{position-Some}
 use Rattle.x5_model.specs.Words.{is_empty, first_of, same_octets}
 use Rattle.x5_model.specs.Members.{here, there}
 use Rattle.x5_model.specs.Values.{Text, TypeRef, Value, Offered, Name}
@@ -31,10 +32,10 @@ use Rattle.x5_model_fitting.specs.Names.{Each, RdnWithin, NameWithin}
 use Rattle.x5_model_fitting.specs.Terms.{TypeWithin, ValueWithin, OfferedWithin, AttributeWithin}
 use Rattle.x5_model_fitting.specs.Filters.{FilterWithin, most_levels}
 use Rattle.x5_model_fitting.specs.Requests.{CountWithin, IfThere, SelectionWithin, ChangeWithin, ControlsWithin, BodyWithin}
-use Rattle.x5_model_limits.specs.Scripts.{BoundedAsked, ScriptsBounded}
+use Rattle.x5_model_within.specs.Scripts.{BoundedAsked, ScriptsBounded}
 use Rattle.x5_model_limits.proofs.Lists.{each_none, each_one, each_both, each_map}
-use Rattle.x5_model_limits.proofs.Texts.{type_within, value_within, name_within, rdn_within}
-use Rattle.x5_model_limits.proofs.Filters.{filter_within}
+use Rattle.x5_model_within.proofs.Texts.{type_within, value_within, name_within, rdn_within}
+use Rattle.x5_model_within.proofs.Filters.{filter_within}
 
 -- ---- what holds of what is read holds through a step
 
@@ -246,7 +247,8 @@ module _ {A B : Type 0} (P : A → Type 0) (Q : B → Type 0) (read : Text → O
   all_gathered (w ∷ ws) before h =
       whatever Q (sound w)
       (λ word. or_fault (BadWord word.column) (read word.text) >>= (λ x. gathered read put (put x before) ws))
-      (λ word. found P Q (BadWord word.column) (read word.text) (λ x. gathered read put (put x before) ws) (so word.text)
+      (λ word. found P Q (BadWord word.column) (read word.text) (λ x. gathered read put (put x before) ws)
+      (so word.text)
       (λ x p. all_gathered ws (put x before) (keeps x before p h)))
 
   gather_within : (before : B) (left : Left) → Q before → IfOk (gather read put before left) (First Q)
@@ -256,7 +258,8 @@ module _ {A B : Type 0} (P : A → Type 0) (Q : B → Type 0) (read : Text → O
 
 -- ---- attributes and changes
 
-value_behind : (v : Value) (a : ask.Attribute) → ValueWithin v → AttributeWithin a → AttributeWithin (lines.one_more v a)
+value_behind : (v : Value) (a : ask.Attribute) → ValueWithin v → AttributeWithin a
+    → AttributeWithin (lines.one_more v a)
 value_behind v a h w = record {
   type = w.type;
   some = some a.values;
@@ -329,10 +332,12 @@ compare_within left =
     (λ pair h. (n, record { type = h.0; value = h.1; normal = refl })))
 
 list_within : (left : Left) → IfOk (lines.list left) IsBody
-list_within left = given IsBody (First NameWithin) (lines.name left) (by_name ask.ListBelow) (name_read left) (λ object n. n)
+list_within left =
+    given IsBody (First NameWithin) (lines.name left) (by_name ask.ListBelow) (name_read left) (λ object n. n)
 
 remove_within : (left : Left) → IfOk (lines.remove left) IsBody
-remove_within left = given IsBody (First NameWithin) (lines.name left) (by_name ask.RemoveEntry) (name_read left) (λ object n. n)
+remove_within left =
+    given IsBody (First NameWithin) (lines.name left) (by_name ask.RemoveEntry) (name_read left) (λ object n. n)
 
 abbrev searched : ask.Subset → Name → Filter → ask.Selection × Left → Result (ask.Body × Left) Fault
 searched subset base filter shown = Ok (ask.Search base subset filter shown.0, shown.1)
@@ -411,16 +416,30 @@ sized_within left =
 controls_within : (left : Left) → ControlsWithin (controls left).0
 controls_within left = sized_within (skipped (codes "nochain") (skipped (codes "nocopy") left).1).1
 
+-- what is asked for in a world whose agents have these names
+abbrev Fits : List Text → Asked → Type 0
+Fits names = BoundedAsked (length names)
+
+abbrev IsAgent : List Text → ℕ → Type 0
+IsAgent names a = nat_lt a (length names) ≡ true
+
+agent_read : (names : List Text) (left : Left) → IfOk (agent names left) (First (IsAgent names))
+agent_read names left =
+    reading_within (IsAgent names) (texts.agent_in names) BadName left
+    (λ t a e. lt-ltb a (length names) (position-Some (λ n. same_octets n t) names a [] e).0)
+
 abbrev asks : ℕ → ask.Controls × Left → ask.Body × Left → Unit {0} → Result Asked Fault
 asks to asked body nothing = Ok (Runs (run.Asks to (record { controls = asked.0; body = body.0 })))
 
-request_within : (names : List Text) (left : Left) → IfOk (lines.request names left) BoundedAsked
+request_within : (names : List Text) (left : Left) → IfOk (lines.request names left) (Fits names)
 request_within names left =
-    whatever BoundedAsked (agent names left) (λ to. requested to.0 (controls to.1))
-    (λ to. given BoundedAsked IsBody (operation (controls to.1).1) (λ body. ended body.1 >>= asks to.0 (controls to.1) body)
+    given (Fits names) (First (IsAgent names)) (agent names left) (λ to. requested to.0 (controls to.1))
+    (agent_read names left)
+    (λ to at. given (Fits names) IsBody (operation (controls to.1).1)
+    (λ body. ended body.1 >>= asks to.0 (controls to.1) body)
     (operation_within (controls to.1).1)
-    (λ body b. whatever BoundedAsked (ended body.1) (asks to.0 (controls to.1) body)
-    (λ nothing. record { controls = controls_within to.1; body = b })))
+    (λ body b. whatever (Fits names) (ended body.1) (asks to.0 (controls to.1) body)
+    (λ nothing. (at, record { controls = controls_within to.1; body = b }))))
 
 -- ---- what carries no request
 
@@ -431,16 +450,16 @@ abbrev changes_both : (ℕ → ℕ → network.Outage) → ℕ × ℕ → Result
 changes_both change both = Ok (Runs (run.Changes (change both.0 both.1)))
 
 one_within : (change : ℕ → network.Outage) (names : List Text) (left : Left)
-    → IfOk (lines.outage change names left) BoundedAsked
-one_within change names left = whatever BoundedAsked (one_agent names left) (changes_one change) (λ a. tt)
+    → IfOk (lines.outage change names left) (Fits names)
+one_within change names left = whatever (Fits names) (one_agent names left) (changes_one change) (λ a. tt)
 
 both_within : (change : ℕ → ℕ → network.Outage) (names : List Text) (left : Left)
-    → IfOk (lines.pair change names left) BoundedAsked
-both_within change names left = whatever BoundedAsked (two_agents names left) (changes_both change) (λ both. tt)
+    → IfOk (lines.pair change names left) (Fits names)
+both_within change names left = whatever (Fits names) (two_agents names left) (changes_both change) (λ both. tt)
 
-outage_within : (names : List Text) (w : Word) (left : Left) → IfOk (lines.outage_by names w left) BoundedAsked
+outage_within : (names : List Text) (w : Word) (left : Left) → IfOk (lines.outage_by names w left) (Fits names)
 outage_within names w left =
-    let P = BoundedAsked in
+    let P = Fits names in
     either P (same_octets w.text (codes "down")) _ _ (one_within network.Down names left)
     (either P (same_octets w.text (codes "up")) _ _ (one_within network.Up names left)
     (either P (same_octets w.text (codes "refuse")) _ _ (one_within network.Refuse names left)
@@ -451,20 +470,21 @@ outage_within names w left =
 abbrev refreshes : ℕ → Bool → Bool → Unit {0} → Result Asked Fault
 refreshes id pushes total nothing = Ok (Runs (run.Updates id pushes total))
 
-refresh_within : (pushes : Bool) (left : Left) → IfOk (lines.refresh pushes left) BoundedAsked
-refresh_within pushes left =
-    let P = BoundedAsked in
+refresh_within : (names : List Text) (pushes : Bool) (left : Left) → IfOk (lines.refresh pushes left) (Fits names)
+refresh_within names pushes left =
+    let P = Fits names in
     whatever P (reading texts.agreement_in BadWord left)
     (λ id. reading texts.strategy_in BadWord id.1 >>= (λ total. ended total.1 >>= refreshes id.0 pushes total.0))
-    (λ id. whatever P (reading texts.strategy_in BadWord id.1) (λ total. ended total.1 >>= refreshes id.0 pushes total.0)
+    (λ id. whatever P (reading texts.strategy_in BadWord id.1)
+    (λ total. ended total.1 >>= refreshes id.0 pushes total.0)
     (λ total. whatever P (ended total.1) (refreshes id.0 pushes total.0) (λ nothing. tt)))
 
 abbrev loses : Bool → ℕ → Unit {0} → Result Asked Fault
 loses reply k nothing = Ok (Runs (run.Drops reply k))
 
-lose_within : (left : Left) → IfOk (lines.lose left) BoundedAsked
-lose_within left =
-    let P = BoundedAsked in
+lose_within : (names : List Text) (left : Left) → IfOk (lines.lose left) (Fits names)
+lose_within names left =
+    let P = Fits names in
     whatever P (reading texts.loss_kind_in BadWord left)
     (λ reply. reading texts.loss_in BadWord reply.1 >>= (λ k. ended k.1 >>= loses reply.0 k.0))
     (λ reply. whatever P (reading texts.loss_in BadWord reply.1) (λ k. ended k.1 >>= loses reply.0 k.0)
@@ -477,54 +497,56 @@ abbrev octets_behind : Bool → ℕ → Left → Result Asked Fault
 octets_behind dsp to left =
     reading texts.octets_in BadHex left >>= (λ octets. ended octets.1 >>= delivers dsp to octets.0)
 
-deliver_within : (names : List Text) (left : Left) → IfOk (lines.deliver names left) BoundedAsked
+deliver_within : (names : List Text) (left : Left) → IfOk (lines.deliver names left) (Fits names)
 deliver_within names left =
-    let P = BoundedAsked in
+    let P = Fits names in
     whatever P (reading texts.protocol_in BadWord left)
     (λ dsp. agent names dsp.1 >>= (λ to. octets_behind dsp.0 to.0 to.1))
-    (λ dsp. whatever P (agent names dsp.1) (λ to. octets_behind dsp.0 to.0 to.1)
-    (λ to. whatever P (reading texts.octets_in BadHex to.1) (λ octets. ended octets.1 >>= delivers dsp.0 to.0 octets.0)
-    (λ octets. whatever P (ended octets.1) (delivers dsp.0 to.0 octets.0) (λ nothing. tt))))
+    (λ dsp. given P (First (IsAgent names)) (agent names dsp.1) (λ to. octets_behind dsp.0 to.0 to.1)
+    (agent_read names dsp.1)
+    (λ to at. whatever P (reading texts.octets_in BadHex to.1)
+    (λ octets. ended octets.1 >>= delivers dsp.0 to.0 octets.0)
+    (λ octets. whatever P (ended octets.1) (delivers dsp.0 to.0 octets.0) (λ nothing. at))))
 
 -- ---- lines
 
-command_within : (names : List Text) (left : Left) → IfOk (lines.command names left) BoundedAsked
+command_within : (names : List Text) (left : Left) → IfOk (lines.command names left) (Fits names)
 command_within names left =
-    let P = BoundedAsked in
+    let P = Fits names in
     whatever P (next left) (λ w. lines.command_by names w.0 w.1)
     (λ w. either P (same_octets w.0.text (codes "at")) _ _ (request_within names w.1)
-    (either P (same_octets w.0.text (codes "pull")) _ _ (refresh_within false w.1)
-    (either P (same_octets w.0.text (codes "push")) _ _ (refresh_within true w.1)
-    (either P (same_octets w.0.text (codes "lose")) _ _ (lose_within w.1)
+    (either P (same_octets w.0.text (codes "pull")) _ _ (refresh_within names false w.1)
+    (either P (same_octets w.0.text (codes "push")) _ _ (refresh_within names true w.1)
+    (either P (same_octets w.0.text (codes "lose")) _ _ (lose_within names w.1)
     (either P (same_octets w.0.text (codes "deliver")) _ _ (deliver_within names w.1)
     (outage_within names w.0 w.1))))))
 
-line_within : (names : List Text) (line : Text) → IfOk (line_of names line) BoundedAsked
+line_within : (names : List Text) (line : Text) → IfOk (line_of names line) (Fits names)
 line_within names line =
-    let P = BoundedAsked in
+    let P = Fits names in
     either P (nat_lt lines.most_octets (length line)) _ _ tt
     (either P (is_silent line) _ _ tt (command_within names (words_of line)))
 
 behind_within : (names : List Text) (before lost : ℕ) (line : Text)
-    → IfOk (line_behind names before lost line) BoundedAsked
+    → IfOk (line_behind names before lost line) (Fits names)
 behind_within names before lost line =
-    let P = BoundedAsked in
+    let P = Fits names in
     given P P (line_at names before line) (within_losses lost)
     (either P (nat_lt before most_lines) (line_of names line) (Err Long) (line_within names line) tt)
     (λ asked h. either P (loses_reply asked && not (nat_lt lost most_lost_replies)) (Err Long) (Ok asked) tt h)
 
-one_more : (number : ℕ) (r : Result Asked Fault) (more : Result (List Asked) (ℕ × Fault)) → IfOk r BoundedAsked
-    → IfOk more (All BoundedAsked) → IfOk (with_others number r more) (All BoundedAsked)
-one_more number (Err fault) more h m = tt
-one_more number (Ok asked) (Ok others) h m = All-cons BoundedAsked asked others h m
-one_more number (Ok asked) (Err fault) h m = tt
+one_more : (names : List Text) (number : ℕ) (r : Result Asked Fault) (more : Result (List Asked) (ℕ × Fault)) → IfOk r (Fits names)
+    → IfOk more (All (Fits names)) → IfOk (with_others number r more) (All (Fits names))
+one_more names number (Err fault) more h m = tt
+one_more names number (Ok asked) (Ok others) h m = All-cons (Fits names) asked others h m
+one_more names number (Ok asked) (Err fault) h m = tt
 
 lines_within : (names : List Text) (before lost : ℕ) (rest : List Text)
-    → IfOk (lines_from names before lost rest) (All BoundedAsked)
-lines_within names before lost [] = All-nil BoundedAsked
+    → IfOk (lines_from names before lost rest) (All (Fits names))
+lines_within names before lost [] = All-nil (Fits names)
 lines_within names before lost (line ∷ rest) =
     let r = line_behind names before lost line in
-    one_more (before + 1) r (lines_from names (before + 1) (lost_behind lost r) rest)
+    one_more names (before + 1) r (lines_from names (before + 1) (lost_behind lost r) rest)
     (behind_within names before lost line) (lines_within names (before + 1) (lost_behind lost r) rest)
 
 pub scripts_bounded : ScriptsBounded
