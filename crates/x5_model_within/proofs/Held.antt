@@ -8,7 +8,6 @@ use Rattle.x5_model_tree.specs.Described.{IsDescribed}
 use Rattle.x5_model_tree.specs.Consistent.{first_breach}
 use Rattle.x5_model_run.specs.Holdings.{Holdings}
 use Rattle.x5_model_run.specs.History.{Acceptance, Deed, Nothing, Outs, Loses, Accepts, Refreshes, Splits, Unsplits, Did, knowledge_at, as_of, holdings_at}
-use Rattle.x5_model_updates.specs.Keeping.{NoneMoved}
 use Rattle.x5_model_serve.specs.Committed.{committed}
 use Rattle.x5_model_known.specs.Holding.{holdings_name}
 use Rattle.x5_model_known.proofs.Finding as known
@@ -20,7 +19,7 @@ use Rattle.x5_model_settled.proofs.Settled.{knowledge_stays}
 use Rattle.x5_model_fitting.specs.Names.{Each}
 use Rattle.x5_model_fitting.specs.Requests.{CountWithin, IfThere, RequestWithin}
 use Rattle.x5_model_limits.specs.Holding.{BoundedHoldings}
-use Rattle.x5_model_limits.specs.Described.{world_is_utf8, BoundedDeed, BoundedPast, BoundedMoments}
+use Rattle.x5_model_limits.specs.Described.{world_is_utf8, BoundedDeed, BoundedPast}
 use Rattle.x5_model_limits.proofs.Committing.{committed_bounded}
 use Rattle.x5_model_limits.proofs.Described.{described_bounded}
 use Rattle.x5_model_limits.proofs.AtLines.{lines_bounded}

@@ -1,12 +1,11 @@
 -- A line accepts at most the update that it carries; so what the lines of a run accepted is within the limits where
 -- they are. So each line finds agents that hold what is within them, and what these do with its message is.
-use Rattle.std.proofs.Common.{◌≡◌, ◌<◌, ◌≤◌, ◌+◌, ◌-◌, ℕ, nat_lt, true, List, [], ◌∷◌, ◌++◌, length, map, reverse, refl, sym, ap, subst, ◌∙◌, arith, length-append, inl, inr, Ok, Err}
-use Rattle.x5_model.specs.Members.{In, here}
-use Rattle.x5_model.specs.Values.{NameValue, Name}
+use Rattle.std.proofs.Common.{◌≡◌, ◌+◌, ◌-◌, ℕ, nat_lt, true, List, [], ◌∷◌, ◌++◌, length, map, reverse, refl, arith, length-append, Ok, Err}
+use Rattle.x5_model.specs.Members.{here}
 use Rattle.x5_model.specs.Requests.{Body, Read, Compare, ListBelow, Search, AddEntry, RemoveEntry, ModifyEntry, ModifyDn, Request}
 use Rattle.x5_model.specs.References.{Chained}
 use Rattle.x5_model.specs.Answers.{Reply}
-use Rattle.x5_model.proofs.Lists.{in_first, in_either, in_left, in_right}
+use Rattle.x5_model.proofs.Lists.{in_left, in_right}
 use Rattle.x5_model_tree.specs.World.{World}
 use Rattle.x5_model_tree.specs.Described.{IsDescribed}
 use Rattle.x5_model_run.specs.Refresh.{RefreshOutcome, Done, Unheard, Problem, Missed, NotConsistent}
@@ -19,7 +18,7 @@ use Rattle.x5_model_run.specs.Run.{Command, Blank, Asks, Changes, Drops, Updates
 use Rattle.x5_model_updates.specs.Keeping.{NoneMoved}
 use Rattle.x5_model_verdicts.proofs.Stamped.{runs_are_stamped}
 use Rattle.x5_model_settled.specs.Afterwards.{line_after}
-use Rattle.x5_model_settled.specs.Held.{held_at, scene_held, BySteps}
+use Rattle.x5_model_settled.specs.Held.{scene_held, BySteps}
 use Rattle.x5_model_settled.proofs.Settled.{run_none_moved}
 use Rattle.x5_model_fitting.specs.Names.{Each, RdnWithin, NameWithin}
 use Rattle.x5_model_fitting.specs.Requests.{CountWithin, BodyWithin, RequestWithin}
