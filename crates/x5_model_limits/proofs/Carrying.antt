@@ -1,17 +1,19 @@
 -- A reference's target and exclusions are carried as they are; the request asks for the target; and the trace, which is
 -- shorter than 128 items, has the agent's own item more.
-use Rattle.std.proofs.Common.{◌≡◌, ℕ, ◌<◌, Bool, true, false, nat_le, [], ◌∷◌, length, arith, length-append, if◌then◌else◌}
+use Rattle.std.proofs.Common.{◌≡◌, ℕ, ◌-◌, ◌<◌, Bool, true, false, nat_le, [], ◌∷◌, length, arith, length-append, if◌then◌else◌}
 use Rattle.std.proofs.lemmas.Bool.{leb-false}
 use Rattle.x5_model.specs.Values.{Name}
 use Rattle.x5_model.specs.Requests.{Body, Read, Compare, ListBelow, Search, AddEntry, RemoveEntry, ModifyEntry, ModifyDn, Request}
 use Rattle.x5_model.specs.References.{Reference, Chained}
 use Rattle.x5_model_run.specs.Journal.{item_of, is_wide}
+use Rattle.x5_model_run.specs.Needs.{target_of}
 use Rattle.x5_model_run.specs.Chain.{probe_request, is_probe, part_body, part_request, asks_part, request_for, is_user}
-use Rattle.x5_model_fitting.specs.Names.{NameWithin}
+use Rattle.x5_model_fitting.specs.Names.{RdnWithin, NameWithin}
 use Rattle.x5_model_fitting.specs.Requests.{BodyWithin, RequestWithin}
+use Rattle.x5_model_fitting.proofs.Kept.{beginning_within}
 use Rattle.x5_model_limits.specs.Messages.{BoundedItem, BoundedMessage}
-use Rattle.x5_model_limits.specs.Laws.{CarriedBounded}
-use Rattle.x5_model_limits.proofs.Lists.{each_one, each_both}
+use Rattle.x5_model_limits.specs.Laws.{CarriedBounded, OpeningBounded}
+use Rattle.x5_model_limits.proofs.Lists.{each_none, each_one, each_both}
 
 part_within : (wide : Bool) (base : Name) (b : Body) → NameWithin base → BodyWithin b
     → BodyWithin (part_body wide base b)
@@ -55,3 +57,25 @@ carried_bounded from o r w reference short =
           (each_one BoundedItem (item_of o.receiver o.message) (item_within o.receiver o.message w));
       request = request_within (is_user from) o.message.request r.target r w.request reference.target;
     }
+
+-- ---- what a user asks
+
+target_within : (b : Body) → BodyWithin b → NameWithin (target_of b)
+target_within (Read name selection) w = w.0
+target_within (Compare name assertion) w = w.0
+target_within (ListBelow name) w = w
+target_within (Search base subset f selection) w = w.0
+target_within (AddEntry name attributes) w = beginning_within (length name - 1) name w.0
+target_within (RemoveEntry name) w = w
+target_within (ModifyEntry name changes) w = w.0
+target_within (ModifyDn name rdn drops) w = w.0
+
+pub opening_bounded : OpeningBounded
+opening_bounded r w = record {
+  target = target_within r.body w.body;
+  progress = tt;
+  exclusions = each_none RdnWithin;
+  few = omega arith;
+  items = each_none BoundedItem;
+  request = w;
+}

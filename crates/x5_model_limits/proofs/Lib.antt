@@ -8,5 +8,7 @@ pub mod Refusing
 pub mod Parting
 pub mod Committing
 pub mod Doing
+pub mod Onward
+pub mod Replying
 pub mod Described
 pub mod AtLines

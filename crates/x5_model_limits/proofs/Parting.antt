@@ -215,7 +215,8 @@ module _ (h : Holdings) (b : BoundedHoldings h) where
     infos_bounded : (f : Filter) (selection : Selection) (c : Held) → BoundedContext c
         → Each InfoWithin (infos_in h m f selection c)
     infos_bounded f selection c k =
-        each_map InfoWithin _ (filter (λ (e : Named). asks_for m (key_at e) && selects_entry f e.entry) c.entries) (λ e i.
+        each_map InfoWithin _
+        (filter (λ (e : Named). asks_for m (key_at e) && selects_entry f e.entry) c.entries) (λ e i.
         info_within (λ key. is_some (stamp_at h c)) selection e (k.entries e
         (of_filter (λ (x : Named). asks_for m (key_at x) && selects_entry f x.entry) e c.entries i).0))
 

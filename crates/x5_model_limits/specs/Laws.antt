@@ -12,7 +12,7 @@ use Rattle.x5_model_run.specs.History.{Point, knowledge_at, holdings_at}
 use Rattle.x5_model_run.specs.Journal.{Journal}
 use Rattle.x5_model_run.specs.Holdings.{Held, Copy, Holdings, ground_at}
 use Rattle.x5_model_run.specs.Needs.{due_probes}
-use Rattle.x5_model_run.specs.Chain.{Scene}
+use Rattle.x5_model_run.specs.Chain.{Scene, opening}
 use Rattle.x5_model_serve.specs.Committed.{committed}
 use Rattle.x5_model_serve.specs.Finding.{find}
 use Rattle.x5_model_serve.specs.Answering.{reply_in_own, reply_in_copy, local_part, rest_of_parts, merged}
@@ -77,6 +77,10 @@ abbrev pub CarriedBounded : Type 0
 CarriedBounded =
     (from : Option ℕ) (o : Hand) (r : Reference) → BoundedMessage o.message → BoundedReference r
     → is_too_long o ≡ false → BoundedMessage (carried_for from o r)
+
+-- What a user asks, as the agent has it that he asks.
+abbrev pub OpeningBounded : Type 0
+OpeningBounded = (r : Request) → RequestWithin r → BoundedMessage (opening r)
 
 -- 7. What is made of answers and references (X.518, section 21).
 pub record AnswersBounded : Type 0 where

@@ -3,3 +3,4 @@ pub mod Messages
 pub mod Doing
 pub mod Described
 pub mod Laws
+pub mod Operations

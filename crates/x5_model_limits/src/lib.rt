@@ -2,10 +2,11 @@
 //! written, and is read back (X.518, sections 18 to 21). Each function here does nothing; its clauses are the theorems.
 #![tactic(auto)]
 
-ghost use Rattle.x5_model_limits.specs.Laws.{FindsBounded, RestBounded, ProbesBounded, CarriedBounded};
+ghost use Rattle.x5_model_limits.specs.Laws.{FindsBounded, RestBounded, ProbesBounded, CarriedBounded, OpeningBounded};
 ghost use Rattle.x5_model_limits.specs.Laws.{OwnPartBounded, CopyPartBounded, LocalPartBounded, AnswersBounded};
 ghost use Rattle.x5_model_limits.specs.Laws.{RefusalsBounded, JudgedBounded, GroundBounded, CommittedBounded};
 ghost use Rattle.x5_model_limits.specs.Laws.{DoesBounded, RequestsBounded, DescribedBounded, LinesBounded};
+ghost use Rattle.x5_model_limits.specs.Operations.{RepliesToAsked, RequestsAnswered};
 
 /// Where what an agent holds and the message are within the limits, so is what it finds of the name, and what it needs for a
 /// list or search, and for probes.
@@ -15,9 +16,11 @@ pub fn what_is_found()
     ensures probes { ProbesBounded }
 {}
 
-/// What is carried by a reference is within the limits, where the message that it's carried for has room in its trace.
+/// What is carried by a reference is within the limits, where the message that it's carried for has room in its trace; and so is
+/// what a user asks.
 pub fn what_is_carried()
-    ensures { CarriedBounded }
+    ensures carried { CarriedBounded }
+    ensures opening { OpeningBounded }
 {}
 
 /// What an agent answers from a context or a copy within the limits, and its part of a list or search, is within them (X.518,
@@ -51,6 +54,12 @@ pub fn committed_bounded()
 pub fn what_is_done()
     ensures does { DoesBounded }
     ensures requests { RequestsBounded }
+{}
+
+/// Over any knowledge a reply is one to what was asked: its answer is the result of that operation (X.511, sections 9 to 11).
+pub fn what_is_answered()
+    ensures does { RepliesToAsked }
+    ensures requests { RequestsAnswered }
 {}
 
 /// What a world's file describes of an agent is within the limits, where its texts are UTF-8 (X.501, section 22).
