@@ -1,6 +1,6 @@
 -- Worlds whose texts are UTF-8, as those that were read from a file, and histories whose updates and moments are within
 -- the limits of messages.
-use Rattle.std.specs.Prelude.{◌≡◌, Bool, ◌&&◌, List}
+use Rattle.std.specs.Prelude.{Bool, ◌&&◌, List}
 use Rattle.std.specs.List.{list_all}
 use Rattle.x5_model.specs.Values.{Name, written}
 use Rattle.x5_model.specs.Entries.{Stored, Named}

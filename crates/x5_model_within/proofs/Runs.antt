@@ -1,8 +1,9 @@
 -- A line accepts at most the update that it carries; so what the lines of a run accepted is within the limits where
 -- they are. So each line finds agents that hold what is within them, and what these do with its message is.
-use Rattle.std.proofs.Common.{◌≡◌, ◌+◌, ◌-◌, ℕ, nat_lt, true, List, [], ◌∷◌, ◌++◌, length, map, reverse, refl, arith, length-append, Ok, Err}
+use Rattle.std.proofs.Common.{◌≡◌, ◌+◌, ℕ, nat_lt, true, List, [], ◌∷◌, ◌++◌, length, map, reverse, refl, sym, ap, subst, arith, length-append, Ok, Err}
+use Rattle.std.specs.Prelude.{zip}
 use Rattle.x5_model.specs.Members.{here}
-use Rattle.x5_model.specs.Requests.{Body, Read, Compare, ListBelow, Search, AddEntry, RemoveEntry, ModifyEntry, ModifyDn, Request}
+use Rattle.x5_model.specs.Requests.{Request}
 use Rattle.x5_model.specs.References.{Chained}
 use Rattle.x5_model.specs.Answers.{Reply}
 use Rattle.x5_model.proofs.Lists.{in_left, in_right}
@@ -11,7 +12,6 @@ use Rattle.x5_model_tree.specs.Described.{IsDescribed}
 use Rattle.x5_model_run.specs.Refresh.{RefreshOutcome, Done, Unheard, Problem, Missed, NotConsistent}
 use Rattle.x5_model_run.specs.History.{Acceptance, Deed, Nothing, Accepts, Did, Point}
 use Rattle.x5_model_run.specs.Journal.{Journal}
-use Rattle.x5_model_run.specs.Needs.{target_of}
 use Rattle.x5_model_run.specs.Stage.{budget}
 use Rattle.x5_model_run.specs.Chain.{opening}
 use Rattle.x5_model_run.specs.Run.{Command, Blank, Asks, Changes, Drops, Updates, Hands, Block, Silent, Set, Replies, Refreshing, Handed, Rejected, Judge, IsBlock, refreshed_by, did_by, IsRun, begin, next}
@@ -20,38 +20,16 @@ use Rattle.x5_model_verdicts.proofs.Stamped.{runs_are_stamped}
 use Rattle.x5_model_settled.specs.Afterwards.{line_after}
 use Rattle.x5_model_settled.specs.Held.{scene_held, BySteps}
 use Rattle.x5_model_settled.proofs.Settled.{run_none_moved}
-use Rattle.x5_model_fitting.specs.Names.{Each, RdnWithin, NameWithin}
-use Rattle.x5_model_fitting.specs.Requests.{CountWithin, BodyWithin, RequestWithin}
-use Rattle.x5_model_fitting.proofs.Kept.{beginning_within}
-use Rattle.x5_model_limits.specs.Messages.{BoundedItem, BoundedMessage, BoundedReply}
-use Rattle.x5_model_limits.specs.Doing.{BoundedJournal}
+use Rattle.x5_model_fitting.specs.Names.{Each}
+use Rattle.x5_model_fitting.specs.Requests.{CountWithin, RequestWithin}
+use Rattle.x5_model_limits.specs.Messages.{BoundedMessage}
 use Rattle.x5_model_limits.specs.Described.{world_is_utf8, BoundedDeed, BoundedPast, BoundedMoments}
 use Rattle.x5_model_limits.proofs.Lists.{each_none, each_one, each_both, each_map}
+use Rattle.x5_model_limits.proofs.Carrying.{opening_bounded}
 use Rattle.x5_model_limits.proofs.Doing.{requests_bounded}
-use Rattle.x5_model_within.specs.Runs.{OpeningBounded, BoundedCommand, AcceptedBounded, BoundedBlock, RunsBounded}
+use Rattle.x5_model_limits.proofs.Replying.{requests_answered}
+use Rattle.x5_model_within.specs.Runs.{BoundedCommand, AcceptedBounded, BoundedExchange, BoundedBlock, RunsBounded}
 use Rattle.x5_model_within.proofs.Held.{moments_bounded, held_bounded, held_name_agents}
-
--- ---- a user's request
-
-target_within : (b : Body) → BodyWithin b → NameWithin (target_of b)
-target_within (Read name selection) h = h.0
-target_within (Compare name assertion) h = h.0
-target_within (ListBelow name) h = h
-target_within (Search base subset f selection) h = h.0
-target_within (AddEntry name attributes) h = beginning_within (length name - 1) name h.0
-target_within (RemoveEntry name) h = h
-target_within (ModifyEntry name changes) h = h.0
-target_within (ModifyDn name rdn drops) h = h.0
-
-pub opening_bounded : OpeningBounded
-opening_bounded r h = record {
-  target = target_within r.body h.body;
-  progress = tt;
-  exclusions = each_none RdnWithin;
-  few = omega arith;
-  items = each_none BoundedItem;
-  request = h;
-}
 
 -- ---- what lines accepted
 
@@ -134,41 +112,65 @@ run_length judge w commands blocks past (next {commands = cs} {blocks = bs} {pas
 abbrev Sends : Judge → ℕ → Point → Type 0
 Sends judge n p =
     (first : ℕ) (m : Chained) (j : Journal) (reply : Reply) → nat_lt first n ≡ true → BoundedMessage m
-    → judge p first m j reply → BoundedReply reply × BoundedJournal n j
+    → judge p first m j reply → BoundedExchange n m.request j reply
 
-line_bounded : (w : World) (past : List Did) → IsDescribed w → world_is_utf8 w ≡ true → NoneMoved past → BoundedPast past
-    → BoundedMoments (line_after w past) → Sends BySteps (length w.agents) (line_after w past)
+line_bounded : (w : World) (past : List Did) → IsDescribed w → world_is_utf8 w ≡ true → NoneMoved past
+    → BoundedPast past → BoundedMoments (line_after w past) → Sends BySteps (length w.agents) (line_after w past)
 line_bounded w past d u none b moments first m j reply to h is =
-    requests_bounded (length w.agents) (scene_held (line_after w past) first m) (budget (line_after w past)) j reply
-    (λ a l. held_name_agents w past a d none) (λ a l. held_bounded w past a d u none b moments) to h is
+    let p = line_after w past in
+    let done = requests_bounded (length w.agents) (scene_held p first m) (budget p) j reply
+    (λ a l. held_name_agents w past a d none) (λ a l. held_bounded w past a d u none b moments) to h is in
+    record {
+      within = done.0;
+      asked = requests_answered (scene_held p first m) (budget p) j reply is;
+      messages = done.1;
+    }
 
 block_bounded : (judge : Judge) (n : ℕ) (p : Point) → Sends judge n p → (command : Command) (block : Block)
-    → IsBlock judge p command block → BoundedCommand n command → BoundedBlock n block
-block_bounded judge n p sends command Silent is h = tt
-block_bounded judge n p sends command Set is h = tt
-block_bounded judge n p sends command (Refreshing b) is h = tt
-block_bounded judge n p sends command (Rejected raw breach) is h = tt
-block_bounded judge n p sends Blank (Replies j reply) is h = absurd is
+    → IsBlock judge p command block → BoundedCommand n command → BoundedBlock n command block
+block_bounded judge n p sends Blank block is h = tt
+block_bounded judge n p sends (Changes o) block is h = tt
+block_bounded judge n p sends (Drops lost k) block is h = tt
+block_bounded judge n p sends (Updates number pushes total) block is h = tt
+block_bounded judge n p sends (Asks to r) Silent is h = tt
+block_bounded judge n p sends (Asks to r) Set is h = tt
 block_bounded judge n p sends (Asks to r) (Replies j reply) is h =
     sends to (opening r) j reply h.0 (opening_bounded r h.1) is
-block_bounded judge n p sends (Changes o) (Replies j reply) is h = absurd is
-block_bounded judge n p sends (Drops lost k) (Replies j reply) is h = absurd is
-block_bounded judge n p sends (Updates number pushes total) (Replies j reply) is h = absurd is
-block_bounded judge n p sends (Hands via to count (Ok m)) (Replies j reply) is h = absurd is
-block_bounded judge n p sends (Hands via to count (Err b)) (Replies j reply) is h = absurd is
-block_bounded judge n p sends Blank (Handed by k j reply) is h = absurd is
-block_bounded judge n p sends (Asks to r) (Handed by k j reply) is h = absurd is
-block_bounded judge n p sends (Changes o) (Handed by k j reply) is h = absurd is
-block_bounded judge n p sends (Drops lost c) (Handed by k j reply) is h = absurd is
-block_bounded judge n p sends (Updates number pushes total) (Handed by k j reply) is h = absurd is
+block_bounded judge n p sends (Asks to r) (Refreshing b) is h = tt
+block_bounded judge n p sends (Asks to r) (Handed by k j reply) is h = tt
+block_bounded judge n p sends (Asks to r) (Rejected raw breach) is h = tt
+block_bounded judge n p sends (Hands via to count (Ok m)) Silent is h = tt
+block_bounded judge n p sends (Hands via to count (Ok m)) Set is h = tt
+block_bounded judge n p sends (Hands via to count (Ok m)) (Replies j reply) is h = tt
+block_bounded judge n p sends (Hands via to count (Ok m)) (Refreshing b) is h = tt
 block_bounded judge n p sends (Hands via to count (Ok m)) (Handed by k j reply) is h = sends to m j reply h.0 h.1 is.2
-block_bounded judge n p sends (Hands via to count (Err b)) (Handed by k j reply) is h = absurd is
+block_bounded judge n p sends (Hands via to count (Ok m)) (Rejected raw breach) is h = tt
+block_bounded judge n p sends (Hands via to count (Err b)) block is h = tt
+
+-- lines and blocks go together, one by one
+zip_behind : {X Y : Type 0} (xs : List X) (ys : List Y) (x : X) (y : Y) → length xs ≡ length ys
+    → zip (xs ++ x ∷ []) (ys ++ y ∷ []) ≡ zip xs ys ++ (x, y) ∷ []
+zip_behind [] [] x y e = refl
+zip_behind [] (z ∷ ys) x y e = absurd (omega (arith, e))
+zip_behind (z ∷ xs) [] x y e = absurd (omega (arith, e))
+zip_behind {X} {Y} (z ∷ xs) (v ∷ ys) x y e =
+    ap (λ (ps : List (X × Y)). (z, v) ∷ ps) (zip_behind xs ys x y (omega (arith, e)))
+
+block_count : (judge : Judge) (w : World) (commands : List Command) (blocks : List Block) (past : List Did)
+    → IsRun judge w commands blocks past → length commands ≡ length blocks
+block_count judge w commands blocks past begin = refl
+block_count judge w commands blocks past (next {commands = cs} {blocks = bs} {past = before} command block run is) =
+    let e : length cs ≡ length bs = block_count judge w cs bs before run in
+    omega (arith, e, length-append cs (command ∷ []), length-append bs (block ∷ []))
+
+abbrev LineBounded : ℕ → Command × Block → Type 0
+LineBounded n l = BoundedBlock n l.0 l.1
 
 -- however blocks are judged, if that they are what agents do is part of it
 pub runs_bounded : (judge : Judge)
     → ((p : Point) (first : ℕ) (m : Chained) (j : Journal) (reply : Reply) → judge p first m j reply
     → BySteps p first m j reply) → RunsBounded judge
-runs_bounded judge so w commands blocks past d u begin h few = each_none (BoundedBlock (length w.agents))
+runs_bounded judge so w commands blocks past d u begin h few = each_none (LineBounded (length w.agents))
 runs_bounded judge so w commands blocks past d u (next {commands = cs} {blocks = bs} {past = before} command block run is) h few =
     let size : ℕ = length w.agents in
     let rest = all_but (BoundedCommand size) cs command h in
@@ -179,7 +181,8 @@ runs_bounded judge so w commands blocks past d u (next {commands = cs} {blocks =
     let moments = moments_bounded (line_after w before) (runs_are_stamped judge w cs bs before run) early in
     let steps = line_bounded w before d u (run_none_moved judge w cs bs before run)
     (accepted_bounded judge size w cs bs before run rest) moments in
-    one_more (BoundedBlock size) bs block (runs_bounded judge so w cs bs before d u run rest fewer)
+    subst (Each (LineBounded size)) (sym (zip_behind cs bs command block (block_count judge w cs bs before run)))
+    (one_more (LineBounded size) (zip cs bs) (command, block) (runs_bounded judge so w cs bs before d u run rest fewer)
     (block_bounded judge size (line_after w before)
     (λ first m j reply to b k. steps first m j reply to b (so (line_after w before) first m j reply k)) command block is
-    (last_so (BoundedCommand size) cs command h))
+    (last_so (BoundedCommand size) cs command h)))

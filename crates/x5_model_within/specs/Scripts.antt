@@ -10,7 +10,7 @@ abbrev pub BoundedAsked : ℕ → Asked → Type 0
 BoundedAsked n (Runs command) = BoundedCommand n command
 BoundedAsked n (Delivers dsp to octets) = nat_lt to n ≡ true
 
--- 6. So it is of a script in a world whose agents have these names.
+-- 5. So it is of a script in a world whose agents have these names.
 abbrev pub ScriptsBounded : Type 0
 ScriptsBounded =
     (names : List Text) (lost : ℕ) (octets : Text)

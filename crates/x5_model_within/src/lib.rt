@@ -6,7 +6,7 @@
 ghost use Rattle.x5_model_run.specs.Right.{SendsRight};
 ghost use Rattle.x5_model_settled.specs.Held.{BySteps, Performed};
 ghost use Rattle.x5_model_within.specs.Held.{MomentsBounded, HeldBounded, HeldNameAgents};
-ghost use Rattle.x5_model_within.specs.Runs.{OpeningBounded, AcceptedBounded, RunsBounded};
+ghost use Rattle.x5_model_within.specs.Runs.{AcceptedBounded, RunsBounded};
 ghost use Rattle.x5_model_within.specs.Scripts.{ScriptsBounded};
 
 /// What agents hold at every line that moved no context is within the limits, and names agents of the world alone, whether or not
@@ -17,10 +17,9 @@ pub fn holding()
     ensures agents { HeldNameAgents }
 {}
 
-/// Each message that agents send at the lines of a run is within the limits, and so is each reply (X.518, sections 17 to 21); what
-/// they accept is.
+/// Each message that agents send at the lines of a run is within the limits, and so is each reply, which is one to what was asked
+/// (X.518, sections 17 to 21); and so is what they accept.
 pub fn running()
-    ensures opening { OpeningBounded }
     ensures accepted { AcceptedBounded SendsRight }
     ensures steps { RunsBounded BySteps }
     ensures performed { RunsBounded Performed }

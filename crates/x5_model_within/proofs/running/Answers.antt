@@ -1,11 +1,8 @@
 -- The answers are the lemmas, for blocks that are what agents do.
 use Rattle.x5_model_run.specs.Right.{SendsRight}
 use Rattle.x5_model_settled.specs.Held.{BySteps, Performed}
-use Rattle.x5_model_within.proofs.Runs.{opening_bounded, accepted_bounded, runs_bounded}
+use Rattle.x5_model_within.proofs.Runs.{accepted_bounded, runs_bounded}
 use Rattle.x5_model_within.proofs.running.Goals as goal
-
-pub returns-clause-opening : goal.returns-clause-opening
-returns-clause-opening c = opening_bounded
 
 pub returns-clause-accepted : goal.returns-clause-accepted
 returns-clause-accepted c = accepted_bounded SendsRight
