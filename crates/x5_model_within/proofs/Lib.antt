@@ -3,3 +3,4 @@ pub mod Filters
 pub mod Scripts
 pub mod Held
 pub mod Runs
+pub mod Files

@@ -89,7 +89,7 @@ part_within t = by (value_of_text (Unknown []) t) refl
 
 -- ---- names
 
-written_stored : (n : NameValue) → written (stored n) ≡ n
+pub written_stored : (n : NameValue) → written (stored n) ≡ n
 written_stored [] = refl
 written_stored (r ∷ n) =
     ap₂ (λ (s : List (ℕ × Text)) (m : NameValue). s ∷ m) (written_rdn_of r) (written_stored n)

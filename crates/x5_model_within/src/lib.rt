@@ -8,6 +8,7 @@ ghost use Rattle.x5_model_settled.specs.Held.{BySteps, Performed};
 ghost use Rattle.x5_model_within.specs.Held.{MomentsBounded, HeldBounded, HeldNameAgents};
 ghost use Rattle.x5_model_within.specs.Runs.{AcceptedBounded, RunsBounded};
 ghost use Rattle.x5_model_within.specs.Scripts.{ScriptsBounded};
+ghost use Rattle.x5_model_within.specs.Files.{FilesAreUtf8};
 
 /// What agents hold at every line that moved no context is within the limits, and names agents of the world alone, whether or not
 /// knowledge is consistent (X.501, section 22; X.525, section 9).
@@ -25,7 +26,9 @@ pub fn running()
     ensures performed { RunsBounded Performed }
 {}
 
-/// Each request that a script spells is within the limits, and comes to an agent that has a name.
+/// The texts of a world that a file describes are UTF-8; and each request that a script spells is within the limits, and comes to
+/// an agent that has a name.
 pub fn reading()
-    ensures { ScriptsBounded }
+    ensures files { FilesAreUtf8 }
+    ensures scripts { ScriptsBounded }
 {}
