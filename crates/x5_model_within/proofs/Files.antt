@@ -365,7 +365,8 @@ reference_utf8 names path before d after h l =
       access = record { master = agent_of names master.0; shadows = shadows.0 };
     } in
     only_keeps ReferencesUtf8 path reference_members members.0 (with_reference before cross.0 k) after shadows.2
-    (with_reference_utf8 before cross.0 k h (subst NameUtf8 same.1 (entry_name_utf8 path (codes "name") d name.0 name.1)))
+    (with_reference_utf8 before cross.0 k h
+    (subst NameUtf8 same.1 (entry_name_utf8 path (codes "name") d name.0 name.1)))
 
 references_utf8 : (names : List Text) (path : Text) (after : References) (items : Items)
     → references_behind names path 0 no_references items ≡ Ok after → ReferencesUtf8 after

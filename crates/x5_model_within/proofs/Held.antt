@@ -1,5 +1,5 @@
--- What an agent holds at a line: over consistent knowledge its part of the one tree, and over any other what the world's
--- file describes, changed by each update that it accepted.
+-- What an agent holds at a line: over consistent knowledge its part of the one tree, and over any other what the
+-- world's file describes, changed by each update that it accepted.
 use Rattle.std.proofs.Common.{◌≡◌, ◌≤◌, ◌==◌, ℕ, Bool, true, false, List, [], ◌∷◌, length, refl, sym, subst, ◌∙◌, arith, Option, Some, None, if◌then◌else◌}
 use Rattle.std.specs.Option.{is_none}
 use Rattle.x5_model.specs.Members.{here, there}

@@ -71,7 +71,8 @@ did_bounded n (Hands via to count (Ok m)) Silent h = tt
 did_bounded n (Hands via to count (Ok m)) Set h = tt
 did_bounded n (Hands via to count (Ok m)) (Replies j reply) h = tt
 did_bounded n (Hands via to count (Ok m)) (Refreshing b) h = tt
-did_bounded n (Hands via to count (Ok m)) (Handed by k j reply) h = accepts_bounded m.request (reverse j.accepted) h.1.request
+did_bounded n (Hands via to count (Ok m)) (Handed by k j reply) h =
+    accepts_bounded m.request (reverse j.accepted) h.1.request
 did_bounded n (Hands via to count (Ok m)) (Rejected raw breach) h = tt
 did_bounded n (Hands via to count (Err x)) Silent h = tt
 did_bounded n (Hands via to count (Err x)) Set h = tt
@@ -92,11 +93,11 @@ last_so P xs x each = each x (in_right x xs (x ∷ []) here)
 
 pub accepted_bounded : (judge : Judge) → AcceptedBounded judge
 accepted_bounded judge n w commands blocks past begin h = each_none (λ (d : Did). BoundedDeed d.deed)
-accepted_bounded judge n w commands blocks past (next {commands = cs} {blocks = bs} {past = before} command block run is) h =
-    each_both (λ (d : Did). BoundedDeed d.deed) (did_by command block ∷ []) before
-    (each_one (λ (d : Did). BoundedDeed d.deed) (did_by command block)
-    (did_bounded n command block (last_so (BoundedCommand n) cs command h)))
-    (accepted_bounded judge n w cs bs before run (all_but (BoundedCommand n) cs command h))
+accepted_bounded judge n w commands blocks past (next {commands = cs} {blocks = bs} {past = before} c b run is) h =
+    each_both (λ (d : Did). BoundedDeed d.deed) (did_by c b ∷ []) before
+    (each_one (λ (d : Did). BoundedDeed d.deed) (did_by c b)
+    (did_bounded n c b (last_so (BoundedCommand n) cs c h)))
+    (accepted_bounded judge n w cs bs before run (all_but (BoundedCommand n) cs c h))
 
 -- each line did something
 run_length : (judge : Judge) (w : World) (commands : List Command) (blocks : List Block) (past : List Did)
@@ -171,18 +172,18 @@ pub runs_bounded : (judge : Judge)
     → ((p : Point) (first : ℕ) (m : Chained) (j : Journal) (reply : Reply) → judge p first m j reply
     → BySteps p first m j reply) → RunsBounded judge
 runs_bounded judge so w commands blocks past d u begin h few = each_none (LineBounded (length w.agents))
-runs_bounded judge so w commands blocks past d u (next {commands = cs} {blocks = bs} {past = before} command block run is) h few =
+runs_bounded judge so w commands blocks past d u (next {commands = cs} {blocks = bs} {past = ds} c b run is) h few =
     let size : ℕ = length w.agents in
-    let rest = all_but (BoundedCommand size) cs command h in
-    let count : length before ≡ length cs = run_length judge w cs bs before run in
-    let long : length (cs ++ command ∷ []) ≡ length cs + 1 = length-append cs (command ∷ []) in
+    let rest = all_but (BoundedCommand size) cs c h in
+    let count : length ds ≡ length cs = run_length judge w cs bs ds run in
+    let long : length (cs ++ c ∷ []) ≡ length cs + 1 = length-append cs (c ∷ []) in
     let fewer : CountWithin (length cs) = omega (arith, few, long) in
-    let early : CountWithin (length before) = omega (arith, fewer, count) in
-    let moments = moments_bounded (line_after w before) (runs_are_stamped judge w cs bs before run) early in
-    let steps = line_bounded w before d u (run_none_moved judge w cs bs before run)
-    (accepted_bounded judge size w cs bs before run rest) moments in
-    subst (Each (LineBounded size)) (sym (zip_behind cs bs command block (block_count judge w cs bs before run)))
-    (one_more (LineBounded size) (zip cs bs) (command, block) (runs_bounded judge so w cs bs before d u run rest fewer)
-    (block_bounded judge size (line_after w before)
-    (λ first m j reply to b k. steps first m j reply to b (so (line_after w before) first m j reply k)) command block is
-    (last_so (BoundedCommand size) cs command h)))
+    let early : CountWithin (length ds) = omega (arith, fewer, count) in
+    let moments = moments_bounded (line_after w ds) (runs_are_stamped judge w cs bs ds run) early in
+    let steps = line_bounded w ds d u (run_none_moved judge w cs bs ds run)
+    (accepted_bounded judge size w cs bs ds run rest) moments in
+    subst (Each (LineBounded size)) (sym (zip_behind cs bs c b (block_count judge w cs bs ds run)))
+    (one_more (LineBounded size) (zip cs bs) (c, b) (runs_bounded judge so w cs bs ds d u run rest fewer)
+    (block_bounded judge size (line_after w ds)
+    (λ first m j reply to x k. steps first m j reply to x (so (line_after w ds) first m j reply k)) c b is
+    (last_so (BoundedCommand size) cs c h)))

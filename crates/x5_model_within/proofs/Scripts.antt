@@ -535,8 +535,8 @@ behind_within names before lost line =
     (either P (nat_lt before most_lines) (line_of names line) (Err Long) (line_within names line) tt)
     (λ asked h. either P (loses_reply asked && not (nat_lt lost most_lost_replies)) (Err Long) (Ok asked) tt h)
 
-one_more : (names : List Text) (number : ℕ) (r : Result Asked Fault) (more : Result (List Asked) (ℕ × Fault)) → IfOk r (Fits names)
-    → IfOk more (All (Fits names)) → IfOk (with_others number r more) (All (Fits names))
+one_more : (names : List Text) (number : ℕ) (r : Result Asked Fault) (more : Result (List Asked) (ℕ × Fault))
+    → IfOk r (Fits names) → IfOk more (All (Fits names)) → IfOk (with_others number r more) (All (Fits names))
 one_more names number (Err fault) more h m = tt
 one_more names number (Ok asked) (Ok others) h m = All-cons (Fits names) asked others h m
 one_more names number (Ok asked) (Err fault) h m = tt

@@ -1,5 +1,5 @@
--- Runs: where the world's texts are UTF-8 and what its lines ask for is within the limits of messages, so is each message
--- that agents send, and each reply, which is one to what was asked.
+-- Runs: where the world's texts are UTF-8 and what its lines ask for is within the limits of messages, so is each
+-- message that agents send, and each reply, which is one to what was asked.
 use Rattle.std.specs.Prelude.{◌≡◌, ℕ, nat_lt, true, List, length, zip}
 use Rattle.std.specs.declared.result.Result.TheVariants.{Ok, Err}
 use Rattle.x5_model.specs.Requests.{Request}
