@@ -1,6 +1,6 @@
 -- A line accepts at most the update that it carries; so what the lines of a run accepted is within the limits where
 -- they are. So each line finds agents that hold what is within them, and what these do with its message is.
-use Rattle.std.proofs.Common.{◌≡◌, ◌+◌, ℕ, nat_lt, true, List, [], ◌∷◌, ◌++◌, length, map, reverse, refl, sym, ap, subst, arith, length-append, Ok, Err}
+use Rattle.std.proofs.Common.{◌≡◌, ◌+◌, ℕ, nat_lt, true, List, [], ◌∷◌, ◌++◌, length, reverse, refl, sym, ap, subst, arith, length-append, Ok, Err}
 use Rattle.std.specs.Prelude.{zip}
 use Rattle.x5_model.specs.Members.{here}
 use Rattle.x5_model.specs.Requests.{Request}
@@ -10,7 +10,7 @@ use Rattle.x5_model.proofs.Lists.{in_left, in_right}
 use Rattle.x5_model_tree.specs.World.{World}
 use Rattle.x5_model_tree.specs.Described.{IsDescribed}
 use Rattle.x5_model_run.specs.Refresh.{RefreshOutcome, Done, Unheard, Problem, Missed, NotConsistent}
-use Rattle.x5_model_run.specs.History.{Acceptance, Deed, Nothing, Accepts, Did, Point}
+use Rattle.x5_model_run.specs.History.{Acceptance, Did, Point}
 use Rattle.x5_model_run.specs.Journal.{Journal}
 use Rattle.x5_model_run.specs.Stage.{budget}
 use Rattle.x5_model_run.specs.Chain.{opening}
@@ -19,7 +19,7 @@ use Rattle.x5_model_updates.specs.Keeping.{NoneMoved}
 use Rattle.x5_model_verdicts.proofs.Stamped.{runs_are_stamped}
 use Rattle.x5_model_settled.specs.Afterwards.{line_after}
 use Rattle.x5_model_settled.specs.Held.{scene_held, BySteps}
-use Rattle.x5_model_settled.proofs.Settled.{run_none_moved}
+use Rattle.x5_model_settled.proofs.Settled.{accepted_deed, run_none_moved}
 use Rattle.x5_model_fitting.specs.Names.{Each}
 use Rattle.x5_model_fitting.specs.Requests.{CountWithin, RequestWithin}
 use Rattle.x5_model_limits.specs.Messages.{BoundedMessage}
@@ -33,11 +33,7 @@ use Rattle.x5_model_within.proofs.Held.{moments_bounded, held_bounded, held_name
 
 -- ---- what lines accepted
 
-abbrev deed_of : Request → List ℕ → Deed
-deed_of r [] = Nothing
-deed_of r (a ∷ more) = Accepts (map (λ x. record { agent = x; request = r }) (a ∷ more))
-
-accepts_bounded : (r : Request) (accepted : List ℕ) → RequestWithin r → BoundedDeed (deed_of r accepted)
+accepts_bounded : (r : Request) (accepted : List ℕ) → RequestWithin r → BoundedDeed (accepted_deed r accepted)
 accepts_bounded r [] h = tt
 accepts_bounded r (a ∷ more) h =
     each_map (λ (x : Acceptance). RequestWithin x.request) (λ x. record { agent = x; request = r }) (a ∷ more)
