@@ -19,7 +19,8 @@ few_agents w d = leb-true (length w.agents) 64 (both_true (nat_le (length w.agen
 pub loaded : (d : Described) (octets : List ℕ) → Describes octets (Ok (file_view d)) → IsDescribed (world_view d)
 loaded d octets h = file_described h.value (file_view d) h.is_found
 
-pub in_utf8 : (d : Described) (octets : List ℕ) → Describes octets (Ok (file_view d)) → world_is_utf8 (world_view d) ≡ true
+pub in_utf8 : (d : Described) (octets : List ℕ) → Describes octets (Ok (file_view d))
+    → world_is_utf8 (world_view d) ≡ true
 in_utf8 d octets h = files_are_utf8 h.value (file_view d) h.is_found
 
 pub few_loaded : (d : Described) → IsDescribed (world_view d) → length d.agents ≤ 64

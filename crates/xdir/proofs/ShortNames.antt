@@ -1,8 +1,10 @@
 -- The names that a request within the limits of messages leads agents to have 16 RDNs at most: so has the name that it
 -- has itself, and a new RDN takes the place of one.
-use Rattle.std.proofs.Common.{◌≡◌, ◌-◌, ◌≤◌, Bool, true, false, if◌then◌else◌, List, [], ◌∷◌, ◌++◌, length, Option, None, Some, refl, subst, arith, length-append}
+use Rattle.std.proofs.Common.{◌≡◌, ◌-◌, ◌≤◌, Bool, true, false, if◌then◌else◌, List, [], ◌∷◌, ◌++◌, length}
+use Rattle.std.proofs.Common.{Option, None, Some, refl, subst, arith, length-append}
 use Rattle.std.proofs.lemmas.List.{length-take-le}
-use Rattle.x5_model.specs.Requests.{Body, Attribute, Read, Compare, ListBelow, Search, AddEntry, RemoveEntry, ModifyEntry, ModifyDn}
+use Rattle.x5_model.specs.Requests.{Body, Attribute, Read, Compare, ListBelow, Search}
+use Rattle.x5_model.specs.Requests.{AddEntry, RemoveEntry, ModifyEntry, ModifyDn}
 use Rattle.x5_model.specs.Values.{Rdn, Name, name_above}
 use Rattle.x5_model_fitting.specs.Requests.{BodyWithin}
 use Rattle.x5_model_run.specs.Journal.{same_name}
@@ -40,7 +42,8 @@ unless_same false n name le e = let s : n ≡ name = cc in subst (λ (x : Name).
 moved : (n : Name) (rdn : Rdn) (drops : Bool) → length n ≤ 16 → HasShortNames (ModifyDn n rdn drops)
 moved n rdn drops le = record {
   target = le;
-  new_name = λ name e. unless_same (same_name (name_above n ++ rdn ∷ []) n) (name_above n ++ rdn ∷ []) name (renamed_few n rdn le) e;
+  new_name = λ name e.
+      unless_same (same_name (name_above n ++ rdn ∷ []) n) (name_above n ++ rdn ∷ []) name (renamed_few n rdn le) e;
 }
 
 pub short_names : (b : Body) → BodyWithin b → HasShortNames b

@@ -19,7 +19,8 @@ taken agents (Deliver dsp to octets) bounded = ltb-true to agents bounded
 taken agents (Lose reply k) bounded = tt
 
 -- all of them
-pub all_taken : (agents : ℕ) (cs : List Command) → All (BoundedAsked agents) (map command_view cs) → All (IsTaken agents) cs
+pub all_taken : (agents : ℕ) (cs : List Command) → All (BoundedAsked agents) (map command_view cs)
+    → All (IsTaken agents) cs
 all_taken agents [] bounded = All-nil (IsTaken agents)
 all_taken agents (c ∷ cs) bounded =
     let rest = map command_view cs in
