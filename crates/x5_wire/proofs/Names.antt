@@ -45,11 +45,11 @@ behind_first n ns a e = rw e refl
 
 named_there : (names : List (List ℕ)) (a : List ℕ) → agent_of names a < length names → In a names
 named_there [] a h = absurd (omega (arith, h))
-named_there (n ∷ ns) a h = by (same_octets n a) refl
+named_there (n ∷ ns) a h = by (same_octets n a) refl (named_there ns a)
   where
-    by : (b : Bool) → same_octets n a ≡ b → In a (n ∷ ns)
-    by true e = subst (λ (x : List ℕ). In x (n ∷ ns)) ((bytes_decides n a).0 e) here
-    by false e = let behind = behind_first n ns a e in there (named_there ns a (omega (arith, h, behind)))
+    by : (b : Bool) → same_octets n a ≡ b → (agent_of ns a < length ns → In a ns) → In a (n ∷ ns)
+    by true e rest = subst (λ (x : List ℕ). In x (n ∷ ns)) ((bytes_decides n a).0 e) here
+    by false e rest = let behind = behind_first n ns a e in there (rest (omega (arith, h, behind)))
 
 pub plain_of : (names : List (List ℕ)) (a : List ℕ) → list_all described.is_agent_name names ≡ true
     → nat_lt (agent_of names a) (length names) ≡ true → leaves.is_agent_name a ≡ true

@@ -47,7 +47,7 @@ value_once (NameOf n) = hlevel props
 
 pub count_once : (o : Option ℕ) → IsProp (IfThere CountWithin o)
 count_once None = Unit-prop
-count_once (Some n) = le_prop
+count_once (Some n) = hlevel props
 
 -- ---- requests
 
