@@ -1,0 +1,14 @@
+pub mod Lists
+pub mod Spelling
+pub mod Carrying
+pub mod Finding
+pub mod Needing
+pub mod Answering
+pub mod Refusing
+pub mod Parting
+pub mod Committing
+pub mod Doing
+pub mod Onward
+pub mod Replying
+pub mod Described
+pub mod AtLines

@@ -1,0 +1,6 @@
+pub mod Holding
+pub mod Messages
+pub mod Doing
+pub mod Described
+pub mod Laws
+pub mod Operations
