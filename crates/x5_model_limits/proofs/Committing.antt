@@ -89,7 +89,7 @@ drop_kept kind normal e known h =
 
 -- ---- the values of an RDN
 
-record PairKept (p : Pair) : Type 0 where
+pub record PairKept (p : Pair) : Type 0 where
   known : is_known p.kind ≡ true
   value : TextWithin p.text
 
@@ -122,7 +122,7 @@ pairs_kept before (p ∷ r) valid short utf8 q i =
     by one more q here = one
     by one more q (there i) = more q i
 
-rdn_kept : (r : Rdn) → RdnWithin r → Each PairKept r
+pub rdn_kept : (r : Rdn) → RdnWithin r → Each PairKept r
 rdn_kept r h =
     let a = both_true (nat_lt 0 (length (written_rdn r)) && list_all is_pair (written_rdn r)) (ascends (written_rdn r))
     h.is_written.valid in
@@ -151,7 +151,7 @@ without_rdn_kept (p ∷ ps) kept e each h =
     by true = h
     by false = drop_kept p.kind p.normal e (each p here).known h
 
-renamed_kept : (old new : Rdn) (drops : Bool) (e : Entry) → Each PairKept old → Each PairKept new → Kept e
+pub renamed_kept : (old new : Rdn) (drops : Bool) (e : Entry) → Each PairKept old → Each PairKept new → Kept e
     → Kept (renamed old new drops e)
 renamed_kept old new true e one two h =
     with_rdn_kept new (without_rdn old new e) two (without_rdn_kept old new e one h)
@@ -302,7 +302,7 @@ changes_keep (c ∷ cs) each e f h q =
     let w = then_keeps (changed c e) (changed_by cs) f q in
     changes_keep cs (λ x i. each x (there i)) w.0 f (change_keeps c (each c here) e w.0 h w.1) w.2
 
-modified_keeps : (rdn : Rdn) (cs : List Change) → Each ChangeWithin cs → Keeps (modified rdn cs)
+pub modified_keeps : (rdn : Rdn) (cs : List Change) → Each ChangeWithin cs → Keeps (modified rdn cs)
 modified_keeps rdn cs each e f h q =
     let w = then_keeps (and_then (changed_by cs e) (keeps_rdn rdn)) single_valued f q in
     let v = then_keeps (changed_by cs e) (keeps_rdn rdn) w.0 w.1 in
@@ -317,7 +317,7 @@ modified_keeps rdn cs each e f h q =
 -- ---- names
 
 -- a name with another RDN in one place is as long as it was
-respelled_within : (k : ℕ) (r : Rdn) (n : Name) → k < length n → RdnWithin r → NameWithin n
+pub respelled_within : (k : ℕ) (r : Rdn) (n : Name) → k < length n → RdnWithin r → NameWithin n
     → NameWithin (respelled k r n)
 respelled_within k r n l one h = record {
   few = omega (arith, l, h.few, length-append (take k n) (r ∷ drop (k + 1) n), length-take k n, length-drop (k + 1) n);
@@ -339,7 +339,7 @@ none_refused : {A : Type 0} (xs : List A) → first_of xs ≡ None → xs ≡ []
 none_refused [] e = refl
 none_refused (x ∷ xs) e = cc
 
-no_name_refusals : (body : Body) → fault_of body ≡ None → name_refusals body ≡ []
+pub no_name_refusals : (body : Body) → fault_of body ≡ None → name_refusals body ≡ []
 no_name_refusals body e =
     left_empty (name_refusals body) (flat_map value_refusals (given body))
     (left_empty (name_refusals body ++ flat_map value_refusals (given body)) (repeat_refusals body)
@@ -347,7 +347,7 @@ no_name_refusals body e =
     (added_refusals body) (none_refused (static_refusals body) e)))
 
 -- an addEntry names more than one RDN, and no update names the root
-two_rdns : (name : Name) (ts : List Attribute) → fault_of (AddEntry name ts) ≡ None → 2 ≤ length name
+pub two_rdns : (name : Name) (ts : List Attribute) → fault_of (AddEntry name ts) ≡ None → 2 ≤ length name
 two_rdns name ts e = by (nat_lt (length name) 2) refl
   where
     refused : name_refusals (AddEntry name ts) ≡ []
@@ -358,7 +358,7 @@ two_rdns name ts e = by (nat_lt (length name) 2) refl
         absurd (true_is_false (sym q ∙ when_empty (nat_lt (length name) 2) (UpdateProblem naming_violation) refused))
     by false q = grind arith
 
-one_rdn : (name : Name) → root_refusals name ≡ [] → 0 < length name
+pub one_rdn : (name : Name) → root_refusals name ≡ [] → 0 < length name
 one_rdn [] e = absurd (cc e)
 one_rdn (r ∷ n) e = omega arith
 
@@ -367,7 +367,7 @@ none_empty [] l = absurd (omega (arith, l))
 none_empty (r ∷ n) l = refl
 
 -- what stands below an entry, by one RDN
-new_entry_bounded : (above : Named) (name : Name) (ts : List Attribute) → BoundedEntry above
+pub new_entry_bounded : (above : Named) (name : Name) (ts : List Attribute) → BoundedEntry above
     → key_at above ≡ parent (key_of name) → 2 ≤ length name → NameWithin name → Each AttributeWithin ts
     → BoundedEntry (new_entry above name ts)
 new_entry_bounded above name ts h same two n each =

@@ -12,3 +12,4 @@ pub mod Onward
 pub mod Replying
 pub mod Described
 pub mod AtLines
+pub mod Stepping

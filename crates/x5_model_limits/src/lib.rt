@@ -6,6 +6,7 @@ ghost use Rattle.x5_model_limits.specs.Laws.{FindsBounded, RestBounded, ProbesBo
 ghost use Rattle.x5_model_limits.specs.Laws.{OwnPartBounded, CopyPartBounded, LocalPartBounded, AnswersBounded};
 ghost use Rattle.x5_model_limits.specs.Laws.{RefusalsBounded, JudgedBounded, GroundBounded, CommittedBounded};
 ghost use Rattle.x5_model_limits.specs.Laws.{DoesBounded, RequestsBounded, DescribedBounded, LinesBounded};
+ghost use Rattle.x5_model_limits.specs.Steps.{NotedBounded, ReplayBounded};
 ghost use Rattle.x5_model_limits.specs.Operations.{RepliesToAsked, RequestsAnswered};
 
 /// Where what an agent holds and the message are within the limits, so is what it finds of the name, and what it needs for a
@@ -54,6 +55,13 @@ pub fn committed_bounded()
 pub fn what_is_done()
     ensures does { DoesBounded }
     ensures requests { RequestsBounded }
+{}
+
+/// What is noted of an update that is within the limits is within them, and so are the entries that such steps make (X.525,
+/// section 9).
+pub fn steps_bounded()
+    ensures noted { NotedBounded }
+    ensures replay { ReplayBounded }
 {}
 
 /// Over any knowledge a reply is one to what was asked: its answer is the result of that operation (X.511, sections 9 to 11).
