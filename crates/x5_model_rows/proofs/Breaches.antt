@@ -164,8 +164,8 @@ pub all_of_7 : breaches_7 false_members
     ∷ breach 7 (NamePrinted acme) (AgentPrinted 2) ∷ []
 all_of_7 = refl
 
--- 8. Delta masters a second country. Alpha doesn't know it, and Epsilon, first-level too, knows neither. Refused: pin by
--- pin in place of agent by agent; agents below others, who need not know; the master of the pin as a value.
+-- 8. Delta masters a second country. Alpha doesn't know it, and Epsilon, first-level too, knows neither. Refused: pin
+-- by pin in place of agent by agent; agents below others, who need not know; the master of the pin as a value.
 abbrev pub be : Name
 be = rdn 6 (codes "BE") (codes "be") ∷ []
 
@@ -179,8 +179,8 @@ pub all_of_8 : breaches_8 two_countries
     ∷ breach 8 (AgentPrinted 4) (NamePrinted be) ∷ []
 all_of_8 = refl
 
--- 9. Two agents are each other's superior, a third has one of them, and a fourth is first-level. Refused: another order;
--- the agents of the circle alone; the end of the chain in place of the superior.
+-- 9. Two agents are each other's superior, a third has one of them, and a fourth is first-level. Refused: another
+-- order; the agents of the circle alone; the end of the chain in place of the superior.
 abbrev pub over : Option ℕ → Agent
 over superior = record epsilon { superior = superior }
 

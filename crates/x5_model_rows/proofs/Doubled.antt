@@ -47,7 +47,11 @@ with_desk = record acme_context { nssrs = [] }
 
 abbrev pub with_pen : Context
 with_pen =
-    record { prefix = loud; entries = loud_entry ∷ pen_entry ∷ []; nssrs = (record { at = loud; agents = 2 ∷ [] }) ∷ [] }
+    record {
+      prefix = loud;
+      entries = loud_entry ∷ pen_entry ∷ [];
+      nssrs = (record { at = loud; agents = 2 ∷ [] }) ∷ [];
+    }
 
 abbrev pub two_at_beta : Context → Context → World
 two_at_beta a b =
@@ -144,7 +148,8 @@ no_pen =
     answers (Failed (NoSuchObject acme)) refl
     (nowhere acme (record { unlooped = refl; short = refl; fresh = refl; unrefused = refl; fit = refl }) refl)
 
-pub the_desk : IsDone desk_first (looks_at desk) (one_line (looks_at desk)) (Answered (EntryFound (bare desk) (now acme 1)))
+pub the_desk : IsDone desk_first (looks_at desk) (one_line (looks_at desk))
+    (Answered (EntryFound (bare desk) (now acme 1)))
 the_desk =
     answers _ refl
     (reads _ (record { unlooped = refl; short = refl; fresh = refl; unrefused = refl; fit = refl }) refl refl refl)

@@ -30,3 +30,5 @@ pub mod Texts
 pub mod Handing
 pub mod Doubled
 pub mod Spellings
+pub mod Limits
+pub mod Accepting

@@ -29,6 +29,7 @@ use Rattle.x5_model_rows.proofs.Messages.{asks, passes, journal, accepted_journa
 use Rattle.x5_model_rows.proofs.Resolution.{at_first, read_jan, jan_at_delta, jan_journal, name_lab}
 use Rattle.x5_model_rows.proofs.Shadowing.{new_name, add_new}
 use Rattle.x5_model_rows.proofs.Placing.{raw_line}
+use Rattle.x5_model_rows.proofs.Forged.{the_lab}
 use Rattle.x5_model_rows.proofs.Refused.{no}
 use Rattle.x5_model_rows.proofs.Stepping.{IsServed, IsHandled, up, jan_reply, jan_served}
 
@@ -105,22 +106,42 @@ longer_served =
     (answered [] (3 ∷ []) [] 2 limit_reply refl refl none_asked
     (sends 2 limit_reply limit_reply refl refl (is_long refl refl) (final limit_reply refl))))
 
--- 126 agents had it: no trace is too long. Refused: the limit, with the line to Gamma and without it.
+-- 126 agents had it: no trace is too long, and Gamma answers. Refused: the limit, with the line to Gamma; and without
+-- it also where 127 had it.
+pub short_read : RepliesRight at_first (reading 126) (read_journal 126) (Answered the_lab)
+short_read = record {
+  placed = record { fit = refl; lower = refl; brought = refl };
+  licensed = (licensed_by (read_line 126) 0 0 refl refl refl refl refl, (licensed_first refl refl refl refl refl, tt));
+  accepts = record { one = refl; right = refl; probed = refl };
+  finished = λ usual. record { done = refl; at_once = refl };
+  answer = usual refl (result refl (record {
+    found = refl;
+    sources = refl;
+    spelled = refl;
+    once = refl;
+    exactly = refl;
+    answered = refl;
+    blocked = tt;
+    completed = refl;
+    apart = refl;
+  }) refl refl);
+}
+
 pub no_limit_below : RightReply at_first (reading 126) (by_user (reading 126)) (read_journal 126) false limit_reply → ⊥
 no_limit_below (limit over) = no over
-no_limit_below (usual able (error answered given known none)) = no (ap fails given)
+no_limit_below (usual able (error back given known none)) = no (ap fails given)
 
 pub no_limit_alone : RightReply at_first (reading 127) (by_user (reading 127)) (journal (read_line 127 ∷ [])) false
     limit_reply → ⊥
 no_limit_alone (limit over) = no over
-no_limit_alone (usual able (error answered given known none)) = no (ap fails given)
+no_limit_alone (usual able (error back given known none)) = no (ap fails given)
 
 -- Refused too: that with so long a trace another error of the service ends it.
 abbrev pub loops_reply : Reply
 loops_reply = Failed (ServiceProblem loop_detected None None)
 
 pub no_other_problem : RightReply at_first (reading 128) (by_user (reading 128)) at_once false loops_reply → ⊥
-no_other_problem (usual able (error answered given known none)) = no (ap fails given)
+no_other_problem (usual able (error back given known none)) = no (ap fails given)
 
 -- ---- messages run out
 
@@ -139,9 +160,10 @@ spent_right = limit refl
 
 -- Refused where messages are left: after that one line, by the definition of right replies and by that of what agents
 -- do; and, by that of what a user is answered, always.
-pub no_limit_left : RightReply at_first jan_scene (by_user jan_scene) (journal (jan_at_delta ∷ [])) false limit_reply → ⊥
+pub no_limit_left : RightReply at_first jan_scene (by_user jan_scene) (journal (jan_at_delta ∷ [])) false limit_reply
+    → ⊥
 no_limit_left (limit over) = no over
-no_limit_left (usual able (error answered given known none)) = no (ap fails given)
+no_limit_left (usual able (error back given known none)) = no (ap fails given)
 
 pub not_served_so : (j : Journal) → IsServed at_first 3 read_jan j limit_reply → ⊥
 not_served_so j d =
@@ -150,12 +172,12 @@ not_served_so j d =
     cc
 
 pub no_limit_for_users : (j : Journal) → Right at_first jan_scene (by_user jan_scene) j limit_reply → ⊥
-no_limit_for_users j (error answered given known none) = no (ap fails given)
+no_limit_for_users j (error back given known none) = no (ap fails given)
 
 -- ---- updates
 
--- Beta, the master of Acme, has a message to add an entry that 127 agents had. Gamma, which it asks for the new name, is
--- the 129th: that ends it, and nothing is accepted.
+-- Beta, the master of Acme, has a message to add an entry that 127 agents had. Gamma, which it asks for the new name,
+-- is the 129th: that ends it, and nothing is accepted.
 abbrev pub adding : ℕ → Scene
 adding n = scene_after n acme add_new
 
@@ -186,9 +208,10 @@ longer_add_served =
     (sends 2 limit_reply limit_reply refl refl (is_long refl refl) (final limit_reply refl))))
 
 -- Refused: that it was done.
-pub no_change_at_limit : RightReply at_first (adding 127) (by_user (adding 127)) add_journal false (Answered Changed) → ⊥
-no_change_at_limit (usual able (changed answered update heard)) = no heard
-no_change_at_limit (usual able (result answered r query none)) = no query
+pub no_change_at_limit : RightReply at_first (adding 127) (by_user (adding 127)) add_journal false (Answered Changed)
+    → ⊥
+no_change_at_limit (usual able (changed back update was)) = no was
+no_change_at_limit (usual able (result back r query none)) = no query
 
 -- The same at once, where 128 agents had it.
 pub long_add : RepliesRight at_first (adding 128) (journal (add_line 128 ∷ [])) limit_reply

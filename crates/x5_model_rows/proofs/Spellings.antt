@@ -29,8 +29,8 @@ use Rattle.x5_model_rows.proofs.Literals.{rdn, under, plainly}
 use Rattle.x5_model_rows.proofs.BaseWorld.{nl, acme, shop_rdn, shop, nl_entry, acme_entry, desk, desk_entry}
 use Rattle.x5_model_rows.proofs.BaseWorld.{acme_context, shop_context, alpha, beta, gamma, delta, epsilon}
 use Rattle.x5_model_rows.proofs.BaseWorld.{first_agreement, world_of}
-use Rattle.x5_model_rows.proofs.Messages.{asks, passes, passes_less, journal, did, point, now, info, bare, copied, shows}
-use Rattle.x5_model_rows.proofs.Messages.{left_out}
+use Rattle.x5_model_rows.proofs.Messages.{asks, passes, passes_less, journal, did, point, now, info, bare, copied}
+use Rattle.x5_model_rows.proofs.Messages.{shows, left_out}
 use Rattle.x5_model_rows.proofs.Searching.{everything, below_acme}
 use Rattle.x5_model_rows.proofs.Refused.{no}
 
@@ -195,7 +195,8 @@ no_small_left (lost (asked a)) = by a.line a.full a.stands a.back a.needed (ap (
         → Contains (needs (below_scene.holdings o.receiver) o.message) f
         → ◌≡◌ {A = ℕ} 115 (letter_of f.exclusions) → ⊥
     by o f (zero, l, e) back needed same =
-        no (subst (λ (x : Line). hears_by (λ l. l.number == x.number) (by_user below_scene) sent_lines ≡ true) (sym e) back)
+        no (subst (λ (x : Line). hears_by (λ l. l.number == x.number) (by_user below_scene) sent_lines ≡ true) (sym e)
+        back)
     by o f (suc zero, l, e) back needed same =
         let in_needs : Contains one_need f =
         subst (λ (x : Line). Contains (needs (below_scene.holdings x.receiver) x.message) f) (sym e) needed in
