@@ -1,5 +1,5 @@
--- Messages between agents by themselves: what is placed, the stages along a trace, right replies, and the budget. And a user
--- who follows.
+-- Messages between agents by themselves: what is placed, the stages along a trace, right replies, and the budget. And a
+-- user who follows.
 use Rattle.std.specs.Prelude.{◌≡◌, ℕ, true, false, Bool, List, [], ◌∷◌}
 use Rattle.std.specs.declared.option.Option.TheVariants.{None, Some}
 use Rattle.std.proofs.Common.{refl}
@@ -37,7 +37,9 @@ ascends (a ∷ b ∷ more) = if_both (is_lower a b) (ascends (b ∷ more))
 abbrev pub stage_at : Line → Stage
 stage_at l = stage_of base_world (item_of l.receiver l.message)
 
-pub nearer : ascends (stage_at root_at_gamma ∷ stage_at root_at_beta ∷ stage_at root_at_alpha ∷ stage_at acme_part ∷ stage_at (passes 5 acme_part 2 acme Done NonSpecific (everything acme WholeSubtree) Sent) ∷ []) ≡ true
+pub nearer : ascends
+    (stage_at root_at_gamma ∷ stage_at root_at_beta ∷ stage_at root_at_alpha ∷ stage_at acme_part
+    ∷ stage_at (passes 5 acme_part 2 acme Done NonSpecific (everything acme WholeSubtree) Sent) ∷ []) ≡ true
 nearer = refl
 
 -- four contexts, five agents and an NSSR with two
@@ -46,7 +48,14 @@ base_budget = refl
 
 -- what is brought to an agent
 abbrev pub brought_to : ℕ → Chained → Scene
-brought_to to m = record { holdings = holdings_at at_first; network = network_at at_first; sent = 0; first = to; message = m; follows = false }
+brought_to to m = record {
+  holdings = holdings_at at_first;
+  network = network_at at_first;
+  sent = 0;
+  first = to;
+  message = m;
+  follows = false;
+}
 
 abbrev pub raw_line : Scene → Line
 raw_line s = record { number = 1; sender = None; receiver = s.first; message = s.message; fate = Sent }
@@ -54,9 +63,17 @@ raw_line s = record { number = 1; sender = None; receiver = s.first; message = s
 -- Gamma is asked by an NSSR for a name of which it holds nothing
 abbrev pub for_absent : Scene
 for_absent =
-    brought_to 2 (record { target = absent; progress = Next 3; kind = NonSpecific; exclusions = []; trace = []; request = read_absent })
+    brought_to 2 (record {
+      target = absent;
+      progress = Next 3;
+      kind = NonSpecific;
+      exclusions = [];
+      trace = [];
+      request = read_absent;
+    })
 
-pub gamma_unable : RepliesRight at_first for_absent (journal (raw_line for_absent ∷ [])) (Failed (ServiceProblem unable_to_proceed (Some (asked_by (by_user for_absent))) None))
+pub gamma_unable : RepliesRight at_first for_absent (journal (raw_line for_absent ∷ []))
+    (Failed (ServiceProblem unable_to_proceed (Some (asked_by (by_user for_absent))) None))
 gamma_unable = record {
   placed = record { fit = refl; lower = refl; brought = refl };
   licensed = (licensed_first refl refl refl refl refl, tt);
@@ -68,29 +85,65 @@ gamma_unable = record {
 -- Delta is asked for its part of a search below Acme
 abbrev pub for_part : Scene
 for_part =
-    brought_to 3 (record { target = acme; progress = Done; kind = NonSpecific; exclusions = []; trace = []; request = everything acme WholeSubtree })
+    brought_to 3 (record {
+      target = acme;
+      progress = Done;
+      kind = NonSpecific;
+      exclusions = [];
+      trace = [];
+      request = everything acme WholeSubtree;
+    })
 
-pub delta_part : RepliesRight at_first for_part (journal (raw_line for_part ∷ [])) (Answered (Found (bare shop ∷ bare ada ∷ []) (now shop 3 ∷ []) whole_outcome))
+pub delta_part : RepliesRight at_first for_part (journal (raw_line for_part ∷ []))
+    (Answered (Found (bare shop ∷ bare ada ∷ []) (now shop 3 ∷ []) whole_outcome))
 delta_part = record {
   placed = record { fit = refl; lower = refl; brought = refl };
   licensed = (licensed_first refl refl refl refl refl, tt);
   accepts = record { one = refl; right = refl; probed = refl };
   finished = λ usual. record { done = refl; at_once = refl };
-  answer = usual refl (result refl (record { found = refl; sources = refl; spelled = refl; once = refl; exactly = refl; answered = refl; blocked = tt; completed = refl; apart = refl }) refl refl);
+  answer = usual refl (result refl (record {
+    found = refl;
+    sources = refl;
+    spelled = refl;
+    once = refl;
+    exactly = refl;
+    answered = refl;
+    blocked = tt;
+    completed = refl;
+    apart = refl;
+  }) refl refl);
 }
 
 -- a list by a reference to the pin Shop asks for Shop's own RDN
 abbrev pub for_own : Scene
 for_own =
-    brought_to 3 (record { target = shop; progress = Done; kind = Subordinate; exclusions = []; trace = []; request = plainly (ListBelow shop) })
+    brought_to 3 (record {
+      target = shop;
+      progress = Done;
+      kind = Subordinate;
+      exclusions = [];
+      trace = [];
+      request = plainly (ListBelow shop);
+    })
 
-pub shop_itself : RepliesRight at_first for_own (journal (raw_line for_own ∷ [])) (Answered (Listed (sub_at shop ∷ []) (now shop 3 ∷ []) whole_outcome))
+pub shop_itself : RepliesRight at_first for_own (journal (raw_line for_own ∷ []))
+    (Answered (Listed (sub_at shop ∷ []) (now shop 3 ∷ []) whole_outcome))
 shop_itself = record {
   placed = record { fit = refl; lower = refl; brought = refl };
   licensed = (licensed_first refl refl refl refl refl, tt);
   accepts = record { one = refl; right = refl; probed = refl };
   finished = λ usual. record { done = refl; at_once = refl };
-  answer = usual refl (result refl (record { found = refl; sources = refl; spelled = refl; once = refl; exactly = refl; answered = refl; blocked = tt; completed = refl; apart = refl }) refl refl);
+  answer = usual refl (result refl (record {
+    found = refl;
+    sources = refl;
+    spelled = refl;
+    once = refl;
+    exactly = refl;
+    answered = refl;
+    blocked = tt;
+    completed = refl;
+    apart = refl;
+  }) refl refl);
 }
 
 -- Alpha refuses to chain, and the user follows its referral
@@ -110,10 +163,24 @@ abbrev pub followed_journal : Journal
 followed_journal =
     journal (first_asked ∷ then_asked ∷ passes 3 then_asked 2 lab (Next 3) NonSpecific name_lab Sent ∷ [])
 
-pub followed : IsRight alpha_refuses following followed_journal (Answered (EntryFound (info lab (shows 11 (TextValue (codes "Lab") ∷ []) ∷ [])) (now lab 2)))
+pub followed : IsRight alpha_refuses following followed_journal
+    (Answered (EntryFound (info lab (shows 11 (TextValue (codes "Lab") ∷ []) ∷ [])) (now lab 2)))
 followed = record {
-  licensed = (licensed_by then_asked 0 0 refl refl refl refl refl, (licensed_by first_asked 0 0 refl refl refl refl refl, (licensed_first refl refl refl refl refl, tt)));
+  licensed = (
+    licensed_by then_asked 0 0 refl refl refl refl refl,
+    (licensed_by first_asked 0 0 refl refl refl refl refl, (licensed_first refl refl refl refl refl, tt)),
+  );
   accepts = record { one = refl; right = refl; probed = refl };
   finished = record { done = refl; at_once = refl };
-  answer = result refl (record { found = refl; sources = refl; spelled = refl; once = refl; exactly = refl; answered = refl; blocked = tt; completed = refl; apart = refl }) refl refl;
+  answer = result refl (record {
+    found = refl;
+    sources = refl;
+    spelled = refl;
+    once = refl;
+    exactly = refl;
+    answered = refl;
+    blocked = tt;
+    completed = refl;
+    apart = refl;
+  }) refl refl;
 }
