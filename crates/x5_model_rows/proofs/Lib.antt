@@ -32,3 +32,4 @@ pub mod Doubled
 pub mod Spellings
 pub mod Limits
 pub mod Accepting
+pub mod Omitted
