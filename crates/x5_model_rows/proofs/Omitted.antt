@@ -1,6 +1,6 @@
--- Journals that leave out a message that is needed (X.518, section 20), though each of their lines is as it should be: a
--- part that nobody is asked for, a name that isn't passed on, a referral that its sender or a user who follows doesn't
--- follow, a probe. Each is refused; and beside it what may be left out.
+-- Journals that leave out a message that is needed (X.518, section 20), though each of their lines is as it should be:
+-- a part that nobody is asked for, a name that isn't passed on, a referral that its sender or a user who follows
+-- doesn't follow, a probe. Each is refused; and beside it what may be left out.
 use Rattle.std.specs.Prelude.{◌≡◌, true, [], ◌∷◌}
 use Rattle.std.proofs.Common.{refl}
 use Rattle.x5_model.specs.Requests.{WholeSubtree}

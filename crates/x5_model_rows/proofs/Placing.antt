@@ -84,8 +84,8 @@ gamma_unable = record {
   answer = unable refl;
 }
 
--- Refused: that Gamma can go on with the absent name, and says that there is none; that it can't go on with Lab, which it
--- has; and that it can't and names another agent.
+-- Refused: that Gamma can go on with the absent name, and says that there is none; that it can't go on with Lab, which
+-- it has; and that it can't and names another agent.
 pub no_verdict : RightReply at_first for_absent (by_user for_absent) (journal (raw_line for_absent ∷ [])) false
     (Failed (NoSuchObject acme)) → ⊥
 no_verdict (usual able right) = no able
