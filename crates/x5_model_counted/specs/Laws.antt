@@ -58,8 +58,8 @@ OutputIsCounted judge = (w : World) (moment : ℕ → Text) (commands : List Com
     → (script : Text) → length (filter is_request commands) ≡ lines_with (codes "at") script
     → counts_of blocks ≡ counts_in script (run_text w moment commands blocks)
 
--- The theorem: a run over a described world, of what a script's lines ask for (a command is a request just where its line
--- asks one), has as the summary of its blocks the one that the texts of script and output tell.
+-- The theorem: a run over a described world, of what a script's lines ask for (a command is a request just where its
+-- line asks one), has as the summary of its blocks the one that the texts of script and output tell.
 abbrev pub SummaryIsOfTexts : Judge → Type 0
 SummaryIsOfTexts judge = (w : World) (start : Start) (commands : List Command) (blocks : List Block) (past : List Did)
     → IsDescribed w → IsRun judge w commands blocks past

@@ -5,7 +5,8 @@ use Rattle.std.specs.List.{list_all}
 use Rattle.x5_model.specs.Values.{Name, written}
 use Rattle.x5_model.specs.Entries.{Stored, Named}
 use Rattle.x5_model_tree.specs.World.{Specific, Context, Agent, World}
-use Rattle.x5_model_run.specs.History.{Acceptance, Deed, Nothing, Outs, Loses, Accepts, Refreshes, Splits, Unsplits, Did}
+use Rattle.x5_model_run.specs.History.{Acceptance, Deed, Nothing, Outs, Loses, Accepts, Refreshes, Splits}
+use Rattle.x5_model_run.specs.History.{Unsplits, Did}
 use Rattle.x5_model_fitting.specs.Names.{Each, are_utf8}
 use Rattle.x5_model_fitting.specs.Keeping.{has_utf8}
 use Rattle.x5_model_fitting.specs.Requests.{CountWithin, RequestWithin}

@@ -105,7 +105,7 @@ told_by_texts f asked script text described asks_for s =
     let agents = names_of_agents f.world in
     s.sums.sums_up
     ∙ summary_is_of_texts Performed f.world f.start s.commands prints.blocks prints.past described prints.runs agents (lost_in f.world) script asked asks_for
-        (requests_same agents asked s.commands s.are)
+    (requests_same agents asked s.commands s.are)
     ∙ ap (summary_of script) (sym prints.octets_are)
 
 -- ---- over the world that another file describes, or that is none
