@@ -1,5 +1,5 @@
--- How the program's process ends, by how what it does ends (docs/FORMATS.md, words of the command line). The numbers are
--- this project's own.
+-- How the program's process ends, by how what it does ends (docs/FORMATS.md, words of the command line). The numbers
+-- are this project's own.
 use Rattle.std.specs.Prelude.{ℕ}
 use Rattle.xdir.specs.declared.top.Status.{Status}
 use Rattle.xdir.specs.declared.top.Status.TheVariants.{Done, Refused, Usage, ReadFault, WriteFault, NoMemory}
