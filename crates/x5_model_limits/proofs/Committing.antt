@@ -2,8 +2,7 @@
 -- and each name that changes is no longer than one that is there or that the request gives.
 use Rattle.std.proofs.Common.{◌≡◌, ℕ, ◌+◌, ◌-◌, ◌<◌, ◌≤◌, Bool, true, false, not, ◌&&◌, ◌==◌, nat_lt, inl, inr, List, [], ◌∷◌, ◌++◌, length, map, take, drop, refl, sym, ap, subst, ◌∙◌, arith, length-append, Option, Some, None, Ok, Err, if◌then◌else◌}
 use Rattle.std.proofs.lemmas.List.{length-take, length-drop}
-use Rattle.std.specs.List.{filter, filter_map, list_any, list_all, flat_map}
-use Rattle.core.specs.List.{cons_option}
+use Rattle.std.specs.List.{cons_option, filter, filter_map, list_any, list_all, flat_map}
 use Rattle.std.specs.Str.{is_utf8}
 use Rattle.x5_model.specs.Words.{is_empty, insert_sorted, in_option, first_of, same_octets}
 use Rattle.x5_model.specs.Members.{In, here, there}

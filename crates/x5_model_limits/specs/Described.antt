@@ -6,7 +6,8 @@ use Rattle.x5_model.specs.Values.{Name, written}
 use Rattle.x5_model.specs.Entries.{Stored, Named}
 use Rattle.x5_model.specs.Members.{In}
 use Rattle.x5_model_tree.specs.World.{Specific, Context, Agent, Agreement, World}
-use Rattle.x5_model_run.specs.History.{Acceptance, Deed, Nothing, Outs, Loses, Accepts, Refreshes, Splits, Unsplits, Did}
+use Rattle.x5_model_run.specs.History.{Acceptance, Deed, Nothing, Outs, Loses, Accepts, Refreshes, Splits}
+use Rattle.x5_model_run.specs.History.{Unsplits, Did}
 use Rattle.x5_model_run.specs.History.{Point, knowledge_at, as_of}
 use Rattle.x5_model_fitting.specs.Names.{Each, are_utf8}
 use Rattle.x5_model_fitting.specs.Keeping.{has_utf8}

@@ -3,7 +3,8 @@
 use Rattle.std.specs.Prelude.{◌≡◌, ℕ, false, true, List, [], ◌∷◌}
 use Rattle.x5_model.specs.Members.{In}
 use Rattle.x5_model.specs.Requests.{Body}
-use Rattle.x5_model.specs.Answers.{Answer, EntryFound, Matched, Listed, Found, Changed, Reply, Answered, Failed, Referred}
+use Rattle.x5_model.specs.Answers.{Answer, EntryFound, Matched, Listed, Found, Changed, Reply, Answered}
+use Rattle.x5_model.specs.Answers.{Failed, Referred}
 use Rattle.x5_model_tree.specs.Ask.{is_update}
 use Rattle.x5_model_run.specs.Journal.{Journal, operation_of}
 use Rattle.x5_model_run.specs.Chain.{Scene, is_probe}

@@ -1,5 +1,5 @@
--- The changes that agents keep of their contexts and send by refreshes, within the limits of messages (X.525, sections 9
--- and 11: incremental refreshes).
+-- The changes that agents keep of their contexts and send by refreshes, within the limits of messages (X.525, sections
+-- 9 and 11: incremental refreshes).
 use Rattle.std.specs.Prelude.{◌≡◌, List}
 use Rattle.std.specs.declared.option.Option.TheVariants.{None, Some}
 use Rattle.x5_model.specs.Entries.{Named}

@@ -43,7 +43,8 @@ nl_entry = named nl (class 2 ∷ one 6 (text (codes "NL") (codes "nl")) ∷ [])
 
 abbrev pub acme_entry : Named
 acme_entry =
-    named acme (class 4 ∷ one 10 (text (codes "Acme") (codes "acme")) ∷ one 13 (text (codes "tools") (codes "tools")) ∷ [])
+    named acme (class 4 ∷ one 10 (text (codes "Acme") (codes "acme")) ∷ one 13 (text (codes "tools") (codes "tools"))
+    ∷ [])
 
 abbrev pub desk_entry : Named
 desk_entry =
@@ -69,7 +70,11 @@ nl_context = record { prefix = nl; entries = nl_entry ∷ []; nssrs = [] }
 
 abbrev pub acme_context : Context
 acme_context =
-    record { prefix = acme; entries = acme_entry ∷ desk_entry ∷ []; nssrs = (record { at = acme; agents = 2 ∷ 3 ∷ [] }) ∷ [] }
+    record {
+      prefix = acme;
+      entries = acme_entry ∷ desk_entry ∷ [];
+      nssrs = (record { at = acme; agents = 2 ∷ 3 ∷ [] }) ∷ [];
+    }
 
 abbrev pub lab_context : Context
 lab_context = record { prefix = lab; entries = lab_entry ∷ jan_entry ∷ []; nssrs = [] }
@@ -83,19 +88,54 @@ to_acme = record { pin = acme; access = record { master = 1; shadows = 4 ∷ [] 
 
 abbrev pub alpha : Agent
 alpha =
-    record { name = codes "Alpha"; superior = None; contexts = nl_context ∷ []; subordinate = to_acme ∷ []; cross = []; crosses = false ∷ [] }
+    record {
+      name = codes "Alpha";
+      superior = None;
+      contexts = nl_context ∷ [];
+      subordinate = to_acme ∷ [];
+      cross = [];
+      crosses = false ∷ [];
+    }
 
 abbrev pub beta : Agent
-beta = record { name = codes "Beta"; superior = Some 0; contexts = acme_context ∷ []; subordinate = []; cross = []; crosses = [] }
+beta = record {
+  name = codes "Beta";
+  superior = Some 0;
+  contexts = acme_context ∷ [];
+  subordinate = [];
+  cross = [];
+  crosses = [];
+}
 
 abbrev pub gamma : Agent
-gamma = record { name = codes "Gamma"; superior = Some 1; contexts = lab_context ∷ []; subordinate = []; cross = []; crosses = [] }
+gamma = record {
+  name = codes "Gamma";
+  superior = Some 1;
+  contexts = lab_context ∷ [];
+  subordinate = [];
+  cross = [];
+  crosses = [];
+}
 
 abbrev pub delta : Agent
-delta = record { name = codes "Delta"; superior = Some 1; contexts = shop_context ∷ []; subordinate = []; cross = []; crosses = [] }
+delta = record {
+  name = codes "Delta";
+  superior = Some 1;
+  contexts = shop_context ∷ [];
+  subordinate = [];
+  cross = [];
+  crosses = [];
+}
 
 abbrev pub epsilon : Agent
-epsilon = record { name = codes "Epsilon"; superior = Some 0; contexts = []; subordinate = []; cross = []; crosses = [] }
+epsilon = record {
+  name = codes "Epsilon";
+  superior = Some 0;
+  contexts = [];
+  subordinate = [];
+  cross = [];
+  crosses = [];
+}
 
 abbrev pub first_agreement : Agreement
 first_agreement = record { number = 1; supplier = 1; consumer = 4; context = acme }

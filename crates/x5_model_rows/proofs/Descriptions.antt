@@ -1,5 +1,5 @@
--- Worlds that no file describes, each near the base world, which one does: a name whose text and key part, and other things
--- that a reader refuses. And what is printed of exclusions and numbers.
+-- Worlds that no file describes, each near the base world, which one does: a name whose text and key part, and other
+-- things that a reader refuses. And what is printed of exclusions and numbers.
 use Rattle.std.specs.Prelude.{◌≡◌, true, false, [], ◌∷◌, ◌++◌}
 use Rattle.std.specs.Str.{chars}
 use Rattle.std.proofs.Common.{refl}
@@ -10,10 +10,12 @@ use Rattle.x5_model.specs.Values.{Name, Unknown}
 use Rattle.x5_model.specs.Types.{is_type}
 use Rattle.x5_model.specs.Normal.{folded}
 use Rattle.x5_model_tree.specs.World.{World}
-use Rattle.x5_model_tree.specs.Described.{is_stored, is_stored_world, is_kept, is_agent_name, is_reference, are_listed, has_network}
+use Rattle.x5_model_tree.specs.Described.{is_stored, is_stored_world, is_kept, is_agent_name, is_reference, are_listed}
+use Rattle.x5_model_tree.specs.Described.{has_network}
 use Rattle.x5_model_output.specs.Output.{attribute_problem, operation_word, exclusions_text}
 use Rattle.x5_model_rows.proofs.Literals.{rdn, text, one, class, named}
-use Rattle.x5_model_rows.proofs.BaseWorld.{nl, lab_rdn, shop_rdn, nl_context, to_acme, alpha, beta, gamma, delta, epsilon, first_agreement, no_outages, world_of, base_world}
+use Rattle.x5_model_rows.proofs.BaseWorld.{nl, lab_rdn, shop_rdn, nl_context, to_acme, alpha, beta, gamma, delta}
+use Rattle.x5_model_rows.proofs.BaseWorld.{epsilon, first_agreement, no_outages, world_of, base_world}
 
 -- printed `/C=ZZ`, and compared as `/C=NL`
 abbrev forged : Name
@@ -29,7 +31,8 @@ honest_name = refl
 
 abbrev forged_world : World
 forged_world =
-    world_of ((record alpha { contexts = (record nl_context { prefix = forged }) ∷ [] }) ∷ beta ∷ gamma ∷ delta ∷ epsilon ∷ []) (first_agreement ∷ [])
+    world_of ((record alpha { contexts = (record nl_context { prefix = forged }) ∷ [] }) ∷ beta ∷ gamma ∷ delta
+    ∷ epsilon ∷ []) (first_agreement ∷ [])
 
 pub forged_prefix : is_stored_world forged_world ≡ false
 unfolding caseless folded chars encode
@@ -38,7 +41,11 @@ forged_prefix = refl
 -- a value printed as another than that which it's compared by
 abbrev forged_value : World
 forged_value =
-    world_of ((record alpha { contexts = (record nl_context { entries = named nl (class 2 ∷ one 6 (text (codes "ZZ") (codes "nl")) ∷ []) ∷ [] }) ∷ [] }) ∷ beta ∷ gamma ∷ delta ∷ epsilon ∷ []) (first_agreement ∷ [])
+    world_of ((record alpha {
+      contexts = (record nl_context
+          { entries = named nl (class 2 ∷ one 6 (text (codes "ZZ") (codes "nl")) ∷ []) ∷ [] }) ∷ [];
+    }) ∷ beta ∷ gamma
+    ∷ delta ∷ epsilon ∷ []) (first_agreement ∷ [])
 
 pub forged_entry : is_stored_world forged_value ≡ false
 unfolding caseless folded chars encode
@@ -56,7 +63,11 @@ too_deep = refl
 pub no_class : is_kept (named nl (one 6 (text (codes "NL") (codes "nl")) ∷ [])) ≡ false
 no_class = refl
 
-pub two_countries : is_kept (named nl (class 2 ∷ (record { kind = 6; values = text (codes "BE") (codes "be") ∷ text (codes "NL") (codes "nl") ∷ [] }) ∷ [])) ≡ false
+pub two_countries : is_kept
+    (named nl (class 2 ∷ (record {
+      kind = 6;
+      values = text (codes "BE") (codes "be") ∷ text (codes "NL") (codes "nl") ∷ [];
+    }) ∷ [])) ≡ false
 two_countries = refl
 
 -- no agent is called like the user
@@ -64,7 +75,8 @@ pub no_user : is_agent_name (codes "user") ≡ false
 no_user = refl
 
 -- nine shadow agents
-pub nine_shadows : is_reference base_world (record to_acme { access = record { master = 1; shadows = 4 ∷ 4 ∷ 4 ∷ 4 ∷ 4 ∷ 4 ∷ 4 ∷ 4 ∷ 4 ∷ [] } }) ≡ false
+pub nine_shadows : is_reference base_world
+    (record to_acme { access = record { master = 1; shadows = 4 ∷ 4 ∷ 4 ∷ 4 ∷ 4 ∷ 4 ∷ 4 ∷ 4 ∷ 4 ∷ [] } }) ≡ false
 nine_shadows = refl
 
 -- an order of the file that doesn't count the reference

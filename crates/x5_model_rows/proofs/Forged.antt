@@ -1,6 +1,8 @@
--- Blocks that say more than was heard, or spell otherwise than was kept. Each passed while only the fate of single lines,
--- and keys, were looked at; each is refused now, and beside it stands the honest block of the same script, which passes.
-use Rattle.std.specs.Prelude.{◌≡◌, ℕ, zero, suc, ◌<◌, ◌&&◌, ◌||◌, ◌==◌, Bool, true, false, IsTrue, List, [], ◌∷◌, take, slice_index}
+-- Blocks that say more than was heard, or spell otherwise than was kept. Each passed while only the fate of single
+-- lines, and keys, were looked at; each is refused now, and beside it stands the honest block of the same script, which
+-- passes.
+use Rattle.std.specs.Prelude.{◌≡◌, ℕ, zero, suc, ◌<◌, ◌&&◌, ◌||◌, ◌==◌, Bool, true, false, IsTrue, List, [], ◌∷◌, take}
+use Rattle.std.specs.Prelude.{slice_index}
 use Rattle.std.specs.List.{list_all}
 use Rattle.std.specs.declared.option.Option.{Option}
 use Rattle.std.specs.declared.option.Option.TheVariants.{None, Some}
@@ -9,7 +11,8 @@ use lib.Chars.{codes}
 use Rattle.x5_model.specs.Values.{Text, Rdn, Name, Known, TextValue}
 use Rattle.x5_model.specs.Requests.{Request, Read, WholeSubtree, Only}
 use Rattle.x5_model.specs.References.{Start, Next, Own, Superior, Subordinate, Supplier, NonSpecific, Reference}
-use Rattle.x5_model.specs.Answers.{Source, Answer, EntryFound, Found, Answered, Changed, Failed, NoSuchObject, ServiceProblem}
+use Rattle.x5_model.specs.Answers.{Source, Answer, EntryFound, Found, Answered, Changed, Failed, NoSuchObject}
+use Rattle.x5_model.specs.Answers.{ServiceProblem}
 use Rattle.x5_model.specs.Problems.{unavailable}
 use Rattle.x5_model.proofs.Decide.{nat_same_decides}
 use Rattle.x5_model.proofs.Lists.{either_true}
@@ -25,7 +28,8 @@ use Rattle.x5_model_run.proofs.Licensing.{both, licensed_by, licensed_first}
 use Rattle.x5_model_run.proofs.Refusing.{all_unheard, no_turn}
 use Rattle.x5_model_rows.proofs.Literals.{rdn, plainly}
 use Rattle.x5_model_rows.proofs.BaseWorld.{base_world, nl, acme, shop_rdn, lab}
-use Rattle.x5_model_rows.proofs.Messages.{asks, passes, journal, accepted_journal, did, point, now, info, shows, whole_outcome, in_vain}
+use Rattle.x5_model_rows.proofs.Messages.{asks, passes, journal, accepted_journal, did, point, now, info, shows}
+use Rattle.x5_model_rows.proofs.Messages.{whole_outcome, in_vain}
 use Rattle.x5_model_rows.proofs.Resolution.{at_first, absent, read_absent, name_lab, beta_down, read_acme}
 use Rattle.x5_model_rows.proofs.Searching.{everything}
 use Rattle.x5_model_rows.proofs.Shadowing.{put_gears}
@@ -41,17 +45,26 @@ absent_above = passes 2 absent_at_gamma 1 absent Start Superior read_absent Sent
 
 abbrev pub unheard_journal : Journal
 unheard_journal =
-    journal (absent_at_gamma ∷ absent_above ∷ passes 3 absent_above 2 absent (Next 3) NonSpecific read_absent Sent ∷ passes 4 absent_above 3 absent (Next 3) NonSpecific read_absent Sent ∷ [])
+    journal (absent_at_gamma ∷ absent_above ∷ passes 3 absent_above 2 absent (Next 3) NonSpecific read_absent Sent
+    ∷ passes 4 absent_above 3 absent (Next 3) NonSpecific read_absent Sent ∷ [])
 
 abbrev pub unheard_scene : Scene
 unheard_scene = scene_at losing_first 2 read_absent
 
-pub no_unheard_error : Right losing_first unheard_scene (by_user unheard_scene) unheard_journal (Failed (NoSuchObject acme)) → ⊥
+pub no_unheard_error : Right losing_first unheard_scene (by_user unheard_scene) unheard_journal
+    (Failed (NoSuchObject acme)) → ⊥
 no_unheard_error (error answered given known none) = no answered
 
-pub gamma_unheard : AnswersRight losing_first 2 read_absent unheard_journal (Failed (ServiceProblem unavailable (Some (in_vain Own absent Start (2 ∷ []))) None))
+pub gamma_unheard : AnswersRight losing_first 2 read_absent unheard_journal
+    (Failed (ServiceProblem unavailable (Some (in_vain Own absent Start (2 ∷ []))) None))
 gamma_unheard = record {
-  licensed = (licensed_by absent_above 0 1 refl refl refl refl refl, (licensed_by absent_above 0 0 refl refl refl refl refl, (licensed_by absent_at_gamma 0 0 refl refl refl refl refl, (licensed_first refl refl refl refl refl, tt))));
+  licensed = (
+    licensed_by absent_above 0 1 refl refl refl refl refl,
+    (
+      licensed_by absent_above 0 0 refl refl refl refl refl,
+      (licensed_by absent_at_gamma 0 0 refl refl refl refl refl, (licensed_first refl refl refl refl refl, tt)),
+    ),
+  );
   accepts = record { one = refl; right = refl; probed = refl };
   finished = record { done = refl; at_once = refl };
   answer = unheard (user (record { own = refl; unheard = refl; same = refl })) refl refl;
@@ -61,7 +74,8 @@ gamma_unheard = record {
 abbrev pub gears_scene : Scene
 gears_scene = scene_at losing_first 1 put_gears
 
-pub no_unheard_change : Right losing_first gears_scene (by_user gears_scene) (accepted_journal (asks 1 1 put_gears NoReply ∷ []) 1) (Answered Changed) → ⊥
+pub no_unheard_change : Right losing_first gears_scene (by_user gears_scene)
+    (accepted_journal (asks 1 1 put_gears NoReply ∷ []) 1) (Answered Changed) → ⊥
 no_unheard_change (changed answered update heard) = no answered
 no_unheard_change (result answered r query none) = no answered
 
@@ -87,7 +101,8 @@ no_empty_answer (result answered r query none) = no answered
 pub no_answer_unasked : Right alpha_down root_scene (by_user root_scene) (journal []) (Answered nothing_found) → ⊥
 no_answer_unasked (result answered r query none) = no answered
 
-pub root_unheard : AnswersRight alpha_down 0 from_root lost_journal (Failed (ServiceProblem unavailable (Some (in_vain Own [] Start (0 ∷ []))) None))
+pub root_unheard : AnswersRight alpha_down 0 from_root lost_journal
+    (Failed (ServiceProblem unavailable (Some (in_vain Own [] Start (0 ∷ []))) None))
 root_unheard = record {
   licensed = (licensed_first refl refl refl refl refl, tt);
   accepts = record { one = refl; right = refl; probed = refl };
@@ -95,7 +110,8 @@ root_unheard = record {
   answer = unheard (user (record { own = refl; unheard = refl; same = refl })) refl refl;
 }
 
--- (d) Beta's reply is lost, and Gamma's, below it, is taken for the answer; Epsilon, the next of the reference, isn't asked.
+-- (d) Beta's reply is lost, and Gamma's, below it, is taken for the answer; Epsilon, the next of the reference, isn't
+-- asked.
 abbrev pub losing_beta : Point
 losing_beta = point base_world (did (Loses true 2) 0 ∷ [])
 
@@ -114,7 +130,8 @@ lab_scene = scene_at losing_beta 0 name_lab
 abbrev pub the_lab : Answer
 the_lab = EntryFound (info lab (shows 11 (TextValue (codes "Lab") ∷ []) ∷ [])) (now lab 2)
 
-pub no_dropped_answer : Right losing_beta lab_scene (by_user lab_scene) (journal (lab_at_alpha ∷ lab_at_beta ∷ lab_at_gamma ∷ [])) (Answered the_lab) → ⊥
+pub no_dropped_answer : Right losing_beta lab_scene (by_user lab_scene)
+    (journal (lab_at_alpha ∷ lab_at_beta ∷ lab_at_gamma ∷ [])) (Answered the_lab) → ⊥
 no_dropped_answer (result answered r query none) = no r.sources
 
 -- by Epsilon, which has only an unrefreshed copy, and Beta again
@@ -126,14 +143,37 @@ beta_again = passes 5 lab_at_epsilon 1 lab (Next 2) Supplier name_lab Sent
 
 abbrev pub second_journal : Journal
 second_journal =
-    journal (lab_at_alpha ∷ lab_at_beta ∷ lab_at_gamma ∷ lab_at_epsilon ∷ beta_again ∷ passes 6 beta_again 2 lab (Next 3) NonSpecific name_lab Sent ∷ [])
+    journal (lab_at_alpha ∷ lab_at_beta ∷ lab_at_gamma ∷ lab_at_epsilon ∷ beta_again
+    ∷ passes 6 beta_again 2 lab (Next 3) NonSpecific name_lab Sent ∷ [])
 
 pub second_way : AnswersRight losing_beta 0 name_lab second_journal (Answered the_lab)
 second_way = record {
-  licensed = (licensed_by beta_again 0 0 refl refl refl refl refl, (licensed_by lab_at_epsilon 0 0 refl refl refl refl refl, (licensed_by lab_at_alpha 0 1 refl refl refl refl refl, (licensed_by lab_at_beta 0 0 refl refl refl refl refl, (licensed_by lab_at_alpha 0 0 refl refl refl refl refl, (licensed_first refl refl refl refl refl, tt))))));
+  licensed = (
+    licensed_by beta_again 0 0 refl refl refl refl refl,
+    (
+      licensed_by lab_at_epsilon 0 0 refl refl refl refl refl,
+      (
+        licensed_by lab_at_alpha 0 1 refl refl refl refl refl,
+        (
+          licensed_by lab_at_beta 0 0 refl refl refl refl refl,
+          (licensed_by lab_at_alpha 0 0 refl refl refl refl refl, (licensed_first refl refl refl refl refl, tt)),
+        ),
+      ),
+    ),
+  );
   accepts = record { one = refl; right = refl; probed = refl };
   finished = record { done = refl; at_once = refl };
-  answer = result refl (record { found = refl; sources = refl; spelled = refl; once = refl; exactly = refl; answered = refl; blocked = tt; completed = refl; apart = refl }) refl refl;
+  answer = result refl (record {
+    found = refl;
+    sources = refl;
+    spelled = refl;
+    once = refl;
+    exactly = refl;
+    answered = refl;
+    blocked = tt;
+    completed = refl;
+    apart = refl;
+  }) refl refl;
 }
 
 pub second_thorough : Thorough lab_scene second_journal
@@ -157,7 +197,8 @@ gamma_lost = passes 3 lab_at_beta 2 lab (Next 3) NonSpecific name_lab Lost
 
 abbrev pub both_journal : Journal
 both_journal =
-    journal (lab_at_alpha ∷ lab_at_beta ∷ gamma_lost ∷ passes 4 lab_at_beta 3 lab (Next 3) NonSpecific name_lab Sent ∷ epsilon_later ∷ beta_later ∷ passes 7 beta_later 2 lab (Next 3) NonSpecific name_lab Sent ∷ [])
+    journal (lab_at_alpha ∷ lab_at_beta ∷ gamma_lost ∷ passes 4 lab_at_beta 3 lab (Next 3) NonSpecific name_lab Sent
+    ∷ epsilon_later ∷ beta_later ∷ passes 7 beta_later 2 lab (Next 3) NonSpecific name_lab Sent ∷ [])
 
 abbrev pub forged : Reference
 forged = in_vain NonSpecific lab (Next 3) (2 ∷ [])
@@ -168,20 +209,48 @@ last_holds true false e = cc
 last_holds false c e = cc
 
 -- only the second line has an unheard line to Gamma, and it didn't come back
-pub no_dropped_silence : Right losing_both both_scene (by_user both_scene) both_journal (Failed (ServiceProblem unavailable (Some forged) None)) → ⊥
+pub no_dropped_silence : Right losing_both both_scene (by_user both_scene) both_journal
+    (Failed (ServiceProblem unavailable (Some forged) None)) → ⊥
 no_dropped_silence (error answered given known none) = no (ap fails given)
 no_dropped_silence (unheard (user u) phase none) = no u.unheard
 no_dropped_silence (unheard (asked a) phase none) =
-    let same : (2 == a.line.number) ≡ true = last_holds (asks_by a.full 2 gamma_lost) (2 == a.line.number) (all_unheard both_scene both_journal.lines a.line a.full (2 ∷ []) refl a.vain) in
+    let same : (2 == a.line.number)
+    ≡ true = last_holds (asks_by a.full 2 gamma_lost) (2 == a.line.number)
+    (all_unheard both_scene both_journal.lines a.line a.full (2 ∷ []) refl a.vain) in
     let second : a.line.number ≡ 2 = sym ((nat_same_decides 2 a.line.number).0 same) in
     no (subst (λ n. hears_by (λ l. l.number == n) (by_user both_scene) both_journal.lines ≡ true) second a.back)
 
 pub second_way_again : AnswersRight losing_both 0 name_lab both_journal (Answered the_lab)
 second_way_again = record {
-  licensed = (licensed_by beta_later 0 0 refl refl refl refl refl, (licensed_by epsilon_later 0 0 refl refl refl refl refl, (licensed_by lab_at_alpha 0 1 refl refl refl refl refl, (licensed_by lab_at_beta 0 1 refl refl refl refl refl, (licensed_by lab_at_beta 0 0 refl refl refl refl refl, (licensed_by lab_at_alpha 0 0 refl refl refl refl refl, (licensed_first refl refl refl refl refl, tt)))))));
+  licensed = (
+    licensed_by beta_later 0 0 refl refl refl refl refl,
+    (
+      licensed_by epsilon_later 0 0 refl refl refl refl refl,
+      (
+        licensed_by lab_at_alpha 0 1 refl refl refl refl refl,
+        (
+          licensed_by lab_at_beta 0 1 refl refl refl refl refl,
+          (
+            licensed_by lab_at_beta 0 0 refl refl refl refl refl,
+            (licensed_by lab_at_alpha 0 0 refl refl refl refl refl, (licensed_first refl refl refl refl refl, tt)),
+          ),
+        ),
+      ),
+    ),
+  );
   accepts = record { one = refl; right = refl; probed = refl };
   finished = record { done = refl; at_once = refl };
-  answer = result refl (record { found = refl; sources = refl; spelled = refl; once = refl; exactly = refl; answered = refl; blocked = tt; completed = refl; apart = refl }) refl refl;
+  answer = result refl (record {
+    found = refl;
+    sources = refl;
+    spelled = refl;
+    once = refl;
+    exactly = refl;
+    answered = refl;
+    blocked = tt;
+    completed = refl;
+    apart = refl;
+  }) refl refl;
 }
 
 -- (f) Gamma has answered, and Delta is asked after it.
@@ -206,7 +275,9 @@ no_line_after_answer l = by l.cause
     not_yet : Turn answered_scene (gamma_answers ∷ lab_asked ∷ []) lab_asked both_agents 3 → ⊥
     not_yet t = at t.place t.inside t.here t.earlier
       where
-        at : (place : ℕ) → place < 2 → slice_index (2 ∷ 3 ∷ []) place ≡ 3 → IsTrue (list_all (is_passed answered_scene (gamma_answers ∷ lab_asked ∷ []) lab_asked both_agents) (take place (2 ∷ 3 ∷ []))) → ⊥
+        at : (place : ℕ) → place < 2 → slice_index (2 ∷ 3 ∷ []) place ≡ 3
+            → IsTrue (list_all (is_passed answered_scene (gamma_answers ∷ lab_asked ∷ []) lab_asked both_agents)
+            (take place (2 ∷ 3 ∷ []))) → ⊥
         at zero inside here earlier = omega (arith, here)
         at (suc zero) inside here earlier = no earlier
         at (suc (suc n)) inside here earlier = omega (arith, inside)
@@ -219,7 +290,17 @@ gamma_answered = record {
   licensed = (licensed_by lab_asked 0 0 refl refl refl refl refl, (licensed_first refl refl refl refl refl, tt));
   accepts = record { one = refl; right = refl; probed = refl };
   finished = record { done = refl; at_once = refl };
-  answer = result refl (record { found = refl; sources = refl; spelled = refl; once = refl; exactly = refl; answered = refl; blocked = tt; completed = refl; apart = refl }) refl refl;
+  answer = result refl (record {
+    found = refl;
+    sources = refl;
+    spelled = refl;
+    once = refl;
+    exactly = refl;
+    answered = refl;
+    blocked = tt;
+    completed = refl;
+    apart = refl;
+  }) refl refl;
 }
 
 -- (g) The user's own reference has exclusions. What passes is in the rows on resolution.
@@ -235,9 +316,11 @@ no_lost (user u) = no_more (ap (λ r. r.exclusions) u.same)
     no_more : ◌≡◌ {A = List Rdn} (shop_rdn ∷ []) [] → ⊥
     no_more e = cc
 no_lost (asked a) =
-    elim (either_true ((1 == a.line.number) && false) false a.back) [ inl e ↦ no (both (1 == a.line.number) false e).1 | inr e ↦ no e ]
+    elim (either_true ((1 == a.line.number) && false) false a.back)
+    [ inl e ↦ no (both (1 == a.line.number) false e).1 | inr e ↦ no e ]
 
-pub no_exclusions : Right beta_down down_scene (by_user down_scene) (journal (asks 1 1 read_acme Lost ∷ [])) (Failed (ServiceProblem unavailable (Some excluding) None)) → ⊥
+pub no_exclusions : Right beta_down down_scene (by_user down_scene) (journal (asks 1 1 read_acme Lost ∷ []))
+    (Failed (ServiceProblem unavailable (Some excluding) None)) → ⊥
 no_exclusions (unheard l phase none) = no_lost l
 no_exclusions (error answered given known none) = no answered
 
@@ -270,12 +353,23 @@ first_letter (Some (r ∷ rs) ∷ names) = of_rdn r
 first_letter other = 0
 
 pub no_other_spelling : Right at_first nl_scene (by_user nl_scene) nl_journal (Answered (found_by (now nl_small 0))) → ⊥
-no_other_spelling (result answered r query none) = (let same : ◌≡◌ {A = ℕ} 78 110 = ap first_letter r.spelled in omega (arith, same))
+no_other_spelling (result answered r query none) =
+    (let same : ◌≡◌ {A = ℕ} 78 110 = ap first_letter r.spelled in omega (arith, same))
 
 pub nl_read : AnswersRight at_first 0 read_nl nl_journal (Answered (found_by (now nl 0)))
 nl_read = record {
   licensed = (licensed_first refl refl refl refl refl, tt);
   accepts = record { one = refl; right = refl; probed = refl };
   finished = record { done = refl; at_once = refl };
-  answer = result refl (record { found = refl; sources = refl; spelled = refl; once = refl; exactly = refl; answered = refl; blocked = tt; completed = refl; apart = refl }) refl refl;
+  answer = result refl (record {
+    found = refl;
+    sources = refl;
+    spelled = refl;
+    once = refl;
+    exactly = refl;
+    answered = refl;
+    blocked = tt;
+    completed = refl;
+    apart = refl;
+  }) refl refl;
 }

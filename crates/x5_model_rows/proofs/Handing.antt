@@ -1,5 +1,5 @@
--- Messages that a user hands to Beta as another agent's, of an update to its own context. Beta takes what they say of how far
--- they have come as it is: the update is accepted where it goes on from there, and nothing is where it can't.
+-- Messages that a user hands to Beta as another agent's, of an update to its own context. Beta takes what they say of
+-- how far they have come as it is: the update is accepted where it goes on from there, and nothing is where it can't.
 use Rattle.std.specs.Prelude.{false, [], ◌∷◌}
 use Rattle.std.specs.List.{concat}
 use Rattle.std.specs.Fmt.{digits}

@@ -1,5 +1,5 @@
--- The parts of a search of the base world, and of one near it: what is evaluated on the spot, which references are needed for
--- the rest, and what each looks into. The theorems on parts hold of these, so they aren't empty.
+-- The parts of a search of the base world, and of one near it: what is evaluated on the spot, which references are
+-- needed for the rest, and what each looks into. The theorems on parts hold of these, so they aren't empty.
 use Rattle.std.specs.Prelude.{◌≡◌, ◌∷◌, [], map, true}
 use Rattle.std.proofs.Common.{refl, inr, false}
 use Rattle.x5_model.specs.Values.{key_of}
@@ -73,5 +73,6 @@ known = point shop_known []
 pub less_spots : spots known below_at_beta ≡ key_of acme ∷ []
 less_spots = refl
 
-pub less_needs : map (λ r. covers (knowledge_at known) r (key_of shop)) (rest_needs known below_at_beta) ≡ true ∷ false ∷ false ∷ []
+pub less_needs : map (λ r. covers (knowledge_at known) r (key_of shop)) (rest_needs known below_at_beta)
+    ≡ true ∷ false ∷ false ∷ []
 less_needs = refl

@@ -41,12 +41,14 @@ lab_is_probed = refl
 
 pub lab_is_refused : apply (tree_at first_line) add_lab ≡ Err (UpdateProblem entry_already_exists)
 lab_is_refused =
-    refuses_at_probed first_line 1 2 (opening add_lab) (reference new_lab (Next 3) NonSpecific (2 ∷ 3 ∷ [])) beta_judges here here refl
+    refuses_at_probed first_line 1 2 (opening add_lab) (reference new_lab (Next 3) NonSpecific (2 ∷ 3 ∷ [])) beta_judges
+    here here refl
 
 -- that Acme stands above pins it knows by its NSSR, though it knows none of them by name
 pub acme_refused : apply (tree_at first_line) remove_acme ≡ Err (UpdateProblem affects_multiple_dsas)
 acme_refused =
-    refuses_alike first_line 1 (opening remove_acme) (UpdateProblem affects_multiple_dsas) (record { stands = first_stands; update = refl; target = refl; resolving = refl; master = refl }) refl
+    refuses_alike first_line 1 (opening remove_acme) (UpdateProblem affects_multiple_dsas)
+    (record { stands = first_stands; update = refl; target = refl; resolving = refl; master = refl }) refl
 
 -- a new entry below Desk, where no NSSR is, is accepted by the whole tree, since Beta accepts it
 pub second_stands : StandsWhole second_line
@@ -54,7 +56,13 @@ second_stands = lines_stand base_world second_line.past described consistent (tt
 
 pub pen_accepted : (t : Tree) × (apply (tree_at second_line) add_pen ≡ Ok t)
 pen_accepted =
-    accepts_alone second_line 1 (opening add_pen) _ (record { stands = second_stands; update = refl; target = refl; resolving = refl; master = refl }) refl refl
+    accepts_alone second_line 1 (opening add_pen) _ (record {
+      stands = second_stands;
+      update = refl;
+      target = refl;
+      resolving = refl;
+      master = refl;
+    }) refl refl
 
 -- after it knowledge is consistent still, and the tree is what the masters have
 pub third_stands : StandsWhole third_line
@@ -68,4 +76,5 @@ third_union = tree_is_union third_line third_stands
 
 pub desk_refused : apply (tree_at third_line) remove_desk ≡ Err (UpdateProblem not_allowed_on_non_leaf)
 desk_refused =
-    refuses_alike third_line 1 (opening remove_desk) (UpdateProblem not_allowed_on_non_leaf) (record { stands = third_stands; update = refl; target = refl; resolving = refl; master = refl }) refl
+    refuses_alike third_line 1 (opening remove_desk) (UpdateProblem not_allowed_on_non_leaf)
+    (record { stands = third_stands; update = refl; target = refl; resolving = refl; master = refl }) refl

@@ -1,6 +1,7 @@
 pub mod Literals
 pub mod BaseWorld
 pub mod Consistency
+pub mod Breaches
 pub mod OneTree
 pub mod Matching
 pub mod Updates
@@ -27,3 +28,8 @@ pub mod Parting
 pub mod Refusals
 pub mod Texts
 pub mod Handing
+pub mod Doubled
+pub mod Spellings
+pub mod Limits
+pub mod Accepting
+pub mod Omitted

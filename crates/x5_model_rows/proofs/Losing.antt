@@ -19,7 +19,8 @@ use Rattle.x5_model_run.specs.Thorough.{Thorough}
 use Rattle.x5_model_run.proofs.Licensing.{licensed_by, licensed_first}
 use Rattle.x5_model_rows.proofs.Literals.{plainly, give, text}
 use Rattle.x5_model_rows.proofs.BaseWorld.{base_world, acme, lab}
-use Rattle.x5_model_rows.proofs.Messages.{takes, asks, passes, journal, accepted_journal, did, point, now, info, shows, in_vain}
+use Rattle.x5_model_rows.proofs.Messages.{takes, asks, passes, journal, accepted_journal, did, point, now, info, shows}
+use Rattle.x5_model_rows.proofs.Messages.{in_vain}
 use Rattle.x5_model_rows.proofs.Shadowing.{put_gears}
 use Rattle.x5_model_rows.proofs.Further.{shadowed}
 
@@ -27,7 +28,8 @@ use Rattle.x5_model_rows.proofs.Further.{shadowed}
 abbrev pub losing_first : Point
 losing_first = point base_world (did (Loses true 1) 0 ∷ [])
 
-pub gears_unheard : AnswersRight losing_first 1 put_gears (accepted_journal (asks 1 1 put_gears NoReply ∷ []) 1) (Failed (ServiceProblem unavailable (Some (in_vain Own acme Start (1 ∷ []))) None))
+pub gears_unheard : AnswersRight losing_first 1 put_gears (accepted_journal (asks 1 1 put_gears NoReply ∷ []) 1)
+    (Failed (ServiceProblem unavailable (Some (in_vain Own acme Start (1 ∷ []))) None))
 gears_unheard = record {
   licensed = (licensed_first refl refl refl refl refl, tt);
   accepts = record { one = refl; right = refl; probed = refl };
@@ -38,12 +40,25 @@ gears_unheard = record {
 abbrev pub read_description : Request
 read_description = plainly (Read acme (Only (Known 13 ∷ [])))
 
-pub gears_there : AnswersRight (point base_world (did (takes 1 put_gears) 1 ∷ did (Loses true 1) 0 ∷ [])) 1 read_description (journal (asks 2 1 read_description Sent ∷ [])) (Answered (EntryFound (info acme (shows 13 (TextValue (codes "gears") ∷ TextValue (codes "tools") ∷ []) ∷ [])) (now acme 1)))
+pub gears_there : AnswersRight (point base_world (did (takes 1 put_gears) 1 ∷ did (Loses true 1) 0 ∷ [])) 1
+    read_description (journal (asks 2 1 read_description Sent ∷ []))
+    (Answered (EntryFound (info acme (shows 13 (TextValue (codes "gears") ∷ TextValue (codes "tools") ∷ []) ∷ []))
+    (now acme 1)))
 gears_there = record {
   licensed = (licensed_first refl refl refl refl refl, tt);
   accepts = record { one = refl; right = refl; probed = refl };
   finished = record { done = refl; at_once = refl };
-  answer = result refl (record { found = refl; sources = refl; spelled = refl; once = refl; exactly = refl; answered = refl; blocked = tt; completed = refl; apart = refl }) refl refl;
+  answer = result refl (record {
+    found = refl;
+    sources = refl;
+    spelled = refl;
+    once = refl;
+    exactly = refl;
+    answered = refl;
+    blocked = tt;
+    completed = refl;
+    apart = refl;
+  }) refl refl;
 }
 
 -- Gamma takes the update, Beta doesn't hear it and asks Delta too
@@ -58,11 +73,16 @@ put_at_beta = asks 1 1 put_lab Sent
 
 abbrev pub put_journal : Journal
 put_journal =
-    accepted_journal (put_at_beta ∷ passes 2 put_at_beta 2 lab (Next 3) NonSpecific put_lab NoReply ∷ passes 3 put_at_beta 3 lab (Next 3) NonSpecific put_lab Sent ∷ []) 2
+    accepted_journal (put_at_beta ∷ passes 2 put_at_beta 2 lab (Next 3) NonSpecific put_lab NoReply
+    ∷ passes 3 put_at_beta 3 lab (Next 3) NonSpecific put_lab Sent ∷ []) 2
 
-pub lab_unheard : AnswersRight losing_second 1 put_lab put_journal (Failed (ServiceProblem unavailable (Some (in_vain NonSpecific lab (Next 3) (2 ∷ []))) None))
+pub lab_unheard : AnswersRight losing_second 1 put_lab put_journal
+    (Failed (ServiceProblem unavailable (Some (in_vain NonSpecific lab (Next 3) (2 ∷ []))) None))
 lab_unheard = record {
-  licensed = (licensed_by put_at_beta 0 1 refl refl refl refl refl, (licensed_by put_at_beta 0 0 refl refl refl refl refl, (licensed_first refl refl refl refl refl, tt)));
+  licensed = (
+    licensed_by put_at_beta 0 1 refl refl refl refl refl,
+    (licensed_by put_at_beta 0 0 refl refl refl refl refl, (licensed_first refl refl refl refl refl, tt)),
+  );
   accepts = record { one = refl; right = refl; probed = refl };
   finished = record { done = refl; at_once = refl };
   answer = unheard (asked (record {
@@ -90,11 +110,18 @@ put_at_delta = passes 3 put_at_beta 3 lab (Next 3) NonSpecific put_lab Sent
 
 abbrev pub twice_journal : Journal
 twice_journal =
-    accepted_journal (put_at_beta ∷ passes 2 put_at_beta 2 lab (Next 3) NonSpecific put_lab NoReply ∷ put_at_delta ∷ passes 4 put_at_delta 2 lab (Next 3) Supplier put_lab Sent ∷ []) 2
+    accepted_journal (put_at_beta ∷ passes 2 put_at_beta 2 lab (Next 3) NonSpecific put_lab NoReply ∷ put_at_delta
+    ∷ passes 4 put_at_delta 2 lab (Next 3) Supplier put_lab Sent ∷ []) 2
 
 pub lab_changed : AnswersRight losing_shadowed 1 put_lab twice_journal (Answered Changed)
 lab_changed = record {
-  licensed = (licensed_by put_at_delta 0 0 refl refl refl refl refl, (licensed_by put_at_beta 0 1 refl refl refl refl refl, (licensed_by put_at_beta 0 0 refl refl refl refl refl, (licensed_first refl refl refl refl refl, tt))));
+  licensed = (
+    licensed_by put_at_delta 0 0 refl refl refl refl refl,
+    (
+      licensed_by put_at_beta 0 1 refl refl refl refl refl,
+      (licensed_by put_at_beta 0 0 refl refl refl refl refl, (licensed_first refl refl refl refl refl, tt)),
+    ),
+  );
   accepts = record { one = refl; right = refl; probed = refl };
   finished = record { done = refl; at_once = refl };
   answer = changed refl refl refl;

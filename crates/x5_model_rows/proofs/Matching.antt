@@ -6,14 +6,22 @@ use Rattle.std.proofs.Common.{refl}
 use lib.Chars.{codes}
 use Rattle.x5_model.specs.Values.{Text, TypeRef, Known, Unknown, TextValue}
 use Rattle.x5_model.specs.Entries.{Entry}
-use Rattle.x5_model.specs.Filters.{Assertion, Parts, Equality, GreaterOrEqual, LessOrEqual, Present, Approximate, Is, And, Or, Not, Nil, More}
+use Rattle.x5_model.specs.Filters.{Assertion, Parts, Equality, GreaterOrEqual, LessOrEqual, Present, Approximate, Is}
+use Rattle.x5_model.specs.Filters.{And, Or, Not, Nil, More}
 use Rattle.x5_model.specs.Truth.{True, False, Undefined, matches_parts, item_truth, filter_truth}
 use Rattle.x5_model_rows.proofs.Literals.{text, class, one}
 
 -- a person with two descriptions and a telephone number
 abbrev person : Entry
 person =
-    record { attributes = class 7 ∷ one 3 (text (codes "Jan") (codes "jan")) ∷ (record { kind = 13; values = text (codes "Abba") (codes "abba") ∷ text (codes "Tools") (codes "tools") ∷ [] }) ∷ one 20 (text (codes "12-3") (codes "123")) ∷ [] }
+    record {
+      attributes = class 7 ∷ one 3 (text (codes "Jan") (codes "jan"))
+          ∷ (record {
+            kind = 13;
+            values = text (codes "Abba") (codes "abba") ∷ text (codes "Tools") (codes "tools") ∷ [];
+          })
+          ∷ one 20 (text (codes "12-3") (codes "123")) ∷ [];
+    }
 
 abbrev says : ℕ → Text → Assertion
 says kind normal = record { kind = Known kind; value = TextValue normal; normal = Some normal }
@@ -104,7 +112,8 @@ room = refl
 pub and_false : filter_truth (And (More (Is (Present unknown)) (More (Is (Present (Known 4))) Nil))) person ≡ False
 and_false = refl
 
-pub and_undefined : filter_truth (And (More (Is (Present unknown)) (More (Is (Present (Known 3))) Nil))) person ≡ Undefined
+pub and_undefined : filter_truth (And (More (Is (Present unknown)) (More (Is (Present (Known 3))) Nil))) person
+    ≡ Undefined
 and_undefined = refl
 
 pub or_true : filter_truth (Or (More (Is (Present unknown)) (More (Is (Present (Known 3))) Nil))) person ≡ True

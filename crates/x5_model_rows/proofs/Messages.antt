@@ -21,7 +21,14 @@ passes number l to target progress kind r fate = record {
   number = number;
   sender = Some l.receiver;
   receiver = to;
-  message = record { target = target; progress = progress; kind = kind; exclusions = []; trace = l.message.trace ++ item_of l.receiver l.message ∷ []; request = r };
+  message = record {
+    target = target;
+    progress = progress;
+    kind = kind;
+    exclusions = [];
+    trace = l.message.trace ++ item_of l.receiver l.message ∷ [];
+    request = r;
+  };
   fate = fate;
 }
 

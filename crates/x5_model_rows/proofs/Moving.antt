@@ -34,12 +34,23 @@ ada_at_delta = asks 1 3 read_ada Sent
 abbrev pub ada_journal : Journal
 ada_journal = journal (ada_at_delta ∷ passes 2 ada_at_delta 2 ada (Next 4) Subordinate read_ada Sent ∷ [])
 
-pub ada_at_gamma : AnswersRight after_split 3 read_ada ada_journal (Answered (EntryFound (info ada (shows 4 (TextValue (codes "Bos") ∷ []) ∷ [])) (now ada 2)))
+pub ada_at_gamma : AnswersRight after_split 3 read_ada ada_journal
+    (Answered (EntryFound (info ada (shows 4 (TextValue (codes "Bos") ∷ []) ∷ [])) (now ada 2)))
 ada_at_gamma = record {
   licensed = (licensed_by ada_at_delta 0 0 refl refl refl refl refl, (licensed_first refl refl refl refl refl, tt));
   accepts = record { one = refl; right = refl; probed = refl };
   finished = record { done = refl; at_once = refl };
-  answer = result refl (record { found = refl; sources = refl; spelled = refl; once = refl; exactly = refl; answered = refl; blocked = tt; completed = refl; apart = refl }) refl refl;
+  answer = result refl (record {
+    found = refl;
+    sources = refl;
+    spelled = refl;
+    once = refl;
+    exactly = refl;
+    answered = refl;
+    blocked = tt;
+    completed = refl;
+    apart = refl;
+  }) refl refl;
 }
 
 pub ada_thorough : Thorough (scene_at after_split 3 read_ada) ada_journal
@@ -52,12 +63,23 @@ after_unsplit =
 pub unsplit_consistent : first_breach (world_at after_unsplit) ≡ None
 unsplit_consistent = refl
 
-pub ada_back : AnswersRight after_unsplit 3 read_ada (journal (asks 3 3 read_ada Sent ∷ [])) (Answered (EntryFound (info ada (shows 4 (TextValue (codes "Bos") ∷ []) ∷ [])) (now shop 3)))
+pub ada_back : AnswersRight after_unsplit 3 read_ada (journal (asks 3 3 read_ada Sent ∷ []))
+    (Answered (EntryFound (info ada (shows 4 (TextValue (codes "Bos") ∷ []) ∷ [])) (now shop 3)))
 ada_back = record {
   licensed = (licensed_first refl refl refl refl refl, tt);
   accepts = record { one = refl; right = refl; probed = refl };
   finished = record { done = refl; at_once = refl };
-  answer = result refl (record { found = refl; sources = refl; spelled = refl; once = refl; exactly = refl; answered = refl; blocked = tt; completed = refl; apart = refl }) refl refl;
+  answer = result refl (record {
+    found = refl;
+    sources = refl;
+    spelled = refl;
+    once = refl;
+    exactly = refl;
+    answered = refl;
+    blocked = tt;
+    completed = refl;
+    apart = refl;
+  }) refl refl;
 }
 
 -- Shop leaves Delta for Beta, and Delta leaves the NSSR
@@ -67,10 +89,21 @@ shop_at_beta = point base_world (did (Unsplits (key_of shop)) 0 ∷ [])
 pub shop_consistent : first_breach (world_at shop_at_beta) ≡ None
 shop_consistent = refl
 
-pub shop_read : AnswersRight shop_at_beta 1 read_ada (journal (asks 1 1 read_ada Sent ∷ [])) (Answered (EntryFound (info ada (shows 4 (TextValue (codes "Bos") ∷ []) ∷ [])) (now acme 1)))
+pub shop_read : AnswersRight shop_at_beta 1 read_ada (journal (asks 1 1 read_ada Sent ∷ []))
+    (Answered (EntryFound (info ada (shows 4 (TextValue (codes "Bos") ∷ []) ∷ [])) (now acme 1)))
 shop_read = record {
   licensed = (licensed_first refl refl refl refl refl, tt);
   accepts = record { one = refl; right = refl; probed = refl };
   finished = record { done = refl; at_once = refl };
-  answer = result refl (record { found = refl; sources = refl; spelled = refl; once = refl; exactly = refl; answered = refl; blocked = tt; completed = refl; apart = refl }) refl refl;
+  answer = result refl (record {
+    found = refl;
+    sources = refl;
+    spelled = refl;
+    once = refl;
+    exactly = refl;
+    answered = refl;
+    blocked = tt;
+    completed = refl;
+    apart = refl;
+  }) refl refl;
 }

@@ -9,7 +9,8 @@ use Rattle.std.proofs.Common.{refl}
 use lib.Chars.{codes}
 use Rattle.x5_model.specs.Values.{Text, OidValue, TextValue}
 use Rattle.x5_model.specs.References.{Start, Next, Own, NonSpecific}
-use Rattle.x5_model.specs.Answers.{Answer, EntryFound, Found, Changed, NoSuchObject, UpdateProblem, ServiceProblem, Reply, Answered, Failed, Referred}
+use Rattle.x5_model.specs.Answers.{Answer, EntryFound, Found, Changed, NoSuchObject, UpdateProblem, ServiceProblem}
+use Rattle.x5_model.specs.Answers.{Reply, Answered, Failed, Referred}
 use Rattle.x5_model.specs.Problems.{unavailable, entry_already_exists}
 use Rattle.x5_model_run.specs.Network.{Down, Cut, Refuse, Lost, NoReply, Sent}
 use Rattle.x5_model_run.specs.History.{Point, Loses}
@@ -17,20 +18,31 @@ use Rattle.x5_model_run.specs.Run.{Command, Asks, Changes, Drops, Updates, Set, 
 use Rattle.x5_model_output.specs.Output.{PrintsRun}
 use Rattle.x5_model_serve.specs.Serving.{answers, reads}
 use Rattle.x5_model_rows.proofs.BaseWorld.{base_world, nl, acme}
-use Rattle.x5_model_rows.proofs.Messages.{takes, asks, journal, accepted_journal, did, point, bare, info, shows, now, in_vain, left_out}
-use Rattle.x5_model_rows.proofs.Resolution.{at_first, read_acme, acme_journal, read_jan, jan_journal, read_absent, absent_journal, read_lab, lab_at_alpha, lab_journal, read_shop, shop_journal, name_lab, followed_journal, to_beta, compare_country}
-use Rattle.x5_model_rows.proofs.Searching.{from_root, root_journal, from_nl, nl_journal, unchained, acme_reference, shop_known, below_acme, less_journal, gamma_consumes, twice_journal, list_acme, list_journal, smit_below, smit_journal}
+use Rattle.x5_model_rows.proofs.Messages.{takes, asks, journal, accepted_journal, did, point, bare, info, shows, now}
+use Rattle.x5_model_rows.proofs.Messages.{in_vain, left_out}
+use Rattle.x5_model_rows.proofs.Resolution.{at_first, read_acme, acme_journal, read_jan, jan_journal, read_absent}
+use Rattle.x5_model_rows.proofs.Resolution.{absent_journal, read_lab, lab_at_alpha, lab_journal, read_shop}
+use Rattle.x5_model_rows.proofs.Resolution.{shop_journal, name_lab, followed_journal, to_beta, compare_country}
+use Rattle.x5_model_rows.proofs.Searching.{from_root, root_journal, from_nl, nl_journal, unchained, acme_reference}
+use Rattle.x5_model_rows.proofs.Searching.{shop_known, below_acme, less_journal, gamma_consumes, twice_journal}
+use Rattle.x5_model_rows.proofs.Searching.{list_acme, list_journal, smit_below, smit_journal}
 use Rattle.x5_model_rows.proofs.Probing.{new_lab, add_lab, add_journal, again_journal}
 use Rattle.x5_model_rows.proofs.Shadowing as shadowing
-use Rattle.x5_model_rows.proofs.Shadowing.{put_gears, add_new, new_journal, below_journal, read_new, unknown_journal, read_master}
+use Rattle.x5_model_rows.proofs.Shadowing.{put_gears, add_new, new_journal, below_journal, read_new, unknown_journal}
+use Rattle.x5_model_rows.proofs.Shadowing.{read_master}
 use Rattle.x5_model_rows.proofs.Losing.{read_description as read_gears}
 use Rattle.x5_model_rows.proofs.Running.{the_pull, the_script, the_blocks}
 use Rattle.x5_model_rows.proofs.Serving as serving
 use Rattle.x5_model_rows.proofs.Serving.{at_nl, nl_served}
 use Rattle.x5_model_rows.proofs.Stepping as stepping
-use Rattle.x5_model_rows.proofs.Stepping.{IsHandled, IsServed, jan_reply, jan_served, absent_served, of_all, root_served, lab_reply, shop_reply, shop_served, name_reply, followed_served, referred_served, unchained_served, again_served, gears_served, acme_unserved}
+use Rattle.x5_model_rows.proofs.Stepping.{IsHandled, IsServed, jan_reply, jan_served, absent_served, of_all}
+use Rattle.x5_model_rows.proofs.Stepping.{root_served, lab_reply, shop_reply, shop_served, name_reply, followed_served}
+use Rattle.x5_model_rows.proofs.Stepping.{referred_served, unchained_served, again_served, gears_served, acme_unserved}
 use Rattle.x5_model_rows.proofs.Parting as parting
-use Rattle.x5_model_rows.proofs.Parting.{less_answer, less_served, twice_served, all_names, list_served, country_refused, jan_of_all, smit_served, gears_taken, copy_served, new_reply, master_served, new_served, found_by_copy, below_served, unknown_reply, unknown_served, unmastered, master_unserved}
+use Rattle.x5_model_rows.proofs.Parting.{less_answer, less_served, twice_served, all_names, list_served}
+use Rattle.x5_model_rows.proofs.Parting.{country_refused, jan_of_all, smit_served, gears_taken, copy_served, new_reply}
+use Rattle.x5_model_rows.proofs.Parting.{master_served, new_served, found_by_copy, below_served, unknown_reply}
+use Rattle.x5_model_rows.proofs.Parting.{unknown_served, unmastered, master_unserved}
 
 -- a moment is a second after the start
 abbrev pub moment : ℕ → Text

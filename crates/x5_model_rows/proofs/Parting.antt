@@ -9,7 +9,8 @@ use lib.Chars.{codes}
 use Rattle.x5_model.specs.Words.{is_empty}
 use Rattle.x5_model.specs.Values.{Name, Known, TextValue}
 use Rattle.x5_model.specs.References.{Next, Done, Subordinate, NonSpecific, Supplier, Reference}
-use Rattle.x5_model.specs.Answers.{Source, Answer, Found, Listed, Changed, NoSuchObject, AttributeProblem, DirError, ServiceProblem, EntryFound, EntryInfo, Reply, Answered, Failed}
+use Rattle.x5_model.specs.Answers.{Source, Answer, Found, Listed, Changed, NoSuchObject, AttributeProblem, DirError}
+use Rattle.x5_model.specs.Answers.{ServiceProblem, EntryFound, EntryInfo, Reply, Answered, Failed}
 use Rattle.x5_model.specs.Problems.{invalid_attribute_syntax, unavailable}
 use Rattle.x5_model_run.specs.Network.{Sent}
 use Rattle.x5_model_run.specs.Journal.{Line, Journal, is_wide}
@@ -17,17 +18,26 @@ use Rattle.x5_model_run.specs.Needs.{reference}
 use Rattle.x5_model_run.specs.History.{Point, Nothing}
 use Rattle.x5_model_run.specs.Stage.{budget}
 use Rattle.x5_model_run.specs.Chain.{scene_at, probe_request}
-use Rattle.x5_model_serve.specs.Serving.{Hears, Unheard, Whole, answers, refused, stuck, goes, reads, reads_copy, asks_parts, updates, does, probes_all, no_probe, clear, lost, sends, final, none_yet, in_vain_too, heard, unheard, no_part, part_unheard, part_answered}
+use Rattle.x5_model_serve.specs.Serving.{Hears, Unheard, Whole, answers, refused, stuck, goes, reads, reads_copy}
+use Rattle.x5_model_serve.specs.Serving.{asks_parts, updates, does, probes_all, no_probe, clear, lost, sends, final}
+use Rattle.x5_model_serve.specs.Serving.{none_yet, in_vain_too, heard, unheard, no_part, part_unheard, part_answered}
 use Rattle.x5_model_determined.proofs.Once.{request_is_determined}
 use Rattle.x5_model_rows.proofs.BaseWorld.{base_world, nl, acme, desk, lab, jan, shop, shop_rdn}
-use Rattle.x5_model_rows.proofs.Messages.{asks, passes, journal, did, point, now, info, bare, copied, shows, whole_outcome, left_out}
+use Rattle.x5_model_rows.proofs.Messages.{asks, passes, journal, did, point, now, info, bare, copied, shows}
+use Rattle.x5_model_rows.proofs.Messages.{whole_outcome, left_out}
 use Rattle.x5_model_rows.proofs.Messages as messages
 use Rattle.x5_model_rows.proofs.Resolution.{at_first, compare_country}
-use Rattle.x5_model_rows.proofs.Searching.{the_sources, acme_reference, from_nl, shop_known_down, below_acme, less_journal, less_shop, list_acme, list_journal, sub_at, smit_below, smit_journal, beta_cut_off, twice_journal}
+use Rattle.x5_model_rows.proofs.Searching.{the_sources, acme_reference, from_nl, shop_known_down, below_acme}
+use Rattle.x5_model_rows.proofs.Searching.{less_journal, less_shop, list_acme, list_journal, sub_at, smit_below}
+use Rattle.x5_model_rows.proofs.Searching.{smit_journal, beta_cut_off, twice_journal}
 use Rattle.x5_model_rows.proofs.Shadowing as shadowing
-use Rattle.x5_model_rows.proofs.Shadowing.{first_did, put_gears, gears_journal, third_line, fourth_line, read_description, description_at_epsilon, as_of_first, at_master, master_journal, new_name, add_new, new_at_beta, new_journal, beta_down, below_journal, read_new, unknown_journal, read_master, acme_journal}
+use Rattle.x5_model_rows.proofs.Shadowing.{first_did, put_gears, gears_journal, third_line, fourth_line}
+use Rattle.x5_model_rows.proofs.Shadowing.{read_description, description_at_epsilon, as_of_first, at_master}
+use Rattle.x5_model_rows.proofs.Shadowing.{master_journal, new_name, add_new, new_at_beta, new_journal, beta_down}
+use Rattle.x5_model_rows.proofs.Shadowing.{below_journal, read_new, unknown_journal, read_master, acme_journal}
 use Rattle.x5_model_rows.proofs.Stepping as stepping
-use Rattle.x5_model_rows.proofs.Stepping.{IsServed, unable, of_alpha, of_beta, of_gamma, of_delta, of_all, by_agent, to_superior}
+use Rattle.x5_model_rows.proofs.Stepping.{IsServed, unable, of_alpha, of_beta, of_gamma, of_delta, of_all, by_agent}
+use Rattle.x5_model_rows.proofs.Stepping.{to_superior}
 
 -- ---- exclusions that are sent
 

@@ -1,5 +1,5 @@
--- Updates over the base world: an addEntry whose new name another agent has, the same with that agent down, and updates that
--- the master alone decides.
+-- Updates over the base world: an addEntry whose new name another agent has, the same with that agent down, and updates
+-- that the master alone decides.
 use Rattle.std.specs.Prelude.{[], ◌∷◌}
 use Rattle.std.specs.declared.option.Option.TheVariants.{None, Some}
 use Rattle.std.proofs.Common.{refl, arith}
@@ -36,7 +36,8 @@ abbrev pub add_journal : Journal
 add_journal =
     journal (add_at_beta ∷ passes 2 add_at_beta 2 new_lab (Next 3) NonSpecific (probe_request new_lab) Sent ∷ [])
 
-pub lab_is_there : AnswersRight (point base_world []) 1 add_lab add_journal (Failed (UpdateProblem entry_already_exists))
+pub lab_is_there : AnswersRight (point base_world []) 1 add_lab add_journal
+    (Failed (UpdateProblem entry_already_exists))
 lab_is_there = record {
   licensed = (licensed_by add_at_beta 0 0 refl refl refl refl refl, (licensed_first refl refl refl refl refl, tt));
   accepts = record { one = refl; right = refl; probed = refl };
@@ -56,11 +57,16 @@ again_at_beta = asks 3 1 add_lab Sent
 
 abbrev pub again_journal : Journal
 again_journal =
-    journal (again_at_beta ∷ passes 4 again_at_beta 2 new_lab (Next 3) NonSpecific (probe_request new_lab) Lost ∷ passes 5 again_at_beta 3 new_lab (Next 3) NonSpecific (probe_request new_lab) Sent ∷ [])
+    journal (again_at_beta ∷ passes 4 again_at_beta 2 new_lab (Next 3) NonSpecific (probe_request new_lab) Lost
+    ∷ passes 5 again_at_beta 3 new_lab (Next 3) NonSpecific (probe_request new_lab) Sent ∷ [])
 
-pub lab_unknown : AnswersRight gamma_down 1 add_lab again_journal (Failed (ServiceProblem unavailable (Some (in_vain NonSpecific new_lab (Next 3) (2 ∷ []))) None))
+pub lab_unknown : AnswersRight gamma_down 1 add_lab again_journal
+    (Failed (ServiceProblem unavailable (Some (in_vain NonSpecific new_lab (Next 3) (2 ∷ []))) None))
 lab_unknown = record {
-  licensed = (licensed_by again_at_beta 0 1 refl refl refl refl refl, (licensed_by again_at_beta 0 0 refl refl refl refl refl, (licensed_first refl refl refl refl refl, tt)));
+  licensed = (
+    licensed_by again_at_beta 0 1 refl refl refl refl refl,
+    (licensed_by again_at_beta 0 0 refl refl refl refl refl, (licensed_first refl refl refl refl refl, tt)),
+  );
   accepts = record { one = refl; right = refl; probed = refl };
   finished = record { done = refl; at_once = refl };
   answer = unheard (asked (record {
@@ -83,7 +89,8 @@ again_thorough = refl
 abbrev pub remove_acme : Request
 remove_acme = plainly (RemoveEntry acme)
 
-pub acme_stays : AnswersRight (point base_world []) 1 remove_acme (journal (asks 1 1 remove_acme Sent ∷ [])) (Failed (UpdateProblem affects_multiple_dsas))
+pub acme_stays : AnswersRight (point base_world []) 1 remove_acme (journal (asks 1 1 remove_acme Sent ∷ []))
+    (Failed (UpdateProblem affects_multiple_dsas))
 acme_stays = record {
   licensed = (licensed_first refl refl refl refl refl, tt);
   accepts = record { one = refl; right = refl; probed = refl };
@@ -122,7 +129,8 @@ third_line = point base_world (did (takes 1 add_pen) 1 ∷ did Nothing 1 ∷ [])
 abbrev pub remove_desk : Request
 remove_desk = plainly (RemoveEntry desk)
 
-pub desk_stays : AnswersRight third_line 1 remove_desk (journal (asks 3 1 remove_desk Sent ∷ [])) (Failed (UpdateProblem not_allowed_on_non_leaf))
+pub desk_stays : AnswersRight third_line 1 remove_desk (journal (asks 3 1 remove_desk Sent ∷ []))
+    (Failed (UpdateProblem not_allowed_on_non_leaf))
 desk_stays = record {
   licensed = (licensed_first refl refl refl refl refl, tt);
   accepts = record { one = refl; right = refl; probed = refl };

@@ -16,14 +16,17 @@ use Rattle.x5_model_run.proofs.Licensing.{both, no_sender, no_repeat}
 use Rattle.x5_model_run.proofs.Refusing.{all_unheard}
 use Rattle.x5_model_rows.proofs.BaseWorld.{nl, acme, desk, jan, lab, shop, ada}
 use Rattle.x5_model_rows.proofs.Messages.{passes, journal, now, bare, in_vain, whole_outcome, left_out}
-use Rattle.x5_model_rows.proofs.Resolution.{at_first, gamma_down, read_jan, jan_at_delta, jan_at_beta, jan_at_gamma, jan_journal, read_absent, absent, absent_at_beta, read_lab, lab_at_alpha, lab_at_beta, lab_journal}
+use Rattle.x5_model_rows.proofs.Resolution.{at_first, gamma_down, read_jan, jan_at_delta, jan_at_beta, jan_at_gamma}
+use Rattle.x5_model_rows.proofs.Resolution.{jan_journal, read_absent, absent, absent_at_beta, read_lab, lab_at_alpha}
+use Rattle.x5_model_rows.proofs.Resolution.{lab_at_beta, lab_journal}
 use Rattle.x5_model_rows.proofs.Searching.{from_root, root_journal, the_sources}
 
 pub no : false ≡ true → ⊥
 no e = cc
 
 -- Lines. Gamma is down, and the line says that it was reached.
-pub no_false_fate : Licensed (scene_at gamma_down 0 read_lab) (lab_at_beta ∷ lab_at_alpha ∷ []) (passes 3 lab_at_beta 2 lab (Next 3) NonSpecific read_lab Sent) → ⊥
+pub no_false_fate : Licensed (scene_at gamma_down 0 read_lab) (lab_at_beta ∷ lab_at_alpha ∷ [])
+    (passes 3 lab_at_beta 2 lab (Next 3) NonSpecific read_lab Sent) → ⊥
 no_false_fate l = no_lost l.fate_is
   where
     no_lost : Sent ≡ Lost → ⊥
@@ -68,10 +71,12 @@ no_excuse (lost (asked a)) = no (ap (λ r. r.tried) a.same)
 abbrev pub lab_scene : Scene
 lab_scene = scene_at gamma_down 0 read_lab
 
-pub no_one_more : Blocked lab_scene (by_user lab_scene) lab_journal.lines (in_vain NonSpecific lab (Next 3) (2 ∷ 3 ∷ [])) → ⊥
+pub no_one_more : Blocked lab_scene (by_user lab_scene) lab_journal.lines
+    (in_vain NonSpecific lab (Next 3) (2 ∷ 3 ∷ [])) → ⊥
 no_one_more (untried u) = no u.idle
 no_one_more (lost (user u)) = no u.unheard
-no_one_more (lost (asked a)) = no (both _ _ (all_unheard lab_scene lab_journal.lines a.line a.full (2 ∷ 3 ∷ []) refl a.vain)).1
+no_one_more (lost (asked a)) =
+    no (both _ _ (all_unheard lab_scene lab_journal.lines a.line a.full (2 ∷ 3 ∷ []) refl a.vain)).1
 
 -- Answers. A search from the root drops an entry.
 abbrev pub count_of : Told → ℕ
@@ -86,12 +91,14 @@ without_desk =
     Found (bare nl ∷ bare acme ∷ bare lab ∷ bare jan ∷ bare shop ∷ bare ada ∷ []) the_sources whole_outcome
 
 pub no_entry_dropped : Right at_first root_scene (by_user root_scene) root_journal (Answered without_desk) → ⊥
-no_entry_dropped (result answered r query none) = let fewer : ◌≡◌ {A = ℕ} 6 7 = ap count_of r.answered in omega (arith, fewer)
+no_entry_dropped (result answered r query none) = let fewer : ◌≡◌ {A = ℕ} 6 7 =
+    ap count_of r.answered in omega (arith, fewer)
 
 -- It leaves Gamma's part out, and calls it unexplored.
 abbrev pub without_lab : Answer
 without_lab =
-    Found (bare nl ∷ bare acme ∷ bare desk ∷ bare shop ∷ bare ada ∷ []) (now nl 0 ∷ now acme 1 ∷ now shop 3 ∷ []) (left_out (in_vain NonSpecific acme Done (2 ∷ []) ∷ []))
+    Found (bare nl ∷ bare acme ∷ bare desk ∷ bare shop ∷ bare ada ∷ []) (now nl 0 ∷ now acme 1 ∷ now shop 3 ∷ [])
+    (left_out (in_vain NonSpecific acme Done (2 ∷ []) ∷ []))
 
 pub no_false_unexplored : Right at_first root_scene (by_user root_scene) root_journal (Answered without_lab) → ⊥
 no_false_unexplored (result answered r query none) = by r.blocked.0
@@ -104,7 +111,8 @@ no_false_unexplored (result answered r query none) = by r.blocked.0
 -- It leaves Gamma's part out and says nothing.
 abbrev pub silent : Answer
 silent =
-    Found (bare nl ∷ bare acme ∷ bare desk ∷ bare shop ∷ bare ada ∷ []) (now nl 0 ∷ now acme 1 ∷ now shop 3 ∷ []) whole_outcome
+    Found (bare nl ∷ bare acme ∷ bare desk ∷ bare shop ∷ bare ada ∷ []) (now nl 0 ∷ now acme 1 ∷ now shop 3 ∷ [])
+    whole_outcome
 
 pub no_silence : Right at_first root_scene (by_user root_scene) root_journal (Answered silent) → ⊥
 no_silence (result answered r query none) = no r.exactly
@@ -115,12 +123,14 @@ absent_scene = scene_at gamma_down 1 read_absent
 
 abbrev pub stopped_journal : Journal
 stopped_journal =
-    journal (absent_at_beta ∷ passes 2 absent_at_beta 2 absent (Next 3) NonSpecific read_absent Lost ∷ passes 3 absent_at_beta 3 absent (Next 3) NonSpecific read_absent Sent ∷ [])
+    journal (absent_at_beta ∷ passes 2 absent_at_beta 2 absent (Next 3) NonSpecific read_absent Lost
+    ∷ passes 3 absent_at_beta 3 absent (Next 3) NonSpecific read_absent Sent ∷ [])
 
 pub no_guess : Right gamma_down absent_scene (by_user absent_scene) stopped_journal (Failed (NoSuchObject acme)) → ⊥
 no_guess (error answered given known none) = no known
 
 -- A read is unavailable, and every message was heard.
-pub no_false_unavailable : Right at_first jan_scene (by_user jan_scene) jan_journal (Failed (ServiceProblem unavailable (Some (in_vain NonSpecific jan (Next 3) (2 ∷ []))) None)) → ⊥
+pub no_false_unavailable : Right at_first jan_scene (by_user jan_scene) jan_journal
+    (Failed (ServiceProblem unavailable (Some (in_vain NonSpecific jan (Next 3) (2 ∷ []))) None)) → ⊥
 no_false_unavailable (unheard l phase none) = no_forged (lost l)
 no_false_unavailable (error answered given known none) = no (ap fails given)

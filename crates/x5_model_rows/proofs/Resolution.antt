@@ -7,7 +7,8 @@ use lib.Chars.{codes}
 use Rattle.x5_model.specs.Values.{Name, Known, TextValue, OidValue}
 use Rattle.x5_model.specs.Requests.{Request, Read, Compare, Only, All}
 use Rattle.x5_model.specs.References.{Start, Next, Own, Superior, Subordinate, NonSpecific, Reference}
-use Rattle.x5_model.specs.Answers.{EntryFound, Answered, Failed, Referred, NoSuchObject, AttributeProblem, ServiceProblem}
+use Rattle.x5_model.specs.Answers.{EntryFound, Answered, Failed, Referred, NoSuchObject, AttributeProblem}
+use Rattle.x5_model.specs.Answers.{ServiceProblem}
 use Rattle.x5_model.specs.Problems.{unavailable, invalid_attribute_syntax}
 use Rattle.x5_model_run.specs.Network.{Down, Refuse, Lost, Sent}
 use Rattle.x5_model_run.specs.Journal.{Line, Journal}
@@ -32,12 +33,25 @@ read_acme = plainly (Read acme All)
 abbrev pub acme_journal : Journal
 acme_journal = journal (asks 1 1 read_acme Sent ∷ [])
 
-pub acme_read : AnswersRight at_first 1 read_acme acme_journal (Answered (EntryFound (info acme (shows 0 (OidValue (2 ∷ 5 ∷ 6 ∷ 4 ∷ []) ∷ []) ∷ shows 10 (TextValue (codes "Acme") ∷ []) ∷ shows 13 (TextValue (codes "tools") ∷ []) ∷ [])) (now acme 1)))
+pub acme_read : AnswersRight at_first 1 read_acme acme_journal
+    (Answered (EntryFound
+    (info acme (shows 0 (OidValue (2 ∷ 5 ∷ 6 ∷ 4 ∷ []) ∷ []) ∷ shows 10 (TextValue (codes "Acme") ∷ [])
+    ∷ shows 13 (TextValue (codes "tools") ∷ []) ∷ [])) (now acme 1)))
 acme_read = record {
   licensed = (licensed_first refl refl refl refl refl, tt);
   accepts = record { one = refl; right = refl; probed = refl };
   finished = record { done = refl; at_once = refl };
-  answer = result refl (record { found = refl; sources = refl; spelled = refl; once = refl; exactly = refl; answered = refl; blocked = tt; completed = refl; apart = refl }) refl refl;
+  answer = result refl (record {
+    found = refl;
+    sources = refl;
+    spelled = refl;
+    once = refl;
+    exactly = refl;
+    answered = refl;
+    blocked = tt;
+    completed = refl;
+    apart = refl;
+  }) refl refl;
 }
 
 pub acme_thorough : Thorough (scene_at at_first 1 read_acme) acme_journal
@@ -59,12 +73,26 @@ jan_at_gamma = passes 3 jan_at_beta 2 jan (Next 3) NonSpecific read_jan Sent
 abbrev pub jan_journal : Journal
 jan_journal = journal (jan_at_delta ∷ jan_at_beta ∷ jan_at_gamma ∷ [])
 
-pub jan_read : AnswersRight at_first 3 read_jan jan_journal (Answered (EntryFound (info jan (shows 4 (TextValue (codes "Smit") ∷ []) ∷ [])) (now lab 2)))
+pub jan_read : AnswersRight at_first 3 read_jan jan_journal
+    (Answered (EntryFound (info jan (shows 4 (TextValue (codes "Smit") ∷ []) ∷ [])) (now lab 2)))
 jan_read = record {
-  licensed = (licensed_by jan_at_beta 0 0 refl refl refl refl refl, (licensed_by jan_at_delta 0 0 refl refl refl refl refl, (licensed_first refl refl refl refl refl, tt)));
+  licensed = (
+    licensed_by jan_at_beta 0 0 refl refl refl refl refl,
+    (licensed_by jan_at_delta 0 0 refl refl refl refl refl, (licensed_first refl refl refl refl refl, tt)),
+  );
   accepts = record { one = refl; right = refl; probed = refl };
   finished = record { done = refl; at_once = refl };
-  answer = result refl (record { found = refl; sources = refl; spelled = refl; once = refl; exactly = refl; answered = refl; blocked = tt; completed = refl; apart = refl }) refl refl;
+  answer = result refl (record {
+    found = refl;
+    sources = refl;
+    spelled = refl;
+    once = refl;
+    exactly = refl;
+    answered = refl;
+    blocked = tt;
+    completed = refl;
+    apart = refl;
+  }) refl refl;
 }
 
 pub jan_thorough : Thorough (scene_at at_first 3 read_jan) jan_journal
@@ -82,11 +110,15 @@ absent_at_beta = asks 1 1 read_absent Sent
 
 abbrev pub absent_journal : Journal
 absent_journal =
-    journal (absent_at_beta ∷ passes 2 absent_at_beta 2 absent (Next 3) NonSpecific read_absent Sent ∷ passes 3 absent_at_beta 3 absent (Next 3) NonSpecific read_absent Sent ∷ [])
+    journal (absent_at_beta ∷ passes 2 absent_at_beta 2 absent (Next 3) NonSpecific read_absent Sent
+    ∷ passes 3 absent_at_beta 3 absent (Next 3) NonSpecific read_absent Sent ∷ [])
 
 pub absent_read : AnswersRight at_first 1 read_absent absent_journal (Failed (NoSuchObject acme))
 absent_read = record {
-  licensed = (licensed_by absent_at_beta 0 1 refl refl refl refl refl, (licensed_by absent_at_beta 0 0 refl refl refl refl refl, (licensed_first refl refl refl refl refl, tt)));
+  licensed = (
+    licensed_by absent_at_beta 0 1 refl refl refl refl refl,
+    (licensed_by absent_at_beta 0 0 refl refl refl refl refl, (licensed_first refl refl refl refl refl, tt)),
+  );
   accepts = record { one = refl; right = refl; probed = refl };
   finished = record { done = refl; at_once = refl };
   answer = error refl refl refl refl;
@@ -110,11 +142,19 @@ lab_at_beta = passes 2 lab_at_alpha 1 lab (Next 2) Subordinate read_lab Sent
 
 abbrev pub lab_journal : Journal
 lab_journal =
-    journal (lab_at_alpha ∷ lab_at_beta ∷ passes 3 lab_at_beta 2 lab (Next 3) NonSpecific read_lab Lost ∷ passes 4 lab_at_beta 3 lab (Next 3) NonSpecific read_lab Sent ∷ [])
+    journal (lab_at_alpha ∷ lab_at_beta ∷ passes 3 lab_at_beta 2 lab (Next 3) NonSpecific read_lab Lost
+    ∷ passes 4 lab_at_beta 3 lab (Next 3) NonSpecific read_lab Sent ∷ [])
 
-pub lab_unavailable : AnswersRight gamma_down 0 read_lab lab_journal (Failed (ServiceProblem unavailable (Some (in_vain NonSpecific lab (Next 3) (2 ∷ []))) None))
+pub lab_unavailable : AnswersRight gamma_down 0 read_lab lab_journal
+    (Failed (ServiceProblem unavailable (Some (in_vain NonSpecific lab (Next 3) (2 ∷ []))) None))
 lab_unavailable = record {
-  licensed = (licensed_by lab_at_beta 0 1 refl refl refl refl refl, (licensed_by lab_at_beta 0 0 refl refl refl refl refl, (licensed_by lab_at_alpha 0 0 refl refl refl refl refl, (licensed_first refl refl refl refl refl, tt))));
+  licensed = (
+    licensed_by lab_at_beta 0 1 refl refl refl refl refl,
+    (
+      licensed_by lab_at_beta 0 0 refl refl refl refl refl,
+      (licensed_by lab_at_alpha 0 0 refl refl refl refl refl, (licensed_first refl refl refl refl refl, tt)),
+    ),
+  );
   accepts = record { one = refl; right = refl; probed = refl };
   finished = record { done = refl; at_once = refl };
   answer = unheard (asked (record {
@@ -147,14 +187,32 @@ shop_at_beta = passes 6 shop_at_alpha 1 shop (Next 2) Subordinate read_shop Sent
 
 abbrev pub shop_journal : Journal
 shop_journal =
-    journal (shop_at_alpha ∷ shop_at_beta ∷ passes 7 shop_at_beta 2 shop (Next 3) NonSpecific read_shop Lost ∷ passes 8 shop_at_beta 3 shop (Next 3) NonSpecific read_shop Sent ∷ [])
+    journal (shop_at_alpha ∷ shop_at_beta ∷ passes 7 shop_at_beta 2 shop (Next 3) NonSpecific read_shop Lost
+    ∷ passes 8 shop_at_beta 3 shop (Next 3) NonSpecific read_shop Sent ∷ [])
 
-pub shop_read : AnswersRight gamma_still_down 0 read_shop shop_journal (Answered (EntryFound (info shop (shows 11 (TextValue (codes "Shop") ∷ []) ∷ [])) (now shop 3)))
+pub shop_read : AnswersRight gamma_still_down 0 read_shop shop_journal
+    (Answered (EntryFound (info shop (shows 11 (TextValue (codes "Shop") ∷ []) ∷ [])) (now shop 3)))
 shop_read = record {
-  licensed = (licensed_by shop_at_beta 0 1 refl refl refl refl refl, (licensed_by shop_at_beta 0 0 refl refl refl refl refl, (licensed_by shop_at_alpha 0 0 refl refl refl refl refl, (licensed_first refl refl refl refl refl, tt))));
+  licensed = (
+    licensed_by shop_at_beta 0 1 refl refl refl refl refl,
+    (
+      licensed_by shop_at_beta 0 0 refl refl refl refl refl,
+      (licensed_by shop_at_alpha 0 0 refl refl refl refl refl, (licensed_first refl refl refl refl refl, tt)),
+    ),
+  );
   accepts = record { one = refl; right = refl; probed = refl };
   finished = record { done = refl; at_once = refl };
-  answer = result refl (record { found = refl; sources = refl; spelled = refl; once = refl; exactly = refl; answered = refl; blocked = tt; completed = refl; apart = refl }) refl refl;
+  answer = result refl (record {
+    found = refl;
+    sources = refl;
+    spelled = refl;
+    once = refl;
+    exactly = refl;
+    answered = refl;
+    blocked = tt;
+    completed = refl;
+    apart = refl;
+  }) refl refl;
 }
 
 -- Beta refuses to chain: Alpha follows its referral
@@ -175,14 +233,29 @@ by_alpha l = record l { sender = Some 0 }
 
 abbrev pub followed_journal : Journal
 followed_journal =
-    journal (name_at_alpha ∷ name_at_beta ∷ by_alpha (passes 3 name_at_beta 2 lab (Next 3) NonSpecific name_lab Sent) ∷ [])
+    journal (name_at_alpha ∷ name_at_beta ∷ by_alpha (passes 3 name_at_beta 2 lab (Next 3) NonSpecific name_lab Sent)
+    ∷ [])
 
-pub followed_read : AnswersRight beta_refuses 0 name_lab followed_journal (Answered (EntryFound (info lab (shows 11 (TextValue (codes "Lab") ∷ []) ∷ [])) (now lab 2)))
+pub followed_read : AnswersRight beta_refuses 0 name_lab followed_journal
+    (Answered (EntryFound (info lab (shows 11 (TextValue (codes "Lab") ∷ []) ∷ [])) (now lab 2)))
 followed_read = record {
-  licensed = (licensed_by name_at_beta 0 0 refl refl refl refl refl, (licensed_by name_at_alpha 0 0 refl refl refl refl refl, (licensed_first refl refl refl refl refl, tt)));
+  licensed = (
+    licensed_by name_at_beta 0 0 refl refl refl refl refl,
+    (licensed_by name_at_alpha 0 0 refl refl refl refl refl, (licensed_first refl refl refl refl refl, tt)),
+  );
   accepts = record { one = refl; right = refl; probed = refl };
   finished = record { done = refl; at_once = refl };
-  answer = result refl (record { found = refl; sources = refl; spelled = refl; once = refl; exactly = refl; answered = refl; blocked = tt; completed = refl; apart = refl }) refl refl;
+  answer = result refl (record {
+    found = refl;
+    sources = refl;
+    spelled = refl;
+    once = refl;
+    exactly = refl;
+    answered = refl;
+    blocked = tt;
+    completed = refl;
+    apart = refl;
+  }) refl refl;
 }
 
 pub followed_thorough : Thorough (scene_at beta_refuses 0 name_lab) followed_journal
@@ -210,7 +283,8 @@ referred_thorough = refl
 abbrev pub beta_down : Point
 beta_down = point base_world (did (Outs (Down 1)) 0 ∷ [])
 
-pub acme_unheard : AnswersRight beta_down 1 read_acme (journal (asks 1 1 read_acme Lost ∷ [])) (Failed (ServiceProblem unavailable (Some (in_vain Own acme Start (1 ∷ []))) None))
+pub acme_unheard : AnswersRight beta_down 1 read_acme (journal (asks 1 1 read_acme Lost ∷ []))
+    (Failed (ServiceProblem unavailable (Some (in_vain Own acme Start (1 ∷ []))) None))
 acme_unheard = record {
   licensed = (licensed_first refl refl refl refl refl, tt);
   accepts = record { one = refl; right = refl; probed = refl };
@@ -223,7 +297,8 @@ abbrev pub compare_country : Request
 compare_country =
     plainly (Compare nl (record { kind = Known 6; value = TextValue (codes "n1"); normal = None }))
 
-pub country_refused : AnswersRight at_first 0 compare_country (journal (asks 1 0 compare_country Sent ∷ [])) (Failed (AttributeProblem invalid_attribute_syntax (Known 6)))
+pub country_refused : AnswersRight at_first 0 compare_country (journal (asks 1 0 compare_country Sent ∷ []))
+    (Failed (AttributeProblem invalid_attribute_syntax (Known 6)))
 country_refused = record {
   licensed = (licensed_first refl refl refl refl refl, tt);
   accepts = record { one = refl; right = refl; probed = refl };

@@ -1,5 +1,5 @@
--- Refreshes and answers from copies, over the base world: what a pull sends, an answer as of the copy's moment, the master's
--- answer beside it, a copy in a search, and what comes of a lost acknowledgement and of too many changes.
+-- Refreshes and answers from copies, over the base world: what a pull sends, an answer as of the copy's moment, the
+-- master's answer beside it, a copy in a search, and what comes of a lost acknowledgement and of too many changes.
 use Rattle.std.specs.Prelude.{◌≡◌, ℕ, ◌+◌, ◌/◌, ◌%◌, zero, suc, true, false, List, [], ◌∷◌}
 use Rattle.std.specs.declared.option.Option.TheVariants.{None, Some}
 use Rattle.std.proofs.Common.{refl, arith}
@@ -18,11 +18,13 @@ use Rattle.x5_model_run.specs.Chain.{scene_at, probe_request}
 use Rattle.x5_model_run.specs.Blocked.{asked}
 use Rattle.x5_model_run.specs.Right.{AnswersRight, result, changed, unheard}
 use Rattle.x5_model_run.specs.Thorough.{Thorough}
-use Rattle.x5_model_run.specs.Refresh.{ShadowLine, RequestShadowUpdate, UpdateShadow, CoordinateShadowUpdate, Done as Refreshes_so, Missed, refresh_block, Problem, full_update_required}
+use Rattle.x5_model_run.specs.Refresh.{ShadowLine, RequestShadowUpdate, UpdateShadow, CoordinateShadowUpdate}
+use Rattle.x5_model_run.specs.Refresh.{Done as Refreshes_so, Missed, refresh_block, Problem, full_update_required}
 use Rattle.x5_model_run.proofs.Licensing.{licensed_by, licensed_first}
 use Rattle.x5_model_rows.proofs.Literals.{plainly, rdn, under, give, oid, text}
 use Rattle.x5_model_rows.proofs.BaseWorld.{base_world, acme, desk, lab, shop}
-use Rattle.x5_model_rows.proofs.Messages.{takes, asks, passes, journal, accepted_journal, did, point, now, info, bare, copied, shows, in_vain, whole_outcome}
+use Rattle.x5_model_rows.proofs.Messages.{takes, asks, passes, journal, accepted_journal, did, point, now, info, bare}
+use Rattle.x5_model_rows.proofs.Messages.{copied, shows, in_vain, whole_outcome}
 
 abbrev pub to_beta : ShadowLine
 to_beta = record { sender = 4; receiver = 1; operation = RequestShadowUpdate; agreement = 1; fate = Sent }
@@ -37,7 +39,8 @@ abbrev pub steps_at : ℕ → ℕ → Refreshed
 steps_at stamp count = record { agreement = 1; total = false; stamp = stamp; count = count; acknowledged = true }
 
 -- line 1: Epsilon pulls the whole context, two entries
-pub first_pull : refresh_block (point base_world []) 1 false true ≡ record { lines = to_beta ∷ to_epsilon ∷ []; outcome = Refreshes_so (total_at 1 2) }
+pub first_pull : refresh_block (point base_world []) 1 false true
+    ≡ record { lines = to_beta ∷ to_epsilon ∷ []; outcome = Refreshes_so (total_at 1 2) }
 first_pull = refl
 
 abbrev pub first_did : Did
@@ -74,12 +77,23 @@ as_of_first = record { context = acme; agent = 4; moment = Some 1 }
 abbrev pub description_at_epsilon : Line
 description_at_epsilon = asks 4 4 read_description Sent
 
-pub copy_read : AnswersRight third_line 4 read_description (journal (description_at_epsilon ∷ [])) (Answered (EntryFound (copied (info acme (shows 13 (TextValue (codes "tools") ∷ []) ∷ []))) as_of_first))
+pub copy_read : AnswersRight third_line 4 read_description (journal (description_at_epsilon ∷ []))
+    (Answered (EntryFound (copied (info acme (shows 13 (TextValue (codes "tools") ∷ []) ∷ []))) as_of_first))
 copy_read = record {
   licensed = (licensed_first refl refl refl refl refl, tt);
   accepts = record { one = refl; right = refl; probed = refl };
   finished = record { done = refl; at_once = refl };
-  answer = result refl (record { found = refl; sources = refl; spelled = refl; once = refl; exactly = refl; answered = refl; blocked = tt; completed = refl; apart = refl }) refl refl;
+  answer = result refl (record {
+    found = refl;
+    sources = refl;
+    spelled = refl;
+    once = refl;
+    exactly = refl;
+    answered = refl;
+    blocked = tt;
+    completed = refl;
+    apart = refl;
+  }) refl refl;
 }
 
 pub copy_thorough : Thorough (scene_at third_line 4 read_description) (journal (description_at_epsilon ∷ []))
@@ -99,12 +113,27 @@ abbrev pub master_journal : Journal
 master_journal =
     journal (master_at_epsilon ∷ passes 6 master_at_epsilon 1 acme (Next 2) Supplier at_master Sent ∷ [])
 
-pub master_read : AnswersRight fourth_line 4 at_master master_journal (Answered (EntryFound (info acme (shows 13 (TextValue (codes "gears") ∷ TextValue (codes "tools") ∷ []) ∷ [])) (now acme 1)))
+pub master_read : AnswersRight fourth_line 4 at_master master_journal
+    (Answered (EntryFound (info acme (shows 13 (TextValue (codes "gears") ∷ TextValue (codes "tools") ∷ []) ∷ []))
+    (now acme 1)))
 master_read = record {
-  licensed = (licensed_by master_at_epsilon 0 0 refl refl refl refl refl, (licensed_first refl refl refl refl refl, tt));
+  licensed = (
+    licensed_by master_at_epsilon 0 0 refl refl refl refl refl,
+    (licensed_first refl refl refl refl refl, tt),
+  );
   accepts = record { one = refl; right = refl; probed = refl };
   finished = record { done = refl; at_once = refl };
-  answer = result refl (record { found = refl; sources = refl; spelled = refl; once = refl; exactly = refl; answered = refl; blocked = tt; completed = refl; apart = refl }) refl refl;
+  answer = result refl (record {
+    found = refl;
+    sources = refl;
+    spelled = refl;
+    once = refl;
+    exactly = refl;
+    answered = refl;
+    blocked = tt;
+    completed = refl;
+    apart = refl;
+  }) refl refl;
 }
 
 pub master_thorough : Thorough (scene_at fourth_line 4 at_master) master_journal
@@ -115,10 +144,12 @@ abbrev pub two_changes : Point
 two_changes =
     point base_world (did (takes 1 (put (codes "chains"))) 1 ∷ did (takes 1 put_gears) 1 ∷ first_did ∷ [])
 
-pub steps_pulled : refresh_block two_changes 1 false false ≡ record { lines = to_beta ∷ to_epsilon ∷ []; outcome = Refreshes_so (steps_at 4 2) }
+pub steps_pulled : refresh_block two_changes 1 false false
+    ≡ record { lines = to_beta ∷ to_epsilon ∷ []; outcome = Refreshes_so (steps_at 4 2) }
 steps_pulled = refl
 
--- Of 256 changes a supplier knows each; of 257 it doesn't know the first, and a consumer from before needs a total refresh.
+-- Of 256 changes a supplier knows each; of 257 it doesn't know the first, and a consumer from before needs a total
+-- refresh.
 abbrev pub numbered_text : ℕ → Text
 numbered_text n = (65 + n / 16) ∷ (65 + n % 16) ∷ []
 
@@ -128,29 +159,42 @@ changes_after (suc n) past = did (takes 1 (put (numbered_text n))) 1 ∷ changes
 
 abbrev pub two_steps_pulled : List Did
 two_steps_pulled =
-    did (Refreshes (steps_at 4 2)) 2 ∷ did (takes 1 (put (codes "chains"))) 1 ∷ did (takes 1 put_gears) 1 ∷ first_did ∷ []
+    did (Refreshes (steps_at 4 2)) 2 ∷ did (takes 1 (put (codes "chains"))) 1 ∷ did (takes 1 put_gears) 1 ∷ first_did
+    ∷ []
 
-pub steps_256 : refresh_block (point base_world (changes_after 256 two_steps_pulled)) 1 false false ≡ record { lines = to_beta ∷ to_epsilon ∷ []; outcome = Refreshes_so (steps_at 261 256) }
+pub steps_256 : refresh_block (point base_world (changes_after 256 two_steps_pulled)) 1 false false
+    ≡ record { lines = to_beta ∷ to_epsilon ∷ []; outcome = Refreshes_so (steps_at 261 256) }
 steps_256 = refl
 
-pub too_many : refresh_block (point base_world (changes_after 257 two_steps_pulled)) 1 false false ≡ record { lines = to_beta ∷ []; outcome = Problem full_update_required }
+pub too_many : refresh_block (point base_world (changes_after 257 two_steps_pulled)) 1 false false
+    ≡ record { lines = to_beta ∷ []; outcome = Problem full_update_required }
 too_many = refl
 
-pub total_pulled : refresh_block (point base_world (did Nothing 1 ∷ changes_after 257 two_steps_pulled)) 1 false true ≡ record { lines = to_beta ∷ to_epsilon ∷ []; outcome = Refreshes_so (total_at 263 2) }
+pub total_pulled : refresh_block (point base_world (did Nothing 1 ∷ changes_after 257 two_steps_pulled)) 1 false true
+    ≡ record { lines = to_beta ∷ to_epsilon ∷ []; outcome = Refreshes_so (total_at 263 2) }
 total_pulled = refl
 
 -- The reply to an update that was taken is lost: the supplier doesn't know of it, and a push misses what lies between.
 abbrev pub losing : Point
 losing = point base_world (did (Loses true 2) 0 ∷ did (takes 1 put_gears) 1 ∷ first_did ∷ [])
 
-pub unacknowledged : refresh_block losing 1 false false ≡ record { lines = to_beta ∷ record to_epsilon { fate = NoReply } ∷ []; outcome = Refreshes_so (record (steps_at 4 1) { acknowledged = false }) }
+pub unacknowledged : refresh_block losing 1 false false
+    ≡ record {
+      lines = to_beta ∷ record to_epsilon { fate = NoReply } ∷ [];
+      outcome = Refreshes_so (record (steps_at 4 1) { acknowledged = false });
+    }
 unacknowledged = refl
 
 abbrev pub lost_before : Point
 lost_before =
-    point base_world (did (Refreshes (record (steps_at 4 1) { acknowledged = false })) 2 ∷ did (Loses true 2) 0 ∷ did (takes 1 put_gears) 1 ∷ first_did ∷ [])
+    point base_world (did (Refreshes (record (steps_at 4 1) { acknowledged = false })) 2 ∷ did (Loses true 2) 0
+    ∷ did (takes 1 put_gears) 1 ∷ first_did ∷ [])
 
-pub missed : refresh_block lost_before 1 true false ≡ record { lines = record to_epsilon { operation = CoordinateShadowUpdate } ∷ []; outcome = Missed (Some 4) (Some 1) }
+pub missed : refresh_block lost_before 1 true false
+    ≡ record {
+      lines = record to_epsilon { operation = CoordinateShadowUpdate } ∷ [];
+      outcome = Missed (Some 4) (Some 1);
+    }
 missed = refl
 
 -- A new entry at Beta that Epsilon's copy lacks, added after both agents of the NSSR were asked.
@@ -165,11 +209,15 @@ new_at_beta = asks 3 1 add_new Sent
 
 abbrev pub new_journal : Journal
 new_journal =
-    accepted_journal (new_at_beta ∷ passes 4 new_at_beta 2 new_name (Next 3) NonSpecific (probe_request new_name) Sent ∷ passes 5 new_at_beta 3 new_name (Next 3) NonSpecific (probe_request new_name) Sent ∷ []) 1
+    accepted_journal (new_at_beta ∷ passes 4 new_at_beta 2 new_name (Next 3) NonSpecific (probe_request new_name) Sent
+    ∷ passes 5 new_at_beta 3 new_name (Next 3) NonSpecific (probe_request new_name) Sent ∷ []) 1
 
 pub new_added : AnswersRight (point base_world (first_did ∷ [])) 1 add_new new_journal (Answered Changed)
 new_added = record {
-  licensed = (licensed_by new_at_beta 0 1 refl refl refl refl refl, (licensed_by new_at_beta 0 0 refl refl refl refl refl, (licensed_first refl refl refl refl refl, tt)));
+  licensed = (
+    licensed_by new_at_beta 0 1 refl refl refl refl refl,
+    (licensed_by new_at_beta 0 0 refl refl refl refl refl, (licensed_first refl refl refl refl refl, tt)),
+  );
   accepts = record { one = refl; right = refl; probed = refl };
   finished = record { done = refl; at_once = refl };
   answer = changed refl refl refl;
@@ -193,14 +241,37 @@ below_at_epsilon = passes 8 below_at_alpha 4 acme (Next 2) Subordinate below_acm
 
 abbrev pub below_journal : Journal
 below_journal =
-    journal (below_at_alpha ∷ passes 7 below_at_alpha 1 acme (Next 2) Subordinate below_acme Lost ∷ below_at_epsilon ∷ passes 9 below_at_epsilon 2 acme Done NonSpecific below_acme Sent ∷ passes 10 below_at_epsilon 3 acme Done NonSpecific below_acme Sent ∷ [])
+    journal (below_at_alpha ∷ passes 7 below_at_alpha 1 acme (Next 2) Subordinate below_acme Lost ∷ below_at_epsilon
+    ∷ passes 9 below_at_epsilon 2 acme Done NonSpecific below_acme Sent
+    ∷ passes 10 below_at_epsilon 3 acme Done NonSpecific below_acme Sent ∷ [])
 
-pub below_searched : AnswersRight (point base_world beta_down) 0 below_acme below_journal (Answered (Found (copied (bare desk) ∷ bare lab ∷ bare shop ∷ []) (as_of_first ∷ now lab 2 ∷ now shop 3 ∷ []) whole_outcome))
+pub below_searched : AnswersRight (point base_world beta_down) 0 below_acme below_journal
+    (Answered (Found (copied (bare desk) ∷ bare lab ∷ bare shop ∷ []) (as_of_first ∷ now lab 2 ∷ now shop 3 ∷ [])
+    whole_outcome))
 below_searched = record {
-  licensed = (licensed_by below_at_epsilon 1 0 refl refl refl refl refl, (licensed_by below_at_epsilon 0 0 refl refl refl refl refl, (licensed_by below_at_alpha 0 1 refl refl refl refl refl, (licensed_by below_at_alpha 0 0 refl refl refl refl refl, (licensed_first refl refl refl refl refl, tt)))));
+  licensed = (
+    licensed_by below_at_epsilon 1 0 refl refl refl refl refl,
+    (
+      licensed_by below_at_epsilon 0 0 refl refl refl refl refl,
+      (
+        licensed_by below_at_alpha 0 1 refl refl refl refl refl,
+        (licensed_by below_at_alpha 0 0 refl refl refl refl refl, (licensed_first refl refl refl refl refl, tt)),
+      ),
+    ),
+  );
   accepts = record { one = refl; right = refl; probed = refl };
   finished = record { done = refl; at_once = refl };
-  answer = result refl (record { found = refl; sources = refl; spelled = refl; once = refl; exactly = refl; answered = refl; blocked = tt; completed = refl; apart = refl }) refl refl;
+  answer = result refl (record {
+    found = refl;
+    sources = refl;
+    spelled = refl;
+    once = refl;
+    exactly = refl;
+    answered = refl;
+    blocked = tt;
+    completed = refl;
+    apart = refl;
+  }) refl refl;
 }
 
 pub below_thorough : Thorough (scene_at (point base_world beta_down) 0 below_acme) below_journal
@@ -218,11 +289,19 @@ new_at_epsilon = passes 13 new_at_alpha 4 new_name (Next 2) Subordinate read_new
 
 abbrev pub unknown_journal : Journal
 unknown_journal =
-    journal (new_at_alpha ∷ passes 12 new_at_alpha 1 new_name (Next 2) Subordinate read_new Lost ∷ new_at_epsilon ∷ passes 14 new_at_epsilon 1 new_name (Next 2) Supplier read_new Lost ∷ [])
+    journal (new_at_alpha ∷ passes 12 new_at_alpha 1 new_name (Next 2) Subordinate read_new Lost ∷ new_at_epsilon
+    ∷ passes 14 new_at_epsilon 1 new_name (Next 2) Supplier read_new Lost ∷ [])
 
-pub new_unavailable : AnswersRight (point base_world (did Nothing 5 ∷ beta_down)) 0 read_new unknown_journal (Failed (ServiceProblem unavailable (Some (in_vain Supplier new_name (Next 2) (1 ∷ []))) None))
+pub new_unavailable : AnswersRight (point base_world (did Nothing 5 ∷ beta_down)) 0 read_new unknown_journal
+    (Failed (ServiceProblem unavailable (Some (in_vain Supplier new_name (Next 2) (1 ∷ []))) None))
 new_unavailable = record {
-  licensed = (licensed_by new_at_epsilon 0 0 refl refl refl refl refl, (licensed_by new_at_alpha 0 1 refl refl refl refl refl, (licensed_by new_at_alpha 0 0 refl refl refl refl refl, (licensed_first refl refl refl refl refl, tt))));
+  licensed = (
+    licensed_by new_at_epsilon 0 0 refl refl refl refl refl,
+    (
+      licensed_by new_at_alpha 0 1 refl refl refl refl refl,
+      (licensed_by new_at_alpha 0 0 refl refl refl refl refl, (licensed_first refl refl refl refl refl, tt)),
+    ),
+  );
   accepts = record { one = refl; right = refl; probed = refl };
   finished = record { done = refl; at_once = refl };
   answer = unheard (asked (record {
@@ -252,7 +331,8 @@ abbrev pub acme_journal : Journal
 acme_journal =
     journal (acme_at_alpha ∷ passes 16 acme_at_alpha 1 acme (Next 2) Subordinate read_master Lost ∷ [])
 
-pub acme_unavailable : AnswersRight (point base_world (did Nothing 4 ∷ did Nothing 5 ∷ beta_down)) 0 read_master acme_journal (Failed (ServiceProblem unavailable (Some (in_vain Subordinate acme (Next 2) (1 ∷ []))) None))
+pub acme_unavailable : AnswersRight (point base_world (did Nothing 4 ∷ did Nothing 5 ∷ beta_down)) 0 read_master
+    acme_journal (Failed (ServiceProblem unavailable (Some (in_vain Subordinate acme (Next 2) (1 ∷ []))) None))
 acme_unavailable = record {
   licensed = (licensed_by acme_at_alpha 0 0 refl refl refl refl refl, (licensed_first refl refl refl refl refl, tt));
   accepts = record { one = refl; right = refl; probed = refl };

@@ -9,7 +9,8 @@ use lib.Chars.{codes}
 use Rattle.x5_model.specs.Values.{Known, TextValue}
 use Rattle.x5_model.specs.Requests.{WholeSubtree, Request}
 use Rattle.x5_model.specs.References.{Start, Next, Done, Own, Superior, Subordinate, NonSpecific, Supplier, Reference}
-use Rattle.x5_model.specs.Answers.{Answer, EntryFound, Found, Changed, NoSuchObject, AttributeProblem, ServiceProblem, Reply, Answered, Failed, Referred}
+use Rattle.x5_model.specs.Answers.{Answer, EntryFound, Found, Changed, NoSuchObject, AttributeProblem, ServiceProblem}
+use Rattle.x5_model.specs.Answers.{Reply, Answered, Failed, Referred}
 use Rattle.x5_model.specs.Problems.{invalid_attribute_syntax, unavailable, unable_to_proceed}
 use Rattle.x5_model_run.specs.Network.{Lost, NoReply, Sent}
 use Rattle.x5_model_run.specs.Journal.{Line, Journal}
@@ -18,17 +19,27 @@ use Rattle.x5_model_run.specs.History.{Point}
 use Rattle.x5_model_run.specs.Stage.{budget}
 use Rattle.x5_model_run.specs.Chain.{Scene, opening, scene_with, scene_at, probe_request}
 use Rattle.x5_model_run.specs.Run.{Judge}
-use Rattle.x5_model_serve.specs.Serving.{Hand, hand, hand_of, Serves, Does, Hears, Whole, IsRequest, asked_by, answers, not_told, not_heard, refused, stuck, refers, goes, casts, reads, gives_parts, asks_parts, updates, does, misses, done_before, no_probe, clear, silent, lost, dropped, sends, final, wide_referral, none_yet, heard, none_asked, unable_too, silent_too, answered, nobody_has, some_silent, no_part, part_answered}
+use Rattle.x5_model_serve.specs.Serving.{Hand, hand, hand_of, Serves, Does, Hears, Whole, IsRequest, asked_by, answers}
+use Rattle.x5_model_serve.specs.Serving.{not_told, not_heard, refused, stuck, refers, goes, casts, reads, gives_parts}
+use Rattle.x5_model_serve.specs.Serving.{asks_parts, updates, does, misses, done_before, no_probe, clear, silent, lost}
+use Rattle.x5_model_serve.specs.Serving.{dropped, sends, final, wide_referral, none_yet, heard, none_asked, unable_too}
+use Rattle.x5_model_serve.specs.Serving.{silent_too, answered, nobody_has, some_silent, no_part, part_answered}
 use Rattle.x5_model_determined.proofs.Once.{request_is_determined}
 use Rattle.x5_model_rows.proofs.BaseWorld.{nl, acme, desk, jan, lab, shop, ada}
-use Rattle.x5_model_rows.proofs.Messages.{asks, passes, journal, accepted_journal, now, info, bare, shows, whole_outcome, left_out}
+use Rattle.x5_model_rows.proofs.Messages.{asks, passes, journal, accepted_journal, now, info, bare, shows}
+use Rattle.x5_model_rows.proofs.Messages.{whole_outcome, left_out}
 use Rattle.x5_model_rows.proofs.Messages as messages
 use Rattle.x5_model_rows.proofs.Resolution as resolution
-use Rattle.x5_model_rows.proofs.Resolution.{at_first, read_jan, jan_journal, absent, read_absent, absent_at_beta, absent_journal, read_lab, lab_at_alpha, lab_at_beta, lab_journal, gamma_still_down, read_shop, shop_journal, beta_refuses, name_lab, followed_journal, alpha_refuses, to_beta, beta_down, read_acme, compare_country}
+use Rattle.x5_model_rows.proofs.Resolution.{at_first, read_jan, jan_journal, absent, read_absent, absent_at_beta}
+use Rattle.x5_model_rows.proofs.Resolution.{absent_journal, read_lab, lab_at_alpha, lab_at_beta, lab_journal}
+use Rattle.x5_model_rows.proofs.Resolution.{gamma_still_down, read_shop, shop_journal, beta_refuses, name_lab}
+use Rattle.x5_model_rows.proofs.Resolution.{followed_journal, alpha_refuses, to_beta, beta_down, read_acme}
+use Rattle.x5_model_rows.proofs.Resolution.{compare_country}
 use Rattle.x5_model_rows.proofs.Searching.{everything, from_root, root_journal, the_sources, unchained, acme_reference}
 use Rattle.x5_model_rows.proofs.Probing as probing
 use Rattle.x5_model_rows.proofs.Probing.{new_lab, add_lab, again_at_beta, again_journal}
-use Rattle.x5_model_rows.proofs.Losing.{losing_first, losing_second, losing_shadowed, put_lab, put_at_beta, put_journal, twice_journal}
+use Rattle.x5_model_rows.proofs.Losing.{losing_first, losing_second, losing_shadowed, put_lab, put_at_beta, put_journal}
+use Rattle.x5_model_rows.proofs.Losing.{twice_journal}
 use Rattle.x5_model_rows.proofs.Shadowing.{put_gears}
 
 -- a message at a line of a run, and a user's request
@@ -375,7 +386,8 @@ asked_part = hand 1 (record {
 })
 
 pub empty_part : (most : ℕ)
-    → Does empty_scene most (Serves asked_part (Answered (Found [] (now acme 1 ∷ []) whole_outcome))) (journal []) (journal [])
+    → Does empty_scene most (Serves asked_part (Answered (Found [] (now acme 1 ∷ []) whole_outcome))) (journal [])
+    (journal [])
 empty_part most =
     asks_parts (Found [] (now acme 1 ∷ []) whole_outcome) (Whole (Found [] (now acme 1 ∷ []) whole_outcome))
     (record { unlooped = refl; short = refl; fresh = refl; unrefused = refl; fit = refl }) refl refl refl no_part

@@ -6,7 +6,8 @@ use lib.Utf8.{encode}
 use Rattle.x5_model.specs.Values.{Text, Known, NameValue, Value}
 use Rattle.x5_model.specs.Normal.{ValueFault}
 use Rattle.x5_model_text.specs.ValueText.{resolved}
-use Rattle.x5_model_text.specs.NameText.{NameFault, BadSpelling, UnknownType, RepeatedType, TooManyRdns, TooManyPairs, name_of_text, text_of_written, text_of_value, value_of_text}
+use Rattle.x5_model_text.specs.NameText.{NameFault, BadSpelling, UnknownType, RepeatedType, TooManyRdns, TooManyPairs}
+use Rattle.x5_model_text.specs.NameText.{name_of_text, text_of_written, text_of_value, value_of_text}
 use Rattle.x5_model_text.specs.Filters.{filter_of_text}
 use Rattle.x5_model_tree.specs.Described.{is_agent_name}
 
@@ -20,7 +21,8 @@ pub any_spelling : name_printed (name_of_text (codes "/c=nl/2.5.4.10=Ex ample"))
 unfolding is_utf8 chars encode
 any_spelling = refl
 
-pub four_pairs_sorted : name_printed (name_of_text (codes "/OU=b+cN=a+title=t+L=l")) ≡ Ok (codes "/CN=a+L=l+OU=b+title=t")
+pub four_pairs_sorted : name_printed (name_of_text (codes "/OU=b+cN=a+title=t+L=l"))
+    ≡ Ok (codes "/CN=a+L=l+OU=b+title=t")
 unfolding is_utf8 chars encode
 four_pairs_sorted = refl
 
@@ -54,7 +56,8 @@ pub five_pairs : name_of_text (codes "/CN=a+SN=b+L=c+O=d+OU=e") ≡ Err TooManyP
 unfolding is_utf8 chars encode
 five_pairs = refl
 
-pub seventeen_rdns : name_of_text (codes "/L=1/L=2/L=3/L=4/L=5/L=6/L=7/L=8/L=9/L=a/L=b/L=c/L=d/L=e/L=f/L=g/L=h") ≡ Err TooManyRdns
+pub seventeen_rdns : name_of_text (codes "/L=1/L=2/L=3/L=4/L=5/L=6/L=7/L=8/L=9/L=a/L=b/L=c/L=d/L=e/L=f/L=g/L=h")
+    ≡ Err TooManyRdns
 unfolding is_utf8 chars encode
 seventeen_rdns = refl
 

@@ -21,7 +21,9 @@ use Rattle.x5_model_run.specs.Chain.{opening}
 use Rattle.x5_model_serve.specs.Walking.{entered, left}
 use Rattle.x5_model_serve.specs.Answering.{local_part, rest_of_parts}
 use Rattle.x5_model_rows.proofs.Literals.{rdn, under, class, one, text, named, plainly}
-use Rattle.x5_model_rows.proofs.BaseWorld.{nl, acme, desk, lab_rdn, lab, jan, shop, ada, nl_entry, acme_entry, desk_entry, jan_entry, shop_entry, ada_entry, lab_context, shop_context, beta, gamma, world_of}
+use Rattle.x5_model_rows.proofs.BaseWorld.{nl, acme, desk, lab_rdn, lab, jan, shop, ada, nl_entry, acme_entry}
+use Rattle.x5_model_rows.proofs.BaseWorld.{desk_entry, jan_entry, shop_entry, ada_entry, lab_context, shop_context}
+use Rattle.x5_model_rows.proofs.BaseWorld.{beta, gamma, world_of}
 use Rattle.x5_model_rows.proofs.Messages.{point, now, bare, whole_outcome}
 use Rattle.x5_model_rows.proofs.Searching.{from_nl}
 

@@ -1,7 +1,16 @@
--- What is written of the summary of a script over a world, and of the files that hold them.
-use Rattle.std.proofs.Common.{◌≡◌, inl, inr, ◌⊎◌, ℕ, List, map, Option, sym, ap, ◌∙◌, Ok, Err, append-nil}
+-- What is written of the summary of a script over a world, and of the files that hold them: what the blocks are counted to
+-- is what the texts of the script and of the output tell.
+use Rattle.std.proofs.Common.{◌≡◌, inl, inr, ◌⊎◌, ℕ, List, [], ◌∷◌, map, Option, refl, sym, ap, ap₂, ◌∙◌, Ok, Err, append-nil}
 use Rattle.x5_load.specs.Views.{Loads}
-use Rattle.x5_model_script.specs.Lines.{Asked}
+use Rattle.x5_model_counted.proofs.Summaries.{summary_is_of_texts}
+use Rattle.x5_model_counted.specs.Laws as counted
+use Rattle.x5_model_counted.specs.Lines.{summary_of}
+use Rattle.x5_model_loaded.proofs.Worlds.{file_described}
+use Rattle.x5_model_run.specs.Run.{Command}
+use Rattle.x5_model_script.specs.Lines.{Asked, Delivers}
+use Rattle.x5_model_script.specs.Lines as lines
+use Rattle.x5_model_settled.specs.Held.{Performed}
+use Rattle.x5_model_tree.specs.Described.{IsDescribed}
 use Rattle.x5_model_world.specs.WorldFile.{File, Describes}
 use Rattle.x5_port.specs.Outside as outside
 use Rattle.x5_port.specs.Outside.{IsContent}
@@ -15,6 +24,7 @@ use Rattle.xdir.specs.Faults.{IsWorldLine, IsRefusalLine}
 use Rattle.xdir.specs.Run.{lost_in, AsksFor}
 use Rattle.x5_model_tree.specs.World.{names_of_agents}
 use Rattle.xdir.specs.Steps.{WritesSuchLine, OfScript}
+use Rattle.xdir.specs.Taken.{IsCommand, AreCommands}
 use Rattle.xdir.specs.Summed.{Sums, EndsAtOnce, WritesSummed, SumsRun, IsAskedSummary, IsScriptSummary, SumsScript, SumsScriptFile}
 use Rattle.xdir.proofs.Ends.{wrote_more, broke_more}
 use Rattle.xdir.proofs.Files.{no_line, refused_as, refusal_of, wrong_as}
@@ -73,6 +83,31 @@ pub sums_of_file : (told : Option (List outside.File)) (name octets : List ℕ) 
 sums_of_file told name octets f is status old new before after w =
     at_once_more (λ text p. (octets, is, p)) (λ text p. (octets, is, p)) status old new before after w
 
+-- ---- what the texts of the script and the output tell
+
+-- a line is a request where its command is one: octets that are handed over never are
+request_same : (names : List (List ℕ)) (a : Asked) (c : Command) → IsCommand names a c → counted.is_request c ≡ counted.asks a
+request_same names (lines.Runs d) c is = ap counted.is_request is
+request_same names (Delivers dsp to octets) c is = ap counted.is_request is.2
+
+requests_same : (names : List (List ℕ)) (asked : List Asked) (commands : List Command) → AreCommands names asked commands
+    → map counted.is_request commands ≡ map counted.asks asked
+requests_same names [] [] are = refl
+requests_same names [] (c ∷ commands) are = absurd are
+requests_same names (a ∷ asked) [] are = absurd are
+requests_same names (a ∷ asked) (c ∷ commands) are =
+    ap₂ ◌∷◌ (request_same names a c are.0) (requests_same names asked commands are.1)
+
+told_by_texts : (f : File) (asked : List Asked) (script text : List ℕ) → IsDescribed f.world → AsksFor f.world script asked
+    → (s : IsAskedSummary f asked text) → text ≡ summary_of script s.sums.output
+told_by_texts f asked script text described asks_for s =
+    let prints = s.sums.prints in
+    let agents = names_of_agents f.world in
+    s.sums.sums_up
+    ∙ summary_is_of_texts Performed f.world f.start s.commands prints.blocks prints.past described prints.runs agents (lost_in f.world) script asked asks_for
+    (requests_same agents asked s.commands s.are)
+    ∙ ap (summary_of script) (sym prints.octets_are)
+
 -- ---- over the world that another file describes, or that is none
 
 module _ (told : Option (List outside.File)) (names : FileNames) (octets : List ℕ) (octets_is : IsContent told names.world octets) where
@@ -93,7 +128,7 @@ module _ (told : Option (List outside.File)) (names : FileNames) (octets : List 
         are = p.2.sums.are;
         prints = p.2.sums.sums.prints;
       };
-      sums_up = p.2.sums.sums.sums_up;
+      sums_up = told_by_texts f p.2.asked p.0 text (file_described described.value f described.is_found) p.2.asks p.2.sums;
     }
 
     pub sums_files : (status : Status) (old new : Option (List ℕ)) (before after : ℕ) → SumsScriptFile status told names.script f old new before after

@@ -16,3 +16,4 @@ pub mod Counted
 pub mod Summed
 pub mod Generated
 pub mod Tree
+pub mod Statuses

@@ -1,6 +1,7 @@
 -- What `run --summary WORLD SCRIPT` writes, by how it ends. The headline is `Sums`.
 use Rattle.std.specs.Prelude.{◌≡◌, ℕ, ◌⊎◌, List, [], Option}
 use Rattle.x5_know.specs.Moments.{moment_text}
+use Rattle.x5_model_counted.specs.Lines.{summary_of}
 use Rattle.x5_model_output.specs.Summary.{summary_text}
 use Rattle.x5_model_run.specs.Run.{Command}
 use Rattle.x5_model_script.specs.Lines.{Asked}
@@ -24,12 +25,12 @@ pub record IsSummary (f : File) (commands : List Command) (text : List ℕ) : Ty
   pub prints : IsOutput f commands output
   pub sums_up : text ≡ summary_text f.world (moment_text f.start) prints.blocks
 
--- The headline: some output is that of `run` without `--summary`, of the whole script, and the text is the summary of
--- its blocks.
+-- The headline: some output is that of `run` without `--summary`, of the whole script, and the text is the summary that
+-- the script and that output tell: the output's first line, and how many lines begin with which word.
 pub record Sums (told : Option (List outside.File)) (names : FileNames) (text : List ℕ) : Type 0 where
   pub output : List ℕ
   pub runs : Runs told names [] output
-  pub sums_up : text ≡ summary_text runs.file.world (moment_text runs.file.start) runs.prints.blocks
+  pub sums_up : text ≡ summary_of runs.script output
 
 -- What is written, by how such a run ends. Before all commands are run nothing is; then the whole output, the line of a
 -- refusal, or a first part of one of these.

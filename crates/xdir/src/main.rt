@@ -1,6 +1,10 @@
 // A directory in a simulated network of agents, run by a script.
 #![tactic(auto)]
 
+ghost use Rattle.std.specs.Prelude.{◌≡◌};
+ghost use Rattle.std.specs.Process.{exit_status};
+ghost use Rattle.xdir.specs.Statuses.{exit_number};
+
 mod asked;
 mod check;
 mod explained;
@@ -68,7 +72,9 @@ fn words_of<R: rt::Env + AllocGlobal>(rt: &R) -> Result<Vec<String>, Status> {
 }
 
 // Says on standard error which file couldn't be read, and why, where the system says so.
-fn unread<R: Eprint>(rt: &R, name: &str, reason: Option<ErrorKind>) -> ExitCode {
+fn unread<R: Eprint>(rt: &R, name: &str, reason: Option<ErrorKind>) -> ExitCode
+    ensures { exit_status result ≡ 3 }
+{
     let _ = match reason {
         Some(reason) => eprintln!(rt; "xdir: can't read the file {name}: {reason}"),
         None => eprintln!(rt; "xdir: can't read the file {name}"),
@@ -78,7 +84,9 @@ fn unread<R: Eprint>(rt: &R, name: &str, reason: Option<ErrorKind>) -> ExitCode 
 
 // Says on standard error what was wrong, and gives the status. `name` is that of the last file read, of the world whose knowledge isn't
 // consistent, or of generated ones, and `line` the first that was printed.
-fn ended<R: Eprint>(rt: &R, status: Status, name: &str, line: &str) -> ExitCode {
+fn ended<R: Eprint>(rt: &R, status: Status, name: &str, line: &str) -> ExitCode
+    ensures { exit_status result ≡ exit_number status }
+{
     let _ = match status {
         Status::Done => Ok(()),
         Status::Refused => eprintln!(rt; "xdir: {name}: {}", Explained::new(line)),
