@@ -47,11 +47,10 @@ fn put_posting(postings: &mut Vec<Posting>, posting: Posting)
     ensures capacity { vec_capacity postings.new ≡ vec_capacity postings.old }
 {
     let Term { kind, normal } = &posting.term;
-    let Err(place) = find(postings, *kind, normal, posting.node) else {
-        return;
-    };
-    if postings.insert(place, posting).is_err() {
-        unreachable!();
+    if let Err(place) = find(postings, *kind, normal, posting.node) {
+        if postings.insert(place, posting).is_err() {
+            unreachable!();
+        }
     }
 }
 
