@@ -14,8 +14,8 @@ insert-requires c =
     let l = place_bound c.deref.result.now x in
     omega (arith, at, l, c.deref.ensures.len)
 
-pub returns-in-Err-clause-added : goal.returns-in-Err-clause-added
-returns-in-Err-clause-added c =
+pub returns-else-is_err-clause-added : goal.returns-else-is_err-clause-added
+returns-else-is_err-clause-added c =
     let x : Posting = record { term = (c.posting-2.inside.kind, c.posting-2.inside.normal); node = c.posting.inside.node } in
     let same : x ≡ c.args.posting = (λ i. record { term = c.posting-2.view_is i; node = c.posting.inside.node }) ∙ c.posting.view_is in
     let ok : is_ok c.insert.result ≡ true = c.is_err.ensures.negation ∙ ap not c.if-is_err.false in

@@ -7,8 +7,8 @@ use Rattle.x5_index.specs.Places.{place_of, AreTaken}
 use Rattle.x5_index.proofs.Taking.{without, place_within, remove_at, taken_one, taken_absent, taken_kept}
 use Rattle.x5_index.proofs.postings.take_posting.Goals as goal
 
-pub returns-if-has_term-clause-taken : goal.returns-if-has_term-clause-taken
-returns-if-has_term-clause-taken c =
+pub returns-then-has_term-clause-taken : goal.returns-then-has_term-clause-taken
+returns-then-has_term-clause-taken c =
     taken_kept c.args.node c.args.kept.now (c.args.kind, c.args.normal.now) c.args.postings.now.items c.requires.in_order (c.has_term.ensures.0 c.if-has_term.true)
 
 pub remove-requires : goal.remove-requires
