@@ -1,5 +1,5 @@
 -- The closure compares with the value that is looked for, so the search tells whether it's there.
-use Rattle.std.proofs.Common.{◌≡◌, Bool, sym, subst, rules, of_calls}
+use Rattle.std.proofs.Common.{Bool, sym, subst, rules, of_calls}
 use Rattle.std.proofs.lemmas.Fn.{always_returns_same}
 use Rattle.std.specs.Bool.{Decides}
 use Rattle.x5_model.specs.Keys.{KeyPair, pair_cmp}

@@ -1,5 +1,5 @@
 -- The search tells whether the posting is there, and else the place at which it goes.
-use Rattle.std.proofs.Common.{◌≡◌, ◌∷◌, [], ◌++◌, Bool, List, not, take, drop, ap, sym, subst, ◌∙◌, arith, is_ok, if◌then◌else◌}
+use Rattle.std.proofs.Common.{◌≡◌, ◌∷◌, [], ◌++◌, Bool, true, List, not, take, drop, ap, sym, subst, ◌∙◌, arith, is_ok, if◌then◌else◌}
 use Rattle.x5_model.specs.Words.{insert_sorted}
 use Rattle.x5_model.specs.Members.{In}
 use Rattle.x5_index.specs.Index.{Posting, posting_below}

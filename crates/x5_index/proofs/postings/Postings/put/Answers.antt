@@ -1,5 +1,5 @@
 -- What is put for the terms of an entry stands for it, and each takes its room.
-use Rattle.std.proofs.Common.{◌≡◌, ◌-◌, ℕ, false, List, length, vec_len, vec_capacity, ap, sym, subst, ◌∙◌, arith}
+use Rattle.std.proofs.Common.{◌≡◌, ◌-◌, false, List, length, vec_len, vec_capacity, ap, sym, subst, ◌∙◌, arith}
 use Rattle.x5_model.specs.Keys.{KeyPair}
 use Rattle.x5_index.specs.Index.{Posting, Index, is_there, terms_of}
 use Rattle.x5_index.specs.Places.{AreAdded}
