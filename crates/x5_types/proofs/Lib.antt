@@ -1,8 +1,9 @@
+mod Agents
 mod Arcs
+mod Ascii
 mod BitLaws
 mod Cells
 mod Magnitudes
+mod Sameness
 pub mod Nodes
 pub mod TwoParts
-mod Ascii
-mod Sameness
