@@ -19,7 +19,7 @@ use Rattle.x5_dapber.proofs.Rooms.{Room, RoomForAll}
 abbrev pub Takes : ℕ → Node → Type 0
 Takes r n = (d : ℕ) → d + r ≤ deepest → Room d n
 
-mapped_take : {X : Type 0} (f : X → Node) (r : ℕ) → ((x : X) → Takes r (f x)) → (xs : List X) (d : ℕ) → d + r ≤ deepest
+pub mapped_take : {X : Type 0} (f : X → Node) (r : ℕ) → ((x : X) → Takes r (f x)) → (xs : List X) (d : ℕ) → d + r ≤ deepest
     → RoomForAll d (row (map f xs))
 mapped_take f r takes [] d le = tt
 mapped_take f r takes (x ∷ xs) d le = (takes x d le, mapped_take f r takes xs d le)
@@ -47,7 +47,7 @@ rdn_takes r = pairs_take (map written_pair r)
 pub name_takes : (n : Name) → Takes 6 (name_node n)
 name_takes n = name_value_takes (written n)
 
-value_takes : (v : Value) → Takes 6 (value_node v)
+pub value_takes : (v : Value) → Takes 6 (value_node v)
 value_takes (TextValue t) d le = omega (arith, le)
 value_takes (OctetsValue o) d le = omega (arith, le)
 value_takes (OidValue arcs) d le = omega (arith, le)

@@ -13,7 +13,7 @@ use Rattle.jiff_core.specs.Date.{epoch_day}
 use Rattle.jiff_core.proofs.CalendarLemmas.{days_in_month_bounds}
 use Rattle.jiff_core.proofs.SignedLemmas.{signed_arith}
 use Rattle.x5_model.specs.Words.{same_octets}
-use Rattle.x5_know.specs.Moments.{Day, Start, day_of, days_after, stamp_text, moment_text, moment_count}
+use Rattle.x5_know.specs.Moments.{Day, Start, day_of, days_after, stamp_text, moment_text, moment_count, moment_of}
 use Rattle.x5_know.specs.Moments.{greatest_below}
 use Rattle.x5_know.proofs.Days.{days_after_is, later_date}
 
@@ -118,6 +118,10 @@ same_number a b e = ap (λ (d : Day). days_from_civil d.year d.month d.day) e
 
 -- ---- the date that octets say
 
+small_year : (z : ℤ) → z ≤ℤ pos 9999 → pos 0 ≤ℤ z → unsigned_abs z < 10_000
+small_year (pos n) h g = omega (arith, signed_arith, h)
+small_year (negsuc n) h g = absurd (omega (arith, signed_arith, g))
+
 year_is : (y : ℕ) (z : ℤ) → pos 0 ≤ℤ z → y ≡ unsigned_abs z → pos y ≡ z
 year_is y (pos n) h e = ap pos e
 year_is y (negsuc n) h e = absurd (omega (arith, signed_arith, h))
@@ -133,7 +137,7 @@ pub found_date : (octets : List ℕ) (date : Date) (second y m d : ℕ) (o : Opt
     → (found : Date) × (o ≡ Some found) × (day_of found ≡ day_of date)
 found_date octets date second y m d o first e ey em ed there value =
     let bound = days_in_month_bounds date.year date.month in
-    let long : unsigned_abs date.year < 10_000 = small date.year date.year_in.1 first in
+    let long : unsigned_abs date.year < 10_000 = small_year date.year date.year_in.1 first in
     let said = stamp_says octets (day_of date) second e long (omega (arith, date.month_in)) (omega (arith, bound, date.day_in)) in
     let year : pos y ≡ date.year = year_is y date.year first (ey ∙ said.year) in
     let month : m ≡ date.month = em ∙ said.month in
@@ -144,10 +148,6 @@ found_date octets date second y m d o first e ey em ed there value =
     (subst (λ (k : ℕ). IsCivilDate date.year date.month k) (sym day) (date.year_in, date.month_in, date.day_in))) in
     by o (there civil) value (days_same (pos y) date.year m date.month d date.day year month day)
   where
-    small : (z : ℤ) → z ≤ℤ pos 9999 → pos 0 ≤ℤ z → unsigned_abs z < 10_000
-    small (pos n) h g = omega (arith, signed_arith, h)
-    small (negsuc n) h g = absurd (omega (arith, signed_arith, g))
-
     by : (q : Option Date) → IsSome q → IfSome q (λ x. day_of x ≡ record { year = pos y; month = m; day = d })
         → record { year = pos y; month = m; day = d } ≡ day_of date
         → (found : Date) × (q ≡ Some found) × (day_of found ≡ day_of date)
@@ -161,3 +161,49 @@ pub found_moment : (is_true : ℕ → Bool) (n m : ℕ) (b : Bool) → b ≡ is_
 found_moment is_true n m true e lt only = sym (only_below is_true n m lt (sym e) (λ k less holds. sym (only k less holds)))
 found_moment is_true n m false e lt only =
     sym (none_below is_true n (λ k less holds. cc (e, only k less holds, holds)))
+
+-- ---- a moment's text is that of no other moment
+
+same_year : (y z : ℤ) → pos 0 ≤ℤ y → pos 0 ≤ℤ z → unsigned_abs y ≡ unsigned_abs z → y ≡ z
+same_year (pos n) (pos k) p q e = ap pos e
+same_year (pos n) (negsuc k) p q e = absurd (omega (arith, signed_arith, q))
+same_year (negsuc n) z p q e = absurd (omega (arith, signed_arith, p))
+
+said_date : (octets : List ℕ) (d : Date) (s : ℕ) → octets ≡ stamp_text (day_of d) s → pos 0 ≤ℤ d.year
+    → Says octets (day_of d) s
+said_date octets d s e first =
+    let bound = days_in_month_bounds d.year d.month in
+    stamp_says octets (day_of d) s e (small_year d.year d.year_in.1 first) (omega (arith, d.month_in))
+    (omega (arith, bound, d.day_in))
+
+one_day : (octets : List ℕ) (a b : Date) (s t : ℕ) → octets ≡ stamp_text (day_of a) s → octets ≡ stamp_text (day_of b) t
+    → pos 0 ≤ℤ a.year → pos 0 ≤ℤ b.year → day_of a ≡ day_of b
+one_day octets a b s t e f p q =
+    let x = said_date octets a s e p in
+    let y = said_date octets b t f q in
+    days_same a.year b.year a.month b.month a.day b.day (same_year a.year b.year p q (sym x.year ∙ y.year))
+    (sym x.month ∙ y.month) (sym x.day ∙ y.day)
+
+one_moment : (date : Date) (second k m : ℕ) (octets : List ℕ) → IsText date second k octets → IsText date second m octets
+    → k ≡ m
+one_moment date second k m octets a b =
+    let same : day_of a.later ≡ day_of b.later =
+    one_day octets a.later b.later ((second + k) % 86_400) ((second + m) % 86_400) a.is b.is a.year b.year in
+    let number : epoch_day a.later ≡ epoch_day b.later = same_number a.later b.later same in
+    let days : (second + k) / 86_400 ≡ (second + m) / 86_400 = omega (arith, signed_arith, a.number, b.number, number) in
+    let seconds : (second + k) % 86_400 ≡ (second + m) % 86_400 =
+    sym (second_says octets (day_of a.later) ((second + k) % 86_400) a.is (omega arith))
+    ∙ second_says octets (day_of b.later) ((second + m) % 86_400) b.is (omega arith) in
+    omega (arith, days, seconds)
+
+pub reads_back : (date : Date) (second m : ℕ) → second < 86_400 → epoch_day date ≤ℤ pos 2_570_000 → pos 0 ≤ℤ date.year
+    → m < 4_294_967_296
+    → moment_of (record { day = day_of date; second = second }) (moment_text (record { day = day_of date; second = second }) m)
+    ≡ Some m
+reads_back date second m small low first few =
+    let s : Start = record { day = day_of date; second = second } in
+    let t : List ℕ = moment_text s m in
+    let itself : same_octets t t ≡ true = (bytes_decides t t).1 refl in
+    only_below (λ k. same_octets (moment_text s k) t) moment_count m (omega (arith, few, count_is)) itself
+    (λ k less same. one_moment date second k m t (text_of date second k t small low first (omega (arith, less, count_is)) same)
+    (text_of date second m t small low first few itself))

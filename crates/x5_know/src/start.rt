@@ -125,6 +125,13 @@ impl Start {
         Ok(if_same(text.as_str().as_bytes(), octets, moment))
     }
 
+    /// Does nothing. Its clause is a law: a moment's text is that of no other moment, so it's read back as the moment.
+    pub fn reads_back(&self)
+        ensures { (m : ℕ) → m < 4_294_967_296 → moments.moment_of self.now (moment_text self.now m) ≡ Some m }
+    {
+        let _second = self.second;
+    }
+
     /// The only moment that the octets can spell.
     fn only_moment_of(&self, octets: &[u8]) -> Option<Moment>
         ensures only { (m : ℕ) → m < 4_294_967_296 → same_octets (moment_text self.now m) octets.now ≡ true → result ≡ Some m }

@@ -209,17 +209,14 @@ done_in n = by (parts n)
     by (code ∷ result ∷ []) = Done (or_zero (number_in code))
     by other = Done 0
 
--- a message's id, and what it says
-abbrev pub shadow_in : Node → ℕ × Shadow
-shadow_in m = by m
-  where
-    of : ℕ → List Node → ℕ × Shadow
-    of tag (id ∷ inner ∷ []) = (or_zero (number_in id), done_in inner)
-    of tag (id ∷ code ∷ said ∷ []) =
-        if tag == 1 then (or_zero (number_in id), argument_in (or_zero (number_in code)) said)
-        else (or_zero (number_in id), failed_in said)
-    of tag other = (0, Done 0)
+-- a message's id, and what it says: by its tag a result, or an invoke or an error
+abbrev pub message_in : ℕ → List Node → ℕ × Shadow
+message_in tag (id ∷ inner ∷ []) = (or_zero (number_in id), done_in inner)
+message_in tag (id ∷ code ∷ said ∷ []) =
+    if tag == 1 then (or_zero (number_in id), argument_in (or_zero (number_in code)) said)
+    else (or_zero (number_in id), failed_in said)
+message_in tag other = (0, Done 0)
 
-    by : Node → ℕ × Shadow
-    by (Chosen tag n) = of tag (parts n)
-    by n = of 0 []
+abbrev pub shadow_in : Node → ℕ × Shadow
+shadow_in (Chosen tag n) = message_in tag (parts n)
+shadow_in n = (0, Done 0)

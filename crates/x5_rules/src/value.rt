@@ -102,7 +102,7 @@ fn normal_of_name(alloc: Global, kind: TypeId, name: &NameValue) -> Result<Optio
 }
 
 /// The normal form of the value that the node says, where it's one of the type's kind.
-pub(crate) fn normal_in(
+pub fn normal_in(
     alloc: Global,
     kind: TypeId,
     node: &Node<'_>,

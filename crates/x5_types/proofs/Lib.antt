@@ -4,6 +4,7 @@ mod Ascii
 mod BitLaws
 mod Cells
 mod Magnitudes
-mod Sameness
 pub mod Nodes
+mod Sameness
+mod Times
 pub mod TwoParts

@@ -135,13 +135,13 @@ named_view (n.Filters levels) = named.Filters levels
 
 -- No world: in messages of users and between agents there are no times, and agents of any name.
 abbrev pub nowhere : layouts.Surroundings
-nowhere = record { moment = λ t. None; time = λ m. []; is_agent = λ a. false }
+nowhere = record { moment = λ t. None; time = λ m. None; is_agent = λ a. false }
 
--- A world: its start, of which each moment that there is has a date and time, and its agents. No text is that of a later moment.
+-- A world: its start, of which each moment that there is has a date and time, and its agents.
 abbrev pub world : Start → List (List ℕ) → layouts.Surroundings
 world start names = record {
   moment = moment_of start;
-  time = λ m. if nat_lt m moment_count then moment_text start m else [];
+  time = λ m. leaves.where_so (nat_lt m moment_count) (moment_text start m);
   is_agent = has_name names;
 }
 
@@ -254,6 +254,10 @@ choices_view w (choices.Filter levels) = layouts.filter levels
 -- The types of messages of users and between agents.
 abbrev pub table : forms.Layout
 table = layouts.layout nowhere
+
+-- The types of messages in a world.
+abbrev pub world_table : Start → List (List ℕ) → forms.Layout
+world_table start names = layouts.layout (world start names)
 
 -- The types of messages in their surroundings.
 abbrev pub table_in : Surroundings → forms.Layout

@@ -47,8 +47,18 @@ fn leaf_holds(surroundings: Surroundings<'_>, leaf: Leaf, node: &Node<'_>) -> bo
             is_text(surroundings, letters, text.as_str().as_bytes())
         }
         (Leaf::Universal, Node::Text(text)) => is_length(text.as_str().as_bytes()),
-        (Leaf::Time, Node::Number(number)) => *number >= 0,
+        (Leaf::Time, Node::Number(number)) => has_time(surroundings, *number),
         _ => false,
+    }
+}
+
+/// Whether the moment has a date and time.
+fn has_time(surroundings: Surroundings<'_>, moment: i64) -> bool
+    ensures { result ≡ is_some ((layouts.time_leaf (around surroundings.entry)).writes (nodes.Number moment)) }
+{
+    match u64::try_from(moment) {
+        Ok(moment) => surroundings.has_time(moment),
+        Err(_) => false,
     }
 }
 
@@ -134,8 +144,13 @@ fn put_time(
     requires { IsTrue (is_some ((layouts.time_leaf (around surroundings)).writes (nodes.Number moment))) }
     ensures { OnOk result (out.new ≡ octets_in ((layouts.time_leaf (around surroundings.entry)).writes (nodes.Number moment)) ++ out.old) }
 {
-    let text = surroundings.time(alloc, moment.unsigned_abs())?;
-    out.put_all(text.as_str().as_bytes())
+    let Ok(moment) = u64::try_from(moment) else {
+        return Ok(());
+    };
+    match surroundings.time(alloc, moment)? {
+        Some(text) => out.put_all(text.as_str().as_bytes()),
+        None => Ok(()),
+    }
 }
 
 fn put_bits(out: &mut Backwards, leaf: BitLeaf, node: &Node<'_>) -> Result<(), NoMemory>
