@@ -4,10 +4,15 @@
 
 mod entries;
 mod messages;
+mod read_entries;
+mod read_refreshes;
+mod read_shadows;
 mod refreshes;
 mod shadow;
 
-pub use crate::messages::encode_shadow;
+pub use crate::messages::{decode_shadow, encode_shadow};
 pub use crate::shadow::{Refresh, Shadow};
+pub use x5_dapber::WireFault;
 pub use x5_memory::NoMemory;
+pub use x5_typed::BerFault;
 pub use x5_writer::WriteFault;

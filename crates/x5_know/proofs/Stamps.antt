@@ -126,8 +126,10 @@ year_is : (y : ℕ) (z : ℤ) → pos 0 ≤ℤ z → y ≡ unsigned_abs z → po
 year_is y (pos n) h e = ap pos e
 year_is y (negsuc n) h e = absurd (omega (arith, signed_arith, h))
 
-days_same : (y z : ℤ) (m n d e : ℕ) → y ≡ z → m ≡ n → d ≡ e
-    → record { year = y; month = m; day = d } ≡ record { year = z; month = n; day = e }
+abbrev date_as : ℤ → ℕ → ℕ → Day
+date_as y m d = record { year = y; month = m; day = d }
+
+days_same : (y z : ℤ) (m n d e : ℕ) → y ≡ z → m ≡ n → d ≡ e → date_as y m d ≡ date_as z n e
 days_same y z m n d e f g h = cc
 
 pub found_date : (octets : List ℕ) (date : Date) (second y m d : ℕ) (o : Option Date) → pos 0 ≤ℤ date.year
@@ -149,7 +151,7 @@ found_date octets date second y m d o first e ey em ed there value =
     by o (there civil) value (days_same (pos y) date.year m date.month d date.day year month day)
   where
     by : (q : Option Date) → IsSome q → IfSome q (λ x. day_of x ≡ record { year = pos y; month = m; day = d })
-        → record { year = pos y; month = m; day = d } ≡ day_of date
+        → date_as (pos y) m d ≡ day_of date
         → (found : Date) × (q ≡ Some found) × (day_of found ≡ day_of date)
     by None there value same = absurd (cc there)
     by (Some x) there value same = (x, refl, value ∙ same)
