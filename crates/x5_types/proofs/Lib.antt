@@ -1,4 +1,4 @@
-mod Agents
+pub mod Agents
 mod Arcs
 mod Ascii
 mod BitLaws
