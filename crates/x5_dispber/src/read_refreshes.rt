@@ -218,8 +218,10 @@ pub(crate) fn refresh_in(
     ensures { IfOk result (λ r. told_refresh names.now r ≡ shadows.refresh_in (node_view node.now)) }
 {
     match node {
-        Node::Chosen(0, content) => total_in(alloc, names, content),
-        Node::Chosen(_, steps) => changes_in(alloc, steps),
+        Node::Chosen(tag, inner) => match *tag {
+            0 => total_in(alloc, names, inner),
+            _ => changes_in(alloc, inner),
+        },
         _ => Ok(Refresh::Nothing),
     }
 }

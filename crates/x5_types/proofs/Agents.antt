@@ -1,6 +1,7 @@
 -- Whether a name is one of the world's agents: it's found among them.
 use Rattle.std.proofs.Common.{◌≡◌, ℕ, suc, ◌+◌, Bool, true, false, ◌||◌, nat_lt, if◌then◌else◌, List, [], ◌∷◌}
 use Rattle.std.proofs.Common.{length, refl, ap₂, sym, ◌∙◌, arith}
+use Rattle.std.proofs.lemmas.Bool.{lt-ltb}
 use Rattle.std.proofs.lemmas.Bool.Decides.{nat_tests}
 use Rattle.std.specs.Cmp.Lexicographic.{bytes_decides}
 use Rattle.std.specs.List.{list_any, position, position_or_len}
@@ -27,10 +28,13 @@ either_name t (n ∷ names) =
 shift : (k n : ℕ) → nat_lt (1 + k) (suc n) ≡ nat_lt k n
 shift k n = grind (arith, nat_tests)
 
+front : (n : ℕ) → nat_lt 0 (suc n) ≡ true
+front n = lt-ltb 0 (suc n) (omega arith)
+
 step : {X : Type 0} (p : X → Bool) (x : X) (xs : List X) (b : Bool) → p x ≡ b
     → nat_lt (position_or_len p xs) (length xs) ≡ list_any p xs
     → nat_lt (position_or_len p (x ∷ xs)) (length (x ∷ xs)) ≡ (b || list_any p xs)
-step p x xs true e h = rw e refl
+step p x xs true e h = rw e (front (length xs))
 step p x xs false e h = rw e (shift (position_or_len p xs) (length xs) ∙ h)
 
 there : {X : Type 0} (p : X → Bool) (xs : List X) → nat_lt (position_or_len p xs) (length xs) ≡ list_any p xs
