@@ -115,9 +115,10 @@ entry_is w n f =
     let rule : entry_rule (three a.first b.first c.first) ≡ Some (three a.first b.first c.first) =
     subst (λ (x : Node). entry_rule x ≡ Some x) is m.settled in
     let k = rule_keeps a.first b.first c.first rule in
-    subst IsEntry (sym is)
-    (all_stored w (parts c.first) c.is k.stored,
-    entry_ordered a.first b.first c.first k (λ x i. attribute_is w x (c.is x i)))
+    subst IsEntry (sym is) (
+      all_stored w (parts c.first) c.is k.stored,
+      entry_ordered a.first b.first c.first k (λ x i. attribute_is w x (c.is x i)),
+    )
 
 entries_are : (w : Surroundings) (n : Node) → Fits (layout w) (layout w named.Entries) n → All IsEntry (parts n)
 entries_are w n f =

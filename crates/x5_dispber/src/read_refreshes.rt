@@ -53,11 +53,7 @@ fn agent_in(names: &AgentNames, node: &Node<'_>) -> AgentId
     }
 }
 
-fn agents_in(
-    alloc: Global,
-    names: &AgentNames,
-    nodes: &[Node<'_>],
-) -> Result<AgentList, NoMemory>
+fn agents_in(alloc: Global, names: &AgentNames, nodes: &[Node<'_>]) -> Result<AgentList, NoMemory>
     requires { All (λ n. IsAgent (has_name names.now) (node_view n)) nodes.now }
     ensures { IfOk result (λ l. map (agent_name names.now) l ≡ map shadows.agent_in (map node_view nodes.now)) }
 {
@@ -129,11 +125,7 @@ fn other_in(alloc: Global, names: &AgentNames, node: &Node<'_>) -> Result<Nssr, 
     })
 }
 
-fn others_in(
-    alloc: Global,
-    names: &AgentNames,
-    nodes: &[Node<'_>],
-) -> Result<NssrList, NoMemory>
+fn others_in(alloc: Global, names: &AgentNames, nodes: &[Node<'_>]) -> Result<NssrList, NoMemory>
     requires { All (λ n. IsNonSpecific (has_name names.now) (node_view n)) nodes.now }
     ensures { IfOk result (λ l. map (told_other names.now) l ≡ map shadows.non_specific_in (map node_view nodes.now)) }
 {

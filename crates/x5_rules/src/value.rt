@@ -102,11 +102,7 @@ fn normal_of_name(alloc: Global, kind: TypeId, name: &NameValue) -> Result<Optio
 }
 
 /// The normal form of the value that the node says, where it's one of the type's kind.
-pub fn normal_in(
-    alloc: Global,
-    kind: TypeId,
-    node: &Node<'_>,
-) -> Result<Option<Normal>, NoMemory>
+pub fn normal_in(alloc: Global, kind: TypeId, node: &Node<'_>) -> Result<Option<Normal>, NoMemory>
     ensures { IfOk result (λ n. n ≡ where_so (rules.is_of_type kind (node_view node.now)) (rules.normal_in kind (node_view node.now))) }
 {
     match node {

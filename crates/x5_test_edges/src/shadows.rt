@@ -60,6 +60,7 @@ const FAILED: [u8; 51] = [
 
 /// The time of `COORDINATE`, and the octet of it in `TOTAL` that names the master.
 const TIME: usize = 15;
+
 const MASTER: usize = 94;
 
 fn start() -> Option<Start> {
