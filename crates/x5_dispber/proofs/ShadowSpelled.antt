@@ -56,8 +56,8 @@ known_takes k d le = (
       (
         omega (arith, le),
         (
-          agent_takes false k.master (d + 4) (omega (arith, le)),
-          mapped_take (shadows.agent_node true) 2 (agent_takes true) k.shadows (d + 4) (omega (arith, le)),
+          agent_takes false k.master (d + 2 + 2) (omega (arith, le)),
+          mapped_take (shadows.agent_node true) 2 (agent_takes true) k.shadows (d + 2 + 2) (omega (arith, le)),
         ),
       ),
       tt,
@@ -84,7 +84,7 @@ step_takes (Rename n e) d le = (
   omega (arith, le),
   (
     omega (arith, le),
-    (name_takes n (d + 3) (omega (arith, le)), (entry_takes e (d + 3) (omega (arith, le)), tt)),
+    (name_takes n (d + 1 + 2) (omega (arith, le)), (entry_takes e (d + 1 + 2) (omega (arith, le)), tt)),
   ),
 )
 
@@ -95,10 +95,10 @@ refresh_takes (Total es ks ns) d le = (
   (
     omega (arith, le),
     (
-      many_take shadows.entry_node 14 entry_takes es (d + 3) (omega (arith, le)),
+      many_take shadows.entry_node 14 entry_takes es (d + 1 + 2) (omega (arith, le)),
       (
-        many_take shadows.known_node 8 known_takes ks (d + 3) (omega (arith, le)),
-        (many_take shadows.non_specific_node 8 non_specific_takes ns (d + 3) (omega (arith, le)), tt),
+        many_take shadows.known_node 8 known_takes ks (d + 1 + 2) (omega (arith, le)),
+        (many_take shadows.non_specific_node 8 non_specific_takes ns (d + 1 + 2) (omega (arith, le)), tt),
       ),
     ),
   ),
