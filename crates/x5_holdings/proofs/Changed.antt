@@ -1,5 +1,5 @@
--- The index of a context's entries where one of them is removed, replaced or renamed: its node's postings are dropped, and
--- those of what takes its place are put; so the postings stay those of the entries.
+-- The index of a context's entries where one of them is removed, replaced or renamed: its node's postings are dropped, or become
+-- those of what takes its place; so the postings stay those of the entries.
 use Rattle.std.proofs.Common.{◌≡◌, ◌≢◌, ℕ, Bool, true, false, not, if◌then◌else◌, ◌==◌, inl, inr, List, [], ◌∷◌, map, length}
 use Rattle.std.proofs.Common.{Option, Some, None, refl, sym, ap, subst, ◌∙◌}
 use Rattle.std.specs.List.{filter}
@@ -143,8 +143,8 @@ posted_without old new id nodes dropped are k = by (id.0 == k.0) refl
         (stay old new id k dropped.others t (node_with nodes k) (are k))
 
 -- one node gets another entry, and all others keep theirs
-module _ (old between new : List Posting) (id : NodeId) (entry : Entry) (nodes : List Node) (node : Node) (f : Node → Node)
-    (there_is : node_with nodes id ≡ Some node) (dropped : IsDropped old id.0 between) (put : IsPut between id.0 entry new)
+module _ (old new : List Posting) (id : NodeId) (entry : Entry) (nodes : List Node) (node : Node) (f : Node → Node)
+    (there_is : node_with nodes id ≡ Some node) (put : IsPut old id.0 entry new)
     (here_is : (f node).named.entry ≡ entry)
     (others : (n : Node) → In n nodes → has_id id n ≡ false → (f n).named.entry ≡ n.named.entry) where
   kept_entry : (k : NodeId) → (id.0 == k.0) ≡ false → (o : Option Node) → node_with nodes k ≡ o → IsPosted new k o →
@@ -169,8 +169,7 @@ module _ (old between new : List Posting) (id : NodeId) (entry : Entry) (nodes :
           (subst (λ (e : Entry). IsEntryAt new id.0 e) (sym here_is) put.here))
       by false t = subst (λ (o : Option Node). IsPosted new k o) (sym (mapped k))
           (kept_entry k t (node_with nodes k) refl
-          (stay between new id k put.others t (node_with nodes k)
-          (stay old between id k dropped.others t (node_with nodes k) (are k))))
+          (stay old new id k put.others t (node_with nodes k) (are k)))
 
 -- ---- each change
 
@@ -181,12 +180,11 @@ with_ids : (entry : Entry) (b : Bool) (n : Node) → (with_if entry b n).id ≡ 
 with_ids entry true n = refl
 with_ids entry false n = refl
 
-pub posted_replaced : (old between new : List Posting) (before after : Nodes) (id : NodeId) (entry was : Entry) → Replaced
-    before id entry was after → IsDropped old id.0 between → IsPut between id.0 entry new → ArePosted old before.nodes
-    → ArePosted new after.nodes
-posted_replaced old between new before after id entry was replaced dropped put are =
+pub posted_replaced : (old new : List Posting) (before after : Nodes) (id : NodeId) (entry was : Entry) → Replaced
+    before id entry was after → IsPut old id.0 entry new → ArePosted old before.nodes → ArePosted new after.nodes
+posted_replaced old new before after id entry was replaced put are =
     subst (λ (ns : List Node). ArePosted new ns) (sym replaced.nodes)
-    (posted_changed old between new id entry before.nodes replaced.node (with_entry id entry) replaced.there dropped put
+    (posted_changed old new id entry before.nodes replaced.node (with_entry id entry) replaced.there put
     (ap (λ (b : Bool). (with_if entry b replaced.node).named.entry)
     (of_find (has_id id) replaced.node before.nodes replaced.there).1)
     (λ n i e. ap (λ (b : Bool). (with_if entry b n).named.entry) e) are (map (with_entry id entry) before.nodes)
@@ -225,13 +223,13 @@ module _ (before : Nodes) (id : NodeId) (node : Node) (rdn : Rdn) (entry : Entry
       (other_key n i e)
       ∙ entry_stays node.named rdn entry (is_prefix (node_key node) (node_key n)) n.named
 
-pub posted_renamed : (old between new : List Posting) (before after : Nodes) (id : NodeId) (rdn : Rdn) (entry : Entry) →
-    IsLinked before.nodes → AreNumbered before.nodes → Renamed before id rdn entry after → IsDropped old id.0 between
-    → IsPut between id.0 entry new → ArePosted old before.nodes → ArePosted new after.nodes
-posted_renamed old between new before after id rdn entry linked numbered renamed dropped put are =
+pub posted_renamed : (old new : List Posting) (before after : Nodes) (id : NodeId) (rdn : Rdn) (entry : Entry) →
+    IsLinked before.nodes → AreNumbered before.nodes → Renamed before id rdn entry after → IsPut old id.0 entry new
+    → ArePosted old before.nodes → ArePosted new after.nodes
+posted_renamed old new before after id rdn entry linked numbered renamed put are =
     subst (λ (ns : List Node). ArePosted new ns) (sym renamed.nodes)
-    (posted_changed old between new id entry before.nodes renamed.node (moved renamed.node.named rdn entry) renamed.there
-    dropped put (moved_here before id renamed.node rdn entry linked renamed.there)
+    (posted_changed old new id entry before.nodes renamed.node (moved renamed.node.named rdn entry) renamed.there put
+    (moved_here before id renamed.node rdn entry linked renamed.there)
     (moved_others before id renamed.node rdn entry linked renamed.there) are
     (sorted node_below (map (moved renamed.node.named rdn entry) before.nodes))
     (λ k. node_sorted (map (moved renamed.node.named rdn entry) before.nodes)

@@ -71,8 +71,7 @@ impl Held {
         ensures left { self.old.postings.spare ≤ self.new.postings.spare + length room }
     {
         let before = self.tree.replace(node, entry);
-        self.postings.drop_node(node.0, &before);
-        self.postings.put(node.0, room);
+        self.postings.change(node.0, &before, room);
         before
     }
 
@@ -99,8 +98,7 @@ impl Held {
         ensures left { self.old.postings.spare ≤ self.new.postings.spare + length room }
     {
         let before = self.tree.rename(node, rdn, entry)?;
-        self.postings.drop_node(node.0, &before);
-        self.postings.put(node.0, room);
+        self.postings.change(node.0, &before, room);
         Ok(before)
     }
 

@@ -8,7 +8,7 @@ use Rattle.x5_model.proofs.Lists.{in_first, in_left, in_right, in_either, none_o
 use Rattle.x5_model.proofs.Ascending.{of_insert, new_in_insert, old_in_insert, insert_ascending}
 use Rattle.x5_index.specs.Index.{Posting, posting_below, is_there}
 use Rattle.x5_index.specs.Places.{place_of, AreAdded}
-use Rattle.x5_index.proofs.Order.{same_or_apart, below_chain}
+use Rattle.x5_index.proofs.Order.{same_or_apart, below_chain, one_posting}
 
 -- ---- one posting at its place
 
@@ -54,10 +54,11 @@ module _ (old : List Posting) (node : ℕ) where
             | inr k ↦ twice ss h.1 k
           ]
 
-  pub added_more : (ts : List KeyPair) (t : KeyPair) (ps : List Posting) → (In (record { term = t; node = node }) ps → ⊥) → AreAdded old node ts ps
-      → AreAdded old node (ts ++ t ∷ []) (insert_sorted posting_below (record { term = t; node = node }) ps)
-  added_more ts t ps absent added = record {
-    in_order = insert_ascending posting_below below_chain x ps apart added.in_order;
+-- one of a term that the node lacks, and none where it has it
+module _ (node : ℕ) (t : KeyPair) (ps : List Posting) where
+  pub added_one : (In (record { term = t; node = node }) ps → ⊥) → ascending posting_below ps ≡ true → AreAdded ps node (t ∷ []) (insert_sorted posting_below (record { term = t; node = node }) ps)
+  added_one absent h = record {
+    in_order = insert_ascending posting_below below_chain x ps apart h;
     same = λ p. (forth p, back p);
   }
     where
@@ -67,22 +68,46 @@ module _ (old : List Posting) (node : ℕ) where
       apart : (z : Posting) → In z ps → (posting_below x z ≡ true) ⊎ (posting_below z x ≡ true)
       apart z i = elim (same_or_apart x z) [ inl e ↦ absurd (absent (subst (λ (y : Posting). In y ps) (sym e) i)) | inr w ↦ w ]
 
-      forth : (p : Posting) → In p (insert_sorted posting_below x ps) → In p old ⊎ ((p.node ≡ node) × In p.term (ts ++ t ∷ []))
+      forth : (p : Posting) → In p (insert_sorted posting_below x ps) → In p ps ⊎ ((p.node ≡ node) × In p.term (t ∷ []))
       forth p i =
           elim (of_insert posting_below p x ps i) [
-            | inl e ↦ inr (ap (λ (y : Posting). y.node) e, subst (λ (r : KeyPair). In r (ts ++ t ∷ [])) (ap (λ (y : Posting). y.term) (sym e)) (in_right t ts (t ∷ []) here))
-            | inr j ↦ elim ((added.same p).0 j) [ inl k ↦ inl k | inr w ↦ inr (w.0, in_left p.term ts (t ∷ []) w.1) ]
+            | inl e ↦ inr (ap (λ (y : Posting). y.node) e, subst (λ (r : KeyPair). In r (t ∷ [])) (ap (λ (y : Posting). y.term) (sym e)) here)
+            | inr j ↦ inl j
           ]
 
-      back : (p : Posting) → In p old ⊎ ((p.node ≡ node) × In p.term (ts ++ t ∷ [])) → In p (insert_sorted posting_below x ps)
+      back : (p : Posting) → In p ps ⊎ ((p.node ≡ node) × In p.term (t ∷ [])) → In p (insert_sorted posting_below x ps)
       back p w =
           elim w [
-            | inl i ↦ old_in_insert posting_below p x ps ((added.same p).1 (inl i))
-            | inr v ↦ elim (in_either p.term ts (t ∷ []) v.1) [
-              | inl j ↦ old_in_insert posting_below p x ps ((added.same p).1 (inr (v.0, j)))
-              | inr j ↦ elim (in_first p.term t [] j) [
-                | inl e ↦ (let n = v.0 in let s : x ≡ p = λ k. record { term = (sym e) k; node = (sym n) k } in subst (λ (y : Posting). In y (insert_sorted posting_below x ps)) s (new_in_insert posting_below x ps))
-                | inr k ↦ elim k [ ]
-              ]
-            ]
+            | inl i ↦ old_in_insert posting_below p x ps i
+            | inr v ↦ subst (λ (y : Posting). In y (insert_sorted posting_below x ps)) (sym (one_posting t node p v.0 v.1)) (new_in_insert posting_below x ps)
           ]
+
+  pub added_there : In (record { term = t; node = node }) ps → ascending posting_below ps ≡ true → AreAdded ps node (t ∷ []) ps
+  added_there i h = record {
+    in_order = h;
+    same = λ p. ((λ j. inl j), λ w. elim w [ inl j ↦ j | inr v ↦ subst (λ (y : Posting). In y ps) (sym (one_posting t node p v.0 v.1)) i ]);
+  }
+
+-- some terms and then more
+pub added_more : (node : ℕ) (old mid after : List Posting) (ts us : List KeyPair) → AreAdded old node ts mid → AreAdded mid node us after → AreAdded old node (ts ++ us) after
+added_more node old mid after ts us a b = record {
+  in_order = b.in_order;
+  same = λ p. (forth p, back p);
+}
+  where
+    forth : (p : Posting) → In p after → In p old ⊎ ((p.node ≡ node) × In p.term (ts ++ us))
+    forth p i =
+        elim ((b.same p).0 i) [
+          | inl j ↦ elim ((a.same p).0 j) [ inl k ↦ inl k | inr w ↦ inr (w.0, in_left p.term ts us w.1) ]
+          | inr w ↦ inr (w.0, in_right p.term ts us w.1)
+        ]
+
+    back : (p : Posting) → In p old ⊎ ((p.node ≡ node) × In p.term (ts ++ us)) → In p after
+    back p w =
+        elim w [
+          | inl i ↦ (b.same p).1 (inl ((a.same p).1 (inl i)))
+          | inr v ↦ elim (in_either p.term ts us v.1) [
+            | inl j ↦ (b.same p).1 (inl ((a.same p).1 (inr (v.0, j))))
+            | inr j ↦ (b.same p).1 (inr (v.0, j))
+          ]
+        ]

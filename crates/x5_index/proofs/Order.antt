@@ -1,14 +1,17 @@
--- The order of postings is total, with `≡` as its ties: by the laws of types and normal forms, and of numbers.
-use Rattle.std.specs.Prelude.{◌≡◌, ℕ, true, false}
+-- The orders of terms and of postings are total, with `≡` as their ties: by the laws of types and normal forms, and of numbers.
+use Rattle.std.specs.Prelude.{◌≡◌, ℕ, true, false, nat_lt, List, [], ◌∷◌}
 use Rattle.std.specs.Cmp.{IsTotalOrder, tied_itself, Equal-is, nat_cmp_total, on_total, then_total}
 use Rattle.std.specs.declared.cmp.Ordering.{Ordering}
 use Rattle.std.specs.declared.cmp.Ordering.TheVariants.{Less, Equal, Greater}
 use Rattle.std.specs.Ordering.{is_lt, ordering_reverse, ordering_then, nat_cmp}
 use Rattle.std.proofs.Common.{◌⊎◌, inl, inr, refl, sym, ap, ◌∙◌, arith}
 use Rattle.std.proofs.lemmas.Grind.{common_steps}
+use Rattle.std.specs.Cmp.Lexicographic.{slice_cmp}
 use Rattle.x5_model.specs.Keys.{KeyPair, pair_cmp}
+use Rattle.x5_model.specs.Members.{In}
+use Rattle.x5_model.proofs.Lists.{in_first}
 use Rattle.x5_model.proofs.KeyLaws.{pair_cmp_total, pair_ties, pair_decides}
-use Rattle.x5_index.specs.Index.{Posting, posting_cmp, posting_below}
+use Rattle.x5_index.specs.Index.{Posting, posting_cmp, posting_below, term_below}
 
 pub posting_total : IsTotalOrder posting_cmp
 posting_total =
@@ -25,6 +28,10 @@ first_equal Greater s e = cc
 equal_numbers : (a b : ℕ) → nat_cmp a b ≡ Equal → a ≡ b
 equal_numbers a b e = grind (arith, common_steps)
 
+-- a posting is known by its term and its node
+pub one_posting : (t : KeyPair) (node : ℕ) (p : Posting) → p.node ≡ node → In p.term (t ∷ []) → p ≡ record { term = t; node = node }
+one_posting t node p n i = elim (in_first p.term t [] i) [ inl e ↦ (λ k. record { term = e k; node = n k }) | inr j ↦ elim j [ ] ]
+
 -- ties are equality
 pub equal_postings : (a b : Posting) → posting_cmp a b ≡ Equal → a ≡ b
 equal_postings a b e =
@@ -33,16 +40,10 @@ equal_postings a b e =
     let n : a.node ≡ b.node = equal_numbers a.node b.node w.1 in
     λ i. record { term = t i; node = n i }
 
-pub itself : (a : Posting) → posting_cmp a a ≡ Equal
-itself a = tied_itself posting_total a
-
 pub is_less : (o : Ordering) → is_lt o ≡ true → o ≡ Less
 is_less Less e = refl
 is_less Equal e = cc
 is_less Greater e = cc
-
-pub less : (a b : Posting) → posting_below a b ≡ true → posting_cmp a b ≡ Less
-less a b e = is_less (posting_cmp a b) e
 
 -- below is irreflexive and transitive, and each two postings are the same or apart
 pub never_below : (a : Posting) → posting_below a a ≡ true → ⊥
@@ -63,3 +64,23 @@ same_or_apart a b = by (posting_cmp a b) refl (posting_cmp b a) refl
     by Greater e Equal f = inl (sym (equal_postings b a f))
     by Greater e Greater f =
         absurd (let h : posting_cmp a b ≡ ordering_reverse (posting_cmp b a) = posting_total.antisymm a b in let k : ordering_reverse (posting_cmp b a) ≡ Less = ap ordering_reverse f in cc)
+
+-- ---- terms
+
+pub term_chain : (a b c : KeyPair) → term_below a b ≡ true → term_below b c ≡ true → term_below a c ≡ true
+term_chain a b c p q = ap is_lt (pair_cmp_total.trans a b c (is_less (pair_cmp a b) p) (is_less (pair_cmp b c) q))
+
+pub term_never : (a : KeyPair) → term_below a a ≡ true → ⊥
+term_never a e =
+    let h : term_below a a ≡ false = ap is_lt (tied_itself pair_cmp_total a) in
+    cc
+
+-- of one type by their normal forms, and else by their types
+pub below_by_normal : (kind : ℕ) (a b : List ℕ) → is_lt (slice_cmp nat_cmp a b) ≡ true → term_below (kind, a) (kind, b) ≡ true
+below_by_normal kind a b e = ap (λ (o : Ordering). is_lt (ordering_then o (slice_cmp nat_cmp a b))) (tied_itself nat_cmp_total kind) ∙ e
+
+less_numbers : (a b : ℕ) → nat_lt a b ≡ true → nat_cmp a b ≡ Less
+less_numbers a b e = grind (arith, common_steps)
+
+pub below_by_kind : (a b : KeyPair) → nat_lt a.0 b.0 ≡ true → term_below a b ≡ true
+below_by_kind a b e = ap (λ (o : Ordering). is_lt (ordering_then o (slice_cmp nat_cmp a.1 b.1))) (less_numbers a.0 b.0 e)

@@ -27,6 +27,10 @@ posting_cmp a b = ordering_then (pair_cmp a.term b.term) (nat_cmp a.node b.node)
 abbrev pub posting_below : Posting → Posting → Bool
 posting_below a b = is_lt (posting_cmp a b)
 
+-- the order of values: by types, then by normal forms
+abbrev pub term_below : KeyPair → KeyPair → Bool
+term_below a b = is_lt (pair_cmp a b)
+
 -- the values of an entry, by their types and normal forms
 abbrev pub terms_in : Stored → List KeyPair
 terms_in a = map (λ v. (a.kind, v.normal)) a.values
@@ -48,7 +52,7 @@ pub record IsEntryAt (postings : List Posting) (node : ℕ) (entry : Entry) : Ty
 pub record OthersStay (old : List Posting) (node : ℕ) (after : List Posting) : Type 0 where
   pub same : (p : Posting) → p.node ≢ node → In p after ↔ In p old
 
--- the node is put there with the entry
+-- the node is put there with the entry, in place of the one that it had, if any
 pub record IsPut (old : List Posting) (node : ℕ) (entry : Entry) (after : List Posting) : Type 0 where
   pub here : IsEntryAt after node entry
   pub others : OthersStay old node after

@@ -25,10 +25,14 @@ pub record AreAdded (old : List Posting) (node : ℕ) (terms : List KeyPair) (af
   pub in_order : IsTrue (ascending posting_below after)
   pub same : (p : Posting) → In p after ↔ (In p old ⊎ ((p.node ≡ node) × In p.term terms))
 
--- no posting of the node is there any more for these terms
-pub record AreTaken (old : List Posting) (node : ℕ) (terms : List KeyPair) (after : List Posting) : Type 0 where
+-- a posting that goes: it is the node's, for one of these terms, and the term isn't among the kept ones
+abbrev pub Goes : ℕ → List KeyPair → List KeyPair → Posting → Type 0
+Goes node terms kept p = (p.node ≡ node) × In p.term terms × ¬ In p.term kept
+
+-- no posting of the node is there any more for these terms, but for the kept ones
+pub record AreTaken (old : List Posting) (node : ℕ) (terms kept : List KeyPair) (after : List Posting) : Type 0 where
   pub in_order : IsTrue (ascending posting_below after)
-  pub same : (p : Posting) → In p after ↔ (In p old × ¬ ((p.node ≡ node) × In p.term terms))
+  pub same : (p : Posting) → In p after ↔ (In p old × ¬ Goes node terms kept p)
 
 -- the nodes that have a value, each once
 pub record AreNodesOf (postings : List Posting) (term : KeyPair) (nodes : List ℕ) : Type 0 where

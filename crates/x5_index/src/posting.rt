@@ -1,9 +1,11 @@
 //! Postings: what an index has of a value of an entry, and their order.
 
 ghost use Rattle.std.specs.Prelude.{◌≡◌, IsTrue};
+ghost use Rattle.std.specs.Bool.{Decides};
 ghost use Rattle.x5_model.specs.Keys.{pair_cmp};
+ghost use Rattle.x5_model.specs.Members.{In};
 ghost use Rattle.x5_model.specs.Words.{ascending};
-ghost use Rattle.x5_index.specs.Index.{posting_cmp, posting_below};
+ghost use Rattle.x5_index.specs.Index.{posting_cmp, posting_below, term_below};
 ghost use Rattle.x5_index.specs.Places.{IsFoundAt};
 
 use std::cmp::Ordering;
@@ -49,6 +51,16 @@ pub(crate) fn compare_terms(term: &Term, kind: TypeId, normal: &Normal) -> Order
         .number()
         .cmp(&kind.number())
         .then(octets.cmp(normal.as_slice()))
+}
+
+/// Whether the value of this type and normal form is among these. No memory.
+pub(crate) fn has_term(terms: &[Term], kind: TypeId, normal: &Normal) -> bool
+    requires { IsTrue (ascending term_below terms.now) }
+    ensures { Decides result (In (kind, normal.now) terms.now) }
+{
+    terms
+        .binary_search_by(|term| compare_terms(term, kind, normal))
+        .is_ok()
 }
 
 /// How a posting stands to one of this type, normal form and node.

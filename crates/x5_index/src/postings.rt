@@ -4,14 +4,14 @@ ghost use Rattle.std.specs.Prelude.{◌≡◌, ◌+◌, ◌≤◌, ◌<◌, ◌�
 ghost use Rattle.x5_model.specs.Attributes.{is_ordered};
 ghost use Rattle.x5_model.specs.Entries.{Entry as entry};
 ghost use Rattle.x5_model.specs.Members.{In, Once};
-ghost use Rattle.x5_model.specs.Words.{ascending, insert_sorted};
+ghost use Rattle.x5_model.specs.Words.{ascending};
 ghost use Rattle.x5_match.specs.FilterView.{filter_view};
-ghost use Rattle.x5_index.specs.Index.{posting_below, terms_in, terms_of, is_there, IsEntryAt, IsPut, IsDropped};
+ghost use Rattle.x5_index.specs.Index.{posting_below, term_below, terms_in, terms_of, is_there, IsEntryAt, IsPut, IsDropped};
 ghost use Rattle.x5_index.specs.Lookup.{IsLookUp};
 ghost use Rattle.x5_index.specs.Places.{AreAdded, AreTaken};
 
 use crate::lookup::{NodeList, asserted, assertion_of};
-use crate::posting::{Posting, Term, find};
+use crate::posting::{Posting, Term, find, has_term};
 use crate::room::Room;
 use std::alloc::Global;
 use std::marker::Model;
@@ -37,32 +37,31 @@ impl Model for Postings {
     ghost invariant = { λ p. IsTrue (ascending index.posting_below p.postings.items) };
 }
 
-/// Puts a posting at its place. No memory: there is room.
+/// Puts a posting at its place, unless it's there. No memory: there is room.
 fn put_posting(postings: &mut Vec<Posting>, posting: Posting)
     requires in_order { IsTrue (ascending posting_below postings.old.items) }
-    requires absent { ¬ In posting postings.old.items }
     requires room { vec_len postings.old < vec_capacity postings.old }
-    ensures items { postings.new.items ≡ insert_sorted posting_below posting postings.old.items }
-    ensures len { vec_len postings.new ≡ vec_len postings.old + 1 }
+    ensures added { AreAdded postings.old.items posting.node (posting.term ∷ []) postings.new.items }
+    ensures most { vec_len postings.new ≤ vec_len postings.old + 1 }
+    ensures absent { ¬ In posting postings.old.items → vec_len postings.new ≡ vec_len postings.old + 1 }
     ensures capacity { vec_capacity postings.new ≡ vec_capacity postings.old }
 {
     let Term { kind, normal } = &posting.term;
-    let Err(place) = find(postings, *kind, normal, posting.node) else {
-        unreachable!()
-    };
-    if postings.insert(place, posting).is_err() {
-        unreachable!();
+    if let Err(place) = find(postings, *kind, normal, posting.node) {
+        if postings.insert(place, posting).is_err() {
+            unreachable!();
+        }
     }
 }
 
-/// Puts a posting of the node for each term. No memory: there is room.
+/// Puts a posting of the node for each term, unless it's there. No memory: there is room.
 fn put_terms(postings: &mut Vec<Posting>, node: usize, terms: Vec<Term>)
     requires in_order { IsTrue (ascending posting_below postings.old.items) }
-    requires absent { is_there postings.old.items node ≡ false }
     requires once { Once terms.items }
     requires room { vec_len postings.old + length terms.items ≤ vec_capacity postings.old }
     ensures added { AreAdded postings.old.items node terms.items postings.new.items }
-    ensures len { vec_len postings.new ≡ vec_len postings.old + length terms.items }
+    ensures most { vec_len postings.new ≤ vec_len postings.old + length terms.items }
+    ensures absent { is_there postings.old.items node ≡ false → vec_len postings.new ≡ vec_len postings.old + length terms.items }
     ensures capacity { vec_capacity postings.new ≡ vec_capacity postings.old }
 {
     for term in terms {
@@ -70,39 +69,51 @@ fn put_terms(postings: &mut Vec<Posting>, node: usize, terms: Vec<Term>)
     }
 }
 
-/// Takes a posting away, if it's there. No memory.
-fn take_posting(postings: &mut Vec<Posting>, node: usize, kind: TypeId, normal: &Normal)
-    requires { IsTrue (ascending posting_below postings.old.items) }
-    ensures taken { AreTaken postings.old.items node ((kind, normal.now) ∷ []) postings.new.items }
+/// Takes a posting away, if it's there and its term isn't kept. No memory.
+fn take_posting(
+    postings: &mut Vec<Posting>,
+    node: usize,
+    kind: TypeId,
+    normal: &Normal,
+    kept: &[Term],
+)
+    requires in_order { IsTrue (ascending posting_below postings.old.items) }
+    requires kept { IsTrue (ascending term_below kept.now) }
+    ensures taken { AreTaken postings.old.items node ((kind, normal.now) ∷ []) kept.now postings.new.items }
     ensures len { vec_len postings.new ≤ vec_len postings.old }
     ensures capacity { vec_capacity postings.new ≡ vec_capacity postings.old }
 {
+    if has_term(kept, kind, normal) {
+        return;
+    }
     if let Ok(place) = find(postings, kind, normal, node) {
         postings.remove(place);
     }
 }
 
-/// Takes the node's postings of an attribute's values away. No memory.
-fn take_terms(postings: &mut Vec<Posting>, node: usize, attribute: &Stored)
-    requires { IsTrue (ascending posting_below postings.old.items) }
-    ensures taken { AreTaken postings.old.items node (terms_in attribute.now) postings.new.items }
+/// Takes the node's postings of an attribute's values away, but for the kept terms. No memory.
+fn take_terms(postings: &mut Vec<Posting>, node: usize, attribute: &Stored, kept: &[Term])
+    requires in_order { IsTrue (ascending posting_below postings.old.items) }
+    requires kept { IsTrue (ascending term_below kept.now) }
+    ensures taken { AreTaken postings.old.items node (terms_in attribute.now) kept.now postings.new.items }
     ensures len { vec_len postings.new ≤ vec_len postings.old }
     ensures capacity { vec_capacity postings.new ≡ vec_capacity postings.old }
 {
     for value in attribute.values.as_slice() {
-        take_posting(postings, node, attribute.kind, &value.normal);
+        take_posting(postings, node, attribute.kind, &value.normal, kept);
     }
 }
 
-/// Takes the node's postings of an entry's values away. No memory.
-fn take_entry(postings: &mut Vec<Posting>, node: usize, entry: &Entry)
-    requires { IsTrue (ascending posting_below postings.old.items) }
-    ensures taken { AreTaken postings.old.items node (terms_of entry.now) postings.new.items }
+/// Takes the node's postings of an entry's values away, but for the kept terms. No memory.
+fn take_entry(postings: &mut Vec<Posting>, node: usize, entry: &Entry, kept: &[Term])
+    requires in_order { IsTrue (ascending posting_below postings.old.items) }
+    requires kept { IsTrue (ascending term_below kept.now) }
+    ensures taken { AreTaken postings.old.items node (terms_of entry.now) kept.now postings.new.items }
     ensures len { vec_len postings.new ≤ vec_len postings.old }
     ensures capacity { vec_capacity postings.new ≡ vec_capacity postings.old }
 {
     for attribute in entry.attributes() {
-        take_terms(postings, node, attribute);
+        take_terms(postings, node, attribute, kept);
     }
 }
 
@@ -164,7 +175,20 @@ impl Postings {
         ensures dropped { IsDropped self.old.postings node self.new.postings }
         ensures spare { self.old.spare ≤ self.new.spare }
     {
-        take_entry(&mut self.postings, node, entry);
+        take_entry(&mut self.postings, node, entry, &[]);
+    }
+
+    /// Gives a node that is there with one entry another, whose values the room has: as dropping and putting it does, but the
+    /// postings of values that both have stay where they are. No memory: it needs `spare`, which falls by the number of the
+    /// room's values at most.
+    pub fn change(&mut self, node: usize, before: &Entry, room: Room)
+        requires before { IsEntryAt self.old.postings node before.now }
+        requires spare { length room ≤ self.old.spare }
+        ensures put { (e : entry) → IsTrue (is_ordered e) → room ≡ terms_of e → IsPut self.old.postings node e self.new.postings }
+        ensures spare { self.old.spare ≤ self.new.spare + length room }
+    {
+        take_entry(&mut self.postings, node, before, room.as_slice());
+        put_terms(&mut self.postings, node, room.into_terms());
     }
 
     /// The nodes whose entries make the filter's equality item on a known type true, or that of the first such member of an

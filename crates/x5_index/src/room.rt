@@ -3,7 +3,8 @@
 ghost use Rattle.std.specs.Prelude.{◌≡◌, ◌++◌, IfOk, OnOk, IsTrue, length};
 ghost use Rattle.x5_model.specs.Attributes.{is_ordered};
 ghost use Rattle.x5_model.specs.Members.{Once};
-ghost use Rattle.x5_index.specs.Index.{terms_in, terms_of};
+ghost use Rattle.x5_model.specs.Words.{ascending};
+ghost use Rattle.x5_index.specs.Index.{term_below, terms_in, terms_of};
 
 use crate::posting::Term;
 use std::alloc::Global;
@@ -18,15 +19,16 @@ pub struct Room {
 }
 
 impl Model for Room {
-    ghost use Rattle.std.specs.Prelude.{List};
+    ghost use Rattle.std.specs.Prelude.{List, IsTrue};
     ghost use Rattle.x5_model.specs.Keys.{KeyPair};
-    ghost use Rattle.x5_model.specs.Members.{Once};
+    ghost use Rattle.x5_model.specs.Words.{ascending};
+    ghost use Rattle.x5_index.specs.Index as index;
 
     ghost Value = { List KeyPair };
 
     ghost view = { λ r. r.terms.items };
 
-    ghost invariant = { λ r. Once r.terms.items };
+    ghost invariant = { λ r. IsTrue (ascending index.term_below r.terms.items) };
 }
 
 /// Adds the values of an attribute.
@@ -60,6 +62,14 @@ impl Room {
         ensures { result ≡ length self.now }
     {
         self.terms.len()
+    }
+
+    /// The values in their order. No memory.
+    pub(crate) fn as_slice(&self) -> &[Term]
+        ensures same { result.now ≡ self.now }
+        ensures ordered { IsTrue (ascending term_below result.now) }
+    {
+        self.terms.as_slice()
     }
 
     /// The values, each once. No memory.

@@ -23,7 +23,7 @@ use Rattle.x5_model_heard.specs.Told.{are_agents, name_agents, reply_names, Know
 use Rattle.x5_model_heard.proofs.Errors.{is_tree_error, fault_plain, over_plain, asked_plain}
 use Rattle.x5_model_heard.proofs.Told.{replies_are_told}
 use Rattle.x5_model_known.specs.Holding.{AreThemselves}
-use Rattle.x5_model_known.specs.Replying.{sources_name, answer_sources, error_items, reply_sources, reply_agents, RepliesNameAgents}
+use Rattle.x5_model_known.specs.Replying.{sources_name, answer_sources, error_items, reply_sources, reply_agents, RepliesNameAgents, ServedNameAgents}
 use Rattle.x5_model_known.proofs.Finding.{knowledge_names_agents, knowledge_stays}
 
 -- ---- an update leaves holdings with their agent
@@ -271,9 +271,9 @@ module _ (n : ℕ) where
         (let last = comes _ _ _ u in λ all sources. last (middle is_named r b c all))
 
     -- ---- the request of a user
-    served_there : (y : Reply) (i j : Journal) → is_there s.first ≡ true
-        → Does s most (Serves (hand s.first s.message) y) i j → reply_agents n y ≡ true
-    served_there y i j t d =
+    served_there : (k : Hand) (y : Reply) (i j : Journal) → is_there k.receiver ≡ true
+        → Does s most (Serves k y) i j → reply_agents n y ≡ true
+    served_there k y i j t d =
         let told : IsTold n y = replies_are_told n s most _ _ _ knows d t in
         and_true (reply_names n y) (reply_sources n y) told.agents (comes _ _ _ d t)
 
@@ -283,7 +283,10 @@ module _ (n : ℕ) where
     request_there : (j : Journal) (y : Reply) → is_there s.first ≡ true → IsRequest s most j y → reply_agents n y ≡ true
     request_there _ _ t (not_heard e) = vain_there t
     request_there _ _ t (not_told y e d) = vain_there t
-    request_there _ _ t (answers y e d) = served_there y _ _ t d
+    request_there _ _ t (answers y e d) = served_there (hand s.first s.message) y _ _ t d
 
 pub replies_name_agents : RepliesNameAgents
 replies_name_agents n s most j y hold own t r = request_there n s most (knowledge_names_agents n s hold) own j y t r
+
+pub served_name_agents : ServedNameAgents
+served_name_agents n s most k y i j hold own t d = served_there n s most (knowledge_names_agents n s hold) own k y i j t d

@@ -9,7 +9,7 @@ use Rattle.x5_model.specs.Answers.{Source, Answer, EntryFound, Matched, Listed, 
 use Rattle.x5_model.specs.Answers.{AttributeProblem, UpdateProblem, ServiceProblem, Reply, Answered, Failed, Referred}
 use Rattle.x5_model_run.specs.Journal.{Journal}
 use Rattle.x5_model_run.specs.Chain.{Scene}
-use Rattle.x5_model_serve.specs.Serving.{IsRequest}
+use Rattle.x5_model_serve.specs.Serving.{Hand, Serves, Does, IsRequest}
 use Rattle.x5_model_heard.specs.Told.{reply_names}
 use Rattle.x5_model_known.specs.Holding.{HoldAgents, AreThemselves}
 
@@ -49,4 +49,11 @@ abbrev pub RepliesNameAgents : Type 0
 RepliesNameAgents =
     (n : ℕ) (s : Scene) (most : ℕ) (j : Journal) (reply : Reply)
     → HoldAgents n s → AreThemselves n s → nat_lt s.first n ≡ true → IsRequest s most j reply
+    → reply_agents n reply ≡ true
+
+-- So it is of what any agent of the world replies to any message.
+abbrev pub ServedNameAgents : Type 0
+ServedNameAgents =
+    (n : ℕ) (s : Scene) (most : ℕ) (k : Hand) (reply : Reply) (i j : Journal)
+    → HoldAgents n s → AreThemselves n s → nat_lt k.receiver n ≡ true → Does s most (Serves k reply) i j
     → reply_agents n reply ≡ true

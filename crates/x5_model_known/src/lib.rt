@@ -6,7 +6,7 @@
 ghost use Rattle.x5_model_known.specs.Holding.{KnowledgeNamesAgents, KnowledgeStays, DescribedNameAgents, DescribedAreThemselves, DescribedNamesApart};
 ghost use Rattle.x5_model_known.specs.Counted.{DescribedCounted, CountedStays};
 ghost use Rattle.x5_model_known.specs.AtLines.{LinesNameAgents, LinesCounted, LinesAreThemselves};
-ghost use Rattle.x5_model_known.specs.Replying.{RepliesNameAgents};
+ghost use Rattle.x5_model_known.specs.Replying.{RepliesNameAgents, ServedNameAgents};
 ghost use Rattle.x5_model_known.specs.Resolving.{ResolvesAlike, UnresolvedIsStuck};
 
 /// Where what agents hold names agents of the world alone, so do the references that they find, need for a list or search, and
@@ -42,10 +42,12 @@ pub fn lines()
     ensures whose { LinesAreThemselves }
 {}
 
-/// So does the reply to every request: in its references, in the sources of its answer, and in the item of a loop.
-#[tactic(auto, using(crate::proofs::Replying::replies_name_agents))]
+/// So does the reply to every request, and to every message that comes to an agent of the world: in its references, in the sources of
+/// its answer, and in the item of a loop.
+#[tactic(auto, using(crate::proofs::Replying::replies_name_agents, crate::proofs::Replying::served_name_agents))]
 pub fn replies()
-    ensures { RepliesNameAgents }
+    ensures requests { RepliesNameAgents }
+    ensures served { ServedNameAgents }
 {}
 
 /// An agent resolves as many names after an update as before, and of an update's name that it doesn't resolve it finds nothing.

@@ -1,16 +1,16 @@
 -- At a line agents hold the same knowledge as at first, with other entries: parts of the one tree, now or at the moment
 -- of a refresh. That tree has the described entries, and what accepted updates within the limits made of them; where a
 -- context went back to the one above, names begin as that one's entry is spelled.
-use Rattle.std.proofs.Common.{◌≡◌, ℕ, ◌-◌, ◌==◌, Bool, true, false, not, ◌&&◌, inl, inr, List, [], ◌∷◌, ◌++◌, length, map, drop, refl, sym, subst, arith, length-append, Option, Some, None, Ok, Err, if◌then◌else◌}
+use Rattle.std.proofs.Common.{◌≡◌, ℕ, ◌-◌, ◌==◌, Bool, true, false, not, ◌&&◌, inl, inr, List, [], ◌∷◌, ◌++◌, length, map, drop, refl, arith, length-append, Option, Some, None, Ok, Err, if◌then◌else◌}
 use Rattle.std.proofs.lemmas.List.{length-drop}
 use Rattle.std.specs.List.{filter}
-use Rattle.x5_model.specs.Words.{is_empty, in_option, first_of, when}
+use Rattle.x5_model.specs.Words.{is_empty, in_option}
 use Rattle.x5_model.specs.Members.{In, here, there}
 use Rattle.x5_model.specs.Keys.{Key, same_key, parent}
 use Rattle.x5_model.specs.Values.{key_of}
 use Rattle.x5_model.specs.Entries.{Named}
 use Rattle.x5_model.specs.Requests.{Request}
-use Rattle.x5_model.proofs.Lists.{in_first, in_either, of_filter, of_flat}
+use Rattle.x5_model.proofs.Lists.{in_either, of_filter, of_flat}
 use Rattle.x5_model.proofs.Ascending.{of_sorted}
 use Rattle.x5_model_tree.specs.World.{Specific, Agent, Agreement, World}
 use Rattle.x5_model_tree.specs.Tree.{Tree, key_at, named_below, entry_at, is_there, belongs, part}
@@ -19,18 +19,18 @@ use Rattle.x5_model_tree.specs.Apply.{Applied, apply, ground_of}
 use Rattle.x5_model_tree.specs.Described.{IsDescribed}
 use Rattle.x5_model_tree.proofs.Gives.{of_numbered, owner_of}
 use Rattle.x5_model_run.specs.Replant.{respelled_below, unsplit_tree}
-use Rattle.x5_model_run.specs.History.{Refreshed, Acceptance, Deed, Nothing, Outs, Loses, Accepts, Refreshes, Splits, Unsplits, Did, Point, tree_with, tree_accepting, tree_after, tree_by, tree_at, tree_of_moment, knowledge_at, refresh_of, refreshes_of, stamp_of, as_of, references_below, own_context, sent_references, mastered_at, copy_as_of, copy_by, agreements_of, agent_holdings, no_holdings}
+use Rattle.x5_model_run.specs.History.{Acceptance, Deed, Nothing, Outs, Loses, Accepts, Refreshes, Splits, Unsplits, Did, Point, tree_with, tree_accepting, tree_after, tree_by, tree_at, tree_of_moment, knowledge_at, as_of, references_below, own_context, sent_references, mastered_at, copy_as_of, copy_by, agreements_of, agent_holdings, no_holdings}
 use Rattle.x5_model_updates.proofs.Lookups.{entry_found}
 use Rattle.x5_model_updates.proofs.Outcomes.{tree_made}
 use Rattle.x5_model_known.proofs.Describing.{at_place}
 use Rattle.x5_model_fitting.specs.Names.{Each, NameWithin}
-use Rattle.x5_model_fitting.specs.Requests.{CountWithin, IfThere, RequestWithin}
+use Rattle.x5_model_fitting.specs.Requests.{RequestWithin}
 use Rattle.x5_model_limits.specs.Holding.{BoundedEntry, BoundedSpecific, BoundedContext, BoundedCopy, BoundedHoldings}
-use Rattle.x5_model_limits.specs.Described.{world_is_utf8, BoundedDeed, BoundedPast}
+use Rattle.x5_model_limits.specs.Described.{world_is_utf8, BoundedDeed, BoundedPast, BoundedMoments}
 use Rattle.x5_model_limits.specs.Laws.{LinesBounded}
 use Rattle.x5_model_limits.proofs.Lists.{in_end, each_none, each_both, each_kept, each_map, each_some}
 use Rattle.x5_model_limits.proofs.Committing.{applied_bounded}
-use Rattle.x5_model_limits.proofs.Described.{ContextWithin, AgentWithin, agent_within, copied_within, held_within, below_within, root_within, nothing_held}
+use Rattle.x5_model_limits.proofs.Described.{ContextWithin, AgentWithin, agent_within, agreement_there, copied_within, held_within, below_within, root_within, nothing_held}
 
 -- ---- the one tree
 
@@ -126,46 +126,11 @@ module _ (w : World) (described : IsDescribed w) (utf8 : world_is_utf8 w ≡ tru
   tree_within (d ∷ before) b e i =
       deed_within d.deed (tree_by w before) (b d here) (tree_within before (λ x j. b x (there j))) e i
 
--- ---- moments
-
-stamp_within : (past : List Did) (agreement : ℕ) → BoundedPast past
-    → Each (λ (f : Refreshed). CountWithin f.stamp) (refreshes_of past agreement)
-stamp_within [] agreement b f i = elim i [ ]
-stamp_within (d ∷ before) agreement b f i =
-    elim (in_either f (refresh_of d.deed agreement) (refreshes_of before agreement) i) [
-      | inl j ↦ one d.deed (b d here) j
-      | inr j ↦ stamp_within before agreement (λ x k. b x (there k)) f j
-    ]
-  where
-    its : (t : Bool) (g : Refreshed) → CountWithin g.stamp → In f (when t g) → CountWithin f.stamp
-    its true g c j = elim (in_first f g [] j) [
-      | inl s ↦ subst (λ (x : Refreshed). CountWithin x.stamp) (sym s) c
-      | inr k ↦ elim k [ ]
-    ]
-    its false g c j = elim j [ ]
-
-    one : (x : Deed) → BoundedDeed x → In f (refresh_of x agreement) → CountWithin f.stamp
-    one Nothing c j = elim j [ ]
-    one (Outs o) c j = elim j [ ]
-    one (Loses reply k) c j = elim j [ ]
-    one (Accepts accepted) c j = elim j [ ]
-    one (Splits name a) c j = elim j [ ]
-    one (Unsplits name) c j = elim j [ ]
-    one (Refreshes g) c j = its (g.agreement == agreement) g c j
-
-as_of_within : (p : Point) (agreement : ℕ) → BoundedPast p.past → IfThere CountWithin (as_of p agreement)
-as_of_within p agreement b = by (refreshes_of p.past agreement) (stamp_within p.past agreement b)
-  where
-    by : (fs : List Refreshed) → Each (λ (f : Refreshed). CountWithin f.stamp) fs
-        → IfThere CountWithin (stamp_of (first_of fs))
-    by [] each = tt
-    by (f ∷ fs) each = each f here
-
 -- ---- what agents hold
 
 module _ (p : Point) (first : IsDescribed p.described) (utf8_first : world_is_utf8 p.described ≡ true)
     (described : IsDescribed (knowledge_at p)) (utf8 : world_is_utf8 (knowledge_at p) ≡ true)
-    (past : BoundedPast p.past)
+    (past : BoundedPast p.past) (moments : BoundedMoments p)
   where
     abbrev w : World
     w = knowledge_at p
@@ -256,7 +221,7 @@ module _ (p : Point) (first : IsDescribed p.described) (utf8_first : world_is_ut
         let x = copied_within w described utf8 me g i in
         record {
           held = copy_within g (as_of p g.number) x.context x.some;
-          stamp = as_of_within p g.number past;
+          stamp = moments g (agreement_there w me g i);
         })
 
     held_then : (me : ℕ) (a : Agent) → AgentWithin a → BoundedHoldings (agent_holdings p me a)
@@ -268,11 +233,11 @@ module _ (p : Point) (first : IsDescribed p.described) (utf8_first : world_is_ut
     }
 
 pub lines_bounded : LinesBounded
-lines_bounded p me first utf8_first described utf8 past = by (agent_at (knowledge_at p) me) refl
+lines_bounded p me first utf8_first described utf8 past moments = by (agent_at (knowledge_at p) me) refl
   where
     by : (x : Option Agent) → agent_at (knowledge_at p) me ≡ x
         → BoundedHoldings (in_option (no_holdings me) (agent_holdings p me) x)
     by None e = nothing_held me
     by (Some a) e =
-        held_then p first utf8_first described utf8 past me a
+        held_then p first utf8_first described utf8 past moments me a
         (agent_within (knowledge_at p) described utf8 a (at_place (knowledge_at p).agents me a e))

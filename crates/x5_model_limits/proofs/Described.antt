@@ -132,6 +132,11 @@ pub record AgentWithin (a : Agent) : Type 0 where
   pub subordinate : Each BoundedSpecific a.subordinate
   pub cross : Each BoundedSpecific a.cross
 
+pub agreement_there : (w : World) (me : ℕ) (g : Agreement) → In g (agreements_of w me) → In g w.agreements
+agreement_there w me g i =
+    let j = of_first [] (filter (λ g. g.consumer == me) w.agreements) g i in
+    (of_filter (λ (x : Agreement). x.consumer == me) g w.agreements j).0
+
 module _ (w : World) (described : IsDescribed w) (utf8 : world_is_utf8 w ≡ true) where
   pub agent_within : (a : Agent) → In a w.agents → AgentWithin a
   agent_within a i =
@@ -175,9 +180,7 @@ module _ (w : World) (described : IsDescribed w) (utf8 : world_is_utf8 w ≡ tru
 
   -- those by which an agent has copies
   pub copied_within : (me : ℕ) (g : Agreement) → In g (agreements_of w me) → AgreementWithin g
-  copied_within me g i =
-      let j = of_first [] (filter (λ g. g.consumer == me) w.agreements) g i in
-      agreement_within g (of_filter (λ (x : Agreement). x.consumer == me) g w.agreements j).0
+  copied_within me g i = agreement_within g (agreement_there w me g i)
 
   pub held_within : (a : Agent) → AgentWithin a → Each ContextWithin (held_contexts [] a.contexts)
   held_within a b c i = b.contexts c (of_held [] a.contexts c i)

@@ -1,15 +1,17 @@
--- Worlds whose texts are UTF-8, as those that were read from a file, and histories whose lines are within the limits of
--- messages.
+-- Worlds whose texts are UTF-8, as those that were read from a file, and histories whose updates and moments are within
+-- the limits of messages.
 use Rattle.std.specs.Prelude.{Bool, ◌&&◌, List}
 use Rattle.std.specs.List.{list_all}
 use Rattle.x5_model.specs.Values.{Name, written}
 use Rattle.x5_model.specs.Entries.{Stored, Named}
-use Rattle.x5_model_tree.specs.World.{Specific, Context, Agent, World}
+use Rattle.x5_model.specs.Members.{In}
+use Rattle.x5_model_tree.specs.World.{Specific, Context, Agent, Agreement, World}
 use Rattle.x5_model_run.specs.History.{Acceptance, Deed, Nothing, Outs, Loses, Accepts, Refreshes, Splits}
 use Rattle.x5_model_run.specs.History.{Unsplits, Did}
+use Rattle.x5_model_run.specs.History.{Point, knowledge_at, as_of}
 use Rattle.x5_model_fitting.specs.Names.{Each, are_utf8}
 use Rattle.x5_model_fitting.specs.Keeping.{has_utf8}
-use Rattle.x5_model_fitting.specs.Requests.{CountWithin, RequestWithin}
+use Rattle.x5_model_fitting.specs.Requests.{CountWithin, IfThere, RequestWithin}
 
 abbrev pub name_is_utf8 : Name → Bool
 name_is_utf8 n = list_all are_utf8 (written n)
@@ -33,16 +35,19 @@ agent_is_utf8 a =
 abbrev pub world_is_utf8 : World → Bool
 world_is_utf8 w = list_all agent_is_utf8 w.agents && list_all (λ g. name_is_utf8 g.context) w.agreements
 
--- what a line did: the updates that it accepted are within the limits, and so is the stamp of a refresh (X.525, section
--- 9)
+-- the updates that lines accepted (X.511, section 11)
 abbrev pub BoundedDeed : Deed → Type 0
 BoundedDeed Nothing = Unit {0}
 BoundedDeed (Outs o) = Unit {0}
 BoundedDeed (Loses reply k) = Unit {0}
 BoundedDeed (Accepts accepted) = Each (λ (x : Acceptance). RequestWithin x.request) accepted
-BoundedDeed (Refreshes f) = CountWithin f.stamp
+BoundedDeed (Refreshes f) = Unit {0}
 BoundedDeed (Splits name a) = Unit {0}
 BoundedDeed (Unsplits name) = Unit {0}
 
 abbrev pub BoundedPast : List Did → Type 0
 BoundedPast past = Each (λ (d : Did). BoundedDeed d.deed) past
+
+-- the moments of copies, by their agreements (X.525, section 9: last update): four octets have them
+abbrev pub BoundedMoments : Point → Type 0
+BoundedMoments p = (g : Agreement) → In g (knowledge_at p).agreements → IfThere CountWithin (as_of p g.number)

@@ -26,7 +26,7 @@ use Rattle.x5_model_fitting.specs.Requests.{RequestWithin}
 use Rattle.x5_model_limits.specs.Holding.{BoundedEntry, BoundedContext, BoundedCopy, BoundedHoldings, HoldBounded}
 use Rattle.x5_model_limits.specs.Messages.{BoundedReference, BoundedMessage, BoundedAnswer, BoundedError, BoundedReply}
 use Rattle.x5_model_limits.specs.Doing.{BoundedFound, BoundedJournal, GivenBounded, ToldBounded}
-use Rattle.x5_model_limits.specs.Described.{world_is_utf8, BoundedPast}
+use Rattle.x5_model_limits.specs.Described.{world_is_utf8, BoundedPast, BoundedMoments}
 
 -- 1. What is found of a name (X.518, section 18).
 abbrev pub FindsBounded : Type 0
@@ -118,4 +118,5 @@ DescribedBounded =
 abbrev pub LinesBounded : Type 0
 LinesBounded =
     (p : Point) (me : ℕ) → IsDescribed p.described → world_is_utf8 p.described ≡ true → IsDescribed (knowledge_at p)
-    → world_is_utf8 (knowledge_at p) ≡ true → BoundedPast p.past → BoundedHoldings (holdings_at p me)
+    → world_is_utf8 (knowledge_at p) ≡ true → BoundedPast p.past → BoundedMoments p
+    → BoundedHoldings (holdings_at p me)

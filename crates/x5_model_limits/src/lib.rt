@@ -76,7 +76,7 @@ pub fn described_bounded()
 {}
 
 /// At every line of a run what an agent holds is within the limits, copies refreshed or not, so long as the updates that
-/// were accepted are, and a moment has four octets (X.525, section 9).
+/// were accepted are, and the moments of copies have four octets (X.525, section 9).
 pub fn lines_bounded()
     ensures { LinesBounded }
 {}

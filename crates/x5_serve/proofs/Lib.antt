@@ -1,7 +1,11 @@
 pub mod Values
 pub mod Walks
 pub mod Arriving
+pub mod Onward
+pub mod Operations
+pub mod Limits
 pub mod Cycle
 pub mod Sent
 pub mod Asked
 pub mod Served
+pub mod Sending

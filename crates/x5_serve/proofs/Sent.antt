@@ -25,7 +25,7 @@ use Rattle.x5_serve.proofs.Walks as walks
 use Rattle.x5_serve.proofs.Walks.{Carries}
 use Rattle.x5_serve.proofs.Cycle.{carried_user, served_told, followed_told}
 
-not_spent : (most n : ℕ) → nat_le most n ≡ false → n < most
+pub not_spent : (most n : ℕ) → nat_le most n ≡ false → n < most
 not_spent most n e = elim (leb_tells most n) [ inl x ↦ absurd (false_true (sym e ∙ x.0)) | inr y ↦ omega (arith, y.1) ]
 
 module _ {N : Type 0} (scene : N → Scene) (most : N → ℕ) (names : N → List (List ℕ)) (journal : N → Journal) where

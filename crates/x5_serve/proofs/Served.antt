@@ -29,6 +29,9 @@ use Rattle.x5_serve.specs.declared.arrival.Step.{Step}
 use Rattle.x5_serve.specs.declared.arrival.Step.TheVariants as step
 use Rattle.x5_serve.specs.declared.dispatch.Probed.{Probed}
 use Rattle.x5_serve.specs.declared.dispatch.Probed.TheVariants as probed
+use Rattle.x5_model_limits.specs.Messages.{BoundedReference}
+use Rattle.x5_serve.specs.Sendable.{MayBeSent, KeepsLimits}
+use Rattle.x5_serve.proofs.Limits.{probe_bounded}
 use Rattle.x5_serve.proofs.Cycle.{goes_does, refers_does, parts_does, unexplored_does, is_last, is_more, left_named, ready_now, ready_then, does_alone, probe_named, onward_named, parts_named}
 
 module _ {N : Type 0} (scene : N → Scene) (most : N → ℕ) (names : N → List (List ℕ)) (journal : N → Journal) where
@@ -189,6 +192,12 @@ module _ {N : Type 0} (scene : N → Scene) (most : N → ℕ) (names : N → Li
       probed_named knows h =
           probe_named (length (names old)) (scene old) (journal old) (hand me (chained_view (names old) m))
           (reference_view (names old) r) knows h probes_due.2
+
+      pub probed_bounded : KeepsLimits (length (names old)) (scene old) (journal old) → me < length (names old)
+          → MayBeSent (names old) m → BoundedReference (reference_view (names old) r)
+      probed_bounded limits h sent =
+          probe_bounded (length (names old)) (scene old) (journal old) limits (journal old)
+          (hand me (chained_view (names old) m)) h sent.bounded (reference_view (names old) r) probes_due.2
 
       module _ (now : N) (p : Probed)
           (d : IsProbed (scene old) (most old) (names old) (hand me (chained_view (names old) m))

@@ -8,6 +8,7 @@ use Rattle.x5_ops.specs.declared.references.AccessPoint.{AccessPoint}
 use Rattle.x5_ops.specs.declared.references.Chained.{Chained}
 use Rattle.x5_ops.specs.declared.references.Reference.{Reference}
 use Rattle.x5_serve.specs.Networks.{left_of, Stays}
+use Rattle.x5_serve.specs.Sendable.{MayBeSent}
 
 -- the network stays what it is, and no message comes back
 pub record Goes {N : Type 0} (scene : N → Scene) (most : N → ℕ) (names : N → List (List ℕ)) (journal : N → Journal)
@@ -23,3 +24,4 @@ pub record Carries (names : List (List ℕ)) (owner : ℕ) (message : Chained) (
   pub onward_is : (from : ℕ)
       → chained_view names onward ≡ carried_for (Some from) (hand owner (chained_view names message))
       (reference_view names reference)
+  pub sent : MayBeSent names onward

@@ -1,15 +1,18 @@
 //! The cycle of sending and serving: a message is sent, its receiver serves it, and what its reply leaves is followed.
 
-ghost use Rattle.std.specs.Prelude.{◌≡◌, ℕ, ◌<◌, ◌≤◌, true, List, [], ◌∷◌, length, map, IfOk, Some};
+ghost use Rattle.std.specs.Prelude.{◌≡◌, ℕ, ◌<◌, ◌≤◌, true, false, List, [], ◌∷◌, length, map, IfOk, Some};
 ghost use Rattle.x5_model.specs.References as model;
 ghost use Rattle.x5_model_heard.specs.Told.{are_agents, name_agents, IsTold, IsToldHeard};
 ghost use Rattle.x5_model_heard.specs.Kept.{IsOfUser};
-ghost use Rattle.x5_model_serve.specs.Serving.{Hand, hand, carried_for, Serves, Follows, Sends, Takes, Casts, Gathers, Updates};
+ghost use Rattle.x5_model_serve.specs.Serving.{Hand, hand, carried_for, is_final, Serves, Follows, Sends, Takes, Casts, Gathers, Updates};
+ghost use Rattle.x5_model_fitting.specs.Names.{Each};
+ghost use Rattle.x5_model_limits.specs.Messages.{BoundedReference, BoundedReply};
 ghost use Rattle.x5_ops.specs.AgentNames.{agent_of};
 ghost use Rattle.x5_ops.specs.ReferenceViews.{chained_view, reference_view, access_view};
 ghost use Rattle.x5_ops.specs.AnswerViews.{answer_view, reply_view};
 ghost use Rattle.x5_merge.specs.Merging.{are_alike};
 ghost use Rattle.x5_serve.specs.Networks.{left_of, Stays, IsDue, DoesAt};
+ghost use Rattle.x5_serve.specs.Sendable.{MayBeSent, MayBePassedOn};
 ghost use Rattle.x5_serve.specs.Steps.{heard_view, gathered_view, Goes, IsProbed};
 
 use crate::arrival::{Step, first_step};
@@ -48,8 +51,8 @@ fn agent_at<N: Network>(net: &N, access: &AccessPoint) -> AgentId
 }
 
 /// Sends a message from agent to agent, lets its receiver serve it, and follows what the reply leaves (X.518, section 20). It hears
-/// nothing exactly where the message or the reply is lost. It needs agents of the network, and an update to be the user's. After
-/// want of memory the network isn't used again.
+/// nothing exactly where the message or the reply is lost. It needs agents of the network, a message that may be sent, and an update
+/// to be the user's. After want of memory the network isn't used again.
 #[cycle(dispatch)]
 pub fn ask<N: Network>(
     alloc: Global,
@@ -61,6 +64,7 @@ pub fn ask<N: Network>(
     requires from { from < length (N.names net.old) }
     requires to { to < length (N.names net.old) }
     requires of_user { IsOfUser (N.scene net.old) (chained_view (N.names net.old) message.now) }
+    requires sent { MayBeSent (N.names net.old) message.now }
     ensures stays { Stays N.scene N.most N.names net.old net.new }
     ensures left { left_of (N.most net.new) (N.journal net.new) ≤ left_of (N.most net.old) (N.journal net.old) }
     ensures does { IfOk result (λ heard. (o : Hand) (r : model.Reference) → chained_view (N.names net.old) message.now ≡ carried_for (Some from) o r → DoesAt N.scene N.most N.journal net.old net.new (Sends (Some from) o r to (heard_view (N.names net.old) heard))) }
@@ -81,8 +85,8 @@ pub fn ask<N: Network>(
     }
 }
 
-/// The reply of an agent to a message that it received (X.518, sections 17 to 21). It needs an agent of the network, and an update
-/// to be the user's. After want of memory the network isn't used again.
+/// The reply of an agent to a message that it received (X.518, sections 17 to 21). It needs an agent of the network, a message that
+/// may be sent, and an update to be the user's. After want of memory the network isn't used again.
 #[cycle(dispatch)]
 pub fn serve<N: Network>(
     alloc: Global,
@@ -92,6 +96,7 @@ pub fn serve<N: Network>(
 ) -> Result<Reply, NoMemory>
     requires there { me < length (N.names net.old) }
     requires of_user { IsOfUser (N.scene net.old) (chained_view (N.names net.old) message.now) }
+    requires sent { MayBeSent (N.names net.old) message.now }
     ensures stays { Stays N.scene N.most N.names net.old net.new }
     ensures left { left_of (N.most net.new) (N.journal net.new) ≤ left_of (N.most net.old) (N.journal net.old) }
     ensures does { IfOk result (λ reply. DoesAt N.scene N.most N.journal net.old net.new (Serves (hand me (chained_view (N.names net.old) message.now)) (reply_view (N.names net.old) reply))) }
@@ -108,7 +113,7 @@ pub fn serve<N: Network>(
 }
 
 /// What a sender makes of a reply to its message: a referral is followed, and so are unexplored references that nobody tried
-/// (X.518, section 20).
+/// (X.518, section 20). A reply that leaves anything to follow came from an agent that might pass the message on.
 #[cycle(dispatch)]
 fn follow<N: Network>(
     alloc: Global,
@@ -122,6 +127,9 @@ fn follow<N: Network>(
     requires owner { owner < length (N.names net.old) }
     requires of_user { IsOfUser (N.scene net.old) (chained_view (N.names net.old) message.now) }
     requires told { IsTold (length (N.names net.old)) (reply_view (N.names net.old) reply) }
+    requires sent { MayBeSent (N.names net.old) message.now }
+    requires passable { is_final (reply_view (N.names net.old) reply) ≡ false → MayBePassedOn (hand owner (chained_view (N.names net.old) message.now)) }
+    requires bounded { BoundedReply (reply_view (N.names net.old) reply) }
     ensures stays { Stays N.scene N.most N.names net.old net.new }
     ensures left { left_of (N.most net.new) (N.journal net.new) ≤ left_of (N.most net.old) (N.journal net.old) }
     ensures does { IfOk result (λ last. DoesAt N.scene N.most N.journal net.old net.new (Follows (Some from) (hand owner (chained_view (N.names net.old) message.now)) (reply_view (N.names net.old) reply) (reply_view (N.names net.old) last))) }
@@ -155,6 +163,9 @@ fn go<N: Network>(
     requires owner { owner < length (N.names net.old) }
     requires of_user { IsOfUser (N.scene net.old) (chained_view (N.names net.old) message.now) }
     requires agents { are_agents (length (N.names net.old)) (map (access_view (N.names net.old)) reference.agents) ≡ true }
+    requires sent { MayBeSent (N.names net.old) message.now }
+    requires passable { MayBePassedOn (hand owner (chained_view (N.names net.old) message.now)) }
+    requires bounded { BoundedReference (reference_view (N.names net.old) reference) }
     ensures stays { Stays N.scene N.most N.names net.old net.new }
     ensures left { left_of (N.most net.new) (N.journal net.new) ≤ left_of (N.most net.old) (N.journal net.old) }
     ensures does { IfOk result (λ reply. Goes (N.scene net.old) (N.most net.old) (Some from) (hand owner (chained_view (N.names net.old) message.now)) (reference_view (N.names net.old) reference) (reply_view (N.names net.old) reply) (N.journal net.old) (N.journal net.new)) }
@@ -182,6 +193,9 @@ fn take<N: Network>(
     requires owner { owner < length (N.names net.old) }
     requires of_user { IsOfUser (N.scene net.old) (chained_view (N.names net.old) message.now) }
     requires agents { are_agents (length (N.names net.old)) (map (access_view (N.names net.old)) reference.now.agents) ≡ true }
+    requires sent { MayBeSent (N.names net.old) message.now }
+    requires passable { MayBePassedOn (hand owner (chained_view (N.names net.old) message.now)) }
+    requires bounded { BoundedReference (reference_view (N.names net.old) reference.now) }
     ensures stays { Stays N.scene N.most N.names net.old net.new }
     ensures left { left_of (N.most net.new) (N.journal net.new) ≤ left_of (N.most net.old) (N.journal net.old) }
     ensures does { IfOk result (λ heard. DoesAt N.scene N.most N.journal net.old net.new (Takes (Some from) (hand owner (chained_view (N.names net.old) message.now)) (reference_view (N.names net.old) reference.now) (heard_view (N.names net.old) heard))) }
@@ -203,6 +217,7 @@ fn take_in_turn<N: Network>(
     requires from { from < length (N.names net.old) }
     requires of_user { IsOfUser (N.scene net.old) (chained_view (N.names net.old) onward.now) }
     requires agents { are_agents (length (N.names net.old)) (map (access_view (N.names net.old)) agents.now) ≡ true }
+    requires sent { MayBeSent (N.names net.old) onward.now }
     ensures stays { Stays N.scene N.most N.names net.old net.new }
     ensures left { left_of (N.most net.new) (N.journal net.new) ≤ left_of (N.most net.old) (N.journal net.old) }
     ensures does { IfOk result (λ heard. (o : Hand) (r : model.Reference) → map (access_view (N.names net.old)) agents.now ≡ r.agents → chained_view (N.names net.old) onward.now ≡ carried_for (Some from) o r → DoesAt N.scene N.most N.journal net.old net.new (Takes (Some from) o r (heard_view (N.names net.old) heard))) }
@@ -232,6 +247,9 @@ fn cast<N: Network>(
     requires owner { owner < length (N.names net.old) }
     requires of_user { IsOfUser (N.scene net.old) (chained_view (N.names net.old) message.now) }
     requires agents { are_agents (length (N.names net.old)) (map (access_view (N.names net.old)) reference.now.agents) ≡ true }
+    requires sent { MayBeSent (N.names net.old) message.now }
+    requires passable { MayBePassedOn (hand owner (chained_view (N.names net.old) message.now)) }
+    requires bounded { BoundedReference (reference_view (N.names net.old) reference.now) }
     ensures stays { Stays N.scene N.most N.names net.old net.new }
     ensures left { left_of (N.most net.new) (N.journal net.new) ≤ left_of (N.most net.old) (N.journal net.old) }
     ensures does { IfOk result (λ reply. DoesAt N.scene N.most N.journal net.old net.new (Casts (Some from) (hand owner (chained_view (N.names net.old) message.now)) (reference_view (N.names net.old) reference.now) (reply_view (N.names net.old) reply))) }
@@ -272,6 +290,9 @@ fn gather<N: Network>(
     requires of_user { IsOfUser (N.scene net.old) (chained_view (N.names net.old) message.now) }
     requires agents { name_agents (length (N.names net.old)) (map (reference_view (N.names net.old)) references.now) ≡ true }
     requires alike { are_alike (first ∷ []) ≡ true }
+    requires sent { MayBeSent (N.names net.old) message.now }
+    requires passable { MayBePassedOn (hand owner (chained_view (N.names net.old) message.now)) }
+    requires bounded { Each BoundedReference (map (reference_view (N.names net.old)) references.now) }
     ensures stays { Stays N.scene N.most N.names net.old net.new }
     ensures left { left_of (N.most net.new) (N.journal net.new) ≤ left_of (N.most net.old) (N.journal net.old) }
     ensures does { IfOk result (λ gathered. DoesAt N.scene N.most N.journal net.old net.new (Gathers (Some from) (hand owner (chained_view (N.names net.old) message.now)) (map (reference_view (N.names net.old)) references.now) (answer_view (N.names net.old) first) (gathered_view (N.names net.old) gathered))) }
@@ -302,6 +323,7 @@ fn update<N: Network>(
 ) -> Result<Reply, NoMemory>
     requires there { me < length (N.names net.old) }
     requires due { IsDue (N.scene net.old) (N.journal net.old) (hand me (chained_view (N.names net.old) message.now)) }
+    requires sent { MayBeSent (N.names net.old) message.now }
     ensures stays { Stays N.scene N.most N.names net.old net.new }
     ensures left { left_of (N.most net.new) (N.journal net.new) ≤ left_of (N.most net.old) (N.journal net.old) }
     ensures does { IfOk result (λ reply. DoesAt N.scene N.most N.journal net.old net.new (Updates (hand me (chained_view (N.names net.old) message.now)) (reply_view (N.names net.old) reply))) }
@@ -339,6 +361,9 @@ fn probe<N: Network>(
     requires there { me < length (N.names net.old) }
     requires of_user { IsOfUser (N.scene net.old) (chained_view (N.names net.old) message.now) }
     requires agents { are_agents (length (N.names net.old)) (map (access_view (N.names net.old)) reference.now.agents) ≡ true }
+    requires sent { MayBeSent (N.names net.old) message.now }
+    requires passable { MayBePassedOn (hand me (chained_view (N.names net.old) message.now)) }
+    requires bounded { BoundedReference (reference_view (N.names net.old) reference.now) }
     ensures stays { Stays N.scene N.most N.names net.old net.new }
     ensures left { left_of (N.most net.new) (N.journal net.new) ≤ left_of (N.most net.old) (N.journal net.old) }
     ensures does { IfOk result (λ probed. IsProbed (N.scene net.old) (N.most net.old) (N.names net.old) (hand me (chained_view (N.names net.old) message.now)) (reference_view (N.names net.old) reference.now) (N.journal net.old) (N.journal net.new) probed) }

@@ -1,16 +1,19 @@
 //! What agents stand in: the network that carries their messages, and what each agent does by itself.
 
 ghost use Rattle.std.specs.Prelude.{◌≡◌, ℕ, ◌<◌, ◌≤◌, List, length, not, true, IfOk, Some};
-ghost use Rattle.std.specs.List.{position};
+ghost use Rattle.std.specs.List.{position, list_all};
 ghost use Rattle.x5_model.specs.Words.{same_octets, distinct};
+ghost use Rattle.x5_model_tree.specs.Described.{is_agent_name};
 ghost use Rattle.x5_model_run.specs.Network.{refuses};
 ghost use Rattle.x5_model_run.specs.Journal.{Journal, operation_of};
 ghost use Rattle.x5_model_run.specs.Chain.{Scene};
 ghost use Rattle.x5_model_heard.specs.Told.{KnowsAgents};
 ghost use Rattle.x5_model_heard.specs.Kept.{IsOfUser};
 ghost use Rattle.x5_model_serve.specs.Serving.{hand, is_done_here, with_accepted, Arrives};
+ghost use Rattle.x5_ops.specs.JournalViews.{code_view};
 ghost use Rattle.x5_ops.specs.ReferenceViews.{chained_view};
 ghost use Rattle.x5_ops.specs.AnswerViews.{reply_view};
+ghost use Rattle.x5_serve.specs.Sendable.{MayBeSent, IsTaken, MayBeReplied, KeepsLimits};
 ghost use Rattle.x5_serve.specs.Networks.{left_of, Stays, IsCarriedBy, IsFound, IsVerdict, IsDue, IsReady};
 
 use std::alloc::Global;
@@ -119,7 +122,7 @@ pub trait Network {
 
     /// Sends a message from agent to agent. Where none is left nothing is noted (`Spent`); else it counts, and its line is noted
     /// with its number, sender, receiver, text and fate, whether or not it arrives. Where it arrives its receiver has just what
-    /// was sent.
+    /// was sent. It needs a message that may be sent, and what its receiver has may be sent too.
     fn carry(
         &mut self,
         alloc: Global,
@@ -129,22 +132,32 @@ pub trait Network {
     ) -> Result<Carried, NoMemory>
         requires from { from < length (names self.old) }
         requires to { to < length (names self.old) }
+        requires sent { MayBeSent (names self.old) message.now }
         ensures stays { Stays scene most names self.old self.new }
         ensures left { left_of (most self.new) (journal self.new) ≤ left_of (most self.old) (journal self.old) }
+        ensures taken { IfOk result (λ carried. IsTaken (names self.old) carried) }
         ensures carried { IfOk result (λ carried. IsCarriedBy (scene self.old) (most self.old) (names self.old) (journal self.old) (journal self.new) (Some from) to (chained_view (names self.old) message.now) carried) };
 
-    /// Carries back the reply to a message with this operation: the sender has just what was replied. Replies aren't noted.
+    /// Carries back the reply to a message with this operation, which it answers: the sender has just what was replied. Replies
+    /// aren't noted.
     fn carry_back(
         &self,
         alloc: Global,
         operation: Operation,
         reply: &Reply,
     ) -> Result<Reply, NoMemory>
+        requires { MayBeReplied (names self.now) (code_view operation) reply.now }
         ensures { IfOk result (λ back. reply_view (names self.now) back ≡ reply_view (names self.now) reply.now) };
 
     /// No two agents have one name.
     ghost apart: { (net : Self) → distinct same_octets (names net) ≡ true };
 
+    /// They are as agents may be named.
+    ghost plain: { (net : Self) → list_all is_agent_name (names net) ≡ true };
+
     /// What agents of the network know, whatever was accepted, are agents of the network.
     ghost knows: { (net : Self) → KnowsAgents (length (names net)) (scene net) };
+
+    /// What agents of the network hold, what the user asked, and all messages that were sent are within the limits of messages.
+    ghost bounded: { (net : Self) → KeepsLimits (length (names net)) (scene net) (journal net) };
 }

@@ -1,14 +1,18 @@
 //! A message that is passed on by a reference (X.518, sections 10.3 and 19.3).
 
 ghost use Rattle.std.specs.Prelude.{◌≡◌, ℕ, ◌<◌, true, false, List, [], ◌∷◌, ◌++◌, length, IfOk, Some};
+ghost use Rattle.std.specs.List.{list_all};
 ghost use Rattle.x5_model.specs.Words.{same_octets, distinct};
+ghost use Rattle.x5_model_tree.specs.Described.{is_agent_name};
 ghost use Rattle.x5_model_run.specs.Journal.{same_name};
 ghost use Rattle.x5_model_run.specs.Needs.{target_of};
 ghost use Rattle.x5_model_run.specs.Placed as placed;
 ghost use Rattle.x5_model_run.specs.Chain as chain;
 ghost use Rattle.x5_model_serve.specs.Serving.{hand, carried_for};
+ghost use Rattle.x5_model_limits.specs.Messages.{BoundedReference};
 ghost use Rattle.x5_ops.specs.RequestViews.{body_view, request_view, subset_view};
 ghost use Rattle.x5_ops.specs.ReferenceViews.{chained_view, reference_view};
+ghost use Rattle.x5_serve.specs.Sendable.{MayBeSent, MayBePassedOn};
 
 use crate::replies::{copied_rdns, own_item};
 use std::alloc::Global;
@@ -163,7 +167,8 @@ fn longer(trace: &Trace, item: TraceItem) -> Result<Trace, NoMemory>
     Ok(more)
 }
 
-/// What is carried by a reference for a message that its owner received, where an agent sends it (X.518, section 10.3).
+/// What is carried by a reference for a message that its owner received, where an agent sends it (X.518, section 10.3). It may be
+/// sent as the owner's message might be, which needs to be no loop, and to have room in its trace.
 pub fn passed_on(
     alloc: Global,
     names: &AgentNames,
@@ -173,7 +178,12 @@ pub fn passed_on(
 ) -> Result<Chained, NoMemory>
     requires there { owner < length names.now }
     requires apart { distinct same_octets names.now ≡ true }
-    ensures { IfOk result (λ onward. (from : ℕ) → chained_view names.now onward ≡ carried_for (Some from) (hand owner (chained_view names.now message.now)) (reference_view names.now reference.now)) }
+    requires plain { list_all is_agent_name names.now ≡ true }
+    requires sent { MayBeSent names.now message.now }
+    requires passable { MayBePassedOn (hand owner (chained_view names.now message.now)) }
+    requires bounded { BoundedReference (reference_view names.now reference.now) }
+    ensures sent { IfOk result (λ onward. MayBeSent names.now onward) }
+    ensures carried { IfOk result (λ onward. (from : ℕ) → chained_view names.now onward ≡ carried_for (Some from) (hand owner (chained_view names.now message.now)) (reference_view names.now reference.now)) }
 {
     let item = own_item(names, owner, message)?;
     Ok(Chained {

@@ -61,7 +61,7 @@ ok_is {A} {x} e = ap by e
 err_told : {A : Type 0} {k : ℕ} {x : A} → Err k ≡ told x → ⊥
 err_told z = cc
 
-of_stamped : (o : Option ℕ) (r : Result Brought ℕ) (m : ℕ) (b : Brought) → stamped o r ≡ Ok (m, b) → (o ≡ Some m) × (r ≡ Ok b)
+pub of_stamped : (o : Option ℕ) (r : Result Brought ℕ) (m : ℕ) (b : Brought) → stamped o r ≡ Ok (m, b) → (o ≡ Some m) × (r ≡ Ok b)
 of_stamped None r m b e = absurd (err_told e)
 of_stamped (Some x) (Ok y) m b e =
     let one : ℕ × Brought = (x, y) in
@@ -90,7 +90,7 @@ total_only : (r : Result Content ℕ) (content : Content) → brought_by Total r
 total_only r content e =
     let w = of_brought Total r (Total content) e in w.1 ∙ ap (λ (b : Brought). Ok (content_in content b)) w.2
 
-steps_only : (r : Result (List CodeStep) ℕ) (given : List CodeStep) → brought_by Steps r ≡ Ok (Steps given) → r ≡ Ok given
+pub steps_only : (r : Result (List CodeStep) ℕ) (given : List CodeStep) → brought_by Steps r ≡ Ok (Steps given) → r ≡ Ok given
 steps_only r given e =
     let w = of_brought Steps r (Steps given) e in w.1 ∙ ap (λ (b : Brought). Ok (steps_in given b)) w.2
 
@@ -142,15 +142,15 @@ total_from s pin content e = by (mastered_of s pin) refl (brought_of s pin) refl
         never z = cc
 
 -- an incremental one has the later steps of its log
-record AreSteps (s : State) (pin : Key) (last : Option ℕ) (given : List CodeStep) : Type 0 where
-  kept : Kept
-  from : ℕ
-  supplied_is : supplied s pin ≡ Some kept
-  last_is : last ≡ Some from
-  known : nat_lt from kept.log.base ≡ false
-  steps : supply.steps_later kept.log from ≡ given
+pub record AreSteps (s : State) (pin : Key) (last : Option ℕ) (given : List CodeStep) : Type 0 where
+  pub kept : Kept
+  pub from : ℕ
+  pub supplied_is : supplied s pin ≡ Some kept
+  pub last_is : last ≡ Some from
+  pub known : nat_lt from kept.log.base ≡ false
+  pub steps : supply.steps_later kept.log from ≡ given
 
-steps_from : (s : State) (pin : Key) (last : Option ℕ) (given : List CodeStep) → supply.since_of s pin last ≡ Ok given
+pub steps_from : (s : State) (pin : Key) (last : Option ℕ) (given : List CodeStep) → supply.since_of s pin last ≡ Ok given
     → AreSteps s pin last given
 steps_from s pin last given e = by (supplied s pin) refl last refl e
   where

@@ -1,5 +1,5 @@
 -- One agent of the network sends what is supplied, or takes it: nothing else of the network changes.
-use Rattle.std.proofs.Common.{◌≡◌, ℕ, zero, suc, ◌+◌, ◌<◌, ◌⊎◌, inl, inr, Bool, true, List, [], ◌∷◌, length, map, slice_get, slice_set, refl, sym, ap, subst, ◌∙◌, Option, Some, Result, Ok, Err, OnOk, OnErr}
+use Rattle.std.proofs.Common.{◌≡◌, ℕ, zero, suc, ◌+◌, ◌<◌, ◌⊎◌, inl, inr, Bool, true, List, [], ◌∷◌, length, map, slice_get, slice_set, refl, sym, ap, subst, ◌∙◌, Option, Some, Result, Ok, OnOk, arith}
 use Rattle.std.proofs.lemmas.List.{length-map, length-set, map-set}
 use Rattle.x5_model.specs.Words.{in_option}
 use Rattle.x5_model.specs.Keys.{Key}
@@ -7,19 +7,24 @@ use Rattle.x5_model.specs.Values.{key_of}
 use Rattle.x5_model_tree.specs.World.{Agreement}
 use Rattle.x5_model_run.specs.Holdings.{Holdings}
 use Rattle.x5_model_run.specs.History.{no_holdings}
+use Rattle.x5_model_fitting.specs.Requests.{CountWithin}
+use Rattle.x5_model_limits.specs.Holding.{BoundedHoldings}
 use Rattle.x5_holdings.specs.State.{State, holdings_view}
 use Rattle.x5_consume.specs.Taken.{IsTaken}
 use Rattle.x5_refresh.specs.declared.brought.Brought.{Brought}
 use Rattle.x5_refresh.specs.Sent.{IsRefreshed, supply_of}
 use Rattle.x5_world.specs.Logs.{Logs, no_logs}
+use Rattle.x5_world.specs.LogLimits.{BoundedLogs}
 use Rattle.x5_world.specs.LogViews.{logs_view}
 use Rattle.x5_world.specs.State.{Net, holdings_in, logs_in}
 use Rattle.x5_world.specs.Sent.{IsHolder, IsNet}
-use Rattle.x5_world.specs.Refreshing.{IsSupplied, IsTakenAt, is_known_in, sent_view}
+use Rattle.x5_world.specs.Refreshing.{IsBoundedIn, IsSupplied, IsTakenAt, is_known_in, sent_view}
 use Rattle.x5_world.specs.declared.refreshing.Supplied.{Supplied}
 use Rattle.x5_world.proofs.Changing.{IsLike, of_states}
 use Rattle.x5_world.proofs.Courses.{map_at, some_is}
 use Rattle.x5_world.proofs.Knowing.{sent_known, taken_holder}
+use Rattle.x5_world.proofs.Limits.{AllBounded, one_bounded, taken_noted}
+use Rattle.x5_world.proofs.Supplying.{sent_bounded}
 
 set_same : {A : Type 0} (xs : List A) (i : ℕ) (x : A) → slice_get xs i ≡ Some x → slice_set xs i x ≡ xs
 set_same [] i x e = cc
@@ -37,6 +42,10 @@ set_has (x ∷ xs) (suc i) (suc a) y h e = elim (set_has xs i a y h e) [
   | inr z ↦ inr z
 ]
 
+-- what a call says where it did what it was to do
+pub when_ok : {T E : Type 0} (P : Type 0) (result : Result T E) (x : T) → result ≡ Ok x → OnOk result P → P
+when_ok {T} {E} P result x e h = subst (λ (r : Result T E). OnOk r P) e h
+
 module _ (n : Net) (items : List State) (i : ℕ) (s : State) (at : slice_get items i ≡ Some s) where
   abbrev old : Net
   old = of_states n items
@@ -53,9 +62,13 @@ module _ (n : Net) (items : List State) (i : ℕ) (s : State) (at : slice_get it
   holder_of : IsNet old → IsHolder n.names i (holdings_view s)
   holder_of net = net.each i (holdings_view s) (map_at holdings_view items i s at)
 
-  net_with : (t : State) → IsNet old → IsHolder n.names i (holdings_view t) → IsNet (with_state t)
-  net_with t net holder = record {
+  noted_of : IsNet old → BoundedLogs (logs_view s)
+  noted_of net = net.noted i (logs_view s) (map_at logs_view items i s at)
+
+  net_with : (t : State) → IsNet old → IsHolder n.names i (holdings_view t) → BoundedLogs (logs_view t) → IsNet (with_state t)
+  net_with t net holder noted = record {
     apart = net.apart;
+    plain = net.plain;
     few = net.few;
     count = length-map (slice_set items i t) holdings_view ∙ length-set items i t ∙ sym (length-map items holdings_view) ∙ net.count;
     logs = length-map (slice_set items i t) logs_view ∙ length-set items i t ∙ sym (length-map items logs_view) ∙ net.logs;
@@ -64,6 +77,8 @@ module _ (n : Net) (items : List State) (i : ℕ) (s : State) (at : slice_get it
           | inl z ↦ subst (λ (k : ℕ). IsHolder n.names k h) (sym z.0) (subst (IsHolder n.names i) (sym z.1) holder)
           | inr z ↦ net.each a h z
         ];
+    noted = subst AllBounded (sym (map-set logs_view items i t))
+        (one_bounded (map logs_view items) i (logs_view t) net.noted noted);
     contexts = net.contexts;
     pairs = net.pairs;
     lines = net.lines;
@@ -102,21 +117,30 @@ module _ (n : Net) (items : List State) (i : ℕ) (s : State) (at : slice_get it
   is_known pin total last stamp brought u net there like e =
       sent_known n.names i u there (subst (IsHolder n.names i) (sym like.0) (holder_of net)) pin total last stamp brought e
 
-  -- what it takes
-  pub taken_net : {T E : Type 0} (result : Result T E) (pin : Key) (stamp : ℕ) (brought : Brought) (u t : State) → IsNet old
-      → IsLike s u → is_known_in (length n.names) brought ≡ true
-      → OnOk result (IsTaken u pin (IsRefreshed brought stamp) t) → OnErr result (holdings_view t ≡ holdings_view u)
-      → IsNet (with_state t)
-  taken_net (Ok x) pin stamp brought u t net like known taken same =
-      net_with t net (taken_holder n.names i u t pin stamp brought (subst (IsHolder n.names i) (sym like.0) (holder_of net)) known taken)
-  taken_net (Err x) pin stamp brought u t net like known taken same =
-      net_with t net (subst (IsHolder n.names i) (sym (same ∙ like.0)) (holder_of net))
+  -- within the limits of messages, at a line before the last that can be counted
+  pub is_bounded : (pin : Key) (total : Bool) (last : Option ℕ) (stamp : ℕ) (brought : Brought) (u : State) → IsNet old
+      → IsLike s u → u.moment ≡ n.line + 1 → supply_of u pin total last ≡ Ok (stamp, brought)
+      → CountWithin stamp × IsBoundedIn brought
+  is_bounded pin total last stamp brought u net like moment e =
+      let lines = net.lines in
+      let small : u.moment < 4294967296 = omega (arith, moment, lines) in
+      sent_bounded u (subst BoundedHoldings (sym like.0) (holder_of net).bounded)
+      (subst BoundedLogs (sym like.1) (noted_of net)) pin total last stamp brought small e
 
-  pub is_taken : {T E : Type 0} (result : Result T E) (g : Agreement) (stamp : ℕ) (brought : Brought) (u t : State) (now : Net)
-      → old ≡ now → g.consumer ≡ i → IsLike s u → OnOk result (IsTaken u (key_of g.context) (IsRefreshed brought stamp) t)
-      → OnOk result (IsTakenAt now g stamp brought (with_state t))
-  is_taken (Err x) g stamp brought u t now same place like taken = tt
-  is_taken (Ok x) g stamp brought u t now same place like taken =
+  -- what it takes
+  pub taken_net : (pin : Key) (stamp : ℕ) (brought : Brought) (u t : State) → IsNet old → IsLike s u
+      → is_known_in (length n.names) brought ≡ true → CountWithin stamp → IsBoundedIn brought
+      → IsTaken u pin (IsRefreshed brought stamp) t → IsNet (with_state t)
+  taken_net pin stamp brought u t net like known stamped bounded taken =
+      net_with t net
+      (taken_holder n.names i u t pin stamp brought (subst (IsHolder n.names i) (sym like.0) (holder_of net)) known stamped
+      bounded taken)
+      (taken_noted u t pin stamp brought stamped bounded taken (subst BoundedLogs (sym like.1) (noted_of net)))
+
+  pub is_taken : (g : Agreement) (stamp : ℕ) (brought : Brought) (u t : State) (now : Net) → old ≡ now → g.consumer ≡ i
+      → IsLike s u → IsTaken u (key_of g.context) (IsRefreshed brought stamp) t
+      → IsTakenAt now g stamp brought (with_state t)
+  is_taken g stamp brought u t now same place like taken =
       subst (λ (z : Net). IsTakenAt z g stamp brought (with_state t)) same (record {
         before = u;
         after = t;

@@ -14,10 +14,10 @@ use Rattle.x5_model.specs.Words.{distinct, in_option, same_octets}
 use Rattle.x5_model.specs.Keys.{Key}
 use Rattle.x5_model.specs.Members.{In, here, there}
 use Rattle.x5_model.specs.Values.{key_of}
-use Rattle.x5_model.proofs.Lists.{both_true}
+use Rattle.x5_model.proofs.Lists.{and_true, both_true}
 use Rattle.x5_model_tree.specs.World.{Agent, Agreement, Context, Network, Nssr, Specific, World}
 use Rattle.x5_model_tree.specs.Masters.{Mastered, agent_at, held_contexts, mastered, masters}
-use Rattle.x5_model_tree.specs.Described.{IsDescribed, are_agents, are_numbers, is_number, is_pair, most_cut, most_lost_messages, nssr_agents, same_pair}
+use Rattle.x5_model_tree.specs.Described.{IsDescribed, are_agents, are_numbers, is_agent, is_agent_name, is_number, is_pair, most_cut, most_lost_messages, nssr_agents, same_pair}
 use Rattle.x5_model_run.specs.Holdings.{Copy, Holdings}
 use Rattle.x5_model_run.specs.History.{Point, agreements_of, as_of, no_holdings}
 use Rattle.x5_model_run.specs.Refresh.{Changes, base_of, consumed_by}
@@ -27,6 +27,10 @@ use Rattle.x5_model_held.specs.Beginning.{described_context, described_copy, des
 use Rattle.x5_model_known.specs.Holding.{holdings_name}
 use Rattle.x5_model_known.proofs.Counted.{described_counted}
 use Rattle.x5_model_known.proofs.Describing.{described_name_agents, described_are_themselves, described_names_apart}
+use Rattle.x5_model_fitting.specs.Requests.{IfThere}
+use Rattle.x5_model_limits.specs.Described.{world_is_utf8}
+use Rattle.x5_model_limits.proofs.Described.{described_bounded}
+use Rattle.x5_model_limits.proofs.Lists.{each_map}
 use Rattle.x5_model_settled.proofs.After.{stamped_at_first}
 use Rattle.x5_model_settled.proofs.Held.{held_at_first}
 use Rattle.x5_agents.specs.Unnoted.{AllUnnoted, AreUnnoted}
@@ -38,6 +42,7 @@ use Rattle.x5_ops.specs.KnowledgeViews.{context_view, nssr_view}
 use Rattle.x5_ops.specs.declared.knowledge.ContextSpec.{ContextSpec}
 use Rattle.x5_ops.specs.declared.knowledge.Nssr as code
 use Rattle.x5_world.specs.Logs.{Logs, Notes, agent_logs, logs_at, no_logs, notes_at}
+use Rattle.x5_world.specs.LogLimits.{BoundedLogs, BoundedNotes}
 use Rattle.x5_world.specs.LogViews.{copy_notes, logged_view, logs_view, notes_view, own_notes}
 use Rattle.x5_world.specs.Counts.{contexts_of, pairs_of_nssrs, pairs_of_contexts, pairs_of_agents}
 use Rattle.x5_world.specs.State.{Net, StandsAt, HasRoom, LogsStand, holdings_in}
@@ -288,9 +293,9 @@ all_named w n b = ap length b.names ∙ length-map w.agents (λ a. a.name)
 same_some : {A : Type 0} (o : Option A) (x y : A) → o ≡ Some x → o ≡ Some y → x ≡ y
 same_some o x y e f = cc
 
-holder_begun : (w : World) (n : Net) (a : ℕ) (h : Holdings) → IsDescribed w → IsBegun w n
+holder_begun : (w : World) (n : Net) (a : ℕ) (h : Holdings) → IsDescribed w → world_is_utf8 w ≡ true → IsBegun w n
     → slice_get n.agents a ≡ Some h → IsHolder n.names a h
-holder_begun w n a h d b at =
+holder_begun w n a h d utf8 b at =
     let within : a < length w.agents =
     (let x = slice_get_within n.agents a h at in let y = b.count in omega (arith, x, y)) in
     let is : holdings_described w a ≡ h =
@@ -301,18 +306,57 @@ holder_begun w n a h d b at =
       known = ap (λ (k : ℕ). holdings_name k (holdings_described w a)) (all_named w n b)
           ∙ described_name_agents w a d;
       counted = described_counted w a d;
+      bounded = described_bounded w a d utf8;
     } in
     subst (IsHolder n.names a) is first
 
-pub net_begun : (w : World) (n : Net) → IsDescribed w → IsBegun w n → IsNet n
-net_begun w n d b =
+-- nothing was noted yet
+none_noted : (w : World) (me : ℕ) → BoundedLogs (logs_at (first_line w) me)
+none_noted w me = by (agent_at w me)
+  where
+    fresh : (pin : Key) → BoundedNotes (notes_at (first_line w) me pin)
+    fresh pin = subst BoundedNotes (sym (none_at_first w me pin)) (λ x i. elim i [ ])
+
+    of_copy : (pin : Key) (o : Option ℕ) → IfThere BoundedNotes (option_map (λ (stamp : ℕ). notes_at (first_line w) me pin) o)
+    of_copy pin None = tt
+    of_copy pin (Some stamp) = fresh pin
+
+    by : (o : Option Agent) → BoundedLogs (in_option no_logs (agent_logs (first_line w) me) o)
+    by None = record { own = λ x i. elim i [ ]; copies = λ x i. elim i [ ] }
+    by (Some a) = record {
+      own = each_map BoundedNotes (λ (c : Context). notes_at (first_line w) me (key_of c.prefix)) (held_contexts [] a.contexts)
+          (λ c i. fresh (key_of c.prefix));
+      copies = each_map (IfThere BoundedNotes)
+          (λ (g : Agreement). option_map (λ (stamp : ℕ). notes_at (first_line w) me (key_of g.context)) (as_of (first_line w) g.number))
+          (agreements_of w me) (λ g i. of_copy (key_of g.context) (as_of (first_line w) g.number));
+    }
+
+noted_begun : (w : World) (n : Net) (a : ℕ) (l : Logs) → IsBegun w n → slice_get n.logs a ≡ Some l → BoundedLogs l
+noted_begun w n a l b at =
+    let within : a < length w.agents =
+    (let x = slice_get_within n.logs a l at in let y = b.kept in omega (arith, x, y)) in
+    subst BoundedLogs (same_some (slice_get n.logs a) (logs_at (first_line w) a) l (b.logs a within) at) (none_noted w a)
+
+-- agents have names that agents may have
+all_plain : (w : World) (agents : List Agent) → list_all (is_agent w) agents ≡ true
+    → list_all is_agent_name (map (λ (a : Agent). a.name) agents) ≡ true
+all_plain w [] e = refl
+all_plain w (a ∷ agents) e =
+    let x = both_true (is_agent w a) (list_all (is_agent w) agents) e in
+    let y = both_true (is_agent_name a.name) _ x.0 in
+    and_true (is_agent_name a.name) (list_all is_agent_name (map (λ (b : Agent). b.name) agents)) y.0 (all_plain w agents x.1)
+
+pub net_begun : (w : World) (n : Net) → IsDescribed w → world_is_utf8 w ≡ true → IsBegun w n → IsNet n
+net_begun w n d utf8 b =
     let l = limited w d in
     record {
       apart = ap (distinct same_octets) b.names ∙ described_names_apart w d;
+      plain = ap (list_all is_agent_name) b.names ∙ all_plain w w.agents d.agents;
       few = (let e = all_named w n b in let f = l.0 in omega (arith, e, f));
       count = b.count ∙ sym (all_named w n b);
       logs = b.kept ∙ sym (all_named w n b);
-      each = λ a h at. holder_begun w n a h d b at;
+      each = λ a h at. holder_begun w n a h d utf8 b at;
+      noted = λ a l at. noted_begun w n a l b at;
       contexts = (let e = b.contexts in let f = l.1.0 in omega (arith, e, f));
       pairs = (let e = b.pairs in let f = l.1.1 in omega (arith, e, f));
       lines = (let e = b.line in omega (arith, e));

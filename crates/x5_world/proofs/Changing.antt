@@ -1,20 +1,28 @@
 -- An update that an agent carries out changes what it holds, and it's a network as before.
-use Rattle.std.proofs.Common.{◌≡◌, ℕ, zero, suc, ◌+◌, ◌<◌, ◌⊎◌, inl, inr, List, [], ◌∷◌, length, map, slice_get, slice_set, refl, sym, ap, subst, ◌∙◌, arith, Some, Result, Ok, Err, OnOk, OnErr}
+use Rattle.std.proofs.Common.{◌≡◌, ℕ, zero, suc, true, ◌+◌, ◌<◌, ◌⊎◌, inl, inr, List, [], ◌∷◌, length, map, slice_get, slice_set, refl, sym, ap, subst, ◌∙◌, arith, None, Some, Result, Ok, Err, OnOk, OnErr}
 use Rattle.std.proofs.lemmas.List.{length-map, length-set, map-set}
 use Rattle.x5_model.specs.Words.{in_option}
 use Rattle.x5_model.specs.Requests.{Request}
+use Rattle.x5_model.specs.Statics.{fault_of}
+use Rattle.x5_model_tree.specs.Ask.{is_update}
 use Rattle.x5_model_run.specs.Holdings.{Holdings}
 use Rattle.x5_model_run.specs.History.{no_holdings}
 use Rattle.x5_model_serve.specs.Committed.{committed}
+use Rattle.x5_model_fitting.specs.Requests.{BodyWithin}
+use Rattle.x5_model_limits.specs.Holding.{BoundedHoldings}
+use Rattle.x5_model_limits.proofs.Committing.{committed_bounded}
 use Rattle.x5_model_known.proofs.Finding.{knowledge_stays}
 use Rattle.x5_model_known.proofs.Counted.{counted_stays}
 use Rattle.x5_holdings.specs.State.{State, holdings_view}
 use Rattle.x5_update.specs.Committing.{IsCommitted, IsUncommitted}
 use Rattle.x5_world.specs.Logs.{AreNoted, Logs, no_logs}
+use Rattle.x5_world.specs.LogLimits.{BoundedLogs}
 use Rattle.x5_world.specs.LogViews.{logs_view}
 use Rattle.x5_world.specs.State.{Net, holdings_in, logs_in}
 use Rattle.x5_world.specs.Sent.{IsCommittedAt, IsHolder, IsNet, no_net}
 use Rattle.x5_world.specs.Laws.{holder}
+use Rattle.x5_world.proofs.Holding.{committed_alike}
+use Rattle.x5_world.proofs.Limits.{AllBounded, bare, bare_within, noted_within, one_bounded}
 use Rattle.x5_world.proofs.Noted.{are_noted, are_unnoted}
 
 -- what stands in a list of which one place was set
@@ -30,35 +38,44 @@ set_has (x ∷ xs) (suc i) (suc a) y h e = elim (set_has xs i a y h e) [
 ]
 
 -- what an agent holds once it accepted an update is its own as before
-changed_holder : (names : List (List ℕ)) (a : ℕ) (r : Request) (h : Holdings) → IsHolder names a h
-    → IsHolder names a (committed r h)
-changed_holder names a r h x =
+changed_holder : (names : List (List ℕ)) (a : ℕ) (r : Request) (h : Holdings) → BodyWithin r.body → is_update r.body ≡ true
+    → IsHolder names a h → IsHolder names a (committed r h)
+changed_holder names a r h within update x =
     let stays = knowledge_stays (length names) r h in
-    record { me = stays.0 ∙ x.me; known = stays.1 ∙ x.known; counted = counted_stays r h ∙ x.counted }
+    record {
+      me = stays.0 ∙ x.me;
+      known = stays.1 ∙ x.known;
+      counted = counted_stays r h ∙ x.counted;
+      bounded = subst BoundedHoldings (committed_alike (bare r.body) r h refl update)
+          (committed_bounded (bare r.body) h (bare_within r.body within) x.bounded);
+    }
 
 -- the network once an agent accepted an update, with the logs that agents have then
 abbrev pub changed : Net → List Logs → ℕ → Request → Net
 changed n logs a r = record n { agents = slice_set n.agents a (committed r (holdings_in n a)); logs = logs }
 
-changed_each : (n : Net) (logs : List Logs) (agent : ℕ) (r : Request) (a : ℕ) (h : Holdings) → IsNet n
-    → agent < length n.names → slice_get (changed n logs agent r).agents a ≡ Some h → IsHolder n.names a h
-changed_each n logs agent r a h net there at =
+changed_each : (n : Net) (logs : List Logs) (agent : ℕ) (r : Request) (a : ℕ) (h : Holdings) → BodyWithin r.body
+    → is_update r.body ≡ true → IsNet n → agent < length n.names → slice_get (changed n logs agent r).agents a ≡ Some h
+    → IsHolder n.names a h
+changed_each n logs agent r a h within update net there at =
     elim (set_has n.agents agent a (committed r (holdings_in n agent)) h at) [
       | inl z ↦
           subst (λ (k : ℕ). IsHolder n.names k h) (sym z.0)
           (subst (IsHolder n.names agent) (sym z.1)
-          (changed_holder n.names agent r (holdings_in n agent) (holder n agent net there)))
+          (changed_holder n.names agent r (holdings_in n agent) within update (holder n agent net there)))
       | inr z ↦ net.each a h z
     ]
 
-net_changed : (n : Net) (logs : List Logs) (agent : ℕ) (r : Request) → IsNet n → agent < length n.names
-    → length logs ≡ length n.logs → IsNet (changed n logs agent r)
-net_changed n logs agent r net there same = record {
+net_changed : (n : Net) (logs : List Logs) (agent : ℕ) (r : Request) → BodyWithin r.body → is_update r.body ≡ true
+    → IsNet n → agent < length n.names → length logs ≡ length n.logs → AllBounded logs → IsNet (changed n logs agent r)
+net_changed n logs agent r within update net there same noted = record {
   apart = net.apart;
+  plain = net.plain;
   few = net.few;
   count = length-set n.agents agent (committed r (holdings_in n agent)) ∙ net.count;
   logs = same ∙ net.logs;
-  each = λ a h at. changed_each n logs agent r a h net there at;
+  each = λ a h at. changed_each n logs agent r a h within update net there at;
+  noted = noted;
   contexts = net.contexts;
   pairs = net.pairs;
   lines = net.lines;
@@ -148,14 +165,27 @@ module _ (n : Net) (items : List State) (i : ℕ) (s : State) (at : slice_get it
           (like.1 ∙ sym logs_are)
           (subst (λ (l : Logs). AreNoted u.moment r (holdings_view u) (logs_view u) l) (sym (logs_then t)) first)))
 
-  pub stays_net : {T E : Type 0} (result : Result T E) (r : Request) (u t : State) → IsNet (of_states n items)
-      → i < length n.names → IsLike s u → OnOk result (IsCommitted u r t) → OnErr result (IsUncommitted u t)
-      → IsNet (of_states n (slice_set items i t))
-  stays_net (Ok x) r u t net there like done same =
+  -- what agents keep of changes then
+  all_noted : (r : Request) (u t : State) → BodyWithin r.body → fault_of r.body ≡ None → IsNet (of_states n items) → IsLike s u
+      → IsCommitted u r t → AllBounded (map logs_view (slice_set items i t))
+  all_noted r u t within none net like done =
+      let held : BoundedHoldings (holdings_view u) =
+      subst BoundedHoldings (sym like.0) (net.each i (holdings_view s) (map_at holdings_view items i s at)).bounded in
+      let kept : BoundedLogs (logs_view u) =
+      subst BoundedLogs (sym like.1) (net.noted i (logs_view s) (map_at logs_view items i s at)) in
+      subst AllBounded (sym (map-set logs_view items i t))
+      (one_bounded (map logs_view items) i (logs_view t) net.noted
+      (noted_within u.moment r (holdings_view u) (logs_view u) (logs_view t) (are_noted u t r done) within none held kept))
+
+  pub stays_net : {T E : Type 0} (result : Result T E) (r : Request) (u t : State) → BodyWithin r.body
+      → is_update r.body ≡ true → fault_of r.body ≡ None → IsNet (of_states n items) → i < length n.names → IsLike s u
+      → OnOk result (IsCommitted u r t) → OnErr result (IsUncommitted u t) → IsNet (of_states n (slice_set items i t))
+  stays_net (Ok x) r u t within update none net there like done same =
       subst IsNet (sym (it_is t r (done.holdings ∙ ap (committed r) like.0)))
-      (net_changed (of_states n items) (map logs_view (slice_set items i t)) i r net there
-      (length-map (slice_set items i t) logs_view ∙ length-set items i t ∙ sym (length-map items logs_view)))
-  stays_net (Err x) r u t net there like done same =
+      (net_changed (of_states n items) (map logs_view (slice_set items i t)) i r within update net there
+      (length-map (slice_set items i t) logs_view ∙ length-set items i t ∙ sym (length-map items logs_view))
+      (all_noted r u t within none net like done))
+  stays_net (Err x) r u t within update none net there like done same =
       subst IsNet (sym (nothing_is t (same.holdings ∙ like.0, are_unnoted u t same ∙ like.1))) net
 
   pub is_committed : {T E : Type 0} (result : Result T E) (old : Net) (a moment : ℕ) (r : Request) (u t : State)
@@ -177,10 +207,12 @@ module _ (n : Net) (items : List State) (i : ℕ) (s : State) (at : slice_get it
 pub nobody_is_net : IsNet no_net
 nobody_is_net = record {
   apart = refl;
+  plain = refl;
   few = omega arith;
   count = refl;
   logs = refl;
   each = λ a h e. cc;
+  noted = λ a l e. cc;
   contexts = omega arith;
   pairs = omega arith;
   lines = omega arith;

@@ -1,6 +1,7 @@
 -- Octets that a user hands to an agent come to a message, which is answered as any other, or to their first breach, and
 -- then they are a message that changes nothing.
-use Rattle.std.proofs.Common.{◌≡◌, ℕ, ℤ, ◌+◌, List, [], ◌∷◌, length, map, None, Result, Some, Ok, Err, refl, sym, ap, subst, ◌∙◌}
+use Rattle.std.proofs.Common.{◌≡◌, ℕ, ℤ, ◌+◌, List, [], ◌∷◌, length, map, true, None, Result, Some, Ok, Err, refl, sym, ap, subst, ◌∙◌}
+use Rattle.std.specs.List.{list_all}
 use Rattle.x5_ber.specs.declared.element.BerFault.{BerFault}
 use Rattle.x5_dapber.specs.Results.{Decodes}
 use Rattle.x5_dapber.specs.declared.fault.WireFault.{WireFault}
@@ -9,15 +10,22 @@ use Rattle.x5_dapreply.specs.ReplyViews.{told_item}
 use Rattle.x5_dspber.specs.ChainedViews.{told_chained}
 use Rattle.x5_model.specs.References.{Chained, TraceItem}
 use Rattle.x5_model.specs.Requests as model
+use Rattle.x5_model_fitting.specs.Requests.{RequestWithin}
+use Rattle.x5_model_fitting.specs.Chained.{ChainedWithin}
+use Rattle.x5_model_fitting.proofs.ChainedSaid.{chained_spelled}
+use Rattle.x5_model_fitting.proofs.RequestsSaid.{request_spelled}
 use Rattle.x5_model_messages.specs.Chained as chains
 use Rattle.x5_model_messages.specs.Chained.{chained_in}
 use Rattle.x5_model_messages.specs.Requests.{request_in}
 use Rattle.x5_model_run.specs.Chain.{opening}
 use Rattle.x5_model_run.specs.History.{Point}
 use Rattle.x5_model_run.specs.Network.{fate_of}
-use Rattle.x5_model_run.specs.Run.{Protocol, Dap, Dsp, raw_to}
+use Rattle.x5_model_run.specs.Run.{Protocol, Dap, Dsp}
 use Rattle.x5_model_typed.specs.Judged.{Breach, Ber, Unrecognised}
+use Rattle.x5_model_typed.specs.Named as named
 use Rattle.x5_model_typed.specs.Nodes.{Node}
+use Rattle.x5_model_typed.specs.Typed.{Spells}
+use Rattle.x5_model_typed_laws.specs.Said.{is_octet}
 use Rattle.x5_ops.specs.AgentNames.{agent_of}
 use Rattle.x5_ops.specs.JournalViews.{fate_view}
 use Rattle.x5_ops.specs.ReferenceViews.{chained_view, item_view}
@@ -26,6 +34,7 @@ use Rattle.x5_ops.specs.declared.journal.Fate.{Fate}
 use Rattle.x5_ops.specs.declared.references.Chained as code
 use Rattle.x5_ops.specs.declared.references.TraceItem as items
 use Rattle.x5_ops.specs.declared.requests.Request.{Request}
+use Rattle.x5_types.specs.FormView.{nowhere, table}
 use Rattle.x5_typed.specs.Breaches.{breach_view}
 use Rattle.x5_typed.specs.declared.fault.Breach as typed
 use Rattle.x5_typed.specs.declared.fault.Breach.TheVariants as breaches
@@ -64,6 +73,17 @@ message_so names (Ok n) x d =
     ap (λ (m : Chained). Ok m) (message_placed names x.1) ∙ ap (λ (q : ℕ × chains.Chained). Ok (placed names q.1)) d
 message_so names (Err (Ber fault)) x d = absurd d
 message_so names (Err (Unrecognised code)) x d = absurd d
+
+-- which is within the limits of messages, as all that octets spell
+pub request_within : (octets : List ℕ) (x : ℕ × Request) → list_all is_octet octets ≡ true
+    → ((n : Node) × Spells table named.DapRequest octets n × (seen x ≡ request_in n)) → RequestWithin (request_view x.1)
+request_within octets x are w =
+    subst (λ (p : ℕ × model.Request). RequestWithin p.1) (sym w.2) (request_spelled nowhere octets w.0 are w.1).1
+
+pub message_within : (octets : List ℕ) (x : ℕ × code.Chained) → list_all is_octet octets ≡ true
+    → ((n : Node) × Spells table named.DspRequest octets n × (told x ≡ chained_in n)) → ChainedWithin (told_chained x.1)
+message_within octets x are w =
+    subst (λ (p : ℕ × chains.Chained). ChainedWithin p.1) (sym w.2) (chained_spelled nowhere octets w.0 are w.1).1
 
 -- or a first breach
 module _ {X Y : Type 0} (view : X → Y) (said : Node → Y) where

@@ -335,9 +335,11 @@ still_with n now new first m most lines accepted more me msg w there ready is e 
           (sym (has_reverse accepted me) ∙ ready.fresh) within same (sym (ap is_update same) ∙ ready.due.update) is;
       there = w.there;
       short = w.short;
+      request = w.request;
       room = w.room;
       within = w.within;
       counted = w.counted;
+      journal = w.journal;
       agents = list_all-append (λ a. nat_lt a (length n.names)) accepted (me ∷ [])
           ∙ and_true (are_agents (length n.names) accepted) (are_agents (length n.names) (me ∷ [])) w.agents
           (and_true (nat_lt me (length n.names)) true (lt-ltb me (length n.names) there) refl);

@@ -14,6 +14,8 @@ use Rattle.x5_model_tree.specs.World.{Nssr as ModelNssr, Specific as ModelSpecif
 use Rattle.x5_model_tree.specs.Tree.{is_there}
 use Rattle.x5_model_run.specs.Holdings.{Copy, Held, Holdings}
 use Rattle.x5_model_known.specs.Holding.{access_names, context_names, copy_names, nssrs_name, references_name, superior_names}
+use Rattle.x5_model_fitting.specs.Requests.{CountWithin}
+use Rattle.x5_model_limits.specs.Holding.{BoundedHoldings}
 use Rattle.x5_model_known.specs.Counted.{context_counted, copy_counted, is_counted, nssrs_counted, references_counted}
 use Rattle.x5_ops.specs.declared.knowledge.Content.{Content}
 use Rattle.x5_ops.specs.declared.knowledge.Nssr.{Nssr}
@@ -27,10 +29,11 @@ use Rattle.x5_consume.specs.Taken.{IsTaken}
 use Rattle.x5_refresh.specs.declared.brought.Brought.{Brought}
 use Rattle.x5_refresh.specs.declared.brought.Brought.TheVariants.{Total, Steps}
 use Rattle.x5_refresh.specs.Sent.{IsRefreshed, supply_of}
-use Rattle.x5_world.specs.Refreshing.{is_known_in}
+use Rattle.x5_world.specs.Refreshing.{IsBoundedIn, is_known_in}
 use Rattle.x5_world.specs.Sent.{IsHolder}
 use Rattle.x5_world.proofs.Acceptable.{ok_is, no_total, total_sent}
 use Rattle.x5_world.proofs.Courses.{some_is}
+use Rattle.x5_world.proofs.Limits.{taken_bounded}
 
 -- ---- what is sent
 
@@ -64,7 +67,7 @@ nssrs_seen : (xs : List Nssr) → map nssr_view (map supply.nssr xs) ≡ map nss
 nssrs_seen [] = refl
 nssrs_seen (x ∷ xs) = ap (λ (ys : List ModelNssr). nssr_view x ∷ ys) (nssrs_seen xs)
 
-references_seen : (xs : List Specific) → map specific_view (map reference xs) ≡ map specific_view xs
+pub references_seen : (xs : List Specific) → map specific_view (map reference xs) ≡ map specific_view xs
 references_seen [] = refl
 references_seen (x ∷ xs) = ap (λ (ys : List ModelSpecific). specific_view x ∷ ys) (references_seen xs)
 
@@ -191,8 +194,8 @@ map_at f (y ∷ ys) zero x e = ap (λ z. Some (f z)) (some_is e)
 map_at f (y ∷ ys) (suc i) x e = map_at f ys i x e
 
 module _ (names : List (List ℕ)) (a : ℕ) (s t : State) (pin : Key) (m : ℕ) (b : Brought)
-    (x : IsHolder names a (holdings_view s)) (known : is_known_in (length names) b ≡ true)
-    (taken : IsTaken s pin (IsRefreshed b m) t) where
+    (x : IsHolder names a (holdings_view s)) (known : is_known_in (length names) b ≡ true) (stamp : CountWithin m)
+    (bounded : IsBoundedIn b) (taken : IsTaken s pin (IsRefreshed b m) t) where
   abbrev size : ℕ
   size = length names
 
@@ -280,4 +283,5 @@ module _ (names : List (List ℕ)) (a : ℕ) (s t : State) (pin : Key) (m : ℕ)
             (rest_counted names a h x).0
             (and_true (list_all copy_counted cs) (references_counted h.root && references_counted h.cross)
             (set_all copy_counted h.copies taken.place (copy_view taken.copied.after) counts_rest.0 is_good.1) counts_rest.1);
+        bounded = subst BoundedHoldings at (taken_bounded s t pin m b stamp bounded taken x.bounded);
       })

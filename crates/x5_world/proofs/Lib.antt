@@ -1,10 +1,12 @@
 pub mod Keeping
 pub mod Noted
+pub mod Limits
 pub mod Logging
 pub mod Standing
 pub mod Journals
 pub mod Repeating
 pub mod Sending
+pub mod Carrying
 pub mod Holders
 pub mod Holding
 pub mod Users
@@ -22,6 +24,7 @@ pub mod Onward
 pub mod Concluding
 pub mod Delivering
 pub mod Knowing
+pub mod Supplying
 pub mod Stopping
 pub mod Agents
 pub mod Rounding

@@ -59,7 +59,7 @@ step_told c (ModifyDn name rdn drops) (steps.Modify e) w = absurd w
 
 -- ---- what a log notes
 
-map_at : {A B : Type 0} (f : A → B) (xs : List A) (i : ℕ) (x : A) → slice_get xs i ≡ Some x
+pub map_at : {A B : Type 0} (f : A → B) (xs : List A) (i : ℕ) (x : A) → slice_get xs i ≡ Some x
     → slice_get (map f xs) i ≡ Some (f x)
 map_at f [] i x e = cc
 map_at {A} f (y ∷ ys) zero x e = let q : y ≡ x = cc in ap (λ (z : A). Some (f z)) q
@@ -70,7 +70,7 @@ first_mapped : (base : ℕ) (xs : List Logged)
 first_mapped base [] = refl
 first_mapped base (x ∷ xs) = refl
 
-noted_log : (old after : holdings.Log) (x : Logged) → holdings.IsLogged old x after
+pub noted_log : (old after : holdings.Log) (x : Logged) → holdings.IsLogged old x after
     → notes_view after ≡ noting (logged_view x) (notes_view old)
 noted_log old after x l =
     let n : length old.changes ≡ length (map logged_view old.changes) = sym (length-map old.changes logged_view) in

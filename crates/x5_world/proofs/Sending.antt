@@ -12,7 +12,10 @@ use Rattle.x5_model.proofs.Lists.{and_true}
 use Rattle.x5_model_run.specs.Network as fates
 use Rattle.x5_model_run.specs.Journal.{Line, Journal}
 use Rattle.x5_model_run.specs.Chain.{Scene}
-use Rattle.x5_model_serve.specs.Serving.{line_of, with_line, is_spent}
+use Rattle.x5_model_serve.specs.Serving.{hand_of, line_of, with_line, is_spent}
+use Rattle.x5_model_limits.specs.Messages.{BoundedMessage}
+use Rattle.x5_model_limits.specs.Doing.{BoundedHand, BoundedJournal}
+use Rattle.x5_model_limits.proofs.Lists.{each_both, each_one}
 use Rattle.x5_ops.specs.JournalViews.{fate_view}
 use Rattle.x5_ops.specs.ReferenceViews.{chained_view, item_view}
 use Rattle.x5_ops.specs.declared.references.Chained.{Chained}
@@ -21,6 +24,7 @@ use Rattle.x5_world.specs.Arrivals.{arrival_by}
 use Rattle.x5_world.specs.State.{Net}
 use Rattle.x5_world.specs.Sent.{line_view, journal_of, scene_of, is_counted, IsUnderWay}
 use Rattle.x5_world.specs.declared.journal.Sent.{Sent}
+use Rattle.x5_world.proofs.Journals.{receiver_there}
 
 -- ---- the journal with one line more
 
@@ -109,15 +113,25 @@ counts names x message sender receiver same short =
       | inr y ↦ absurd (omega (arith, y.1, short, trace))
     ]))
 
+-- one message more within the limits
+one_more : (n : ℕ) (i j : Journal) (l : Line) → BoundedJournal n i → BoundedHand n (hand_of l) → j ≡ with_line l i
+    → BoundedJournal n j
+one_more n i j l all one e =
+    subst (BoundedJournal n) (sym e)
+    (each_both (λ (x : Line). BoundedHand n (hand_of x)) (l ∷ []) i.lines
+    (each_one (λ (x : Line). BoundedHand n (hand_of x)) l one) all)
+
 pub still_under_way : (n now : Net) (first : ℕ) (m : model.Chained) (most : ℕ) (lines more : List Sent)
     (accepted : List ℕ) (x : Sent)
     → IsUnderWay n now first m most lines accepted → length lines < most → is_counted n.names x ≡ true
-    → more ≡ lines ++ x ∷ [] → IsUnderWay n now first m most more accepted
-still_under_way n now first m most lines more accepted x w within counted e = record {
+    → BoundedMessage (chained_view n.names x.message) → more ≡ lines ++ x ∷ []
+    → IsUnderWay n now first m most more accepted
+still_under_way n now first m most lines more accepted x w within counted bounded e = record {
   net = w.net;
   changed = w.changed;
   there = w.there;
   short = w.short;
+  request = w.request;
   room = w.room;
   within =
       (let l : length more ≡ length lines + 1 = ap length e ∙ length-append lines (x ∷ []) in omega (arith, l, within));
@@ -126,14 +140,19 @@ still_under_way n now first m most lines more accepted x w within counted e = re
       ∙ and_true (list_all (is_counted n.names) lines) (list_all (is_counted n.names) (x ∷ [])) w.counted
       (and_true (is_counted n.names x) true counted refl);
   agents = w.agents;
+  journal = one_more (length n.names) (journal_of n.names lines accepted) (journal_of n.names more accepted)
+      (line_view n.names x) w.journal
+      (record { receiver = receiver_there n.names x counted; message = bounded })
+      (ap (λ (ls : List Sent). journal_of n.names ls accepted) e ∙ journal_more n.names lines accepted x);
 }
 
 -- whether or not there was memory for the line
 pub pushed : (n now : Net) (first : ℕ) (m : model.Chained) (most : ℕ) (lines more : List Sent) (accepted : List ℕ)
     (x : Sent) (b : Bool)
     → IsUnderWay n now first m most lines accepted → length lines < most → is_counted n.names x ≡ true
-    → more ≡ cond b (lines ++ x ∷ []) lines → IsUnderWay n now first m most more accepted
-pushed n now first m most lines more accepted x true w within counted e =
-    still_under_way n now first m most lines more accepted x w within counted e
-pushed n now first m most lines more accepted x false w within counted e =
+    → BoundedMessage (chained_view n.names x.message) → more ≡ cond b (lines ++ x ∷ []) lines
+    → IsUnderWay n now first m most more accepted
+pushed n now first m most lines more accepted x true w within counted bounded e =
+    still_under_way n now first m most lines more accepted x w within counted bounded e
+pushed n now first m most lines more accepted x false w within counted bounded e =
     subst (λ (ls : List Sent). IsUnderWay n now first m most ls accepted) (sym e) w

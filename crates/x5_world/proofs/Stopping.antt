@@ -18,7 +18,7 @@ use Rattle.x5_refresh.specs.Course.{answered, finished, stopped, unless_ended, u
 use Rattle.x5_refresh.specs.Sent.{CanAccept}
 use Rattle.x5_world.specs.Answered.{line_names_agents}
 use Rattle.x5_world.specs.Refreshes.{IsSound}
-use Rattle.x5_world.specs.Refreshing.{AreMessages, CanBring, IsKnown, IsLeft, IsSupplied, IsWay, first_fate, last_of, problem_in}
+use Rattle.x5_world.specs.Refreshing.{AreMessages, CanBring, IsBounded, IsKnown, IsLeft, IsSupplied, IsWay, first_fate, last_of, problem_in}
 use Rattle.x5_world.specs.State.{Net, StandsAt}
 use Rattle.x5_world.specs.declared.refreshing.Supplied.{Supplied}
 use Rattle.x5_world.specs.declared.refreshing.Supplied.TheVariants.{Sent, Refused}
@@ -144,12 +144,12 @@ way_agents n by sound way = agents_there n sound.point by.place by.agreement sou
 
 pub can_bring : (n : Net) (by : Way) (sent : Supplied) → IsSound n → IsWay n by
     → IsSupplied n by.agreement by.total (last_of by) sent → IsKnown (length n.names) sent
-    → unsent by.push (problem_in sent) ≡ None
+    → IsBounded sent → unsent by.push (problem_in sent) ≡ None
     → stopped by.push by.total (problem_in sent) by.own by.acked (first_fate n by.agreement by.push) ≡ None
     → CanBring n by.agreement sent
-can_bring n by (Refused k) sound way supplied known e f =
+can_bring n by (Refused k) sound way supplied known bounded e f =
     no_problem by.push by.total k by.own by.acked (first_fate n by.agreement by.push) e f
-can_bring n by (Sent stamp brought) sound way supplied known e f =
+can_bring n by (Sent stamp brought) sound way supplied known bounded e f =
     let p : Point = sound.point in
     let s : StandsAt n p = sound.stands in
     let c = sound.consistent in
@@ -163,6 +163,8 @@ can_bring n by (Sent stamp brought) sound way supplied known e f =
           (logs n p by s c way sent supplied) (moment n p by s c way sent supplied) (mine n p by s c way) (by_number n p by s c way)
           by.total (last_of by) stamp brought peer supplied.sent_is),
       known,
+      bounded.0,
+      bounded.1,
     )
 
 -- ---- an agreement by its number

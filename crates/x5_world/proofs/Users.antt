@@ -4,6 +4,7 @@ use Rattle.std.proofs.Common.{◌≡◌, ℕ, ◌+◌, ◌<◌, ◌≤◌, true,
 use Rattle.x5_model.specs.References.{Chained}
 use Rattle.x5_model.specs.Requests.{Request}
 use Rattle.x5_model.specs.Answers.{Reply}
+use Rattle.x5_model_fitting.specs.Requests.{RequestWithin}
 use Rattle.x5_model_run.specs.Chain.{Scene}
 use Rattle.x5_model_run.specs.Journal.{Journal}
 use Rattle.x5_model_serve.specs.Serving.{Act, Serves, Does, IsRequest, not_heard, not_told, answers, hand, nothing_yet, user_line, with_line, user_in_vain}
@@ -21,8 +22,9 @@ nobody_yet e = cc
 
 -- before its first message
 pub begun : (n now : Net) (first most : ℕ) (m : Chained) → now ≡ n → IsNet n → first < length n.names
-    → HasShortNames m.request.body → n.sent + most ≤ 18446744073709551615 → IsUnderWay n now first m most [] []
-begun n now first most m same net there short room =
+    → HasShortNames m.request.body → RequestWithin m.request → n.sent + most ≤ 18446744073709551615
+    → IsUnderWay n now first m most [] []
+begun n now first most m same net there short within room =
     record {
       net = net;
       changed = record {
@@ -35,10 +37,12 @@ begun n now first most m same net there short room =
       };
       there = there;
       short = short;
+      request = within;
       room = room;
       within = (let z : 0 ≤ most = omega arith in z);
       counted = refl;
       agents = refl;
+      journal = λ l i. elim i [ ];
     }
 
 -- what became of the user's message, which was the first

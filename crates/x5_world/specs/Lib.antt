@@ -1,5 +1,6 @@
 pub mod Logs
 pub mod LogViews
+pub mod LogLimits
 pub mod State
 pub mod Answered
 pub mod Counts
@@ -10,3 +11,4 @@ pub mod Users
 pub mod Refreshing
 pub mod Refreshes
 pub mod Delivered
+pub mod Once

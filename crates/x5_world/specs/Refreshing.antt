@@ -16,10 +16,16 @@ use Rattle.x5_model_run.specs.Refresh.{RefreshBlock, RefreshOutcome, Done, Unhea
 use Rattle.x5_model_run.specs.Refresh.{UpdateShadow, ended, invalid_agreement_id}
 use Rattle.x5_model_known.specs.Holding.{references_name, nssrs_name}
 use Rattle.x5_model_known.specs.Counted.{references_counted, nssrs_counted}
+use Rattle.x5_model_fitting.specs.Names.{Each}
+use Rattle.x5_model_fitting.specs.Requests.{CountWithin}
+use Rattle.x5_model_limits.specs.Holding.{BoundedEntry, BoundedSpecific}
+use Rattle.x5_model_limits.specs.Steps.{BoundedStep}
 use Rattle.x5_ops.specs.KnowledgeViews.{specific_view, nssr_view}
 use Rattle.x5_ops.specs.RefreshViews.{shadows_view, refreshed_view}
 use Rattle.x5_ops.specs.declared.journal.Line.{Line}
+use Rattle.x5_ops.specs.declared.knowledge.Content.{Content}
 use Rattle.x5_holdings.specs.State.{State, holdings_view}
+use Rattle.x5_consume.specs.Steps.{steps_view}
 use Rattle.x5_consume.specs.Taken.{IsTaken, stamp_at}
 use Rattle.x5_refresh.specs.declared.brought.Brought.{Brought}
 use Rattle.x5_refresh.specs.declared.brought.Brought.TheVariants.{Total, Steps}
@@ -71,12 +77,27 @@ abbrev pub IsKnown : ℕ → Supplied → Type 0
 IsKnown agents (Sent stamp brought) = is_known_in agents brought ≡ true
 IsKnown agents (Refused problem) = ⊤
 
+-- What is sent is within the limits of messages: the entries and the pins of references, or the steps; and so is the
+-- moment as of which the supplier has the context. Of an NSSR nothing but its agents is carried.
+pub record IsBoundedContent (content : Content) : Type 0 where
+  pub entries : Each BoundedEntry content.entries
+  pub references : Each BoundedSpecific (map specific_view content.specific)
+
+abbrev pub IsBoundedIn : Brought → Type 0
+IsBoundedIn (Total content) = IsBoundedContent content
+IsBoundedIn (Steps steps) = Each BoundedStep (steps_view steps)
+
+abbrev pub IsBounded : Supplied → Type 0
+IsBounded (Sent stamp brought) = CountWithin stamp × IsBoundedIn brought
+IsBounded (Refused problem) = ⊤
+
 -- ---- the consumer
 
 -- something is sent, and can be taken
 abbrev pub CanBring : Net → Agreement → Supplied → Type 0
 CanBring n g (Sent stamp brought) =
     CanAccept (holdings_in n g.consumer) (key_of g.context) brought × (is_known_in (length n.names) brought ≡ true)
+    × CountWithin stamp × IsBoundedIn brought
 CanBring n g (Refused problem) = ⊥
 
 -- the consumer's copy becomes what was brought, and nothing else changes

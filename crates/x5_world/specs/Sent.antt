@@ -6,6 +6,7 @@ use Rattle.std.specs.List.{list_all}
 use Rattle.x5_model.specs.Words.{distinct, has, in_option, same_octets}
 use Rattle.x5_model.specs.References.{Chained}
 use Rattle.x5_model.specs.Requests.{Request}
+use Rattle.x5_model_tree.specs.Described.{is_agent_name}
 use Rattle.x5_model_run.specs.Journal as model
 use Rattle.x5_model_run.specs.Holdings.{Holdings}
 use Rattle.x5_model_run.specs.Chain.{Scene}
@@ -13,9 +14,13 @@ use Rattle.x5_model_serve.specs.Committed.{committed}
 use Rattle.x5_model_heard.specs.Told.{are_agents}
 use Rattle.x5_model_known.specs.Holding.{holdings_name}
 use Rattle.x5_model_known.specs.Counted.{holdings_counted}
+use Rattle.x5_model_fitting.specs.Requests.{RequestWithin}
+use Rattle.x5_model_limits.specs.Holding.{BoundedHoldings}
+use Rattle.x5_model_limits.specs.Doing.{BoundedJournal}
 use Rattle.x5_ops.specs.JournalViews.{fate_view}
 use Rattle.x5_ops.specs.ReferenceViews.{chained_view}
-use Rattle.x5_world.specs.Logs.{AreNoted}
+use Rattle.x5_world.specs.Logs.{AreNoted, Logs}
+use Rattle.x5_world.specs.LogLimits.{BoundedLogs}
 use Rattle.x5_world.specs.State.{Net, HasShortNames, holdings_in, logs_in}
 use Rattle.x5_world.specs.declared.journal.Sent.{Sent}
 
@@ -59,20 +64,24 @@ no_net = record {
   line = 0;
 }
 
--- What is so of every network: no two agents have one name, each holds what is its own, names agents of the network and
--- knows no name that is too long for an octet to count; and there are no more contexts and agents of NSSRs than a file
--- may have.
+-- What is so of every network: no two agents have one name, and all are named as agents may be; each holds what is its
+-- own, names agents of the network and knows no name that is too long for an octet to count; what it holds, and what it
+-- keeps of changes, is within the limits of messages; and there are no more contexts and agents of NSSRs than a file may
+-- have.
 pub record IsHolder (names : List (List ℕ)) (a : ℕ) (h : Holdings) : Type 0 where
   pub me : h.me ≡ a
   pub known : holdings_name (length names) h ≡ true
   pub counted : holdings_counted h ≡ true
+  pub bounded : BoundedHoldings h
 
 pub record IsNet (n : Net) : Type 0 where
   pub apart : distinct same_octets n.names ≡ true
+  pub plain : list_all is_agent_name n.names ≡ true
   pub few : length n.names ≤ 64
   pub count : length n.agents ≡ length n.names
   pub logs : length n.logs ≡ length n.names
   pub each : (a : ℕ) (h : Holdings) → slice_get n.agents a ≡ Some h → IsHolder n.names a h
+  pub noted : (a : ℕ) (l : Logs) → slice_get n.logs a ≡ Some l → BoundedLogs l
   pub contexts : n.contexts ≤ 4096
   pub pairs : n.pairs ≤ 4096
   pub lines : n.line ≤ 100000
@@ -105,15 +114,17 @@ pub record IsCommittedAt (agent : ℕ) (r : Request) (old new : Net) : Type 0 wh
   pub rest : new ≡ record old { agents = new.agents; logs = new.logs }
   pub noted : AreNoted (old.line + 1) r (holdings_in old agent) (logs_in old agent) (logs_in new agent)
 
--- A user's request on its way, which began in the one network and has led to the other, with the messages so far and
--- those who accepted its update.
+-- A user's request on its way, within the limits of messages, which began in the one network and has led to the other,
+-- with the messages so far, all of them within the limits too, and those who accepted its update.
 pub record IsUnderWay (n now : Net) (first : ℕ) (m : Chained) (most : ℕ) (lines : List Sent) (accepted : List ℕ) :
     Type 0 where
   pub net : IsNet n
   pub changed : IsChanged n now m.request accepted
   pub there : first < length n.names
   pub short : HasShortNames m.request.body
+  pub request : RequestWithin m.request
   pub room : n.sent + most ≤ 18446744073709551615
   pub within : length lines ≤ most
   pub counted : list_all (is_counted n.names) lines ≡ true
   pub agents : are_agents (length n.names) accepted ≡ true
+  pub journal : BoundedJournal (length n.names) (journal_of n.names lines accepted)

@@ -2,6 +2,7 @@
 
 ghost use Rattle.std.specs.Prelude.{◌≡◌, ℕ, List, ◌<◌, ◌≤◌, ◌+◌, true, length, IfOk};
 ghost use Rattle.std.specs.List.{list_all};
+ghost use Rattle.x5_model_fitting.specs.Requests.{RequestWithin};
 ghost use Rattle.x5_model_heard.specs.Told.{are_agents};
 ghost use Rattle.x5_model_known.specs.Replying.{reply_agents};
 ghost use Rattle.x5_model_run.specs.Chain as chain;
@@ -12,12 +13,13 @@ ghost use Rattle.x5_ops.specs.AnswerViews.{reply_view};
 ghost use Rattle.x5_ops.specs.ReferenceViews.{chained_view};
 ghost use Rattle.x5_ops.specs.RequestViews.{body_view, request_view};
 ghost use Rattle.x5_serve.specs.Networks.{Stays, DoesAt};
+ghost use Rattle.x5_serve.specs.Sendable.{MayBeSent};
 ghost use Rattle.x5_world.specs.Users.{IsUsers, user_in_vain_at};
 ghost use Rattle.x5_world.specs.State.{HasShortNames};
 ghost use Rattle.x5_world.specs.Sent.{IsChanged, IsNet, is_counted, journal_of, scene_of};
 
 use crate::begin::Begun;
-use crate::exchange::Exchange;
+use crate::exchange::{Exchange, ID};
 use crate::journal::Sent;
 use crate::world::World;
 use std::alloc::Global;
@@ -25,6 +27,7 @@ use x5_memory::NoMemory;
 use x5_names::Name;
 use x5_ops::{AgentId, Body, Chained, Listed, Progress, RefType, Reply, Request};
 use x5_serve::{Carried, Network, serve, user_in_vain};
+use x5_wire::carried_request;
 
 /// The network after a request, what the user is told, the messages that it took, and the agents that accepted the update, each in
 /// their order.
@@ -60,6 +63,15 @@ pub(crate) fn opening(alloc: Global, request: &Request) -> Result<Chained, NoMem
     })
 }
 
+/// What a user asks as the agent has it, which reads it in the octets that it goes by (X.519, section 7: DAP).
+pub(crate) fn heard(alloc: Global, request: &Request) -> Result<Chained, NoMemory>
+    requires { RequestWithin (request_view request.now) }
+    ensures { IfOk result (λ message. (names : List (List ℕ)) → chained_view names message ≡ chain.opening (request_view request.now)) }
+{
+    let request = carried_request(alloc, ID, request)?;
+    opening(alloc, &request)
+}
+
 /// Serves the user's message, whose reply is lost; so the user has `unavailable`.
 fn served_in_vain<N: Network>(
     alloc: Global,
@@ -69,6 +81,7 @@ fn served_in_vain<N: Network>(
 ) -> Result<Reply, NoMemory>
     requires there { first < length (N.names net.old) }
     requires user { IsUsers (N.scene net.old) first (chained_view (N.names net.old) message.now) }
+    requires sent { MayBeSent (N.names net.old) message.now }
     ensures stays { Stays N.scene N.most N.names net.old net.new }
     ensures served { IfOk result (λ _. (y : model.Reply) × DoesAt N.scene N.most N.journal net.old net.new (Serves (hand first (chained_view (N.names net.old) message.now)) y)) }
     ensures told { IfOk result (λ reply. reply_view (N.names net.old) reply ≡ user_in_vain_at first (chained_view (N.names net.old) message.now)) }
@@ -86,6 +99,7 @@ fn user_served<N: Network>(
 ) -> Result<Reply, NoMemory>
     requires there { first < length (N.names net.old) }
     requires user { IsUsers (N.scene net.old) first (chained_view (N.names net.old) message.now) }
+    requires sent { MayBeSent (N.names net.old) message.now }
     ensures stays { Stays N.scene N.most N.names net.old net.new }
     ensures served { IfOk result (λ reply. DoesAt N.scene N.most N.journal net.old net.new (Serves (hand first (chained_view (N.names net.old) message.now)) (reply_view (N.names net.old) reply))) }
 {
@@ -104,6 +118,7 @@ pub(crate) fn asked<B: Begun>(
     requires begun { world ≡ B.net }
     requires there { first < length B.net.names }
     requires short { HasShortNames (body_view message.request.body) }
+    requires sent { MayBeSent B.net.names message }
     requires net { IsNet B.net }
     requires room { B.net.sent + most ≤ 18446744073709551615 }
     requires some { 0 < most }

@@ -5,17 +5,20 @@ ghost use Rattle.x5_model.specs.Words.{in_option};
 ghost use Rattle.x5_model_run.specs.Chain.{Scene};
 ghost use Rattle.x5_model_run.specs.Journal.{Journal};
 ghost use Rattle.x5_model_run.specs.Needs as needs;
+ghost use Rattle.x5_model_fitting.specs.Chained.{ChainedWithin};
 ghost use Rattle.x5_model_serve.specs.Serving.{Hand, holds_now};
 ghost use Rattle.x5_holdings.specs.State.{holdings_view};
+ghost use Rattle.x5_dspber.specs.ChainedViews.{told_chained};
 ghost use Rattle.x5_ops.specs.JournalViews.{fate_view};
 ghost use Rattle.x5_ops.specs.ReferenceViews.{chained_view};
 ghost use Rattle.x5_serve.specs.Networks.{IsCarriedBy, IsVerdict};
+ghost use Rattle.x5_serve.specs.Sendable.{IsTaken, MayBeSent};
 ghost use Rattle.x5_update.specs.Judging as judging;
 ghost use Rattle.x5_world.specs.Arrivals.{arrival_by};
+ghost use Rattle.x5_world.specs.Once.{under_way_once};
 ghost use Rattle.x5_world.specs.Sent.{IsUnderWay, scene_of, journal_of};
 
 use crate::begin::Begun;
-use crate::copies;
 use crate::journal::Sent;
 use crate::links::has_agent;
 use crate::world::World;
@@ -28,6 +31,10 @@ use x5_ops::{
     AgentId, AgentName, Chained, ChangeFault, Fate, Operation, Progress, Reference, Reply,
 };
 use x5_serve::{Carried, Found, Network, Verdict};
+use x5_wire::{carried_message, carried_reply};
+
+/// The id of a message, and of the reply to it: each message goes by an association of its own (X.519, section 7).
+pub(crate) const ID: u32 = 1;
 
 /// A user's request in the network of all agents, with the messages that were sent for it so far and the agents that accepted its
 /// update, in their order. These hold what they accepted; all else is as it was when the request began.
@@ -40,7 +47,7 @@ pub(crate) struct Exchange<'a, B: Begun> {
     lines: Vec<Sent>,
     accepted: Vec<AgentId>,
     begun: PhantomData<B>,
-    ghost under_way: { IsUnderWay B.net world first (chained_view B.net.names message.now) most lines.items accepted.items },
+    ghost under_way: { IsUnderWay B.net world first (chained_view B.net.names message.now) most lines.items accepted.items } by { under_way_once B.net world first (chained_view B.net.names message.now) most lines.items accepted.items },
 }
 
 /// What becomes of a message that was sent. No memory.
@@ -51,6 +58,19 @@ fn arrival(fate: Fate, taken: Chained) -> Carried
         Fate::Lost => Carried::Undelivered,
         Fate::NoReply => Carried::Unheard(taken),
         Fate::Sent => Carried::Taken(taken),
+    }
+}
+
+/// A message as its receiver has it: an agent's as it is read in the octets that it goes by (X.519, section 7: DSP), a user's as it was
+/// handed over.
+fn received(alloc: Global, from: Option<AgentId>, message: &Chained) -> Result<Chained, NoMemory>
+    requires { ChainedWithin (told_chained message.now) }
+    ensures told { IfOk result (λ taken. told_chained taken ≡ told_chained message.now) }
+    ensures seen { IfOk result (λ taken. (names : List (List ℕ)) → chained_view names taken ≡ chained_view names message.now) }
+{
+    match from {
+        Some(_) => carried_message(alloc, ID, message),
+        None => Ok(message.copy(alloc)?),
     }
 }
 
@@ -99,7 +119,7 @@ impl<'a, B: Begun> Exchange<'a, B> {
         }
     }
 
-    /// Sends a message of an agent or, with no sender, of the user, as the trait's `carry` says.
+    /// Sends a message of an agent or, with no sender, of the user, as the trait's `carry` says: an agent's as octets.
     pub(crate) fn send(
         &mut self,
         alloc: Global,
@@ -109,19 +129,17 @@ impl<'a, B: Begun> Exchange<'a, B> {
     ) -> Result<Carried, NoMemory>
         requires from { in_option true (λ a. nat_lt a (length B.net.names)) from ≡ true }
         requires to { to < length B.net.names }
+        requires sent { MayBeSent B.net.names message.now }
         ensures stays { (self.new.first ≡ self.old.first) × (self.new.message ≡ self.old.message) × (self.new.most ≡ self.old.most) × (self.new.accepted ≡ self.old.accepted) }
         ensures left { length self.old.lines.items ≤ length self.new.lines.items }
+        ensures taken { IfOk result (λ carried. IsTaken B.net.names carried) }
         ensures carried { IfOk result (λ carried. IsCarriedBy (scene_of B.net self.old.first (chained_view B.net.names self.old.message.now)) self.old.most B.net.names (journal_of B.net.names self.old.lines.items self.old.accepted.items) (journal_of B.net.names self.new.lines.items self.old.accepted.items) from to (chained_view B.net.names message.now) carried) }
     {
         if self.lines.len() >= self.most {
             return Ok(Carried::Spent);
         }
-        if message.trace.len() > u32::MAX as usize {
-            return Err(NoMemory);
-        }
         let number = self.world.sent() + self.lines.len() as u64 + 1;
         let fate = self.world.fate(number, from, to);
-        let taken = message.copy(alloc)?;
         self.lines.push(Sent {
             number,
             from,
@@ -129,7 +147,7 @@ impl<'a, B: Begun> Exchange<'a, B> {
             message: message.copy(alloc)?,
             fate,
         })?;
-        Ok(arrival(fate, taken))
+        Ok(arrival(fate, received(alloc, from, message)?))
     }
 
     /// The network, the messages that were sent, and the agents that accepted the update, each in their order. No memory.
@@ -142,7 +160,7 @@ impl<'a, B: Begun> Exchange<'a, B> {
 
 impl<'a, B: Begun> Network for Exchange<'a, B> {
     ghost use Rattle.x5_serve.specs.Networks.{left_of, Stays, IsFound, IsDue, IsReady};
-    ghost use Rattle.x5_world.specs.Laws.{knows};
+    ghost use Rattle.x5_world.specs.Laws.{keeps_limits, knows};
 
     ghost scene = { λ e. scene_of B.net e.first (chained_view B.net.names e.message.now) };
 
@@ -202,12 +220,14 @@ impl<'a, B: Begun> Network for Exchange<'a, B> {
         operation: Operation,
         reply: &Reply,
     ) -> Result<Reply, NoMemory> {
-        let _ = alloc;
-        let _ = operation;
-        copies::reply(reply)
+        carried_reply(alloc, ID, operation, reply)
     }
 
     ghost apart = { λ e. e.under_way.net.apart };
 
+    ghost plain = { λ e. e.under_way.net.plain };
+
     ghost knows = { λ e. knows B.net e.first (chained_view B.net.names e.message.now) e.under_way.net };
+
+    ghost bounded = { λ e. keeps_limits B.net e.world e.first (chained_view B.net.names e.message.now) e.most e.lines.items e.accepted.items e.under_way };
 }

@@ -4,7 +4,6 @@
 
 mod asking;
 mod begin;
-mod copies;
 mod counts;
 mod delivered;
 mod exchange;

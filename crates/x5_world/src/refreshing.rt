@@ -10,7 +10,7 @@ ghost use Rattle.x5_refresh.specs.Sent.{count_in};
 ghost use Rattle.x5_refresh.specs.Joined.{is_of_supplier};
 ghost use Rattle.x5_world.specs.Answered.{line_names_agents};
 ghost use Rattle.x5_world.specs.Refreshes.{IsSound};
-ghost use Rattle.x5_world.specs.Refreshing.{AreMessages, CanBring, IsDoneAt, IsDoneBy, IsInvalid, IsKnown, IsLeft, IsSupplied, IsWay, OnlyHeld};
+ghost use Rattle.x5_world.specs.Refreshing.{AreMessages, CanBring, IsBounded, IsDoneAt, IsDoneBy, IsInvalid, IsKnown, IsLeft, IsSupplied, IsWay, OnlyHeld};
 ghost use Rattle.x5_world.specs.Refreshing.{block_of, first_fate, last_block, last_fate, last_of, opened_block, problem_in};
 ghost use Rattle.x5_world.specs.declared.refreshing.Supplied.TheVariants.{Sent};
 
@@ -226,6 +226,7 @@ fn opened(
     requires way { IsWay world.old by.now }
     requires supplied { IsSupplied world.old by.now.agreement by.now.total (last_of by.now) supplied }
     requires known { IsKnown (length world.old.names) supplied }
+    requires bounded { IsBounded supplied }
     requires told { is_of_supplier (problem_in supplied) ≡ true }
     requires goes_on { unsent by.now.push (problem_in supplied) ≡ None }
     ensures block { IfOk result (λ r. block_of world.old.names by.now.agreement r ≡ opened_block world.old by.now supplied) }

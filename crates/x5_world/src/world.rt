@@ -12,6 +12,8 @@ ghost use Rattle.x5_model_run.specs.Stage.{once_each};
 ghost use Rattle.x5_model.specs.Values.{key_of};
 ghost use Rattle.x5_model_tree.specs.Consistent.{IsConsistent};
 ghost use Rattle.x5_model_tree.specs.Described.{IsDescribed};
+ghost use Rattle.x5_model_fitting.specs.Requests.{BodyWithin, CountWithin, RequestWithin};
+ghost use Rattle.x5_model_limits.specs.Described.{world_is_utf8};
 ghost use Rattle.x5_refresh.specs.Joined.{is_of_supplier};
 ghost use Rattle.x5_refresh.specs.Sent.{CanAccept, count_in};
 ghost use Rattle.x5_holdings.specs.State.{holdings_view};
@@ -19,17 +21,18 @@ ghost use Rattle.x5_ops.specs.JournalViews.{fate_view, outage_view, protocol_vie
 ghost use Rattle.x5_ops.specs.ReferenceViews.{chained_view};
 ghost use Rattle.x5_ops.specs.RequestViews.{body_view, request_view};
 ghost use Rattle.x5_update.specs.Judging.{IsReady};
+ghost use Rattle.x5_serve.specs.Sendable.{MayBeSent};
 ghost use Rattle.x5_world.specs.Answered.{IsAnswered, NamesAgents, line_names_agents};
 ghost use Rattle.x5_typed.specs.Breaches.{breach_view};
 ghost use Rattle.x5_typed.specs.declared.fault.Breach as typed;
 ghost use Rattle.x5_world.specs.Delivered.{IsDelivered, IsDeliveredAt, NamesAgentsIn, breach_in};
 ghost use Rattle.x5_world.specs.Refreshes.{IsRefreshedAt, IsSound};
-ghost use Rattle.x5_world.specs.Refreshing.{IsKnown, IsSupplied, IsTakenAt, acknowledging, is_known_in, problem_in};
+ghost use Rattle.x5_world.specs.Refreshing.{IsBounded, IsBoundedIn, IsKnown, IsSupplied, IsTakenAt, acknowledging, is_known_in, problem_in};
 ghost use Rattle.x5_world.specs.Sent.{IsCommittedAt, IsHolder, no_net};
 ghost use Rattle.x5_world.specs.State.{StandsAt, HasRoom, HasShortNames, after, holdings_in, most_messages};
 ghost use Rattle.x5_model_tree.specs.World.{names_of_agents};
 
-use crate::asking::{asked, opening};
+use crate::asking::{asked, heard, opening};
 use crate::counts::{contexts, pairs};
 use crate::delivered::{Delivered, breach_of, receiver};
 use crate::journal;
@@ -82,10 +85,12 @@ impl Model for World {
 }
 
 impl World {
-    /// The network before the first line of a script: each agent holds what the file describes of it, and nothing was sent.
+    /// The network before the first line of a script: each agent holds what the file, whose texts are UTF-8, describes of it, and
+    /// nothing was sent.
     pub fn new(alloc: Global, described: &Described) -> Result<World, NoMemory>
         requires described { IsDescribed (world_view described.now) }
         requires named { described.now.names ≡ names_of_agents (world_view described.now) }
+        requires utf8 { world_is_utf8 (world_view described.now) ≡ true }
         ensures names { IfOk result (λ w. w.names ≡ names_of_agents (world_view described.now)) }
         ensures stands { IfOk result (λ w. StandsAt w (record { described = world_view described.now; past = [] })) }
         ensures room { IfOk result (λ w. HasRoom w 0) }
@@ -163,7 +168,7 @@ impl World {
     }
 
     /// Does an update that the agent passes, as the master of its target: it holds the change then, and notes it with the line's
-    /// moment. After want of memory all is as it was.
+    /// moment. The update is within the limits of messages. After want of memory all is as it was.
     pub(crate) fn commit(
         &mut self,
         alloc: Global,
@@ -172,6 +177,7 @@ impl World {
     ) -> Result<(), NoMemory>
         requires there { agent < length self.old.names }
         requires ready { (names : List (List ℕ)) × IsReady (holdings_in self.old agent) (chained_view names message.now) }
+        requires within { BodyWithin (request_view message.now.request).body }
         ensures committed { IfOk result (λ _. IsCommittedAt agent (request_view message.now.request) self.old self.new) }
         ensures err { OnErr result (self.new ≡ self.old) }
     {
@@ -208,6 +214,7 @@ impl World {
     }
 
     /// What the agreement's supplier sends at this line, from the moment that it goes on from, or its problem (X.525, section 11.2).
+    /// It is within the limits of messages.
     pub(crate) fn supply(
         &mut self,
         alloc: Global,
@@ -219,6 +226,7 @@ impl World {
         ensures same { self.new ≡ self.old }
         ensures supplied { IfOk result (λ sent. IsSupplied self.old agreement.now total last sent) }
         ensures known { IfOk result (λ sent. IsKnown (length self.old.names) sent) }
+        ensures bounded { IfOk result (λ sent. IsBounded sent) }
         ensures told { IfOk result (λ sent. is_of_supplier (problem_in sent) ≡ true) }
     {
         let moment = Moment(self.line + 1);
@@ -232,8 +240,8 @@ impl World {
         }
     }
 
-    /// The agreement's consumer takes what was brought, at this line; it can be taken, and names agents. How many entries or steps it
-    /// is. After want of memory the network isn't used again.
+    /// The agreement's consumer takes what was brought, at this line; it can be taken, names agents, and is within the limits of
+    /// messages. How many entries or steps it is. After want of memory nobody is left in the network.
     pub(crate) fn accept(
         &mut self,
         alloc: Global,
@@ -244,6 +252,8 @@ impl World {
         requires there { agreement.now.consumer < length self.old.names }
         requires can { CanAccept (holdings_in self.old agreement.now.consumer) (key_of agreement.now.context) brought }
         requires known { is_known_in (length self.old.names) brought ≡ true }
+        requires stamped { CountWithin stamp }
+        requires bounded { IsBoundedIn brought }
         ensures taken { IfOk result (λ _. IsTakenAt self.old agreement.now stamp brought self.new) }
         ensures counted { IfOk result (λ count. count ≡ count_in brought) }
     {
@@ -251,7 +261,11 @@ impl World {
         let agent = agreement.consumer;
         let held = &mut self.agents[agent.0 as usize];
         held.set_moment(moment);
-        x5_refresh::accept(alloc, held, &agreement.context, stamp, brought)
+        let Ok(count) = x5_refresh::accept(alloc, held, &agreement.context, stamp, brought) else {
+            *self = World::nobody(alloc);
+            return Err(NoMemory);
+        };
+        Ok(count)
     }
 
     /// The supplier of the agreement of this place knows that a refresh with the stamp was taken. No memory.
@@ -301,6 +315,7 @@ impl World {
     ) -> Result<(Reply, Journal), NoMemory>
         requires there { first < length self.old.names }
         requires short { HasShortNames (body_view message.request.body) }
+        requires sent { MayBeSent self.old.names message }
         requires is { most ≡ ((self.old.contexts + 34) * (length self.old.names + 9) + self.old.pairs) * (1 + length (once_each (filter (λ number. nat_lt self.old.sent number) self.old.network.lost_replies))) }
         requires most { most ≤ most_messages }
         requires room { (lines : ℕ) × (HasRoom self.old lines × (lines < 100000)) }
@@ -320,8 +335,8 @@ impl World {
         Ok((told.reply, journal))
     }
 
-    /// What a user's request is answered by this agent, the messages that it takes, in their order, and who accepts the update.
-    /// What an agent accepted it holds afterwards. After want of memory nobody is left in the network.
+    /// What a user's request, within the limits of messages, is answered by this agent, the messages that it takes, in their order,
+    /// and who accepts the update. What an agent accepted it holds afterwards. After want of memory nobody is left in the network.
     pub fn ask(
         &mut self,
         alloc: Global,
@@ -330,6 +345,7 @@ impl World {
     ) -> Result<(Reply, Journal), NoMemory>
         requires there { first < length self.old.names }
         requires short { HasShortNames (body_view request.now.body) }
+        requires within { RequestWithin (request_view request.now) }
         requires room { (lines : ℕ) × (HasRoom self.old lines × (lines < 100000)) }
         ensures names { IfOk result (λ _. self.new.names ≡ self.old.names) }
         ensures answered { IfOk result (λ out. (p : Point) → StandsAt self.old p → IsAnswered self.old self.new p first (chain.opening (request_view request.now)) out.0 out.1) }
@@ -337,7 +353,7 @@ impl World {
         ensures room_after { IfOk result (λ _. (lines : ℕ) → HasRoom self.old lines → HasRoom self.new (lines + 1)) }
     {
         let most = self.budget(alloc)?;
-        let message = opening(alloc, request)?;
+        let message = heard(alloc, request)?;
         self.send(alloc, first, message, most)
     }
 
@@ -380,6 +396,7 @@ impl World {
     ) -> Result<Delivered, NoMemory>
         requires there { to < length self.old.names }
         requires short { HasShortNames (body_view message.request.body) }
+        requires sent { MayBeSent self.old.names message }
         requires is { most ≡ ((self.old.contexts + 34) * (length self.old.names + 9) + self.old.pairs) * (1 + length (once_each (filter (λ number. nat_lt self.old.sent number) self.old.network.lost_replies))) }
         requires most { most ≤ most_messages }
         requires room { (lines : ℕ) × (HasRoom self.old lines × (lines < 100000)) }

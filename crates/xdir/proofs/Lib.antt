@@ -5,7 +5,7 @@ pub mod Courses
 pub mod Files
 pub mod Beginning
 pub mod Taken
-pub mod Targets
+pub mod ShortNames
 pub mod Few
 pub mod Checks
 pub mod Summaries

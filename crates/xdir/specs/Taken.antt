@@ -4,6 +4,7 @@ use Rattle.std.specs.declared.result.Result.{Result}
 use Rattle.x5_know.specs.declared.described.Described.{Described}
 use Rattle.x5_know.specs.WorldView.{world_view}
 use Rattle.x5_model.specs.References.{Chained}
+use Rattle.x5_model_fitting.specs.Requests.{RequestWithin}
 use Rattle.x5_model_run.specs.History.{Did, Point}
 use Rattle.x5_model_run.specs.Run as run
 use Rattle.x5_model_script.specs.Lines.{Asked, Delivers}
@@ -11,11 +12,11 @@ use Rattle.x5_model_script.specs.Lines as lines
 use Rattle.x5_model_tree.specs.World.{World}
 use Rattle.x5_model_typed.specs.Judged.{Breach}
 use Rattle.x5_ops.specs.JournalViews.{protocol_view}
-use Rattle.x5_ops.specs.RequestViews.{body_view}
+use Rattle.x5_ops.specs.RequestViews.{request_view}
 use Rattle.x5_script.specs.declared.command.Command.{Command}
 use Rattle.x5_script.specs.declared.command.Command.TheVariants.{Nothing, Ask, Outage, Refresh, Deliver, Lose}
 use Rattle.x5_world.specs.Delivered.{Comes}
-use Rattle.x5_world.specs.State.{Net, StandsAt, HasRoom, HasShortNames}
+use Rattle.x5_world.specs.State.{Net, StandsAt, HasRoom}
 
 -- a line of a run over this world, behind lines that did this
 abbrev pub point : World → List Did → Point
@@ -40,15 +41,10 @@ AreCommands names [] [] = ⊤
 AreCommands names (a ∷ asked) (c ∷ commands) = IsCommand names a c × AreCommands names asked commands
 AreCommands names asked commands = ⊥
 
--- the names that a request has are no longer than names may be
-abbrev pub AsksShortNames : Asked → Type 0
-AsksShortNames (lines.Runs (run.Asks to r)) = HasShortNames r.body
-AsksShortNames other = ⊤
-
--- requests and octets go to an agent of so many, and a request's names are no longer than names may be
+-- requests and octets go to an agent of so many, and a request is within the limits of messages
 abbrev pub IsTaken : ℕ → Command → Type 0
 IsTaken agents Nothing = ⊤
-IsTaken agents (Ask to request) = (to < agents) × HasShortNames (body_view request.body)
+IsTaken agents (Ask to request) = (to < agents) × RequestWithin (request_view request)
 IsTaken agents (Outage change) = ⊤
 IsTaken agents (Refresh id push total) = ⊤
 IsTaken agents (Deliver dsp to octets) = to < agents

@@ -1,13 +1,14 @@
 //! What the lines of a script do to the network, and what comes of them.
 ghost use Rattle.std.specs.Prelude.{◌≡◌, ◌↔◌, ℕ, ◌<◌, ◌+◌, [], IfOk, IsTrue, Some, length};
+ghost use Rattle.x5_model_fitting.specs.Requests.{RequestWithin};
 ghost use Rattle.x5_model_run.specs.History.{Point};
 ghost use Rattle.x5_model_run.specs.Run.{Asks, Updates};
 ghost use Rattle.x5_model_script.specs.Lines.{Delivers};
 ghost use Rattle.x5_model_tree.specs.Consistent.{IsConsistent};
-ghost use Rattle.x5_ops.specs.RequestViews.{body_view, request_view};
+ghost use Rattle.x5_ops.specs.RequestViews.{request_view};
 ghost use Rattle.x5_report.specs.declared.report.LineOutcome.TheVariants.{NotConsistent, Set};
 ghost use Rattle.x5_world.specs.Refreshes.{IsSound};
-ghost use Rattle.x5_world.specs.State.{HasRoom, HasShortNames, StandsAt};
+ghost use Rattle.x5_world.specs.State.{HasRoom, StandsAt};
 ghost use Rattle.x5_script.specs.Views.{command_view};
 ghost use Rattle.xdir.specs.Blocks.{IsCourse, IsDone};
 ghost use Rattle.xdir.specs.Taken.{IsTaken};
@@ -54,7 +55,7 @@ fn unrefreshed(alloc: Global) -> Course
     }
 }
 
-/// What an agent answers a request, and who accepted it where it's an update.
+/// What an agent answers a request within the limits of messages, and who accepted it where it's an update.
 fn ask(
     alloc: Global,
     network: &mut World,
@@ -62,7 +63,7 @@ fn ask(
     request: &Request,
 ) -> Result<Course, NoMemory>
     requires there { to < length network.old.names }
-    requires short { HasShortNames (body_view request.now.body) }
+    requires within { RequestWithin (request_view request.now) }
     requires room { (lines : ℕ) × (HasRoom network.old lines × (lines < 100000)) }
     ensures course { IfOk result (λ course. (p : Point) → StandsAt network.old p → IsCourse p (Asks to (request_view request.now)) network.new course) }
     ensures names { IfOk result (λ _. network.new.names ≡ network.old.names) }

@@ -1,21 +1,11 @@
--- The next term isn't among those that were put, and the node wasn't there.
-use Rattle.std.proofs.Common.{◌≡◌, ◌+◌, ◌∷◌, [], ◌++◌, List, length, sym, ap, subst, ◌∙◌, append_assoc, length-append, arith}
+-- The next term isn't among those that were put, so where the node wasn't there its posting is a new one.
+use Rattle.std.proofs.Common.{◌≡◌, ◌+◌, ◌∷◌, [], ◌++◌, false, List, length, sym, ap, subst, ◌∙◌, append_assoc, length-append, arith}
 use Rattle.std.specs.Vec.Iter.{into_iter_items}
 use Rattle.x5_model.specs.Members.{In, Once}
 use Rattle.x5_model.specs.Keys.{KeyPair}
-use Rattle.x5_index.specs.Index.{Posting}
-use Rattle.x5_index.specs.Places.{AreAdded}
+use Rattle.x5_index.specs.Index.{Posting, is_there}
 use Rattle.x5_index.proofs.Adding.{added_more, absent_more}
 use Rattle.x5_index.proofs.postings.put_terms.Goals as goal
-
-pub put_posting-requires-clause-absent : goal.put_posting-requires-clause-absent
-put_posting-requires-clause-absent c =
-    let rest : List KeyPair = into_iter_items c.next.new.self in
-    let all : c.args.terms.items ≡ c.loop-term.yielded ++ c.in-Some.term ∷ rest =
-    sym c.into_iter-term-iterator.ensures.into_iter_gives.0 ∙ sym c.loop-term.invariant.all
-    ∙ ap (λ (ts : List KeyPair). c.loop-term.yielded ++ ts) c.in-Some.ensures.steps.0 in
-    absent_more c.args.postings.now.items c.args.node c.loop-term.yielded rest c.in-Some.term c.loop-term.postings.items c.requires.absent
-    (subst (λ (ts : List KeyPair). Once ts) all c.requires.once) c.loop-term.invariant.added
 
 pub loop-term-preserved : goal.loop-term-preserved
 loop-term-preserved c =
@@ -24,7 +14,8 @@ loop-term-preserved c =
     let x : Posting = record { term = c.in-Some.term; node = c.args.node } in
     let all : c.args.terms.items ≡ c.loop-term.yielded ++ c.in-Some.term ∷ rest =
     sym c.into_iter-term-iterator.ensures.into_iter_gives.0 ∙ sym at.all ∙ ap (λ (ts : List KeyPair). c.loop-term.yielded ++ ts) c.in-Some.ensures.steps.0 in
-    let absent : In x c.loop-term.postings.items → ⊥ = absent_more c.args.postings.now.items c.args.node c.loop-term.yielded rest c.in-Some.term c.loop-term.postings.items c.requires.absent
+    let absent : is_there c.args.postings.now.items c.args.node ≡ false → In x c.loop-term.postings.items → ⊥ =
+    λ none. absent_more c.args.postings.now.items c.args.node c.loop-term.yielded rest c.in-Some.term c.loop-term.postings.items none
     (subst (λ (ts : List KeyPair). Once ts) all c.requires.once) at.added in
     let steps : into_iter_items c.loop-term.term-iterator ≡ c.in-Some.term ∷ rest = c.in-Some.ensures.steps.0 in
     let gone = c.in-Some.ensures.steps.1 in
@@ -33,8 +24,8 @@ loop-term-preserved c =
     record {
       all = append_assoc c.loop-term.yielded (c.in-Some.term ∷ []) rest ∙ ap (λ (ts : List KeyPair). c.loop-term.yielded ++ ts) (sym steps) ∙ at.all;
       left = omega (arith, at.left, gone, short);
-      added = subst (λ (ps : List Posting). AreAdded c.args.postings.now.items c.args.node (c.loop-term.yielded ++ c.in-Some.term ∷ []) ps) (sym c.put_posting.ensures.items)
-          (added_more c.args.postings.now.items c.args.node c.loop-term.yielded c.in-Some.term c.loop-term.postings.items absent at.added);
-      len = c.put_posting.ensures.len ∙ omega (arith, at.len, long);
+      added = added_more c.args.node c.args.postings.now.items c.loop-term.postings.items c.put_posting.new.postings.items c.loop-term.yielded (c.in-Some.term ∷ []) at.added c.put_posting.ensures.added;
+      most = omega (arith, at.most, c.put_posting.ensures.most, long);
+      absent = λ none. c.put_posting.ensures.absent (absent none) ∙ omega (arith, at.absent none, long);
       capacity = c.put_posting.ensures.capacity ∙ at.capacity;
     }

@@ -7,7 +7,7 @@ use Rattle.x5_index.proofs.postings.take_entry.Given as goal
 
 abbrev pub invariant-loop-attribute : goal.invariant-loop-attribute
 invariant-loop-attribute l = record {
-  taken : AreTaken l.initial.postings.items l.node (flat_map terms_in (take l.attribute-index l.attribute-items)) l.postings.items;
+  taken : AreTaken l.initial.postings.items l.node (flat_map terms_in (take l.attribute-index l.attribute-items)) l.kept l.postings.items;
   len : vec_len l.postings ≤ vec_len l.initial.postings;
   capacity : vec_capacity l.postings ≡ vec_capacity l.initial.postings;
 }

@@ -14,7 +14,7 @@ loop-value-preserved c =
     let t : KeyPair = (c.attribute.inside.kind, c.value.inside.normal) in
     let same : t ≡ term_with c.args.attribute.now.kind c.value-item.result = λ i. (kind i, normal i) in
     record {
-      taken = taken_value c.args.node c.args.postings.now.items c.loop-value.postings.items c.take_posting.new.postings.items c.args.attribute.now.kind c.as_slice-value-items.result.now c.loop-value.value-index c.value-item.result t c.loop-value-test.true c.value-item.is same at.taken c.take_posting.ensures.taken;
+      taken = taken_value c.args.node c.args.kept.now c.args.postings.now.items c.loop-value.postings.items c.take_posting.new.postings.items c.args.attribute.now.kind c.as_slice-value-items.result.now c.loop-value.value-index c.value-item.result t c.loop-value-test.true c.value-item.is same at.taken c.take_posting.ensures.taken;
       len = omega (arith, at.len, c.take_posting.ensures.len);
       capacity = omega (arith, at.capacity, c.take_posting.ensures.capacity);
     }

@@ -6,7 +6,7 @@ use Rattle.x5_index.proofs.postings.take_terms.Given as goal
 
 abbrev pub invariant-loop-value : goal.invariant-loop-value
 invariant-loop-value l = record {
-  taken : AreTaken l.initial.postings.items l.node (map (term_with l.attribute.kind) (take l.value-index l.value-items)) l.postings.items;
+  taken : AreTaken l.initial.postings.items l.node (map (term_with l.attribute.kind) (take l.value-index l.value-items)) l.kept l.postings.items;
   len : vec_len l.postings ≤ vec_len l.initial.postings;
   capacity : vec_capacity l.postings ≡ vec_capacity l.initial.postings;
 }

@@ -4,12 +4,16 @@
 use Rattle.std.proofs.Common.{rules, ◌≡◌, ◌<◌, [], ◌∷◌, ◌++◌, length, map, refl, sym, ap, subst, ◌∙◌, arith}
 use Rattle.std.proofs.lemmas.Result.{IfOk-weaker}
 use Rattle.x5_model_serve.specs.Serving.{hand, none_yet, none_asked, no_probe}
+use Rattle.x5_model_run.specs.Journal.{operation_of}
+use Rattle.x5_ops.specs.JournalViews.{code_view}
+use Rattle.x5_ops.specs.RequestViews.{body_view}
 use Rattle.x5_ops.specs.ReferenceViews.{chained_view, reference_view, access_view}
 use Rattle.x5_serve.specs.Steps.{heard_view, IsHeardBy}
 use Rattle.x5_serve.proofs.Walks.{Carries}
 use Rattle.x5_serve.proofs.Sent.{no_change, stays_on, first_goes, goes_on, agent_stays, user_stays, user_taken, user_onward, next_agent, next_to, next_reference, ask_spent, ask_lost, ask_dropped, ask_heard, taken_is, taken_less, back_told, last_told}
 use Rattle.x5_serve.proofs.Asked.{turn_in_vain, turn_heard, turn_unheard, cast_silent, cast_unable, cast_answered, cast_nobody, cast_some, probe_unheard, probe_noted, probe_passed, probe_ends, probe_through, first_part, part_lost, part_joins, part_leaves, part_ends}
-use Rattle.x5_serve.proofs.Served.{step_named, step_goes, rest_named, own_alike, step_joins, step_updates, follows_none, follows_error, follows_referral, follows_rest, rest_is_named, update_refused, alone_does, probed_named, probed_missed, probed_ready, probed_does}
+use Rattle.x5_serve.proofs.Sending.{sent_stays, passable_stays, next_bounded, taken_sent, dropped_sent, dropped_is, dropped_less, goes_passable, goes_bounded, joins_passable, joins_bounded, back_replied, back_passable, back_bounded, referral_passable, referral_bounded, rest_passable, rest_bounded, due_passable}
+use Rattle.x5_serve.proofs.Served.{step_named, step_goes, rest_named, own_alike, step_joins, step_updates, follows_none, follows_error, follows_referral, follows_rest, referral_named, rest_is_named, update_refused, alone_does, probed_named, probed_bounded, probed_missed, probed_ready, probed_does}
 use Rattle.x5_serve.proofs.dispatch.+dispatch.Goals.{cast-in-Unheard+in_ok-clone-in-Unheard+in_ok-push-in-Unheard, cast-in-Hears+else-not-is_unable, gather-in-Unheard+in_ok-clone-in-Unheard+in_ok-leave_out-in-Unheard, gather-in-Hears+in-Joins+in_ok-take_up-in-Joins, gather-in-Hears+in-Leaves+in_ok-leave_out-in-Leaves, probe-in-Unheard+in_ok-clone-in-Unheard+in_ok-push-in-Unheard, probe-in-Hears+in-Unable, probe-in-Hears+in-Unsure+in_ok-clone-in-Unsure+in_ok-push-in-Unsure}
 use Rattle.x5_serve.proofs.dispatch.+dispatch.Goals as goal
 
@@ -34,6 +38,18 @@ ask-returns-in_ok-serve-in-Unheard-clause-does g t c =
     c.in_ok-serve-in-Unheard.field-0 c.in-Unheard.is c.in_ok-carry.ensures.stays
     c.in_ok-serve-in-Unheard.ensures.does
 
+pub ask-carry_back-requires : goal.ask-carry_back-requires
+ask-carry_back-requires g t c =
+    let n = g.N.Network in
+    let s1 = c.in_ok-carry.ensures.stays in
+    let s2 = c.in_ok-reply-in-Taken.ensures.stays in
+    let to = agent_stays n.scene n.most n.names n.journal c.args.net.now c.carry.new.self c.args.to s1 c.requires.to in
+    let taken = taken_sent n.scene n.most n.names n.journal c.args.net.now c.carry.new.self c.in_ok-carry.field-0
+    c.in-Taken.taken s1 c.in_ok-carry.ensures.taken c.in-Taken.is in
+    back_replied n.scene n.most n.names n.journal c.carry.new.self c.serve-in-Taken.new.net c.args.to c.in-Taken.taken
+    c.in_ok-reply-in-Taken.reply s2 c.in_ok-reply-in-Taken.ensures.does (code_view c.operation.result)
+    (g.met.N.Network.bounded c.carry.new.self) to taken c.operation.ensures
+
 pub ask-follow-requires : goal.ask-follow-requires
 ask-follow-requires g t c κs within =
     let n = g.N.Network in
@@ -54,7 +70,21 @@ ask-follow-requires g t c κs within =
     let told = back_told n.scene n.most n.names n.journal c.carry.new.self c.serve-in-Taken.new.net c.args.to
     c.in-Taken.taken c.in_ok-reply-in-Taken.reply c.in_ok-back-in-Taken.back (g.met.N.Network.knows
     c.carry.new.self) s2 to c.in_ok-reply-in-Taken.ensures.does c.in_ok-back-in-Taken.ensures in
-    (omega (arith, less, c.in_ok-reply-in-Taken.ensures.left), (within, (sender, (receiver, (user, told)))))
+    let taken = taken_sent n.scene n.most n.names n.journal c.args.net.now c.carry.new.self c.in_ok-carry.field-0
+    c.in-Taken.taken s1 c.in_ok-carry.ensures.taken c.in-Taken.is in
+    let sent = sent_stays n.scene n.most n.names n.journal c.carry.new.self c.serve-in-Taken.new.net c.in-Taken.taken s2
+    taken in
+    let passable = back_passable n.scene n.most n.names n.journal c.carry.new.self c.serve-in-Taken.new.net c.args.to
+    c.in-Taken.taken c.in_ok-reply-in-Taken.reply s2 c.in_ok-reply-in-Taken.ensures.does c.in_ok-back-in-Taken.back
+    c.in_ok-back-in-Taken.ensures in
+    let replied = back_replied n.scene n.most n.names n.journal c.carry.new.self c.serve-in-Taken.new.net c.args.to
+    c.in-Taken.taken c.in_ok-reply-in-Taken.reply s2 c.in_ok-reply-in-Taken.ensures.does
+    (operation_of (body_view c.in-Taken.taken.request.body)) (g.met.N.Network.bounded c.carry.new.self) to taken refl in
+    let bounded = back_bounded n.scene n.most n.names n.journal c.serve-in-Taken.new.net
+    (operation_of (body_view c.in-Taken.taken.request.body)) c.in_ok-reply-in-Taken.reply c.in_ok-back-in-Taken.back
+    replied c.in_ok-back-in-Taken.ensures in
+    (omega (arith, less, c.in_ok-reply-in-Taken.ensures.left),
+    (within, (sender, (receiver, (user, (told, (sent, (passable, bounded))))))))
 
 pub ask-returns-in_ok-follow-in-Taken-clause-does : goal.ask-returns-in_ok-follow-in-Taken-clause-does
 ask-returns-in_ok-follow-in-Taken-clause-does g t c =
@@ -86,7 +116,8 @@ cast-loop-access-init g t c =
       goes = first_goes n.scene n.most n.names n.journal c.args.net.now;
       carries = record {
         agents_are = c.as_slice-agents.ensures;
-        onward_is = rw c.names.ensures at c.in_ok-onward.ensures;
+        onward_is = rw c.names.ensures at c.in_ok-onward.ensures.carried;
+        sent = rw c.names.ensures at c.in_ok-onward.ensures.sent;
       };
       asked = rw c.new-noted.ensures none_asked;
     }
@@ -112,7 +143,9 @@ cast-ask-requires g t c κs within =
     let user = user_onward n.scene n.most n.names n.journal c.args.net.now c.loop-access.net c.args.owner
     c.args.message.now c.args.reference.now c.in_ok-onward.onward c.as_slice-agents.result.now i.goes.stays
     i.carries c.requires.of_user in
-    (omega (arith, i.goes.left), (within, (sender, (receiver, user))))
+    let sent = sent_stays n.scene n.most n.names n.journal c.args.net.now c.loop-access.net c.in_ok-onward.onward i.goes.stays
+    i.carries.sent in
+    (omega (arith, i.goes.left), (within, (sender, (receiver, (user, sent)))))
 
 pub cast-returns-in_err-ask-clause-stays : goal.cast-returns-in_err-ask-clause-stays
 cast-returns-in_err-ask-clause-stays g t c =
@@ -243,7 +276,8 @@ probe-loop-access-init g t c =
       goes = first_goes n.scene n.most n.names n.journal c.args.net.now;
       carries = record {
         agents_are = c.as_slice-agents.ensures;
-        onward_is = rw c.names.ensures at c.in_ok-onward.ensures;
+        onward_is = rw c.names.ensures at c.in_ok-onward.ensures.carried;
+        sent = rw c.names.ensures at c.in_ok-onward.ensures.sent;
       };
       probed = rw c.new-noted.ensures no_probe;
     }
@@ -269,7 +303,9 @@ probe-ask-requires g t c κs within =
     let user = user_onward n.scene n.most n.names n.journal c.args.net.now c.loop-access.net c.args.me
     c.args.message.now c.args.reference.now c.in_ok-onward.onward c.as_slice-agents.result.now i.goes.stays
     i.carries c.requires.of_user in
-    (omega (arith, i.goes.left), (within, (sender, (receiver, user))))
+    let sent = sent_stays n.scene n.most n.names n.journal c.args.net.now c.loop-access.net c.in_ok-onward.onward i.goes.stays
+    i.carries.sent in
+    (omega (arith, i.goes.left), (within, (sender, (receiver, (user, sent)))))
 
 pub probe-returns-in-Ends-clause-does : goal.probe-returns-in-Ends-clause-does
 probe-returns-in-Ends-clause-does g t c =
@@ -331,17 +367,18 @@ take-take_in_turn-requires g t c κs within =
     let carries : Carries (n.names c.args.net.now) c.args.owner c.args.message.now c.args.reference.now
     c.in_ok-onward.onward c.as_slice.result.now = record {
       agents_are = c.as_slice.ensures;
-      onward_is = rw c.names.ensures at c.in_ok-onward.ensures;
+      onward_is = rw c.names.ensures at c.in_ok-onward.ensures.carried;
+      sent = rw c.names.ensures at c.in_ok-onward.ensures.sent;
     } in
     let user = user_onward n.scene n.most n.names n.journal c.args.net.now c.args.net.now c.args.owner
     c.args.message.now c.args.reference.now c.in_ok-onward.onward c.as_slice.result.now (no_change n.scene n.most
     n.names n.journal c.args.net.now) carries c.requires.of_user in
-    (omega arith, (within, (c.requires.from, (user, rw c.as_slice.ensures c.requires.agents))))
+    (omega arith, (within, (c.requires.from, (user, (rw c.as_slice.ensures c.requires.agents, carries.sent)))))
 
 pub take-returns-clause-does : goal.take-returns-clause-does
 take-returns-clause-does g t c =
     let n = g.N.Network in
-    let onward = rw c.names.ensures at c.in_ok-onward.ensures in
+    let onward = rw c.names.ensures at c.in_ok-onward.ensures.carried in
     IfOk-weaker c.take_in_turn.result _ _ (λ y d. d (hand c.args.owner (chained_view (n.names c.args.net.now)
     c.args.message.now)) (reference_view (n.names c.args.net.now) c.args.reference.now)
     (ap (map (access_view (n.names c.args.net.now))) c.as_slice.ensures) (onward c.args.from))
@@ -373,7 +410,9 @@ take_in_turn-ask-requires g t c κs within =
     c.agent_at-to.ensures there in
     let user = user_stays n.scene n.most n.names n.journal c.args.net.now c.loop-access.net c.args.onward.now
     i.goes.stays c.requires.of_user in
-    (omega (arith, i.goes.left), (within, (sender, (receiver, user))))
+    let sent = sent_stays n.scene n.most n.names n.journal c.args.net.now c.loop-access.net c.args.onward.now i.goes.stays
+    c.requires.sent in
+    (omega (arith, i.goes.left), (within, (sender, (receiver, (user, sent)))))
 
 pub take_in_turn-returns-then-is_heard-clause-does : goal.take_in_turn-returns-then-is_heard-clause-does
 take_in_turn-returns-then-is_heard-clause-does g t c =
@@ -435,7 +474,14 @@ gather-take-requires g t c κs within =
     let agents = next_reference n.scene n.most n.names n.journal c.args.net.now c.loop-reference.net
     c.args.references.now c.as_slice-asked.result.now c.loop-reference.reference-index c.reference-item.result
     i.goes.stays i.asked_are c.loop-reference-test.true c.reference-item.is c.requires.agents in
-    (omega (arith, i.goes.left), (within, (sender, (opener, (user, agents)))))
+    let sent = sent_stays n.scene n.most n.names n.journal c.args.net.now c.loop-reference.net c.args.message.now
+    i.goes.stays c.requires.sent in
+    let passable = passable_stays n.scene n.most n.names n.journal c.args.net.now c.loop-reference.net c.args.owner
+    c.args.message.now i.goes.stays c.requires.passable in
+    let bounded = next_bounded n.scene n.most n.names n.journal c.args.net.now c.loop-reference.net
+    c.args.references.now c.as_slice-asked.result.now c.loop-reference.reference-index c.reference-item.result
+    i.goes.stays i.asked_are c.loop-reference-test.true c.reference-item.is c.requires.bounded in
+    (omega (arith, i.goes.left), (within, (sender, (opener, (user, (agents, (sent, (passable, bounded))))))))
 
 pub gather-returns-in-Breaks-clause-does : goal.gather-returns-in-Breaks-clause-does
 gather-returns-in-Breaks-clause-does g t c =
@@ -505,7 +551,13 @@ serve-go-requires g t c κs within =
     let agents = step_named n.scene n.most n.names n.journal c.args.net.now c.args.me c.args.message.now
     c.in_ok-reply.field-0 c.in_ok-reply.ensures c.in-Goes.reference c.in-Goes.is (g.met.N.Network.knows
     c.args.net.now) c.requires.there in
-    (omega arith, (within, (c.requires.there, (c.requires.there, (c.requires.of_user, agents)))))
+    let passable = goes_passable n.scene n.most n.names n.journal c.args.net.now c.args.me c.args.message.now
+    c.in_ok-reply.field-0 c.in_ok-reply.ensures (g.met.N.Network.bounded c.args.net.now) c.requires.there
+    c.requires.sent c.in-Goes.reference c.in-Goes.is in
+    let bounded = goes_bounded n.scene n.most n.names n.journal c.args.net.now c.args.me c.args.message.now
+    c.in_ok-reply.field-0 c.in_ok-reply.ensures (g.met.N.Network.bounded c.args.net.now) c.requires.there
+    c.requires.sent c.in-Goes.reference c.in-Goes.is in
+    (omega arith, (within, (c.requires.there, (c.requires.there, (c.requires.of_user, (agents, (c.requires.sent, (passable, bounded))))))))
 
 pub serve-gather-requires : goal.serve-gather-requires
 serve-gather-requires g t c κs within =
@@ -515,7 +567,13 @@ serve-gather-requires g t c κs within =
     (g.met.N.Network.knows c.args.net.now) c.requires.there in
     let alike = own_alike n.scene n.most n.names n.journal c.args.net.now c.args.me c.args.message.now
     c.in_ok-reply.field-0 c.in_ok-reply.ensures c.in-Joins.answer c.in-Joins.references c.in-Joins.is in
-    (omega arith, (within, (c.requires.there, (c.requires.there, (c.requires.of_user, (agents, alike))))))
+    let passable = joins_passable n.scene n.most n.names n.journal c.args.net.now c.args.me c.args.message.now
+    c.in_ok-reply.field-0 c.in_ok-reply.ensures (g.met.N.Network.bounded c.args.net.now) c.requires.there
+    c.requires.sent c.in-Joins.answer c.in-Joins.references c.in-Joins.is in
+    let bounded = joins_bounded n.scene n.most n.names n.journal c.args.net.now c.args.me c.args.message.now
+    c.in_ok-reply.field-0 c.in_ok-reply.ensures (g.met.N.Network.bounded c.args.net.now) c.requires.there
+    c.requires.sent c.in-Joins.answer c.in-Joins.references c.in-Joins.is in
+    (omega arith, (within, (c.requires.there, (c.requires.there, (c.requires.of_user, (agents, (alike, (c.requires.sent, (passable, bounded)))))))))
 
 pub serve-returns-in-Goes-clause-does : goal.serve-returns-in-Goes-clause-does
 serve-returns-in-Goes-clause-does g t c =
@@ -546,6 +604,18 @@ follow-returns-then-len-eq0-clause-does g t c =
     c.args.reply c.in-Done.answer c.in_ok-references-in-Done.references c.in-Done.is
     (omega (arith, c.len.ensures, c.if-len-eq0.true)) c.in_ok-references-in-Done.ensures.view
 
+pub follow-go-requires : goal.follow-go-requires
+follow-go-requires g t c κs within =
+    let n = g.N.Network in
+    let agents = referral_named n.scene n.most n.names n.journal c.args.net.now c.args.from c.args.owner
+    c.args.message.now c.args.reply c.in-Refer.reference c.in-Refer.is c.requires.told in
+    let passable = referral_passable n.scene n.most n.names n.journal c.args.net.now c.args.owner c.args.message.now
+    c.args.reply c.requires.passable c.requires.bounded c.in-Refer.reference c.in-Refer.is in
+    let bounded = referral_bounded n.scene n.most n.names n.journal c.args.net.now c.args.owner c.args.message.now
+    c.args.reply c.requires.passable c.requires.bounded c.in-Refer.reference c.in-Refer.is in
+    (omega arith,
+    (within, (c.requires.from, (c.requires.owner, (c.requires.of_user, (agents, (c.requires.sent, (passable, bounded))))))))
+
 pub follow-gather-requires : goal.follow-gather-requires
 follow-gather-requires g t c κs within =
     let n = g.N.Network in
@@ -554,7 +624,14 @@ follow-gather-requires g t c κs within =
     c.args.message.now c.args.reply c.in-Done.answer c.in_ok-references-in-Done.references c.in-Done.is
     c.requires.told c.in_ok-references-in-Done.ensures.view in
     let alike = c.in_ok-rest-in-Done.ensures.kind (c.in_ok-references-in-Done.ensures.kind some) in
-    (omega arith, (within, (c.requires.from, (c.requires.owner, (c.requires.of_user, (agents, alike))))))
+    let passable = rest_passable n.scene n.most n.names n.journal c.args.net.now c.args.owner c.args.message.now c.args.reply
+    c.requires.passable c.requires.bounded c.in-Done.answer c.in_ok-references-in-Done.references c.in-Done.is
+    c.in_ok-references-in-Done.ensures.view
+    (λ e. omega (arith, c.len.ensures, c.if-len-eq0.false, e)) in
+    let bounded = rest_bounded n.scene n.most n.names n.journal c.args.net.now c.args.owner c.args.message.now c.args.reply
+    c.requires.passable c.requires.bounded c.in-Done.answer c.in_ok-references-in-Done.references c.in-Done.is
+    c.in_ok-references-in-Done.ensures.view in
+    (omega arith, (within, (c.requires.from, (c.requires.owner, (c.requires.of_user, (agents, (alike, (c.requires.sent, (passable, bounded)))))))))
 
 pub follow-returns-in-Failed-clause-does : goal.follow-returns-in-Failed-clause-does
 follow-returns-in-Failed-clause-does g t c =
@@ -597,7 +674,13 @@ update-probe-requires g t c κs within =
     let agents = probed_named n.scene n.most n.names n.journal c.args.net.now c.args.me c.args.message.now
     c.in_ok-error.field-0 c.requires.due c.in_ok-error.ensures c.in-Passed-Some.field-0 c.in-Passed-Some.reference
     c.in-Passed-Some.is c.in-Passed-Some.field-0-is (g.met.N.Network.knows c.args.net.now) c.requires.there in
-    (omega arith, (within, (c.requires.there, (c.requires.due.of_user, agents))))
+    let passable = due_passable (n.scene c.args.net.now) (n.names c.args.net.now) c.args.me c.args.message.now
+    (n.journal c.args.net.now) c.requires.due in
+    let bounded = probed_bounded n.scene n.most n.names n.journal c.args.net.now c.args.me c.args.message.now
+    c.in_ok-error.field-0 c.requires.due c.in_ok-error.ensures c.in-Passed-Some.field-0 c.in-Passed-Some.reference
+    c.in-Passed-Some.is c.in-Passed-Some.field-0-is (g.met.N.Network.bounded c.args.net.now) c.requires.there
+    c.requires.sent in
+    (omega arith, (within, (c.requires.there, (c.requires.due.of_user, (agents, (c.requires.sent, (passable, bounded)))))))
 
 pub update-returns-then-len-gt0-clause-does : goal.update-returns-then-len-gt0-clause-does
 update-returns-then-len-gt0-clause-does g t c =

@@ -14,6 +14,7 @@ use Rattle.x5_world.specs.Users.{user_in_vain_at}
 use Rattle.x5_world.specs.State.{Net}
 use Rattle.x5_world.specs.Laws.{hold_agents, are_themselves}
 use Rattle.x5_world.specs.Sent.{journal_of, scene_of}
+use Rattle.x5_world.proofs.Carrying.{unheard_sent, taken_sent}
 use Rattle.x5_world.proofs.Users.{begun, IsFirst, At, changed_is, first_is, unheard_has, taken_has, lost, served, in_vain, heard}
 use Rattle.x5_serve.specs.Networks.{IsCarriedBy}
 use Rattle.x5_world.proofs.asking.asked.Goals.{in-Undelivered+in_ok-reply-in-Undelivered, in-Unheard+in_ok-reply-in-Unheard, in-Taken+in_ok-reply-in-Taken}
@@ -22,7 +23,15 @@ use Rattle.x5_world.proofs.asking.asked.Goals as goal
 pub new-exchange-requires : goal.new-exchange-requires
 new-exchange-requires g c =
     let n : Net = g.B.Begun.net in
-    begun n c.args.world c.args.first c.args.most (chained_view n.names c.args.message) c.requires.begun c.requires.net c.requires.there c.requires.short c.requires.room
+    begun n c.args.world c.args.first c.args.most (chained_view n.names c.args.message) c.requires.begun c.requires.net c.requires.there c.requires.short c.requires.sent.bounded.request c.requires.room
+
+pub served_in_vain-requires-clause-sent : goal.served_in_vain-requires-clause-sent
+served_in_vain-requires-clause-sent g c =
+    unheard_sent g.B.Begun.net.names c.in_ok-send.field-0 c.in-Unheard.taken c.in-Unheard.is c.in_ok-send.ensures.taken
+
+pub user_served-requires-clause-sent : goal.user_served-requires-clause-sent
+user_served-requires-clause-sent g c =
+    taken_sent g.B.Begun.net.names c.in_ok-send.field-0 c.in-Taken.taken c.in-Taken.is c.in_ok-send.ensures.taken
 
 pub returns-clause-asked : goal.returns-clause-asked
 returns-clause-asked g c =

@@ -21,7 +21,7 @@ updated-requires-clause-can c =
     let goes : stopped by.push by.total (problem_in c.args.supplied) by.own by.acked (first_fate n by.agreement by.push) ≡ None =
     (λ i. stopped by.push by.total (sym c.problem_of-problem.ensures i) by.own by.acked (sym c.fate_of_first-first.ensures i))
     ∙ sym (c.begins.ensures true 0) ∙ ap (start_view true 0) c.in-GoesOn.is in
-    can_bring n by c.args.supplied c.requires.sound c.requires.way c.requires.supplied c.requires.known c.requires.goes_on goes
+    can_bring n by c.args.supplied c.requires.sound c.requires.way c.requires.supplied c.requires.known c.requires.bounded c.requires.goes_on goes
 
 pub returns-in-Ended-clause-left : goal.returns-in-Ended-clause-left
 returns-in-Ended-clause-left c =

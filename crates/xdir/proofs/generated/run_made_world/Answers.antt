@@ -1,9 +1,9 @@
--- Octets that load describe a world, and the summary over it is that of the made files, since the world file holds
--- these octets; where they don't load, the refusal is that of this file.
+-- Octets that load describe a world whose texts are UTF-8, and the summary over it is that of the made files, since the
+-- world file holds these octets; where they don't load, the refusal is that of this file.
 use Rattle.std.proofs.Common.{Some}
 use Rattle.x5_load.specs.Views.{file_view}
 use Rattle.xdir.specs.Generated.{made_files, made_names}
-use Rattle.xdir.proofs.Beginning.{loaded}
+use Rattle.xdir.proofs.Beginning.{in_utf8, loaded}
 use Rattle.xdir.proofs.Ends.{such_prints}
 use Rattle.xdir.proofs.Making.{world_made}
 use Rattle.xdir.proofs.Summaries.{sums_files, sums_refused_file}
@@ -11,6 +11,9 @@ use Rattle.xdir.proofs.generated.run_made_world.Goals as goal
 
 pub run_made_over-requires-clause-described : goal.run_made_over-requires-clause-described
 run_made_over-requires-clause-described g c = loaded c.in-Ok.world c.args.octets.now c.in-Ok.ensures.loads
+
+pub run_made_over-requires-clause-utf8 : goal.run_made_over-requires-clause-utf8
+run_made_over-requires-clause-utf8 g c = in_utf8 c.in-Ok.world c.args.octets.now c.in-Ok.ensures.loads
 
 pub returns-in-Ok-clause-sums : goal.returns-in-Ok-clause-sums
 returns-in-Ok-clause-sums g c =

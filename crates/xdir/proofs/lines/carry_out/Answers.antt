@@ -11,6 +11,7 @@ use Rattle.x5_script.specs.declared.command.Command.TheVariants.{Ask}
 use Rattle.xdir.specs.Blocks.{IsDone}
 use Rattle.xdir.specs.Taken.{IsTaken}
 use Rattle.xdir.proofs.Courses.{changed_course, lost_course, done_as, done_asking}
+use Rattle.xdir.proofs.ShortNames.{short_names}
 use Rattle.xdir.proofs.lines.carry_out.Goals as goal
 
 pub returns-in_ok-change-in-Outage-clause-carried : goal.returns-in_ok-change-in-Outage-clause-carried
@@ -33,7 +34,7 @@ returns-in_ok-ask-in-Ask-clause-carried c = λ p stands told.
     subst (IsTaken (length c.args.network.now.names)) c.in-Ask.is c.requires.taken in
     subst (λ (line : Line). IsDone p (command_view line) c.ask.new.network (Some c.in_ok-ask-in-Ask.field-0)) (sym c.in-Ask.is)
     (done_asking p c.in-Ask.to (request_view c.in-Ask.request) c.args.network.now c.ask.new.network (Some c.in_ok-ask-in-Ask.field-0) stands
-    taken.0 taken.1 (c.in_ok-ask-in-Ask.ensures.course p stands))
+    taken.0 (short_names (request_view c.in-Ask.request).body taken.1.body) (c.in_ok-ask-in-Ask.ensures.course p stands))
 
 pub returns-in_ok-refresh-in-Refresh-clause-carried : goal.returns-in_ok-refresh-in-Refresh-clause-carried
 returns-in_ok-refresh-in-Refresh-clause-carried c = λ p stands told.

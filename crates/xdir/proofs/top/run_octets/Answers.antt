@@ -4,17 +4,16 @@ use Rattle.std.proofs.Common.{ℕ, List, ◌≤◌, length, map, sym, subst, ◌
 use Rattle.std.proofs.lemmas.List.{length-map}
 use Rattle.std.proofs.lemmas.Result.{IfOk-at_ok}
 use Rattle.x5_load.specs.Views.{file_view}
-use Rattle.x5_model_script.specs.Named.{AreNamed}
-use Rattle.x5_model_script.proofs.NamedLaws.{script_named}
+use Rattle.x5_model_within.specs.Scripts.{BoundedAsked}
+use Rattle.x5_model_within.proofs.Scripts.{scripts_bounded}
 use Rattle.x5_script.specs.Views.{command_view}
 use Rattle.x5_script.specs.declared.command.Command.{Command}
-use Rattle.xdir.specs.Taken.{AsksShortNames, IsTaken}
+use Rattle.xdir.specs.Taken.{IsTaken}
 use Rattle.xdir.proofs.Ends.{such_prints}
 use Rattle.xdir.proofs.Few.{few}
 use Rattle.xdir.proofs.Files.{runs_script, refuses_script, asked_for, refused_for}
 use Rattle.xdir.proofs.Summaries.{sums_script, sums_refused}
 use Rattle.xdir.proofs.Taken.{all_taken}
-use Rattle.xdir.proofs.Targets.{script_short}
 use Rattle.xdir.proofs.top.run_octets.Goals as goal
 
 pub run_commands-requires-clause-few : goal.run_commands-requires-clause-few
@@ -26,12 +25,11 @@ run_commands-requires-clause-few g c =
 pub run_commands-requires-clause-taken : goal.run_commands-requires-clause-taken
 run_commands-requires-clause-taken g c =
     let names = c.names.result.now in
-    let lost = c.len-lost_replies.result in
+    let agents = length names in
     subst (λ (cs : List Command). All (IsTaken (length c.args.network.now.names)) cs) (sym c.deref.ensures.value)
     (subst (λ (ns : List (List ℕ)). All (IsTaken (length ns)) c.in-Ok.commands.items) c.names.ensures
-    (all_taken names c.in-Ok.commands.items
-    (IfOk-at_ok (All (AreNamed names)) c.in-Ok.ensures (script_named names lost c.args.script.now))
-    (IfOk-at_ok (All AsksShortNames) c.in-Ok.ensures (script_short names lost c.args.script.now))))
+    (all_taken agents c.in-Ok.commands.items
+    (IfOk-at_ok (All (BoundedAsked agents)) c.in-Ok.ensures (scripts_bounded names c.len-lost_replies.result c.args.script.now))))
 
 pub returns-in-Ok-clause-writes : goal.returns-in-Ok-clause-writes
 returns-in-Ok-clause-writes g c = λ printed.

@@ -1,5 +1,6 @@
 -- The update is passed by what the agent holds, and afterwards it holds what it accepted.
-use Rattle.std.proofs.Common.{◌≡◌, ℕ, List, ap, ◌∙◌, ◌++◌, ◌∷◌, []}
+use Rattle.std.proofs.Common.{◌≡◌, ℕ, List, sym, ap, subst, ◌∙◌, ◌++◌, ◌∷◌, []}
+use Rattle.x5_model_fitting.specs.Requests.{BodyWithin}
 use Rattle.x5_model_run.specs.Chain.{Scene}
 use Rattle.x5_model_run.specs.Journal.{Journal}
 use Rattle.x5_model_serve.specs.Serving.{Hand, hand}
@@ -22,6 +23,11 @@ commit-requires-clause-ready g c =
           c.args.self.now.accepted.items k c.args.self.now.under_way.changed)
           c.requires.ready,
     )
+
+pub commit-requires-clause-within : goal.commit-requires-clause-within
+commit-requires-clause-within g c =
+    let due = c.requires.ready.due in
+    subst BodyWithin (sym (due.of_user.update due.update)) c.args.self.now.under_way.request.body
 
 pub invariant_of-self-2 : goal.invariant_of-self-2
 invariant_of-self-2 g c =

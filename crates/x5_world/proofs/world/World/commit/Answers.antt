@@ -30,7 +30,8 @@ invariant_of-self c =
     } in
     stays_net n c.self.inside.agents.items c.agent.inside.0 c.index_mut-held.result.now
     (got_place c.self.inside.agents.items c.agent.inside.0 c.index_mut-held.result.now few c.index_mut-held.ensures.value)
-    c.commit.result (request_view c.args.message.now.request) c.set_moment.new.self c.commit.new.state c.self.invariant there
+    c.commit.result (request_view c.args.message.now.request) c.set_moment.new.self c.commit.new.state
+    c.requires.within c.requires.ready.1.due.update c.requires.ready.1.due.unrefused c.self.invariant there
     (later c.index_mut-held.result.now c.set_moment.new.self _ c.set_moment.ensures) c.commit.ensures.ok c.commit.ensures.err
 
 pub returns-clause-committed : goal.returns-clause-committed

@@ -1,12 +1,20 @@
 -- What octets come to is what is done with them: the message that they say is served, a first breach is told.
-use Rattle.std.proofs.Common.{◌≡◌, ◌∙◌, List, ℕ, Ok, length, ap, sym, subst}
+use Rattle.std.proofs.Common.{length, ap, arith}
 use Rattle.std.proofs.lemmas.Result.{IfOk-weaker}
+use Rattle.x5_dapber.proofs.Octets.{are_octets}
 use Rattle.x5_model_messages.specs.Chained.{chained_in}
 use Rattle.x5_model_run.specs.Run.{Dsp}
 use Rattle.x5_ops.specs.ReferenceViews.{chained_view}
 use Rattle.x5_world.specs.Delivered.{spelled}
-use Rattle.x5_world.proofs.Delivering.{told, message_so, breach_so, breach_told, message_told}
+use Rattle.x5_world.proofs.Carrying.{may_be_sent}
+use Rattle.x5_world.proofs.Delivering.{told, message_so, message_within, breach_so, breach_told, message_told}
 use Rattle.x5_world.proofs.world.World.deliver_chained.Goals as goal
+
+pub take-requires-clause-sent : goal.take-requires-clause-sent
+take-requires-clause-sent c =
+    may_be_sent c.args.self.now.names c.in-Ok.message
+    (message_within c.args.octets.now (c.in-Ok.field-0-0, c.in-Ok.message)
+    (are_octets c.args.octets.now (λ k. omega (arith, c.type_inv.octets k))) c.in-Ok.ensures.spelled)
 
 pub returns-in-Ok-clause-delivered : goal.returns-in-Ok-clause-delivered
 returns-in-Ok-clause-delivered c =

@@ -1,18 +1,28 @@
 -- What octets come to is what is done with them: the request that they say is asked, a first breach is told.
-use Rattle.std.proofs.Common.{◌≡◌, ◌∙◌, List, ℕ, Ok, length, ap, sym, subst}
+use Rattle.std.proofs.Common.{◌∙◌, Ok, length, ap, sym, subst, arith}
 use Rattle.std.proofs.lemmas.Result.{IfOk-weaker}
+use Rattle.x5_dapber.proofs.Octets.{are_octets}
 use Rattle.x5_model.specs.References.{Chained}
 use Rattle.x5_model_messages.specs.Requests.{request_in}
 use Rattle.x5_model_run.specs.Run.{Dap}
 use Rattle.x5_ops.specs.ReferenceViews.{chained_view}
+use Rattle.x5_ops.specs.RequestViews.{request_view}
 use Rattle.x5_world.specs.Delivered.{spelled}
 use Rattle.x5_world.specs.State.{HasShortNames}
-use Rattle.x5_world.proofs.Delivering.{seen, request_so, breach_so, breach_told, message_told}
+use Rattle.x5_world.proofs.Carrying.{opening_sent}
+use Rattle.x5_world.proofs.Delivering.{seen, request_so, request_within, breach_so, breach_told, message_told}
 use Rattle.x5_world.proofs.world.World.deliver_request.Goals as goal
 
 pub take-requires-clause-short : goal.take-requires-clause-short
 take-requires-clause-short c =
     subst (λ (m : Chained). HasShortNames m.request.body) (sym (c.in_ok-message-in-Ok.ensures c.args.self.now.names)) c.in-Ok.ensures.short
+
+pub take-requires-clause-sent : goal.take-requires-clause-sent
+take-requires-clause-sent c =
+    let names = c.args.self.now.names in
+    opening_sent names c.in_ok-message-in-Ok.message (request_view c.in-Ok.request) (c.in_ok-message-in-Ok.ensures names)
+    (request_within c.args.octets.now (c.in-Ok.field-0-0, c.in-Ok.request)
+    (are_octets c.args.octets.now (λ k. omega (arith, c.type_inv.octets k))) c.in-Ok.ensures.spelled)
 
 pub returns-in_ok-message-in-Ok-clause-delivered : goal.returns-in_ok-message-in-Ok-clause-delivered
 returns-in_ok-message-in-Ok-clause-delivered c =

@@ -9,6 +9,7 @@ use Rattle.x5_ops.specs.AnswerViews.{reply_view}
 use Rattle.x5_ops.specs.JournalViews.{messages_view}
 use Rattle.x5_ops.specs.ReferenceViews.{chained_view}
 use Rattle.x5_ops.specs.RequestViews.{request_view}
+use Rattle.x5_serve.specs.Sendable.{MayBeSent}
 use Rattle.x5_world.specs.Answered.{IsAnswered, NamesAgents, is_agent, line_names_agents}
 use Rattle.x5_world.specs.State.{Net, StandsAt}
 use Rattle.x5_world.specs.Sent.{line_view}
@@ -16,6 +17,10 @@ use Rattle.x5_world.specs.declared.journal.Sent.{Sent}
 use Rattle.x5_world.proofs.Standing.{most_of}
 use Rattle.x5_world.proofs.Worlds.{answered, few_lines, is_after}
 use Rattle.x5_world.proofs.world.World.send.Goals as goal
+
+pub asked-told-requires-clause-sent : goal.asked-told-requires-clause-sent
+asked-told-requires-clause-sent c =
+    subst (λ (n : Net). MayBeSent n.names c.args.message) (sym c.replace-before.ensures.value) c.requires.sent
 
 pub count-requires-clause-lines : goal.count-requires-clause-lines
 count-requires-clause-lines c =

@@ -1,0 +1,5 @@
+mod Written
+mod Told
+pub mod Seen
+pub mod Names
+pub mod Within
