@@ -1,5 +1,5 @@
 pub mod AttributeParts
-pub mod Clockless
+pub mod Clock
 pub mod Decoding
 pub mod FilterLevels
 mod FilterMembers
@@ -15,5 +15,4 @@ pub mod RequestRooms
 mod RequestsSpelled
 pub mod Rooms
 mod Selections
-pub mod Tables
 pub mod Tags

@@ -19,7 +19,7 @@ use Rattle.x5_dapber.proofs.Rooms.{Room, RoomForAll}
 abbrev pub Takes : ℕ → Node → Type 0
 Takes r n = (d : ℕ) → d + r ≤ deepest → Room d n
 
-mapped_take : {X : Type 0} (f : X → Node) (r : ℕ) → ((x : X) → Takes r (f x)) → (xs : List X) (d : ℕ) → d + r ≤ deepest
+pub mapped_take : {X : Type 0} (f : X → Node) (r : ℕ) → ((x : X) → Takes r (f x)) → (xs : List X) (d : ℕ) → d + r ≤ deepest
     → RoomForAll d (row (map f xs))
 mapped_take f r takes [] d le = tt
 mapped_take f r takes (x ∷ xs) d le = (takes x d le, mapped_take f r takes xs d le)

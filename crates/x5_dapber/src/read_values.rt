@@ -39,7 +39,7 @@ pub fn type_in(alloc: Global, node: &Node<'_>) -> Result<TypeRef, NoMemory>
 }
 
 /// The value that the node says.
-pub(crate) fn value_in(alloc: Global, node: &Node<'_>) -> Result<Value, NoMemory>
+pub fn value_in(alloc: Global, node: &Node<'_>) -> Result<Value, NoMemory>
     requires { IsValue (node_view node.now) }
     ensures { IfOk result (λ v. value_view v ≡ rules.value_in (node_view node.now)) }
 {

@@ -14,7 +14,7 @@ use x5_syntax::{TypeRef, Value};
 use x5_types::{Bytes, Node};
 
 /// A value, by its form.
-pub(crate) fn value_node<'a>(alloc: Global, value: &'a Value) -> Result<Node<'a>, NoMemory>
+pub fn value_node<'a>(alloc: Global, value: &'a Value) -> Result<Node<'a>, NoMemory>
     ensures { IfOk result (λ n. node_view n ≡ terms.value_node (value_view value.now)) }
 {
     match value {

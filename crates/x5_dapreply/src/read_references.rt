@@ -20,7 +20,7 @@ use x5_rules::{name_of, text_in};
 use x5_types::Node;
 
 /// The number of one octet that the node says, or else 0.
-pub(crate) fn small_in(node: &Node<'_>) -> u8
+pub fn small_in(node: &Node<'_>) -> u8
     requires { IsSmall (node_view node.now) }
     ensures { result ≡ replies.or_zero (terms.number_in (node_view node.now)) }
 {
@@ -147,7 +147,8 @@ pub fn item_in(alloc: Global, node: &Node<'_>) -> Result<TraceItem, NoMemory>
     })
 }
 
-fn moment_in(node: &Node<'_>) -> Option<Moment>
+/// The moment that the node says, if it says one.
+pub fn moment_in(node: &Node<'_>) -> Option<Moment>
     requires { IsCount (node_view node.now) }
     ensures { result ≡ terms.number_in (node_view node.now) }
 {

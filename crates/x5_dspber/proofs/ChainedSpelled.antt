@@ -16,8 +16,9 @@ use Rattle.x5_model_typed.specs.Layouts as layouts
 use Rattle.x5_model_typed.specs.Typed.{Spells}
 use Rattle.x5_model_typed.specs.Written.{canonical_octets}
 use Rattle.x5_model_typed_laws.specs.Fits.{Fits}
+use Rattle.x5_model_typed_laws.proofs.Back.{written_is_spelled}
 use Rattle.x5_types.specs.FormView.{nowhere, table}
-use Rattle.x5_dapber.proofs.Clockless.{written_spells}
+use Rattle.x5_dapber.proofs.Clock.{a_table}
 use Rattle.x5_dapber.proofs.FilterLevels.{argument_shallow, second_same}
 use Rattle.x5_dapber.proofs.Fitting.{only_made, pair_in, sequence_in}
 use Rattle.x5_dapber.proofs.Levels.{IsShallow}
@@ -93,7 +94,7 @@ pub chained_spelled : (id : ℕ) (m : Chained) (octets : List ℕ) → Fits tabl
     → canonical_octets table named.DspRequest (chained_node id m) ≡ Some octets → length octets < 2 ^ 64
     → Spells table named.DspRequest octets (chained_node id m)
 chained_spelled id m octets fit written short =
-    written_spells nowhere named.DspRequest (chained_node id m) octets refl fit
+    written_is_spelled table named.DspRequest (chained_node id m) octets a_table fit
     (has_spelling table (good_tags nowhere) named.DspRequest (chained_node id m) octets
     (chained_room id m (chained_shallow id m fit)) written short)
     written

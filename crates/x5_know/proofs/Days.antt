@@ -19,6 +19,7 @@ record Next (d : Date) : Type 0 where
   pub next : Date
   pub is : day_of next ≡ day_after (day_of d)
   pub number : epoch_day next ≡ epoch_day d +ℤ pos 1
+  pub later : d.year ≤ℤ next.year
 
 in_month : (d : Date) → nat_lt d.day (days_in_month d.year d.month) ≡ true → Next d
 in_month d h =
@@ -27,6 +28,7 @@ in_month d h =
       next = next;
       is = rw h refl;
       number = omega (arith, signed_arith, days_from_civil-day d.year d.month d.day (d.day + 1) d.day_in.0 (omega arith));
+      later = omega (arith, signed_arith);
     }
 
 in_year : (d : Date) → nat_lt d.day (days_in_month d.year d.month) ≡ false → nat_lt d.month 12 ≡ true → Next d
@@ -36,6 +38,7 @@ in_year d h k =
       next = next;
       is = rw (h, k) refl;
       number = days_from_civil-next_month d.year d.month d.day d.month_in.0 (omega (arith, d.day_in.1, at_least _ _ h));
+      later = omega (arith, signed_arith);
     }
 
 last_day : (d : Date) → nat_lt d.day (days_in_month d.year d.month) ≡ false → d.month ≡ 12 → d.day ≡ 31
@@ -54,6 +57,7 @@ at_end d low h k =
       next = next;
       is = rw (h, k) refl;
       number = days_from_civil-next_year d.year (d.year +ℤ pos 1) (omega (arith, signed_arith, d.year_in)) refl ∙ ap (λ n. n +ℤ pos 1) (sym is_last);
+      later = omega (arith, signed_arith);
     }
 
 next_of : (d : Date) → epoch_day d <ℤ pos 2_932_896 → Next d
@@ -73,6 +77,19 @@ days_after_is (suc n) d later e =
     let range = epoch_day_range later in
     let s = next_of d (omega (arith, signed_arith)) in
     days_after_is n s.next later (omega (arith, signed_arith, s.number)) ∙ ap (days_after n) s.is
+
+-- the date so many days later, where the calendar has it
+pub record Later (d : Date) (n : ℕ) : Type 0 where
+  pub date : Date
+  pub number : epoch_day date ≡ epoch_day d +ℤ pos n
+  pub year : d.year ≤ℤ date.year
+
+pub later_date : (n : ℕ) (d : Date) → (epoch_day d +ℤ pos n) ≤ℤ pos 2_932_896 → Later d n
+later_date zero d low = record { date = d; number = omega (arith, signed_arith); year = omega (arith, signed_arith) }
+later_date (suc n) d low =
+    let s = next_of d (omega (arith, signed_arith)) in
+    let rest = later_date n s.next (omega (arith, signed_arith, s.number)) in
+    record { date = rest.date; number = omega (arith, signed_arith, s.number, rest.number); year = omega (arith, signed_arith, s.later, rest.year) }
 
 -- ---- years
 

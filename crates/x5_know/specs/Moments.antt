@@ -1,12 +1,13 @@
 -- Moments: whole seconds after the start of the world, and how they are printed, as dates and times of the Gregorian
 -- calendar (X.680, section 46: GeneralizedTime, whole seconds in UTC).
-use Rattle.std.specs.Prelude.{ℕ, zero, suc, ◌+◌, ◌/◌, ◌%◌, ℤ, pos, ◌+ℤ◌, unsigned_abs, nat_lt, if◌then◌else◌, [], ◌∷◌}
-use Rattle.std.specs.Prelude.{codes}
+use Rattle.std.specs.Prelude.{ℕ, zero, suc, ◌+◌, ◌/◌, ◌%◌, ℤ, pos, ◌+ℤ◌, unsigned_abs, Bool, nat_lt, if◌then◌else◌}
+use Rattle.std.specs.Prelude.{[], ◌∷◌, codes, Option, None, Some}
 use Rattle.std.specs.List.{concat}
 use Rattle.std.specs.Fmt.{decimal}
 use Rattle.jiff_core.specs.declared.civil.date.Date.{Date}
 use Rattle.jiff_core.specs.Calendar.{days_in_month}
 use Rattle.x5_model.specs.Values.{Text}
+use Rattle.x5_model.specs.Words.{same_octets}
 
 -- a date
 pub record Day : Type 0 where
@@ -56,3 +57,16 @@ stamp_text d second =
 -- the text of a moment
 abbrev pub moment_text : Start → ℕ → Text
 moment_text s m = stamp_text (days_after ((s.second + m) / day_length) s.day) ((s.second + m) % day_length)
+
+-- the greatest number below that one of which it's true
+abbrev pub greatest_below : (ℕ → Bool) → ℕ → Option ℕ
+greatest_below is_true zero = None
+greatest_below is_true (suc n) = if is_true n then Some n else greatest_below is_true n
+
+-- so many moments there are
+unfoldable pub moment_count : ℕ
+moment_count = 4_294_967_296
+
+-- the moment of a text: the one whose text it is
+abbrev pub moment_of : Start → Text → Option ℕ
+moment_of s t = greatest_below (λ m. same_octets (moment_text s m) t) moment_count

@@ -161,7 +161,7 @@ abbrev pub is_explicit : Content → Bool
 is_explicit (Explicit form) = true
 is_explicit c = false
 
-no_explicit : (L : Layout) (c : Content) (ns : Nodes) → is_explicit c ≡ true → FitsIn L c ns → ⊥
+pub no_explicit : (L : Layout) (c : Content) (ns : Nodes) → is_explicit c ≡ true → FitsIn L c ns → ⊥
 no_explicit L (Explicit form) ns e f = elim f [ ]
 no_explicit L (Primitive leaf) ns e f = absurd (cc e)
 no_explicit L (Joined leaf) ns e f = absurd (cc e)

@@ -16,7 +16,7 @@ use Rattle.x5_model_typed.proofs.Laws.{list_row}
 use Rattle.x5_model_messages.specs.Terms.{pair_node, pairs_node, name_value_node}
 use Rattle.x5_model_messages.specs.Laws.{TypesReadBack, NamesReadBack, has_known_types}
 
-known : (k : ℕ) → is_known k ≡ true → known_below (2 ∷ 5 ∷ 4 ∷ k ∷ []) ≡ Some k
+pub known : (k : ℕ) → is_known k ≡ true → known_below (2 ∷ 5 ∷ 4 ∷ k ∷ []) ≡ Some k
 known k h = ap (λ (b : Bool). if b then Some k else None) h
 
 by_parts : (a b c d : Bool) (n : ℕ) → not (a && (b && (c && d))) ≡ true → (if a && b && c && d then Some n else None) ≡ None

@@ -26,7 +26,7 @@ the_name n h = names_back n h.0 ∙ sym h.1
 pub the_rdn : (r : Rdn) → IsRdn r → rdn_of (rdn_node r) ≡ r
 the_rdn r h = ap stored_rdn (rdn_back (map written_pair r) h.0) ∙ sym h.1
 
-value_back : (v : Value) → is_sayable v ≡ true → value_in (value_node v) ≡ v
+pub value_back : (v : Value) → is_sayable v ≡ true → value_in (value_node v) ≡ v
 value_back (TextValue t) h = refl
 value_back (OctetsValue o) h = refl
 value_back (OidValue arcs) h = refl

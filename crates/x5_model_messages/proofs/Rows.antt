@@ -11,7 +11,7 @@ use Rattle.x5_model_messages.specs.Requests.{request_node, request_in}
 use Rattle.x5_model_messages.specs.Replies.{Reference, Reply, Answered, Found, Changed, NoSuchObject, Referred, reply_node, reply_in, to_user, to_agent}
 
 nowhere : Surroundings
-nowhere = record { moment = λ t. None; time = λ m. []; is_agent = λ a. false }
+nowhere = record { moment = λ t. None; time = λ m. None; is_agent = λ a. false }
 
 -- the root is read, with id 1: controls and the selection have their defaults
 root : Request

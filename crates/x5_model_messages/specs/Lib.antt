@@ -5,3 +5,5 @@ pub mod Replies
 pub mod Chained
 pub mod Laws
 pub mod ChainedLaws
+pub mod Shadows
+pub mod ShadowLaws

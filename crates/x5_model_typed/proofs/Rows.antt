@@ -17,7 +17,7 @@ use Rattle.x5_model_typed.specs.Leaves.{cells}
 use Rattle.x5_model_typed.specs.Written.{canonical_octets}
 
 abbrev nowhere : Surroundings
-nowhere = record { moment = λ t. None; time = λ m. []; is_agent = λ a. false }
+nowhere = record { moment = λ t. None; time = λ m. None; is_agent = λ a. false }
 
 abbrev judge : Named → Element → Result Node Breach
 judge form e = judged (layout nowhere) (layout nowhere form) (laid 0 e)

@@ -1,6 +1,7 @@
 -- The types of messages (X.511, X.518, X.519, X.525, with numbers of this project's own where the
 -- standards' aren't used). docs/FORMATS.md shows them in the notation of X.680.
 use Rattle.std.specs.Prelude.{ℕ, ◌-◌, ◌==◌, ℤ, pos, negsuc, Bool, true, false, if◌then◌else◌, List, [], ◌∷◌, List}
+use Rattle.std.specs.Option.{is_some}
 use Rattle.std.specs.declared.option.Option.{Option}
 use Rattle.std.specs.declared.option.Option.TheVariants.{None, Some}
 use Rattle.x5_model.specs.Normal.{is_printable}
@@ -21,14 +22,15 @@ use Rattle.x5_model_typed.specs.Forms.{Leaf, Component, Primitive, Joined, Joine
 use Rattle.x5_model_typed.specs.Forms.{Never, Alternative, Layout, universal, choice, ruled, plain, at, or, code}
 use Rattle.x5_model_typed.specs.Leaves.{boolean, null, number, any_number, from_to, one_of, oid, any_oid, short_oid}
 use Rattle.x5_model_typed.specs.Leaves.{octet_string, text_where, text_of, is_numeric, is_seven_bit, universal_string}
-use Rattle.x5_model_typed.specs.Leaves.{is_agent_name, options, options_node}
+use Rattle.x5_model_typed.specs.Leaves.{is_agent_name, options, options_node, where_so}
 use Rattle.x5_model_typed.specs.Rules.{name_rule, rdn_rule, pair_rule, some_members, controls_rule, text_rule}
 use Rattle.x5_model_typed.specs.Rules.{parts_rule, progress_rule, trace_rule, entry_rule, known_rule, masters_rule}
 
--- What shadow messages are read and written with: the moments that times are, and the world's agents.
+-- What shadow messages are read and written with: the moments that times are, the times of the moments that have one,
+-- and the world's agents.
 pub record Surroundings : Type 0 where
   pub moment : List ℕ → Option ℕ
-  pub time : ℕ → List ℕ
+  pub time : ℕ → Option (List ℕ)
   pub is_agent : List ℕ → Bool
 
 -- ---- words of the table
@@ -153,16 +155,16 @@ agent_name test = universal 19 (Joined (text_where (λ t. if is_agent_name t the
 abbrev pub any_agent : List ℕ → Bool
 any_agent name = true
 
--- the moment of a time
+-- the moment of a time; one that has no time is none
 abbrev pub time_leaf : Surroundings → Leaf (List ℕ)
 time_leaf w = record { reads = λ octets. moment_node (w.moment octets); writes = writes }
   where
     moment_node : Option ℕ → Option Node
     moment_node None = None
-    moment_node (Some m) = Some (whole m)
+    moment_node (Some m) = where_so (is_some (w.time m)) (whole m)
 
     writes : Node → Option (List ℕ)
-    writes (Number (pos m)) = Some (w.time m)
+    writes (Number (pos m)) = w.time m
     writes n = None
 
 -- ---- the table

@@ -168,13 +168,18 @@ time_by w octets m None e h = let none : None ≡ Some m = sym (no_moment w octe
     no_moment : (v : Surroundings) (os : List ℕ) → v.moment os ≡ None → (time_leaf v).reads os ≡ None
     no_moment v os f = rw f refl
 time_by w octets m (Some k) e h =
-    let there : (time_leaf w).reads octets ≡ Some (whole k) = one_moment w octets k e in
-    let same : Some (whole k) ≡ Some m = sym there ∙ h in
-    writable (Joined (time_leaf w)) m (whole k) (w.time k) (some_is (whole k) m same) refl refl
+    let there : (time_leaf w).reads octets ≡ where_so (is_some (w.time k)) (whole k) = one_moment w octets k e in
+    let same = so (is_some (w.time k)) (whole k) m (sym there ∙ h) in
+    let time = what_there_is (w.time k) same.0 in
+    writable (Joined (time_leaf w)) m (whole k) time.0 same.1 time.1 refl
   where
     one_moment : (v : Surroundings) (os : List ℕ) (j : ℕ) → v.moment os ≡ Some j
-        → (time_leaf v).reads os ≡ Some (whole j)
+        → (time_leaf v).reads os ≡ where_so (is_some (v.time j)) (whole j)
     one_moment v os j f = rw f refl
+
+    what_there_is : (o : Option (List ℕ)) → is_some o ≡ true → (x : List ℕ) × (o ≡ Some x)
+    what_there_is (Some x) h = (x, refl)
+    what_there_is None h = absurd (cc h)
 
 pub time_writes : (w : Surroundings) → Writes (Joined (time_leaf w))
 time_writes w layout m s = time_by w s.0 m (w.moment s.0) refl s.1

@@ -10,7 +10,7 @@ use Rattle.x5_model_typed_laws.specs.Fits as fits
 use Rattle.x5_model_typed_laws.specs.Fits.{Fits}
 
 abbrev nowhere : Surroundings
-nowhere = record { moment = λ t. None; time = λ m. []; is_agent = λ n. false }
+nowhere = record { moment = λ t. None; time = λ m. None; is_agent = λ n. false }
 
 abbrev pair_node : Node
 pair_node = Many (row (Oid (2 ∷ 5 ∷ 4 ∷ 6 ∷ []) ∷ Text (codes "NL") ∷ []))

@@ -169,8 +169,7 @@ universal_back (Many ns) octets h = absurd (cc h)
 pub time_back : (w : Surroundings) → ClockReadsBack w → ReadsBack (Joined (time_leaf w))
 time_back w clock Vacant octets h = absurd (cc h)
 time_back w clock (Flag b) octets h = absurd (cc h)
-time_back w clock (Number (pos m)) octets h =
-    ap (time_leaf w).reads (sym (some_is (w.time m) octets h)) ∙ rw (clock m) refl
+time_back w clock (Number (pos m)) octets h = rw (clock m octets h) (rw h refl)
 time_back w clock (Number (negsuc m)) octets h = absurd (cc h)
 time_back w clock (Oid arcs) octets h = absurd (cc h)
 time_back w clock (Bits bits) octets h = absurd (cc h)

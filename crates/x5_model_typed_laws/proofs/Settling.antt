@@ -303,7 +303,7 @@ ordered_stored w a i h =
     ∙ stored_sorted (value_below (type_number i.type)) (parts i.values) (known_type i.type)
     (sym (ap is_stored i.is_row) ∙ h)
 
-type_kept : (a : Node) → attribute_type (in_order a) ≡ attribute_type a
+pub type_kept : (a : Node) → attribute_type (in_order a) ≡ attribute_type a
 type_kept Vacant = refl
 type_kept (Flag b) = refl
 type_kept (nodes.Number k) = refl

@@ -66,7 +66,7 @@ pub record IsTable (layout : Layout) : Type 0 where
 
 -- the clock that both ends share reads the times that it writes
 abbrev pub ClockReadsBack : Surroundings → Type 0
-ClockReadsBack w = (m : ℕ) → w.moment (w.time m) ≡ Some m
+ClockReadsBack w = (m : ℕ) (octets : List ℕ) → w.time m ≡ Some octets → w.moment octets ≡ Some m
 
 -- ---- values that fit: the alternative that is written for the value takes it as it is
 
