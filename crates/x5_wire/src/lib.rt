@@ -3,11 +3,13 @@
 //! sent, so nothing is refused on the way.
 #![tactic(auto)]
 
+mod answers;
 mod fault;
 mod messages;
 mod replies;
 mod requests;
 
+pub use crate::answers::carried_answer;
 pub use crate::messages::carried_message;
 pub use crate::replies::carried_reply;
 pub use crate::requests::carried_request;

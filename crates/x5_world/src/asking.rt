@@ -2,6 +2,8 @@
 
 ghost use Rattle.std.specs.Prelude.{◌≡◌, ℕ, List, ◌<◌, ◌≤◌, ◌+◌, true, length, IfOk};
 ghost use Rattle.std.specs.List.{list_all};
+ghost use Rattle.x5_dapreply.specs.ReplyViews.{told_reply};
+ghost use Rattle.x5_model_fitting.specs.Replies.{ReplyWithin};
 ghost use Rattle.x5_model_fitting.specs.Requests.{RequestWithin};
 ghost use Rattle.x5_model_heard.specs.Told.{are_agents};
 ghost use Rattle.x5_model_known.specs.Replying.{reply_agents};
@@ -10,6 +12,7 @@ ghost use Rattle.x5_model_run.specs.Needs.{target_of};
 ghost use Rattle.x5_model.specs.Answers as model;
 ghost use Rattle.x5_model_serve.specs.Serving.{IsRequest, Serves, hand};
 ghost use Rattle.x5_ops.specs.AnswerViews.{reply_view};
+ghost use Rattle.x5_ops.specs.JournalViews.{code_view};
 ghost use Rattle.x5_ops.specs.ReferenceViews.{chained_view};
 ghost use Rattle.x5_ops.specs.RequestViews.{body_view, request_view};
 ghost use Rattle.x5_serve.specs.Networks.{Stays, DoesAt};
@@ -25,9 +28,9 @@ use crate::world::World;
 use std::alloc::Global;
 use x5_memory::NoMemory;
 use x5_names::Name;
-use x5_ops::{AgentId, Body, Chained, Listed, Progress, RefType, Reply, Request};
+use x5_ops::{AgentId, Body, Chained, Listed, Operation, Progress, RefType, Reply, Request};
 use x5_serve::{Carried, Network, serve, user_in_vain};
-use x5_wire::carried_request;
+use x5_wire::{carried_answer, carried_reply, carried_request};
 
 /// The network after a request, what the user is told, the messages that it took, and the agents that accepted the update, each in
 /// their order.
@@ -90,9 +93,28 @@ fn served_in_vain<N: Network>(
     user_in_vain(alloc, net.names(), first, message)
 }
 
-/// The reply that the user has where his message was served.
+/// A reply as whoever sent the message has it, which reads it in the octets that it goes back by (X.519, section 7): an agent's to a user
+/// (DAP) or, where the message was handed over as another agent's (`dsp`), to that agent (DSP).
+fn told_back(
+    alloc: Global,
+    dsp: bool,
+    operation: Operation,
+    reply: &Reply,
+) -> Result<Reply, NoMemory>
+    requires { ReplyWithin (told_reply (code_view operation) reply.now) }
+    ensures { IfOk result (λ back. (names : List (List ℕ)) → reply_view names back ≡ reply_view names reply.now) }
+{
+    if dsp {
+        carried_reply(alloc, ID, operation, reply)
+    } else {
+        carried_answer(alloc, ID, operation, reply)
+    }
+}
+
+/// The reply that the user has where his message was served; he may have handed it over as another agent's (`dsp`).
 fn user_served<N: Network>(
     alloc: Global,
+    dsp: bool,
     net: &mut N,
     first: AgentId,
     message: &Chained,
@@ -103,13 +125,16 @@ fn user_served<N: Network>(
     ensures stays { Stays N.scene N.most N.names net.old net.new }
     ensures served { IfOk result (λ reply. DoesAt N.scene N.most N.journal net.old net.new (Serves (hand first (chained_view (N.names net.old) message.now)) (reply_view (N.names net.old) reply))) }
 {
-    serve(alloc, net, first, message)
+    let operation = message.request.body.operation();
+    let reply = serve(alloc, net, first, message)?;
+    told_back(alloc, dsp, operation, &reply)
 }
 
-/// A user's message in the network, which begins as it stands: what it comes to, with the reply, the messages that it takes, and the
+/// A user's message in the network, which begins as it stands, and which he may hand over as another agent's (`dsp`): what it comes to, with the reply, the messages that it takes, and the
 /// agents that accept its update, which hold it then.
 pub(crate) fn asked<B: Begun>(
     alloc: Global,
+    dsp: bool,
     world: World,
     first: AgentId,
     message: Chained,
@@ -134,7 +159,7 @@ pub(crate) fn asked<B: Begun>(
         Carried::Spent => unreachable!(),
         Carried::Undelivered => user_in_vain(alloc, exchange.names(), first, &message)?,
         Carried::Unheard(taken) => served_in_vain(alloc, &mut exchange, first, &taken)?,
-        Carried::Taken(taken) => user_served(alloc, &mut exchange, first, &taken)?,
+        Carried::Taken(taken) => user_served(alloc, dsp, &mut exchange, first, &taken)?,
     };
     let (world, lines, accepted) = exchange.into_parts();
     Ok(Told {

@@ -305,10 +305,11 @@ impl World {
     }
 
     /// What a message of the user is answered by this agent, the messages that it takes, in their order, and who accepts its update,
-    /// where it may take so many. What an agent accepted it holds afterwards. After want of memory nobody is left in the network.
+    /// where it may take so many; the user may have handed it over as another agent's (`dsp`). What an agent accepted it holds afterwards. After want of memory nobody is left in the network.
     fn send(
         &mut self,
         alloc: Global,
+        dsp: bool,
         first: AgentId,
         message: Chained,
         most: usize,
@@ -325,7 +326,7 @@ impl World {
         ensures room_after { IfOk result (λ _. (lines : ℕ) → HasRoom self.old lines → HasRoom self.new (lines + 1)) }
     {
         let before = replace(self, World::nobody(alloc));
-        let told = asked::<Brand>(alloc, before, first, message, most)?;
+        let told = asked::<Brand>(alloc, dsp, before, first, message, most)?;
         let names = told.world.names();
         let lines = journal::lines(alloc, names, &told.lines)?;
         let journal = journal::journal(alloc, names, lines, &told.accepted)?;
@@ -354,7 +355,7 @@ impl World {
     {
         let most = self.budget(alloc)?;
         let message = heard(alloc, request)?;
-        self.send(alloc, first, message, most)
+        self.send(alloc, false, first, message, most)
     }
 
     /// A message of the user to this agent that is none: what becomes of it. No memory.
@@ -386,10 +387,11 @@ impl World {
         Ok(Delivered::Rejected(name, fate, breach))
     }
 
-    /// Hands a message that octets spell to this agent; it may take so many messages.
+    /// Hands a message that octets spell to this agent, as a user's or as another agent's (`dsp`); it may take so many messages.
     fn take(
         &mut self,
         alloc: Global,
+        dsp: bool,
         to: AgentId,
         message: Chained,
         most: usize,
@@ -405,7 +407,7 @@ impl World {
         ensures named { IfOk result (λ d. NamesAgentsIn self.old.names d) }
         ensures room_after { IfOk result (λ _. (lines : ℕ) → HasRoom self.old lines → HasRoom self.new (lines + 1)) }
     {
-        let (reply, journal) = self.send(alloc, to, message, most)?;
+        let (reply, journal) = self.send(alloc, dsp, to, message, most)?;
         Ok(Delivered::Answered(reply, journal))
     }
 
@@ -427,7 +429,7 @@ impl World {
         match decode_request(alloc, octets) {
             Ok((_, request)) => {
                 let message = opening(alloc, &request)?;
-                self.take(alloc, to, message, most)
+                self.take(alloc, false, to, message, most)
             }
             Err(fault) => self.reject(to, fault),
         }
@@ -449,7 +451,7 @@ impl World {
     {
         let most = self.budget(alloc)?;
         match decode_chained(alloc, octets) {
-            Ok((_, message)) => self.take(alloc, to, message, most),
+            Ok((_, message)) => self.take(alloc, true, to, message, most),
             Err(fault) => self.reject(to, fault),
         }
     }
