@@ -1,5 +1,4 @@
 -- The types are those of a filter.
-use Rattle.std.proofs.Common.{ap}
 use Rattle.x5_types.proofs.form.Choices.by_tag.Goals as goal
 
 pub returns-in-Filter : goal.returns-in-Filter
