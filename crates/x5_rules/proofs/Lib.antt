@@ -5,6 +5,3 @@ mod Pairs
 mod TwoParts
 mod Traces
 mod Targets
-mod Once
-mod Stored
-mod Keyed

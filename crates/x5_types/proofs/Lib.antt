@@ -1,10 +1,8 @@
-pub mod Agents
 mod Arcs
-mod Ascii
 mod BitLaws
 mod Cells
 mod Magnitudes
 pub mod Nodes
-mod Sameness
-mod Times
 pub mod TwoParts
+mod Ascii
+mod Sameness

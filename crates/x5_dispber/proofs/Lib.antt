@@ -1,6 +1,0 @@
-mod Clock
-mod Found
-mod InOrder
-mod Parts
-mod ShadowIsSayable
-mod ShadowSpelled

@@ -1,2 +1,0 @@
-pub mod ShadowViews
-pub mod Sayable
