@@ -15,10 +15,10 @@ pub told_back-requires : goal.told_back-requires
 told_back-requires g c =
     let n = g.N.Network in
     let net = c.args.net.now in
-    replied_within (n.names net) c.operation.result c.in_ok-reply.reply (g.met.N.Network.plain net)
+    replied_within (n.names net) c.operation-operation.result c.in_ok-reply.reply (g.met.N.Network.plain net)
     (may_be_replied (n.names net) (n.scene net) (n.most net) (n.journal net) (n.journal c.serve.new.net) c.args.first
-    c.args.message.now c.in_ok-reply.reply (code_view c.operation.result) (g.met.N.Network.bounded net) c.requires.there
-    c.requires.sent c.operation.ensures c.in_ok-reply.ensures.does)
+    c.args.message.now c.in_ok-reply.reply (code_view c.operation-operation.result) (g.met.N.Network.bounded net) c.requires.there
+    c.requires.sent c.operation-operation.ensures c.in_ok-reply.ensures.does)
 
 pub returns-clause-served : goal.returns-clause-served
 returns-clause-served g c =
