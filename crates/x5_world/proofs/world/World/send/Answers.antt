@@ -18,8 +18,8 @@ use Rattle.x5_world.proofs.Standing.{most_of}
 use Rattle.x5_world.proofs.Worlds.{answered, few_lines, is_after}
 use Rattle.x5_world.proofs.world.World.send.Goals as goal
 
-pub asked-told-requires-clause-sent : goal.asked-told-requires-clause-sent
-asked-told-requires-clause-sent c =
+pub asked-requires-clause-sent : goal.asked-requires-clause-sent
+asked-requires-clause-sent c =
     subst (λ (n : Net). MayBeSent n.names c.args.message) (sym c.replace-before.ensures.value) c.requires.sent
 
 pub count-requires-clause-lines : goal.count-requires-clause-lines
