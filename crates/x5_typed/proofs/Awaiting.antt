@@ -22,6 +22,7 @@ use Rattle.x5_typed.specs.declared.slots.Left.{Left}
 use Rattle.x5_typed.specs.declared.slots.Step.{Step}
 use Rattle.x5_typed.specs.declared.slots.Step.TheVariants as steps
 use Rattle.x5_typed.specs.declared.state.State.{State}
+use Rattle.x5_typed.specs.Breaches.{Gives}
 use Rattle.x5_typed.specs.StateView.{Fits, IsState, SlotIs, left_view, step_view}
 
 -- ---- whether a component has the tag
@@ -42,16 +43,16 @@ component_is w class tag c choices r b types found e =
 
 -- ---- in a SEQUENCE
 
-abbrev Outcome : Type 0
-Outcome = Result judged.Awaited judged.Breach
+abbrev Outcome : Type 0 → Type 0
+Outcome X = Result X judged.Breach
 
-passed : (p : forms.Presence) (tag : Option ℕ) (form : named.Named) (r : Outcome) (at : ℕ)
+passed : (p : forms.Presence) (tag : Option ℕ) (form : named.Named) (r : Outcome judged.Awaited) (at : ℕ)
     → judged.may_be_missing (record { tag = tag; form = form; presence = p }) ≡ true → judged.unless_required p r at ≡ r
 passed (forms.Default d) tag form r at e = refl
 passed forms.Required tag form r at e = absurd (cc e)
 passed (forms.Code k) tag form r at e = absurd (cc e)
 
-required : (p : forms.Presence) (tag : Option ℕ) (form : named.Named) (r : Outcome) (at : ℕ)
+required : (p : forms.Presence) (tag : Option ℕ) (form : named.Named) (r : Outcome judged.Awaited) (at : ℕ)
     → judged.may_be_missing (record { tag = tag; form = form; presence = p }) ≡ false
     → judged.unless_required p r at ≡ judged.wrong_tag at
 required (forms.Default d) tag form r at e = absurd (cc e)
@@ -115,3 +116,10 @@ state_at_first (contents.JoinedBits leaf) at left nodes slots e f = tt
 state_at_first (contents.Explicit form) at left nodes slots e f = tt
 state_at_first (contents.Members form) at left nodes slots e f = tt
 state_at_first contents.Never at left nodes slots e f = tt
+
+-- What the members leave ends as the content does.
+pub content_read : (r : Outcome judged.State) (next place : ℕ) (s : judged.State) (value : Option Node)
+    → Gives (λ (n : ℕ) t. (s ≡ t) × (n ≡ place)) r (Ok next) → option_view value ≡ judged.ended s
+    → Gives (λ (m : Option Node × ℕ) t. (option_view m.0 ≡ judged.ended t) × (m.1 ≡ place)) r (Ok (value, next))
+content_read (Ok t) next place s value h e = (e ∙ ap judged.ended h.0, h.1)
+content_read (Err b) next place s value h e = absurd h

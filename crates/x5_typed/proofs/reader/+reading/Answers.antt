@@ -1,10 +1,14 @@
 -- Each step of reading gives what is expected of the element that lies there.
 use Rattle.std.proofs.Common.{◌≡◌, ◌+◌, ℕ, ap, sym, ◌∙◌, length, arith, subst}
 use Rattle.std.specs.declared.option.Option.{Option}
+use Rattle.std.specs.declared.result.Result.TheVariants.{Ok}
+use Rattle.x5_model_typed.specs.Judged as judged
 use Rattle.x5_ber.specs.Views.{head_view}
-use Rattle.x5_types.specs.FormView.{alternative_view, around, choices_view, table_in}
+use Rattle.x5_types.specs.FormView.{alternative_view, around, choices_view, content_view, table_in}
+use Rattle.x5_typed.specs.Breaches.{Gives}
 use Rattle.x5_typed.specs.Places.{EndsAt, behind}
 use Rattle.x5_typed.specs.StateView.{state_view, awaited_view}
+use Rattle.x5_typed.proofs.Awaiting.{content_read}
 use Rattle.x5_typed.proofs.Heads.{branch_is, some_head}
 use Rattle.x5_typed.proofs.Reading.{head_is, one_gone, all_gone, no_open_fault}
 use Rattle.x5_typed.proofs.Elements.{err_is, not_awaited, member_is_wrong, step_is_wrong, member_done, open_untagged}
@@ -140,3 +144,16 @@ read_open-returns-clause-reads t c depth tree octets l s e form =
     (head_view c.args.head) tree octets b (behind c.in_ok-end.end (c.args.head.content + length b.content))
     (c.in_ok-node.node, c.in_ok-node.next) c.in_ok-node-2.node (c.in-Some.ensures (around c.args.surroundings)) next
     (c.in_ok-node.ensures.reads (depth + 1) b.members b.content b.lie b.stand there) (c.in_ok-node-2.ensures (around c.args.surroundings))
+
+pub read_content-returns-clause-reads : goal.read_content-returns-clause-reads
+read_content-returns-clause-reads t c = λ depth ts octets lies stands ends.
+    let w = around c.args.surroundings in
+    let s = state_view w c.read_members.new.state in
+    let place = behind c.args.end (c.args.place + length octets) in
+    content_read
+    (judged.judged_all (table_in c.args.surroundings) (judged.begun c.args.at (content_view w c.args.content)) ts)
+    c.in_ok-next.next place s c.in_ok-node.node
+    (subst (λ (b : judged.State). Gives (λ (n : ℕ) t. (s ≡ t) × (n ≡ place))
+    (judged.judged_all (table_in c.args.surroundings) b ts) (Ok c.in_ok-next.next)) (c.in_ok-state.ensures.begun w)
+    (c.in_ok-next.ensures.reads depth ts octets lies stands ends))
+    c.in_ok-node.ensures
