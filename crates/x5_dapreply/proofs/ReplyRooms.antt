@@ -1,6 +1,6 @@
 -- There is room under what is written of any reply, since each of its parts takes few levels; so an answer to a user
 -- that is a value of its type is spelled by what is written of it.
-use Rattle.std.proofs.Common.{◌≡◌, ℕ, ◌+◌, ◌<◌, ◌≤◌, ◌^◌, true, false, Bool, List, [], ◌∷◌, map, refl, length, arith}
+use Rattle.std.proofs.Common.{◌≡◌, ℕ, ◌+◌, ◌<◌, ◌≤◌, ◌^◌, true, false, Bool, List, [], ◌∷◌, map, length, arith}
 use Rattle.std.specs.declared.option.Option.{Option}
 use Rattle.std.specs.declared.option.Option.TheVariants.{None, Some}
 use Rattle.x5_model.specs.References.{Progress, Start, Next, Done}
@@ -18,8 +18,9 @@ use Rattle.x5_model_typed.specs.Nodes.{Node, whole}
 use Rattle.x5_model_typed.specs.Typed.{Spells}
 use Rattle.x5_model_typed.specs.Written.{canonical_octets}
 use Rattle.x5_model_typed_laws.specs.Fits.{Fits}
+use Rattle.x5_model_typed_laws.proofs.Back.{written_is_spelled}
 use Rattle.x5_types.specs.FormView.{nowhere, table}
-use Rattle.x5_dapber.proofs.Clockless.{written_spells}
+use Rattle.x5_dapber.proofs.Clock.{a_table}
 use Rattle.x5_dapber.proofs.RequestRooms.{Takes, many_take, type_takes, rdn_takes, name_takes, value_takes}
 use Rattle.x5_dapber.proofs.Rooms.{Room, has_spelling}
 use Rattle.x5_dapber.proofs.Tags.{good_tags}
@@ -190,7 +191,7 @@ pub answer_spelled : (id : ℕ) (r : Reply) (octets : List ℕ)
     → canonical_octets table named.DapAnswer (reply_node to_user id r) ≡ Some octets → length octets < 2 ^ 64
     → Spells table named.DapAnswer octets (reply_node to_user id r)
 answer_spelled id r octets fit written short =
-    written_spells nowhere named.DapAnswer (reply_node to_user id r) octets refl fit
+    written_is_spelled table named.DapAnswer (reply_node to_user id r) octets a_table fit
     (has_spelling table (good_tags nowhere) named.DapAnswer (reply_node to_user id r) octets (reply_room to_user id r)
     written short)
     written

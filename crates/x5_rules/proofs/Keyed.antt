@@ -1,5 +1,5 @@
 -- Values beside their normal forms: where the one list has a normal form, the other has its value.
-use Rattle.std.proofs.Common.{◌≡◌, ◌≤◌, ◌+◌, ◌&&◌, ◌||◌, ℕ, Bool, true, false, not, List, [], ◌∷◌, length, map}
+use Rattle.std.proofs.Common.{◌≡◌, ◌≤◌, ◌+◌, ◌&&◌, ◌||◌, ℕ, suc, Bool, true, false, not, List, [], ◌∷◌, length, map}
 use Rattle.std.proofs.Common.{insert, refl, ap, sym, ◌∙◌, arith}
 use Rattle.std.specs.List.{position_or_len}
 use Rattle.std.specs.declared.option.Option.{Option}
@@ -36,11 +36,11 @@ put_by {A = A} f g old new x place inside is items =
 
 pub twice_mapped : {A B : Type 0} (f : B → List ℕ) (g : A → B) (l : List A) → length (map f (map g l)) ≡ length l
 twice_mapped f g [] = refl
-twice_mapped f g (y ∷ l) = ap (λ (n : ℕ). n + 1) (twice_mapped f g l)
+twice_mapped f g (y ∷ l) = ap suc (twice_mapped f g l)
 
 once_mapped : {A B : Type 0} (g : A → B) (l : List A) → length (map g l) ≡ length l
 once_mapped g [] = refl
-once_mapped g (y ∷ l) = ap (λ (n : ℕ). n + 1) (once_mapped g l)
+once_mapped g (y ∷ l) = ap suc (once_mapped g l)
 
 -- and its normal form stands where it stands
 pub normals_by : {A B : Type 0} (f : B → List ℕ) (g : A → B) (old new : List A) (x : A) (place : ℕ) (before after : List (List ℕ))

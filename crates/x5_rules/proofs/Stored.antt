@@ -1,6 +1,7 @@
 -- Attributes and entries that are kept with their last part in order.
 use Rattle.std.proofs.Common.{◌≡◌, ◌==◌, ◌&&◌, ◌++◌, ℕ, Bool, true, false, List, [], ◌∷◌, map, refl, ap, sym, ◌∙◌}
-use Rattle.std.proofs.Common.{Vec, Global, map-append}
+use Rattle.std.proofs.Common.{◌≤◌, ◌<◌, length, get_or, arith, Vec, Global}
+use Rattle.std.proofs.lemmas.List.{map-append}
 use Rattle.std.specs.List.{list_all}
 use Rattle.std.specs.Option.{option_map}
 use Rattle.std.specs.declared.option.Option.{Option}
@@ -10,7 +11,7 @@ use Rattle.x5_model_typed.specs.Leaves.{where_so}
 use Rattle.x5_model_typed.specs.Nodes as nodes
 use Rattle.x5_model_typed.specs.Rules as rules
 use Rattle.x5_types.specs.declared.node.Node.{Node, Many}
-use Rattle.x5_types.specs.NodeView.{node_view}
+use Rattle.x5_types.specs.NodeView.{node_view, IsNotTwo, none, one, three}
 use Rattle.x5_types.proofs.Nodes.{parts_are, many_is, many_of_items}
 use Rattle.x5_rules.specs.Stored.{stored_type_in, from_entry_in}
 use Rattle.x5_rules.proofs.Once.{each_once}
@@ -56,6 +57,20 @@ stored_option v front b k o e kind h =
     let parts = parts_of v front b e in
     mapped (with_last front) (values_test k (nodes.parts (node_view b))) o (sorted (rules.value_below k) (nodes.parts (node_view b))) h
     ∙ stored_is (node_view (Many v)) front b k parts (sym (ap stored_type_in parts) ∙ kind)
+
+-- a type and values are two parts
+pub typed : (l : List Node) (a : Node) → 2 ≤ length l → length l < 3 → a ≡ get_or l 0 a
+    → rules.known_type (node_view a) ≡ stored_type_in (map node_view l)
+typed [] a more few e = absurd (omega arith)
+typed (x ∷ []) a more few e = absurd (omega arith)
+typed (x ∷ y ∷ []) a more few e = ap (λ (n : Node). rules.known_type (node_view n)) e
+typed (x ∷ y ∷ z ∷ l) a more few e = absurd (omega arith)
+
+pub not_typed : (l : List Node) → (length l ≡ 2 → ⊥) → None ≡ stored_type_in (map node_view l)
+not_typed [] h = refl
+not_typed (x ∷ []) h = refl
+not_typed (x ∷ y ∷ []) h = absurd (h refl)
+not_typed (x ∷ y ∷ z ∷ l) h = refl
 
 not_stored : (n : nodes.Node) (l : List nodes.Node) → nodes.parts n ≡ l → stored_type_in l ≡ None
     → None ≡ where_so (rules.is_stored n) (rules.in_order n)
@@ -108,11 +123,25 @@ no_entry n h = not_entry n (nodes.parts n) refl h
 
 -- ---- an attribute in order is of the type that it was of
 
+unordered : (a : nodes.Node) (l : List nodes.Node) → nodes.parts a ≡ l → IsNotTwo l → rules.in_order a ≡ a
+unordered a [] e none = rw e refl
+unordered a (x ∷ []) e one = rw e refl
+unordered a (x ∷ y ∷ z ∷ l) e three = rw e refl
+unordered a (x ∷ (y ∷ [])) e p = elim p [ ]
+
+type_is : (a x y : nodes.Node) → nodes.parts a ≡ x ∷ y ∷ [] → rules.attribute_type a ≡ rules.type_number x
+type_is a x y e = rw e refl
+
+ordered_is : (a x y : nodes.Node) → nodes.parts a ≡ x ∷ y ∷ []
+    → rules.in_order a
+    ≡ nodes.Many (nodes.row (x ∷ nodes.Many (nodes.row (sorted (rules.value_below (rules.type_number x)) (nodes.parts y))) ∷ []))
+ordered_is a x y e = rw e refl
+
 type_stays : (a : nodes.Node) (l : List nodes.Node) → nodes.parts a ≡ l → rules.attribute_type (rules.in_order a) ≡ rules.attribute_type a
-type_stays a [] e = rw e refl
-type_stays a (x ∷ []) e = rw e refl
-type_stays a (x ∷ y ∷ []) e = rw e refl
-type_stays a (x ∷ y ∷ z ∷ l) e = rw e refl
+type_stays a [] e = ap (λ (n : nodes.Node). rules.attribute_type n) (unordered a [] e none)
+type_stays a (x ∷ []) e = ap (λ (n : nodes.Node). rules.attribute_type n) (unordered a (x ∷ []) e one)
+type_stays a (x ∷ y ∷ []) e = ap (λ (n : nodes.Node). rules.attribute_type n) (ordered_is a x y e) ∙ sym (type_is a x y e)
+type_stays a (x ∷ y ∷ z ∷ l) e = ap (λ (n : nodes.Node). rules.attribute_type n) (unordered a (x ∷ y ∷ z ∷ l) e three)
 
 pub same_stays : (a b : nodes.Node) → rules.same_attribute (rules.in_order a) b ≡ rules.same_attribute a b
 same_stays a b = ap (λ (k : ℕ). k == rules.attribute_type b) (type_stays a (nodes.parts a) refl)

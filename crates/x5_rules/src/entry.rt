@@ -110,10 +110,10 @@ fn members_of<'a>(alloc: Global, node: Node<'a>) -> Vec<Node<'a>>
 fn stored_type(parts: &[Node<'_>]) -> Option<TypeId>
     ensures { result ≡ stored_type_in (map node_view parts.now) }
 {
-    match parts {
-        [kind, _] => known_type(kind),
-        _ => None,
+    if parts.len() != 2 {
+        return None;
     }
+    known_type(&parts[0])
 }
 
 /// The attribute with its values in order, where it is of a type that agents know and its values are of the type's kind, each once.

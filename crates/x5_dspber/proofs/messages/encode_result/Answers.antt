@@ -1,14 +1,15 @@
 -- The octets that are written are those of the answer, and they spell it.
-use Rattle.std.proofs.Common.{◌≡◌, ℕ, ◌<◌, ◌^◌, List, length, refl, sym, subst, arith}
+use Rattle.std.proofs.Common.{◌≡◌, ℕ, ◌<◌, ◌^◌, List, length, sym, subst, arith}
 use Rattle.std.specs.declared.option.Option.TheVariants.{Some}
 use Rattle.x5_model_messages.specs.Replies.{reply_node, to_agent}
 use Rattle.x5_model_typed.specs.Named as named
 use Rattle.x5_model_typed.specs.Nodes as nodes
 use Rattle.x5_model_typed.specs.Typed.{Spells}
 use Rattle.x5_model_typed.specs.Written.{canonical_octets}
+use Rattle.x5_model_typed_laws.proofs.Back.{written_is_spelled}
 use Rattle.x5_ops.specs.JournalViews.{code_view}
 use Rattle.x5_types.specs.FormView.{nowhere, table}
-use Rattle.x5_dapber.proofs.Clockless.{written_spells}
+use Rattle.x5_dapber.proofs.Clock.{a_table}
 use Rattle.x5_dapber.proofs.Rooms.{has_spelling}
 use Rattle.x5_dapber.proofs.Tags.{good_tags}
 use Rattle.x5_dapreply.specs.ReplyViews.{told_reply}
@@ -26,6 +27,6 @@ returns-clause-spelled c = λ fit.
     (subst (λ (x : nodes.Node). canonical_octets table named.DspAnswer x ≡ Some items) c.in_ok-node.ensures
     c.in_ok-write.ensures) in
     let room = reply_room to_agent c.args.id (told_reply (code_view c.args.operation) c.args.reply.now) in
-    let spells = written_spells nowhere named.DspAnswer n items refl fit
+    let spells = written_is_spelled table named.DspAnswer n items a_table fit
     (has_spelling table (good_tags nowhere) named.DspAnswer n items room written short) written in
     subst (λ (os : List ℕ). Spells table named.DspAnswer os n) (sym c.new.ensures) spells

@@ -1,5 +1,5 @@
 -- The value goes where its normal form does, if it's of the kind and not there yet.
-use Rattle.std.proofs.Common.{◌≡◌, ◌&&◌, ◌≤◌, ℕ, Bool, true, false, not, List, length, map, ap, ap₂, sym, ◌∙◌, arith}
+use Rattle.std.proofs.Common.{◌≡◌, ◌&&◌, ◌≤◌, ℕ, Bool, true, false, not, List, length, map, insert, ap, ap₂, sym, ◌∙◌, arith}
 use Rattle.std.specs.List.{position_or_len}
 use Rattle.x5_model.specs.Words.{has, same_octets, octets_below}
 use Rattle.x5_model_typed.specs.Nodes as nodes
