@@ -1,5 +1,5 @@
 -- Messages of shadowing within the limits fit, component by component.
-use Rattle.std.proofs.Common.{◌≡◌, ℕ, ◌≤◌, ◌<◌, ◌^◌, Bool, true, false, not, ◌&&◌, if◌then◌else◌, List, [], ◌∷◌, map, refl, sym, ap, subst, ◌∙◌, inl, inr, arith}
+use Rattle.std.proofs.Common.{◌≡◌, ℕ, ◌≤◌, ◌<◌, ◌^◌, Bool, true, false, not, if◌then◌else◌, List, [], ◌∷◌, map, refl, sym, ap, subst, ◌∙◌, inl, inr, arith}
 use Rattle.std.specs.Prelude.{pos}
 use Rattle.std.specs.List.{list_all}
 use Rattle.std.specs.declared.option.Option.{Option}
@@ -23,12 +23,12 @@ use Rattle.x5_model_typed.proofs.Laws.{list_row}
 use Rattle.x5_model_typed_laws.specs.Fits as fits
 use Rattle.x5_model_typed_laws.specs.Fits.{Fits, FitsSequence}
 use Rattle.x5_model_typed_laws.proofs.Leaves.{let_through}
-use Rattle.x5_model_messages.specs.Replies.{error_node, number_or_vacant, result_node}
+use Rattle.x5_model_messages.specs.Replies.{number_or_vacant}
 use Rattle.x5_model_messages.specs.Shadows as shadows
 use Rattle.x5_model_messages.specs.Shadows.{Known, NonSpecific, Step, Add, Remove, Modify, Rename, Refresh, Nothing, Total, Steps}
 use Rattle.x5_model_messages.specs.Shadows.{Shadow, Request, Coordinate, Update, Done, Failed, shadow_node}
 use Rattle.x5_model_messages.specs.Terms.{node_of}
-use Rattle.x5_model_fitting.specs.Names.{Each, NameWithin}
+use Rattle.x5_model_fitting.specs.Names.{Each}
 use Rattle.x5_model_fitting.specs.Requests.{CountWithin, IfThere}
 use Rattle.x5_model_fitting.proofs.Leaves.{code_fits, count_fits, enumeration_fits, flag_fits, number_fits}
 use Rattle.x5_model_fitting.proofs.Making.{each_fits, leaf_fits, sequence_or}

@@ -22,7 +22,7 @@ use Rattle.x5_model_messages.specs.Shadows.{entry_node, stored_node}
 use Rattle.x5_model_messages.specs.Terms.{name_node, node_of, type_node, value_node}
 use Rattle.x5_model_messages.proofs.Requests.{value_back}
 use Rattle.x5_model_typed.specs.Leaves.{where_so}
-use Rattle.x5_model_typed.specs.Nodes.{Node, Nodes, Flag, Many, row, list}
+use Rattle.x5_model_typed.specs.Nodes.{Node, Flag, row, list}
 use Rattle.x5_model_typed.specs.Rules.{attribute_below, attribute_type, entry_rule, in_order, is_of_type, is_stored, is_true}
 use Rattle.x5_model_typed.specs.Rules.{normal_in, same_attribute, same_value, type_number, value_below, value_in}
 use Rattle.x5_model_typed.proofs.Laws.{list_row}

@@ -1,22 +1,20 @@
 -- An entry that can be sent is within the limits, attribute by attribute and value by value.
-use Rattle.std.proofs.Common.{◌≡◌, ℕ, Bool, true, false, ◌&&◌, if◌then◌else◌, List, refl, sym, ap, ◌∙◌}
+use Rattle.std.proofs.Common.{◌≡◌, ℕ, Bool, true, false, if◌then◌else◌, List, refl, sym, ap}
 use Rattle.std.specs.Cmp.Lexicographic.{bytes_decides}
 use Rattle.std.specs.List.{list_all}
 use Rattle.std.specs.declared.option.Option.{Option}
 use Rattle.std.specs.declared.option.Option.TheVariants.{None, Some}
-use Rattle.std.specs.declared.result.Result.{Result}
-use Rattle.std.specs.declared.result.Result.TheVariants.{Ok, Err}
-use Rattle.x5_model.specs.Entries.{Stored, Named}
-use Rattle.x5_model.specs.Normal.{ValueFault, WrongSyntax, is_of_kind, normal_form, normal_of, value_over, within}
+use Rattle.std.specs.declared.result.Result.TheVariants.{Err}
+use Rattle.x5_model.specs.Entries.{Stored}
+use Rattle.x5_model.specs.Normal.{WrongSyntax, is_of_kind, normal_form, value_over, within}
 use Rattle.x5_model.specs.Types.{is_known, kind_of}
 use Rattle.x5_model.specs.Values.{StoredValue}
 use Rattle.x5_model.proofs.Lists.{both_true, of_all}
 use Rattle.x5_model_tree.specs.Described.{is_normal, is_stored_attribute, is_stored_value}
 use Rattle.x5_model_limits.specs.Holding.{BoundedStored}
-use Rattle.x5_model_messages.specs.Shadows.{stored_value}
-use Rattle.x5_model_refreshed.specs.Steps.{Step, Add, Remove, Modify, Rename}
+use Rattle.x5_model_refreshed.specs.Steps.{Add, Remove, Modify, Rename}
 use Rattle.x5_model_fitting.specs.Terms.{ValueWithin}
-use Rattle.x5_model_shadowed.specs.Sending.{SendableEntry, EntryIsWithin, StepIsWithin}
+use Rattle.x5_model_shadowed.specs.Sending.{EntryIsWithin, StepIsWithin}
 use Rattle.x5_model_shadowed.specs.Within.{StoredValueWithin, StoredWithin}
 
 -- what has a normal form is of the kind, and has that one

@@ -7,7 +7,7 @@ use Rattle.x5_model.specs.Entries.{Named}
 use Rattle.x5_model_tree.specs.Described.{is_stored_attribute}
 use Rattle.x5_model_limits.specs.Holding.{BoundedEntry}
 use Rattle.x5_model_refreshed.specs.Steps as refreshed
-use Rattle.x5_model_fitting.specs.Names.{Each, NameWithin}
+use Rattle.x5_model_fitting.specs.Names.{NameWithin}
 use Rattle.x5_model_messages.specs.Shadows as shadows
 use Rattle.x5_model_shadowed.specs.Within.{EntryWithin, StepWithin}
 
