@@ -1,4 +1,4 @@
-mod Clock
+pub mod Clock
 mod Found
 mod InOrder
 mod Parts

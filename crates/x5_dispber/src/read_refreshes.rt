@@ -1,5 +1,5 @@
 //! Refreshes (X.525, sections 10 and 11) that values of types of messages say, with agents by their places among the world's.
-ghost use Rattle.std.specs.Prelude.{◌≡◌, ℕ, List, IfOk, All, map};
+ghost use Rattle.std.specs.Prelude.{◌≡◌, ◌∷◌, ℕ, true, List, IfOk, All, map};
 ghost use Rattle.x5_dispber.specs.Sayable.{HaveMaster, IsAgent, IsKnown, IsNonSpecific, IsRefresh, IsRenamed, IsStep, IsTotal};
 ghost use Rattle.x5_dispber.specs.ShadowViews.{agent_name, told_known, told_other, told_refresh, told_step};
 ghost use Rattle.x5_know.specs.Names.{has_name};
@@ -64,20 +64,37 @@ fn agents_in(alloc: Global, names: &AgentNames, nodes: &[Node<'_>]) -> Result<Ag
     Ok(agents)
 }
 
-/// The master, and then the agents that have copies.
-fn access_in(alloc: Global, names: &AgentNames, nodes: &[Node<'_>]) -> Result<Access, NoMemory>
-    requires { HaveMaster (has_name names.now) (map node_view nodes.now) }
+/// The agent that the first node says is the master, and those of the others have copies.
+fn access_of(
+    alloc: Global,
+    names: &AgentNames,
+    master: &Node<'_>,
+    others: &[Node<'_>],
+) -> Result<Access, NoMemory>
+    requires { HaveMaster (has_name names.now) (node_view master.now ∷ map node_view others.now) }
     ensures { IfOk result (λ a. (name : nodes.Node)
         → record { pin = terms.name_of name; master = agent_name names.now a.master; shadows = map (agent_name names.now) a.shadows }
-        ≡ shadows.known_of name (map node_view nodes.now)) }
+        ≡ shadows.known_of name (node_view master.now ∷ map node_view others.now)) }
 {
-    let [master, shadows @ ..] = nodes else {
-        unreachable!()
-    };
+    let first = agent_in(names, master);
+    let copies = agents_in(alloc, names, others)?;
     Ok(Access {
-        master: agent_in(names, master),
-        shadows: agents_in(alloc, names, shadows)?,
+        master: first,
+        shadows: copies,
     })
+}
+
+/// The master, and then the agents that have copies.
+fn access_in(alloc: Global, names: &AgentNames, agents: &[Node<'_>]) -> Result<Access, NoMemory>
+    requires { HaveMaster (has_name names.now) (map node_view agents.now) }
+    ensures { IfOk result (λ a. (name : nodes.Node)
+        → record { pin = terms.name_of name; master = agent_name names.now a.master; shadows = map (agent_name names.now) a.shadows }
+        ≡ shadows.known_of name (map node_view agents.now)) }
+{
+    match agents {
+        [master, others @ ..] => access_of(alloc, names, master, others),
+        [] => unreachable!(),
+    }
 }
 
 /// The subordinate reference that the node says. It belongs to no context yet.
