@@ -18,7 +18,7 @@ pub invariant_of-self-2 : goal.invariant_of-self-2
 invariant_of-self-2 g c =
     let n : Net = g.B.Begun.net in
     let within : length c.args.self.now.lines.items < c.args.self.now.most =
-    (omega (arith, c.len.ensures, c.if-len.false)) in
+    (omega (arith, c.len.ensures, c.if-len-self.false)) in
     let short : length c.args.message.now.trace ≤ 4294967295 = short_trace n.names c.args.message.now c.requires.sent in
     let sent : Sent =
     record {
@@ -42,7 +42,7 @@ pub returns-clause-carried : goal.returns-clause-carried
 returns-clause-carried g c =
     let n : Net = g.B.Begun.net in
     let within : length c.args.self.now.lines.items < c.args.self.now.most =
-    (omega (arith, c.len.ensures, c.if-len.false)) in
+    (omega (arith, c.len.ensures, c.if-len-self.false)) in
     let rest = c.args.self.now.under_way.changed.rest in
     let number : c.sent.result + c.len-2.result + 1 ≡ n.sent + length c.args.self.now.lines.items + 1 =
     (let so_far = ap (λ (x : Net). x.sent) rest in omega (arith, c.sent.ensures, c.len-2.ensures, so_far)) in
