@@ -134,24 +134,24 @@ module _ {N : Type 0} (scene : N → Scene) (most : N → ℕ) (names : N → Li
   -- ---- what is replied, and heard back
   module _ (now then : N) (me : ℕ) (m : Chained) (y : Reply) (s : Stays scene most names now then)
       (d : DoesAt scene most journal now then (Serves (hand me (chained_view (names now) m)) (reply_view (names now) y)))
-      where
-    pub back_replied : (operation : ℕ) → KeepsLimits (length (names now)) (scene now) (journal now)
-        → me < length (names now) → MayBeSent (names now) m → operation ≡ operation_of (body_view m.request.body)
-        → MayBeReplied (names then) operation y
-    back_replied operation limits inside sent same =
-        subst (λ (ns : List (List ℕ)). MayBeReplied ns operation y) (sym s.names_are)
-        (may_be_replied (names now) (scene now) (most now) (journal now) (journal then) me m y operation limits inside
-        sent same d)
+    where
+      pub back_replied : (operation : ℕ) → KeepsLimits (length (names now)) (scene now) (journal now)
+          → me < length (names now) → MayBeSent (names now) m → operation ≡ operation_of (body_view m.request.body)
+          → MayBeReplied (names then) operation y
+      back_replied operation limits inside sent same =
+          subst (λ (ns : List (List ℕ)). MayBeReplied ns operation y) (sym s.names_are)
+          (may_be_replied (names now) (scene now) (most now) (journal now) (journal then) me m y operation limits inside
+          sent same d)
 
-    pub back_passable : (back : Reply) → reply_view (names then) back ≡ reply_view (names then) y
-        → is_final (reply_view (names then) back) ≡ false → MayBePassedOn (hand me (chained_view (names then) m))
-    back_passable back b e =
-        let f : is_final (reply_view (names then) y) ≡ false = ap is_final (sym b) ∙ e in
-        let g : is_final (reply_view (names now) y) ≡ false =
-        subst (λ (ns : List (List ℕ)). is_final (reply_view ns y) ≡ false) s.names_are f in
-        passable_stays now then me m s
-        (served_passable (scene now) (most now) (hand me (chained_view (names now) m)) (reply_view (names now) y)
-        (journal now) (journal then) d g)
+      pub back_passable : (back : Reply) → reply_view (names then) back ≡ reply_view (names then) y
+          → is_final (reply_view (names then) back) ≡ false → MayBePassedOn (hand me (chained_view (names then) m))
+      back_passable back b e =
+          let f : is_final (reply_view (names then) y) ≡ false = ap is_final (sym b) ∙ e in
+          let g : is_final (reply_view (names now) y) ≡ false =
+          subst (λ (ns : List (List ℕ)). is_final (reply_view ns y) ≡ false) s.names_are f in
+          passable_stays now then me m s
+          (served_passable (scene now) (most now) (hand me (chained_view (names now) m)) (reply_view (names now) y)
+          (journal now) (journal then) d g)
 
   pub back_bounded : (then : N) (operation : ℕ) (y back : Reply) → MayBeReplied (names then) operation y
       → reply_view (names then) back ≡ reply_view (names then) y → BoundedReply (reply_view (names then) back)

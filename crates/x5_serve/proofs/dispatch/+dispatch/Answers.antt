@@ -82,9 +82,10 @@ ask-follow-requires g t c κs within =
     (operation_of (body_view c.in-Taken.taken.request.body)) (g.met.N.Network.bounded c.carry.new.self) to taken refl in
     let bounded = back_bounded n.scene n.most n.names n.journal c.serve-in-Taken.new.net
     (operation_of (body_view c.in-Taken.taken.request.body)) c.in_ok-reply-in-Taken.reply c.in_ok-back-in-Taken.back
-    replied c.in_ok-back-in-Taken.ensures in
-    (omega (arith, less, c.in_ok-reply-in-Taken.ensures.left),
-    (within, (sender, (receiver, (user, (told, (sent, (passable, bounded))))))))
+    replied c.in_ok-back-in-Taken.ensures in (
+      omega (arith, less, c.in_ok-reply-in-Taken.ensures.left),
+      (within, (sender, (receiver, (user, (told, (sent, (passable, bounded))))))),
+    )
 
 pub ask-returns-in_ok-follow-in-Taken-clause-does : goal.ask-returns-in_ok-follow-in-Taken-clause-does
 ask-returns-in_ok-follow-in-Taken-clause-does g t c =
@@ -612,9 +613,10 @@ follow-go-requires g t c κs within =
     let passable = referral_passable n.scene n.most n.names n.journal c.args.net.now c.args.owner c.args.message.now
     c.args.reply c.requires.passable c.requires.bounded c.in-Refer.reference c.in-Refer.is in
     let bounded = referral_bounded n.scene n.most n.names n.journal c.args.net.now c.args.owner c.args.message.now
-    c.args.reply c.requires.passable c.requires.bounded c.in-Refer.reference c.in-Refer.is in
-    (omega arith,
-    (within, (c.requires.from, (c.requires.owner, (c.requires.of_user, (agents, (c.requires.sent, (passable, bounded))))))))
+    c.args.reply c.requires.passable c.requires.bounded c.in-Refer.reference c.in-Refer.is in (
+      omega arith,
+      (within, (c.requires.from, (c.requires.owner, (c.requires.of_user, (agents, (c.requires.sent, (passable, bounded))))))),
+    )
 
 pub follow-gather-requires : goal.follow-gather-requires
 follow-gather-requires g t c κs within =
