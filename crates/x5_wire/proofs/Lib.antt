@@ -1,4 +1,5 @@
 mod Written
+mod Shadowed
 mod Told
 pub mod Seen
 pub mod Names

@@ -7,8 +7,10 @@ mod fault;
 mod messages;
 mod replies;
 mod requests;
+mod shadows;
 
 pub use crate::messages::carried_message;
 pub use crate::replies::carried_reply;
 pub use crate::requests::carried_request;
+pub use crate::shadows::carried_shadow;
 pub use x5_memory::NoMemory;
