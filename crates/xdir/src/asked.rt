@@ -1,6 +1,7 @@
 // Files that keep the name that was asked for last.
-ghost use Rattle.std.specs.Prelude.{◌≡◌, None, string_bytes};
+ghost use Rattle.std.specs.Prelude.{◌≡◌, ◌≤◌, ◌⊎◌, length, None, Some, IfOk, IsErrOf, string_bytes};
 ghost use Rattle.std.specs.Option.{option_map, option_copied};
+ghost use Rattle.x5_port.specs.Outside.{IsContent, IsLonger, Rose, failed_after};
 
 use std::alloc::Global;
 use x5_port::{FileFault, Files};
@@ -51,7 +52,18 @@ impl<F: Files + Drop> Files for AskedFiles<F> {
         alloc: Global,
         name: &str,
         limit: usize,
-    ) -> Result<Vec<u8>, FileFault> {
+    ) -> Result<Vec<u8>, FileFault>
+        ensures content { IfOk result (λ octets. IsContent (F.contents self.old.files) name.now octets.items) }
+        ensures fits { IfOk result (λ octets. length octets.items ≤ limit) }
+        ensures too_long { IsErrOf result FileFault.TooLong → IsLonger (F.contents self.old.files) name.now limit }
+        ensures failed { IsErrOf result FileFault.Failed → Rose (F.fault_count self.old.files) (F.fault_count self.new.files) }
+        ensures failed_name { F.last_failed self.new.files ≡ failed_after result name.now (F.last_failed self.old.files) }
+        ensures rising { F.fault_count self.old.files ≤ F.fault_count self.new.files }
+        ensures same_contents { F.contents self.new.files ≡ F.contents self.old.files }
+
+        // The name is kept, or memory ran out before anything was done.
+        ensures asked { (option_map string_bytes self.new.asked ≡ Some name.now) ⊎ IsErrOf result FileFault.NoMemory × (self.new ≡ self.old) }
+    {
         self.asked = Some(String::from_str(alloc, name)?);
         self.files.read_whole(alloc, name, limit)
     }
