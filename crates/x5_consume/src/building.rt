@@ -1,6 +1,6 @@
 //! A copy, made of the content of a total refresh.
 
-ghost use Rattle.std.specs.Prelude.{◌≡◌, ◌++◌, ◌∷◌, [], true, IfOk, Some, option_map};
+ghost use Rattle.std.specs.Prelude.{◌≡◌, ◌++◌, ◌∷◌, [], true, IfOk, MatchOption, Some, option_map};
 ghost use Rattle.x5_model.specs.Keys.{Key};
 ghost use Rattle.x5_model.specs.Values.{key_of};
 ghost use Rattle.x5_model.specs.Words.{ascending, first_of};
@@ -14,19 +14,18 @@ use std::alloc::Global;
 use x5_holdings::{ChangeLog, Held};
 use x5_index::Room;
 use x5_memory::NoMemory;
-use x5_ops::{Content, Moment, Named};
+use x5_ops::{Content, Moment, Named, NamedList};
 
 /// The context with this entry more, behind all others.
-fn with_entry(alloc: Global, held: Held, named: &Named) -> Result<Held, NoMemory>
-    requires order { ascending named_below (entries_of held.nodes.nodes ++ named.now ∷ []) ≡ true }
-    requires can { CanAdd (entries_of held.nodes.nodes) named.now }
-    ensures { IfOk result (λ after. IsExtended held (named.now ∷ []) after) }
+fn with_entry(alloc: Global, held: Held, named: Named) -> Result<Held, NoMemory>
+    requires order { ascending named_below (entries_of held.nodes.nodes ++ named ∷ []) ≡ true }
+    requires can { CanAdd (entries_of held.nodes.nodes) named }
+    ensures { IfOk result (λ after. IsExtended held (named ∷ []) after) }
 {
     let mut held = held;
     let room = Room::new(alloc, &named.entry)?;
     held.reserve(1, room.len())?;
-    let name = named.name.clone()?;
-    let entry = named.entry.clone()?;
+    let Named { name, entry } = named;
     let Ok(_node) = held.insert(name, entry, room) else {
         unreachable!()
     };
@@ -34,15 +33,28 @@ fn with_entry(alloc: Global, held: Held, named: &Named) -> Result<Held, NoMemory
 }
 
 /// The context with these entries more. They are in the order of their keys, each behind the one above it.
-fn with_entries(alloc: Global, held: Held, entries: &[Named]) -> Result<Held, NoMemory>
-    requires { (pin : Key) × AreWhole pin (entries_of held.nodes.nodes ++ entries.now) × (option_map key_at (first_of (entries_of held.nodes.nodes)) ≡ Some pin) }
-    ensures { IfOk result (λ after. IsExtended held entries.now after) }
+fn with_entries(alloc: Global, held: Held, entries: Vec<Named>) -> Result<Held, NoMemory>
+    requires { (pin : Key) × AreWhole pin (entries_of held.nodes.nodes ++ entries.items) × (option_map key_at (first_of (entries_of held.nodes.nodes)) ≡ Some pin) }
+    ensures { IfOk result (λ after. IsExtended held entries.items after) }
 {
     let mut held = held;
     for named in entries {
         held = with_entry(alloc, held, named)?;
     }
     Ok(held)
+}
+
+/// The first of these entries, and the others; None where there is none. No memory.
+#[tactic(auto, using(crate::proofs::Whole::first_and_others))]
+fn parted(entries: NamedList) -> Option<(Named, Vec<Named>)>
+    ensures { MatchOption result (entries ≡ []) (λ p. entries ≡ p.0 ∷ p.1.items) }
+{
+    let mut others = entries.into_vec();
+    if others.is_empty() {
+        return None;
+    }
+    let first = others.remove(0);
+    Some((first, others))
 }
 
 /// What the content is as a context that is held, with no changes since the stamp.
@@ -56,12 +68,11 @@ pub(crate) fn held_of(alloc: Global, content: Content, stamp: Moment) -> Result<
         specific,
         nssr,
     } = content;
-    let Some((first, rest)) = entries.as_slice().split_first() else {
+    let Some((first, rest)) = parted(entries) else {
         unreachable!()
     };
     let log = ChangeLog::new(alloc, stamp);
-    let prefix = first.name.clone()?;
-    let entry = first.entry.clone()?;
-    let held = Held::new(alloc, prefix, entry, log, specific, nssr)?;
+    let Named { name, entry } = first;
+    let held = Held::new(alloc, name, entry, log, specific, nssr)?;
     with_entries(alloc, held, rest)
 }
