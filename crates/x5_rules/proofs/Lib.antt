@@ -5,3 +5,6 @@ mod Pairs
 mod TwoParts
 mod Traces
 mod Targets
+mod Once
+mod Stored
+mod Keyed

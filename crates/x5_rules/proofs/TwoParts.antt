@@ -31,3 +31,30 @@ pair_wrong n x = no_right_pair n (nodes.parts n) refl x
 
 pub progress_wrong : (n : nodes.Node) → IsNotTwo (nodes.parts n) → rules.progress_rule n ≡ None
 progress_wrong n x = no_progress n (nodes.parts n) refl x
+
+not_copy : (n : nodes.Node) (l : List nodes.Node) → nodes.parts n ≡ l → IsNotTwo l → rules.is_copy n ≡ false
+not_copy n [] e none = rw e refl
+not_copy n (a ∷ []) e one = rw e refl
+not_copy n (a ∷ b ∷ c ∷ l) e three = rw e refl
+not_copy n (a ∷ (b ∷ [])) e x = elim x [ ]
+
+pub no_copy : (n : nodes.Node) → IsNotTwo (nodes.parts n) → rules.is_copy n ≡ false
+no_copy n x = not_copy n (nodes.parts n) refl x
+
+without_agents : (n : nodes.Node) (l : List nodes.Node) → nodes.parts n ≡ l → IsNotTwo l → rules.agents_of n ≡ []
+without_agents n [] e none = rw e refl
+without_agents n (a ∷ []) e one = rw e refl
+without_agents n (a ∷ b ∷ c ∷ l) e three = rw e refl
+without_agents n (a ∷ (b ∷ [])) e x = elim x [ ]
+
+pub no_agents : (n : nodes.Node) → IsNotTwo (nodes.parts n) → rules.agents_of n ≡ []
+no_agents n x = without_agents n (nodes.parts n) refl x
+
+without_type : (n : nodes.Node) (l : List nodes.Node) → nodes.parts n ≡ l → IsNotTwo l → rules.attribute_type n ≡ 0
+without_type n [] e none = rw e refl
+without_type n (a ∷ []) e one = rw e refl
+without_type n (a ∷ b ∷ c ∷ l) e three = rw e refl
+without_type n (a ∷ (b ∷ [])) e x = elim x [ ]
+
+pub no_type : (n : nodes.Node) → IsNotTwo (nodes.parts n) → rules.attribute_type n ≡ 0
+no_type n x = without_type n (nodes.parts n) refl x

@@ -11,8 +11,8 @@ use x5_names::Name;
 use x5_syntax::{NameValue, RdnValue, Text, TypeId};
 use x5_types::Node;
 
-/// The type that the node says, or the first one of the table.
-fn type_in(node: &Node<'_>) -> TypeId
+/// The type that the node says, or the first one of the table. No memory.
+pub fn type_in(node: &Node<'_>) -> TypeId
     ensures { result ≡ rules.type_number (node_view node.now) }
 {
     match known_type(node) {

@@ -73,7 +73,7 @@ fn is_part_of_kind(kind: Kind, text: &[u8]) -> bool
 }
 
 /// Whether the text is a value of the kind.
-fn is_text_of_kind(kind: Kind, text: &[u8]) -> bool
+pub(crate) fn is_text_of_kind(kind: Kind, text: &[u8]) -> bool
     ensures { result ≡ normal.is_text_of_kind (kind_view kind) text.now }
 {
     is_part_of_kind(kind, text) && is_enough(kind, text)
@@ -116,7 +116,7 @@ fn number_in(node: &Node<'_>) -> u8
 }
 
 /// The number of the type that the node says.
-fn type_number(node: &Node<'_>) -> u8
+pub(crate) fn type_number(node: &Node<'_>) -> u8
     ensures { result ≡ rules.type_number (node_view node.now) }
 {
     match known_type(node) {

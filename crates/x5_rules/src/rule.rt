@@ -7,6 +7,8 @@ ghost use Rattle.x5_model_typed.specs.Rules as rules;
 ghost use Rattle.x5_types.specs.FormView.{rule_view};
 ghost use Rattle.x5_types.specs.NodeView.{node_view, option_view};
 
+use crate::entry::entry;
+use crate::known::{has_masters, is_known};
 use crate::pair::{is_pair, rdn};
 use crate::trace::is_trace;
 use std::alloc::Global;
@@ -36,6 +38,9 @@ pub fn settle<'a>(alloc: Global, rule: Rule, node: Node<'a>) -> Result<Option<No
         Rule::Parts => Ok(kept(are_parts(&node), node)),
         Rule::Progress => Ok(kept(is_progress(&node), node)),
         Rule::Trace => Ok(kept(is_trace(alloc, &node)?, node)),
+        Rule::Entry => entry(alloc, node),
+        Rule::Known => Ok(kept(is_known(&node), node)),
+        Rule::Masters => Ok(kept(has_masters(&node), node)),
     }
 }
 

@@ -13,6 +13,7 @@ use Rattle.x5_ber.specs.Reading.{Stands}
 use Rattle.x5_model_typed.specs.Trees.{Tree, Trees, Leaf, Lies}
 use Rattle.x5_model_typed.specs.Nodes as nodes
 use Rattle.x5_model_typed.specs.Forms as forms
+use Rattle.x5_model_typed.specs.Forms.{Layout}
 use Rattle.x5_model_typed.specs.Judged as judged
 use Rattle.x5_model_typed.specs.Judged.{judged_all, judged_member, State}
 use Rattle.x5_typed.specs.declared.fault.Breach.{Breach}
@@ -20,7 +21,6 @@ use Rattle.x5_typed.specs.declared.fault.ReadFault.{ReadFault}
 use Rattle.x5_typed.specs.declared.fault.ReadFault.TheVariants as faults
 use Rattle.x5_types.specs.declared.node.Node.{Node}
 use Rattle.x5_typed.specs.Breaches.{Gives, breach_view}
-use Rattle.x5_types.specs.FormView.{table}
 use Rattle.x5_types.specs.NodeView.{node_view, option_view}
 use Rattle.x5_typed.specs.Ahead.{Ahead}
 use Rattle.x5_typed.specs.Places.{EndsAt, behind, is_over_at}
@@ -41,7 +41,7 @@ GoesTo new next n s = (new ≡ s) × (n ≡ next)
 
 -- ---- a primitive element
 
-pub piece_wrong : (bytes : List ℕ) (depth at : ℕ) (head : Head) (types : List forms.Alternative) (t : Tree)
+pub piece_wrong : (table : Layout) (bytes : List ℕ) (depth at : ℕ) (head : Head) (types : List forms.Alternative) (t : Tree)
     (octets : List ℕ) (end : ℕ) (w : ReadFault) (r : Result (Node × ℕ) ReadFault)
     → Lies depth at t octets → Stands bytes at octets → head_at outermost bytes at ≡ Ok head
     → head.identifier.constructed ≡ false → Some end ≡ option_map (λ (n : ℕ). head.content + n) head.extent
@@ -50,8 +50,8 @@ pub piece_wrong : (bytes : List ℕ) (depth at : ℕ) (head : Head) (types : Lis
     (judged.judged table types (Leaf at head.identifier.class head.identifier.tag
     (take (end - head.content) (drop head.content bytes)))) (Err w)
     → Gives (ReadTo (at + length octets)) (judged.judged table types t) r
-piece_wrong bytes depth at head types t octets end w r l s e form ends is g =
-    let same = piece_same bytes at head t octets (leaf_is bytes depth at head t octets l s e form) types end
+piece_wrong table bytes depth at head types t octets end w r l s e form ends is g =
+    let same = piece_same table bytes at head t octets (leaf_is bytes depth at head t octets l s e form) types end
     (take (end - head.content) (drop head.content bytes)) ends refl in
     let known : Gives {X = Node} (λ m n. node_view m ≡ n) (judged.judged table types t) (Err w) =
     subst (λ (q : Result nodes.Node judged.Breach). Gives {X = Node} (λ m n. node_view m ≡ n) q (Err w)) (sym same.0)
@@ -61,7 +61,7 @@ piece_wrong bytes depth at head types t octets end w r l s e form ends is g =
     (gives_more (λ (m : Node) (n : nodes.Node). node_view m ≡ n) (ReadTo (at + length octets))
     (judged.judged table types t) w known)
 
-pub piece_read : (bytes : List ℕ) (depth at : ℕ) (head : Head) (types : List forms.Alternative) (t : Tree)
+pub piece_read : (table : Layout) (bytes : List ℕ) (depth at : ℕ) (head : Head) (types : List forms.Alternative) (t : Tree)
     (octets : List ℕ) (end : ℕ) (node : Node)
     → Lies depth at t octets → Stands bytes at octets → head_at outermost bytes at ≡ Ok head
     → head.identifier.constructed ≡ false → Some end ≡ option_map (λ (n : ℕ). head.content + n) head.extent
@@ -69,8 +69,8 @@ pub piece_read : (bytes : List ℕ) (depth at : ℕ) (head : Head) (types : List
     (judged.judged table types (Leaf at head.identifier.class head.identifier.tag
     (take (end - head.content) (drop head.content bytes)))) (Ok node)
     → Gives (ReadTo (at + length octets)) (judged.judged table types t) (Ok (node, end))
-piece_read bytes depth at head types t octets end node l s e form ends g =
-    let same = piece_same bytes at head t octets (leaf_is bytes depth at head t octets l s e form) types end
+piece_read table bytes depth at head types t octets end node l s e form ends g =
+    let same = piece_same table bytes at head t octets (leaf_is bytes depth at head t octets l s e form) types end
     (take (end - head.content) (drop head.content bytes)) ends refl in
     let known : Gives {X = Node} (λ m n. node_view m ≡ n) (judged.judged table types t) (Ok node) =
     subst (λ (q : Result nodes.Node judged.Breach). Gives {X = Node} (λ m n. node_view m ≡ n) q (Ok node))
@@ -80,55 +80,55 @@ piece_read bytes depth at head types t octets end node l s e form ends g =
 
 -- ---- one member
 
-pub not_awaited : (new s : State) (t : Tree) (at next : ℕ) (head : Head) (b : Breach) (r : Result ℕ ReadFault)
+pub not_awaited : (table : Layout) (new s : State) (t : Tree) (at next : ℕ) (head : Head) (b : Breach) (r : Result ℕ ReadFault)
     → HeadIs at head t
     → judged.awaits table s at head.identifier.class head.identifier.tag ≡ Err (breach_view b)
     → r ≡ Err (faults.Breach b) → Gives (GoesTo new next) (judged_member table s t) r
-not_awaited new s t at next head b r h e is =
+not_awaited table new s t at next head b r h e is =
     subst (λ (x : Result ℕ ReadFault). Gives (GoesTo new next) (judged_member table s t) x) (sym is)
-    (unawaited (GoesTo new next) s t at head (breach_view b) (faults.Breach b) h e refl)
+    (unawaited table (GoesTo new next) s t at head (breach_view b) (faults.Breach b) h e refl)
 
-pub member_is_wrong : (new s : State) (t : Tree) (at next : ℕ) (head : Head) (a : judged.Awaited) (w : ReadFault)
+pub member_is_wrong : (table : Layout) (new s : State) (t : Tree) (at next : ℕ) (head : Head) (a : judged.Awaited) (w : ReadFault)
     (r : Result ℕ ReadFault) → HeadIs at head t
     → judged.awaits table s at head.identifier.class head.identifier.tag ≡ Ok a
     → Gives (ReadTo next) (judged.judged table a.types t) (Err w) → r ≡ Err w
     → Gives (GoesTo new next) (judged_member table s t) r
-member_is_wrong new s t at next head a w r h e g is =
+member_is_wrong table new s t at next head a w r h e g is =
     subst (λ (x : Result ℕ ReadFault). Gives (GoesTo new next) (judged_member table s t) x) (sym is)
-    (member_wrong (ReadTo next) (GoesTo new next) s t at head a w h e g)
+    (member_wrong table (ReadTo next) (GoesTo new next) s t at head a w h e g)
 
 -- What a member that is read steps to.
-steps_to : (s : State) (t : Tree) (at next : ℕ) (head : Head) (a : judged.Awaited) (m : Node × ℕ) → HeadIs at head t
+steps_to : (table : Layout) (s : State) (t : Tree) (at next : ℕ) (head : Head) (a : judged.Awaited) (m : Node × ℕ) → HeadIs at head t
     → judged.awaits table s at head.identifier.class head.identifier.tag ≡ Ok a
     → Gives (ReadTo next) (judged.judged table a.types t) (Ok m)
     → (judged_member table s t ≡ judged.stepped s at a.step (node_view m.0)) × (m.1 ≡ next)
-steps_to s t at next head a m h e g =
+steps_to table s t at next head a m h e g =
     let found = gives_ok (ReadTo next) (judged.judged table a.types t) m g in (
-      member_steps s t at head a (node_view m.0) h e (found.1 ∙ ap (λ (n : nodes.Node). Ok n) (sym found.2.0)),
+      member_steps table s t at head a (node_view m.0) h e (found.1 ∙ ap (λ (n : nodes.Node). Ok n) (sym found.2.0)),
       found.2.1,
     )
 
-pub step_is_wrong : (new s : State) (t : Tree) (at next : ℕ) (head : Head) (a : judged.Awaited) (m : Node × ℕ)
+pub step_is_wrong : (table : Layout) (new s : State) (t : Tree) (at next : ℕ) (head : Head) (a : judged.Awaited) (m : Node × ℕ)
     (w : ReadFault) (r : Result ℕ ReadFault) → HeadIs at head t
     → judged.awaits table s at head.identifier.class head.identifier.tag ≡ Ok a
     → Gives (ReadTo next) (judged.judged table a.types t) (Ok m)
     → Gives {X = Unit {0}} (λ _ u. new ≡ u) (judged.stepped s at a.step (node_view m.0)) (Err w) → r ≡ Err w
     → Gives (GoesTo new next) (judged_member table s t) r
-step_is_wrong new s t at next head a m w r h e g k is =
-    let to = steps_to s t at next head a m h e g in
+step_is_wrong table new s t at next head a m w r h e g k is =
+    let to = steps_to table s t at next head a m h e g in
     let known : Gives {X = Unit {0}} (λ _ u. new ≡ u) (judged_member table s t) (Err w) =
     subst (λ (q : Result State judged.Breach). Gives {X = Unit {0}} (λ _ u. new ≡ u) q (Err w)) (sym to.0) k in
     subst (λ (x : Result ℕ ReadFault). Gives (GoesTo new next) (judged_member table s t) x) (sym is)
     (gives_more {X = Unit {0}} (λ _ u. new ≡ u) (GoesTo new next) (judged_member table s t) w known)
 
-pub member_done : (new s : State) (t : Tree) (at next : ℕ) (head : Head) (a : judged.Awaited) (m : Node × ℕ)
+pub member_done : (table : Layout) (new s : State) (t : Tree) (at next : ℕ) (head : Head) (a : judged.Awaited) (m : Node × ℕ)
     (u : Unit {0}) → HeadIs at head t
     → judged.awaits table s at head.identifier.class head.identifier.tag ≡ Ok a
     → Gives (ReadTo next) (judged.judged table a.types t) (Ok m)
     → Gives {X = Unit {0}} (λ _ u. new ≡ u) (judged.stepped s at a.step (node_view m.0)) (Ok u)
     → Gives (GoesTo new next) (judged_member table s t) (Ok m.1)
-member_done new s t at next head a m u h e g k =
-    let to = steps_to s t at next head a m h e g in
+member_done table new s t at next head a m u h e g k =
+    let to = steps_to table s t at next head a m h e g in
     let known : Gives {X = Unit {0}} (λ _ u. new ≡ u) (judged_member table s t) (Ok u) =
     subst (λ (q : Result State judged.Breach). Gives {X = Unit {0}} (λ _ u. new ≡ u) q (Ok u)) (sym to.0) k in
     gives_is {X = Unit {0}} (λ _ u. new ≡ u) (GoesTo new next) (judged_member table s t) u m.1 (λ y h'. (h', to.1))
@@ -136,29 +136,29 @@ member_done new s t at next head a m u h e g k =
 
 -- ---- a constructed element
 
-pub open_untagged : (types : List forms.Alternative) (bytes : List ℕ) (depth at : ℕ) (head : Head) (t : Tree)
+pub open_untagged : (table : Layout) (types : List forms.Alternative) (bytes : List ℕ) (depth at : ℕ) (head : Head) (t : Tree)
     (octets : List ℕ) (b : BranchIs bytes depth at head t octets) (c : Breach)
     → forms.by_tag head.identifier.class head.identifier.tag types ≡ None
     → breach_view c ≡ judged.Ber (octet_faults.BadTag at)
     → Gives (ReadTo (at + length octets)) (judged.judged table types t) (Err (faults.Breach c))
-open_untagged types bytes depth at head t octets b c none is =
+open_untagged table types bytes depth at head t octets b c none is =
     subst (λ (u : Tree). Gives (ReadTo (at + length octets)) (judged.judged table types u) (Err (faults.Breach c)))
     (sym b.tree) (rw none is)
 
 abbrev pub ContentTo : ℕ → (Option Node × ℕ) → State → Type 0
 ContentTo next m s = (option_view m.0 ≡ judged.ended s) × (m.1 ≡ next)
 
-pub open_wrong : (types : List forms.Alternative) (a : forms.Alternative) (bytes : List ℕ) (depth at : ℕ)
+pub open_wrong : (table : Layout) (types : List forms.Alternative) (a : forms.Alternative) (bytes : List ℕ) (depth at : ℕ)
     (head : Head) (t : Tree) (octets : List ℕ) (b : BranchIs bytes depth at head t octets) (next : ℕ)
     (w : ReadFault) (r : Result (Node × ℕ) ReadFault) → forms.by_tag head.identifier.class head.identifier.tag types
     ≡ Some a
     → Gives (ContentTo next) (judged_all table (judged.begun at a.content) b.members) (Err w) → r ≡ Err w
     → Gives (ReadTo (at + length octets)) (judged.judged table types t) r
-open_wrong types a bytes depth at head t octets b next w r tagged g is =
+open_wrong table types a bytes depth at head t octets b next w r tagged g is =
     let whole : judged.judged table types t ≡ judged.and_then (λ (s : State). judged.settled at a (judged.ended s))
     (judged_all table (judged.begun at a.content) b.members) =
     ap (λ (u : Tree). judged.judged table types u) b.tree
-    ∙ opened types a at head.identifier.class head.identifier.tag b.members
+    ∙ opened table types a at head.identifier.class head.identifier.tag b.members
     (judged_all table (judged.begun at a.content) b.members) tagged refl in
     subst (λ (x : Result (Node × ℕ) ReadFault). Gives (ReadTo (at + length octets)) (judged.judged table types t) x)
     (sym is)
@@ -166,43 +166,43 @@ open_wrong types a bytes depth at head t octets b next w r tagged g is =
     (gives_err (ContentTo next) (ReadTo (at + length octets)) (λ (s : State). judged.settled at a (judged.ended s))
     (judged_all table (judged.begun at a.content) b.members) w g))
 
-settles_to : (types : List forms.Alternative) (a : forms.Alternative) (bytes : List ℕ) (depth at : ℕ) (head : Head)
+settles_to : (table : Layout) (types : List forms.Alternative) (a : forms.Alternative) (bytes : List ℕ) (depth at : ℕ) (head : Head)
     (t : Tree) (octets : List ℕ) (b : BranchIs bytes depth at head t octets) (next : ℕ)
     (m : Option Node × ℕ) → forms.by_tag head.identifier.class head.identifier.tag types ≡ Some a
     → Gives (ContentTo next) (judged_all table (judged.begun at a.content) b.members) (Ok m)
     → (judged.judged table types t ≡ judged.settled at a (option_view m.0)) × (m.1 ≡ next)
-settles_to types a bytes depth at head t octets b next m tagged g =
+settles_to table types a bytes depth at head t octets b next m tagged g =
     let found = gives_ok (ContentTo next) (judged_all table (judged.begun at a.content) b.members) m g in (
       ap (λ (u : Tree). judged.judged table types u) b.tree
-          ∙ opened types a at head.identifier.class head.identifier.tag b.members (Ok found.0) tagged found.1
+          ∙ opened table types a at head.identifier.class head.identifier.tag b.members (Ok found.0) tagged found.1
           ∙ ap (λ (o : Option nodes.Node). judged.settled at a o) (sym found.2.0),
       found.2.1,
     )
 
-pub settled_wrong : (types : List forms.Alternative) (a : forms.Alternative) (bytes : List ℕ) (depth at : ℕ)
+pub settled_wrong : (table : Layout) (types : List forms.Alternative) (a : forms.Alternative) (bytes : List ℕ) (depth at : ℕ)
     (head : Head) (t : Tree) (octets : List ℕ) (b : BranchIs bytes depth at head t octets) (next : ℕ)
     (m : Option Node × ℕ) (w : ReadFault) (r : Result (Node × ℕ) ReadFault)
     → forms.by_tag head.identifier.class head.identifier.tag types ≡ Some a
     → Gives (ContentTo next) (judged_all table (judged.begun at a.content) b.members) (Ok m)
     → Gives {X = Node} (λ m n. node_view m ≡ n) (judged.settled at a (option_view m.0)) (Err w) → r ≡ Err w
     → Gives (ReadTo (at + length octets)) (judged.judged table types t) r
-settled_wrong types a bytes depth at head t octets b next m w r tagged g k is =
-    let to = settles_to types a bytes depth at head t octets b next m tagged g in
+settled_wrong table types a bytes depth at head t octets b next m w r tagged g k is =
+    let to = settles_to table types a bytes depth at head t octets b next m tagged g in
     subst (λ (x : Result (Node × ℕ) ReadFault). Gives (ReadTo (at + length octets)) (judged.judged table types t) x)
     (sym is)
     (subst (λ (q : Result nodes.Node judged.Breach). Gives (ReadTo (at + length octets)) q (Err w)) (sym to.0)
     (gives_more (λ (m : Node) (n : nodes.Node). node_view m ≡ n) (ReadTo (at + length octets))
     (judged.settled at a (option_view m.0)) w k))
 
-pub open_done : (types : List forms.Alternative) (a : forms.Alternative) (bytes : List ℕ) (depth at : ℕ) (head : Head)
+pub open_done : (table : Layout) (types : List forms.Alternative) (a : forms.Alternative) (bytes : List ℕ) (depth at : ℕ) (head : Head)
     (t : Tree) (octets : List ℕ) (b : BranchIs bytes depth at head t octets) (next : ℕ)
     (m : Option Node × ℕ) (node : Node) → forms.by_tag head.identifier.class head.identifier.tag types ≡ Some a
     → next ≡ at + length octets
     → Gives (ContentTo next) (judged_all table (judged.begun at a.content) b.members) (Ok m)
     → Gives {X = Node} (λ m n. node_view m ≡ n) (judged.settled at a (option_view m.0)) (Ok node)
     → Gives (ReadTo (at + length octets)) (judged.judged table types t) (Ok (node, m.1))
-open_done types a bytes depth at head t octets b next m node tagged is g k =
-    let to = settles_to types a bytes depth at head t octets b next m tagged g in
+open_done table types a bytes depth at head t octets b next m node tagged is g k =
+    let to = settles_to table types a bytes depth at head t octets b next m tagged g in
     subst (λ (q : Result nodes.Node judged.Breach). Gives (ReadTo (at + length octets)) q (Ok (node, m.1))) (sym to.0)
     (gives_is (λ (m : Node) (n : nodes.Node). node_view m ≡ n) (ReadTo (at + length octets))
     (judged.settled at a (option_view m.0)) node (node, m.1) (λ n h. (h, to.1 ∙ is)) k)
@@ -217,35 +217,35 @@ end_inside bytes place e = omega (arith, length-drop place bytes, some (drop pla
     some (a ∷ []) e = absurd (cc e)
     some (a ∷ b ∷ l) e = omega arith
 
-pub one_wrong_is : (bytes : List ℕ) (depth start : ℕ) (ts : Trees) (octets : List ℕ) (begun : State) (place : ℕ)
+pub one_wrong_is : (table : Layout) (bytes : List ℕ) (depth start : ℕ) (ts : Trees) (octets : List ℕ) (begun : State) (place : ℕ)
     (now : State) (end : Option ℕ) (w : ReadFault) (new : State) (r : Result ℕ ReadFault)
-    → Ahead bytes depth start ts octets begun place now → EndsAt bytes end (start + length octets)
+    → Ahead table bytes depth start ts octets begun place now → EndsAt bytes end (start + length octets)
     → is_over_at bytes place end ≡ false
     → ((t : Tree) (first : List ℕ) → Lies depth place t first → Stands bytes place first
     → Gives (λ (n : ℕ) s. (new ≡ s) × (n ≡ place + length first)) (judged_member table now t) (Err w))
     → r ≡ Err w → Gives (λ (n : ℕ) s. (new ≡ s) × (n ≡ behind end (start + length octets)))
     (judged_all table begun ts) r
-one_wrong_is bytes depth start ts octets begun place now end w new r a e going read is =
+one_wrong_is table bytes depth start ts octets begun place now end w new r a e going read is =
     subst (λ (x : Result ℕ ReadFault). Gives (λ (n : ℕ) s. (new ≡ s) × (n ≡ behind end (start + length octets)))
     (judged_all table begun ts) x) (sym is)
-    (one_wrong bytes depth start ts octets begun place now end w new a e going read)
+    (one_wrong table bytes depth start ts octets begun place now end w new a e going read)
 
 -- ---- all octets
 
-pub whole_wrong : (types these : List forms.Alternative) (t : Tree) (next : ℕ) (w : ReadFault)
+pub whole_wrong : (table : Layout) (types these : List forms.Alternative) (t : Tree) (next : ℕ) (w : ReadFault)
     (r : Result Node ReadFault) → types ≡ these
     → Gives (ReadTo next) (judged.judged table types t) (Err w) → r ≡ Err w
     → Gives (λ m n. node_view m ≡ n) (judged.judged table these t) r
-whole_wrong types these t next w r same g is =
+whole_wrong table types these t next w r same g is =
     subst (λ (x : Result Node ReadFault). Gives (λ m n. node_view m ≡ n) (judged.judged table these t) x) (sym is)
     (subst (λ (k : List forms.Alternative). Gives {X = Node} (λ m n. node_view m ≡ n) (judged.judged table k t)
     (Err w)) same
     (gives_more (ReadTo next) (λ (m : Node) (n : nodes.Node). node_view m ≡ n) (judged.judged table types t) w g))
 
-pub whole_read : (types these : List forms.Alternative) (t : Tree) (next : ℕ) (node : Node) (place : ℕ) → types ≡ these
+pub whole_read : (table : Layout) (types these : List forms.Alternative) (t : Tree) (next : ℕ) (node : Node) (place : ℕ) → types ≡ these
     → Gives (ReadTo next) (judged.judged table types t) (Ok (node, place))
     → Gives {X = Node} (λ m n. node_view m ≡ n) (judged.judged table these t) (Ok node)
-whole_read types these t next node place same g =
+whole_read table types these t next node place same g =
     subst (λ (k : List forms.Alternative). Gives {X = Node} (λ m n. node_view m ≡ n) (judged.judged table k t)
     (Ok node)) same
     (gives_is (ReadTo next) (λ (m : Node) (n : nodes.Node). node_view m ≡ n) (judged.judged table types t)

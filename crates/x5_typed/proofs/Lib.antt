@@ -1,3 +1,4 @@
+mod Awaiting
 mod Elements
 mod Heads
 mod Lists

@@ -16,13 +16,13 @@ use Rattle.x5_model_typed.specs.Trees.{plain}
 use Rattle.x5_model_typed.proofs.Places.{lies_spells}
 use Rattle.x5_model_typed.specs.Nodes as nodes
 use Rattle.x5_model_typed.specs.Forms as forms
+use Rattle.x5_model_typed.specs.Forms.{Layout}
 use Rattle.x5_model_typed.specs.Judged as judged
 use Rattle.x5_model_typed.specs.Judged.{Breach, and_then, judged_all, judged_member, State}
 use Rattle.x5_typed.specs.declared.fault.ReadFault.{ReadFault}
 use Rattle.x5_typed.specs.declared.fault.ReadFault.TheVariants as faults
 use Rattle.x5_typed.specs.Ahead.{Ahead}
 use Rattle.x5_typed.specs.Breaches.{Gives}
-use Rattle.x5_types.specs.FormView.{table}
 use Rattle.x5_typed.specs.Places.{EndsAt, behind, is_over_at}
 use Rattle.x5_typed.proofs.Heads.{lies_tests, stands_front, stands_behind, leaf_is, branch_is, LeafIs, BranchIs}
 
@@ -90,26 +90,26 @@ bare_over bytes at (Some n) octets none e = le-leb n at (omega (arith, e, ap len
 
 -- ---- members one after the other
 
-pub all_there : (bytes : List ℕ) (depth start : ℕ) (ts : Trees) (octets : List ℕ) (begun : State)
+pub all_there : (table : Layout) (bytes : List ℕ) (depth start : ℕ) (ts : Trees) (octets : List ℕ) (begun : State)
     → LieAll depth start ts octets → Stands bytes start octets
-    → Ahead bytes depth start ts octets begun start begun
-all_there bytes depth start ts octets begun l s =
+    → Ahead table bytes depth start ts octets begun start begun
+all_there table bytes depth start ts octets begun l s =
     record { others = ts; rest = octets; lie = l; stand = s; ends = refl; same = refl }
 
 -- One member was read.
-pub one_gone : (bytes : List ℕ) (depth start : ℕ) (ts : Trees) (octets : List ℕ) (begun : State) (place : ℕ)
+pub one_gone : (table : Layout) (bytes : List ℕ) (depth start : ℕ) (ts : Trees) (octets : List ℕ) (begun : State) (place : ℕ)
     (now : State) (end : Option ℕ) (next : ℕ) (new : State)
-    → Ahead bytes depth start ts octets begun place now → EndsAt bytes end (start + length octets)
+    → Ahead table bytes depth start ts octets begun place now → EndsAt bytes end (start + length octets)
     → is_over_at bytes place end ≡ false
     → ((t : Tree) (first : List ℕ) → Lies depth place t first → Stands bytes place first
     → Gives (λ (n : ℕ) s. (new ≡ s) × (n ≡ place + length first)) (judged_member table now t) (Ok next))
-    → Ahead bytes depth start ts octets begun next new
-one_gone bytes depth start ts octets begun place now end next new a e going read =
+    → Ahead table bytes depth start ts octets begun next new
+one_gone table bytes depth start ts octets begun place now end next new a e going read =
     by a.others a.rest a.lie a.stand a.ends a.same
   where
     by : (us : Trees) (rest : List ℕ) → LieAll depth place us rest → Stands bytes place rest
         → place + length rest ≡ start + length octets → judged_all table begun ts ≡ judged_all table now us
-        → Ahead bytes depth start ts octets begun next new
+        → Ahead table bytes depth start ts octets begun next new
     by Bare rest l s ends same =
         let here : EndsAt bytes end (place + length rest) = subst (λ (k : ℕ). EndsAt bytes end k) (sym ends) e in
         let wrong : true ≡ false = sym (bare_over bytes place end rest l here) ∙ going in
@@ -129,14 +129,14 @@ one_gone bytes depth start ts octets begun place now end next new a e going read
         }
 
 -- One has a breach.
-pub one_wrong : (bytes : List ℕ) (depth start : ℕ) (ts : Trees) (octets : List ℕ) (begun : State) (place : ℕ)
+pub one_wrong : (table : Layout) (bytes : List ℕ) (depth start : ℕ) (ts : Trees) (octets : List ℕ) (begun : State) (place : ℕ)
     (now : State) (end : Option ℕ) (w : ReadFault) (new : State)
-    → Ahead bytes depth start ts octets begun place now → EndsAt bytes end (start + length octets)
+    → Ahead table bytes depth start ts octets begun place now → EndsAt bytes end (start + length octets)
     → is_over_at bytes place end ≡ false
     → ((t : Tree) (first : List ℕ) → Lies depth place t first → Stands bytes place first
     → Gives (λ (n : ℕ) s. (new ≡ s) × (n ≡ place + length first)) (judged_member table now t) (Err w))
     → Gives (λ (n : ℕ) s. (new ≡ s) × (n ≡ behind end (start + length octets))) (judged_all table begun ts) (Err w)
-one_wrong bytes depth start ts octets begun place now end w new a e going read =
+one_wrong table bytes depth start ts octets begun place now end w new a e going read =
     by a.others a.rest a.lie a.stand a.ends a.same
   where
     by : (us : Trees) (rest : List ℕ) → LieAll depth place us rest → Stands bytes place rest
@@ -155,12 +155,12 @@ one_wrong bytes depth start ts octets begun place now end w new a e going read =
         (read t l.0 l.2 (stands_front bytes place l.0 l.1 rest l.4 s)))
 
 -- No member is left.
-pub all_gone : (bytes : List ℕ) (depth start : ℕ) (ts : Trees) (octets : List ℕ) (begun : State) (place : ℕ)
+pub all_gone : (table : Layout) (bytes : List ℕ) (depth start : ℕ) (ts : Trees) (octets : List ℕ) (begun : State) (place : ℕ)
     (now : State) (end : Option ℕ) (next : ℕ)
-    → Ahead bytes depth start ts octets begun place now → EndsAt bytes end (start + length octets)
+    → Ahead table bytes depth start ts octets begun place now → EndsAt bytes end (start + length octets)
     → is_over_at bytes place end ≡ true → next ≡ behind end place
     → Gives (λ (n : ℕ) s. (now ≡ s) × (n ≡ behind end (start + length octets))) (judged_all table begun ts) (Ok next)
-all_gone bytes depth start ts octets begun place now end next a e over is =
+all_gone table bytes depth start ts octets begun place now end next a e over is =
     by a.others a.rest a.lie a.stand a.ends a.same
   where
     by : (us : Trees) (rest : List ℕ) → LieAll depth place us rest → Stands bytes place rest
@@ -194,58 +194,58 @@ head_is bytes depth at head t octets l s e = by head.identifier.constructed refl
         let b = leaf_is bytes depth at head t octets l s e form in
         subst (λ (u : Tree). HeadIs at head u) (sym b.tree) (record { place = refl; class = refl; tag = refl })
 
-awaited : (s : State) (t : Tree) (at : ℕ) (head : Head) (r : Result judged.Awaited Breach) → HeadIs at head t
+awaited : (table : Layout) (s : State) (t : Tree) (at : ℕ) (head : Head) (r : Result judged.Awaited Breach) → HeadIs at head t
     → judged.awaits table s at head.identifier.class head.identifier.tag ≡ r
     → judged_member table s t ≡ and_then (λ a. and_then (judged.stepped s at a.step) (judged.judged table a.types t)) r
-awaited s t at head r h e =
+awaited table s t at head r h e =
     let there : judged.awaits table s (place_of t) (class_of t) (tag_of t) ≡ r = rw (h.place, h.class, h.tag) e in
     ap (λ (q : Result judged.Awaited Breach). and_then
     (λ a. and_then (judged.stepped s (place_of t) a.step) (judged.judged table a.types t)) q) there
     ∙ ap (λ (k : ℕ). and_then (λ a. and_then (judged.stepped s k a.step) (judged.judged table a.types t)) r) h.place
 
 -- Nothing is awaited that has the tag.
-pub unawaited : {X : Type 0} (is : X → State → Type 0) (s : State) (t : Tree) (at : ℕ) (head : Head) (b : Breach)
+pub unawaited : (table : Layout) {X : Type 0} (is : X → State → Type 0) (s : State) (t : Tree) (at : ℕ) (head : Head) (b : Breach)
     (w : ReadFault) → HeadIs at head t
     → judged.awaits table s at head.identifier.class head.identifier.tag ≡ Err b → Gives {X = X} is (Err b) (Err w)
     → Gives is (judged_member table s t) (Err w)
-unawaited is s t at head b w h e g = subst (λ (r : Result State Breach). Gives is r (Err w))
-    (sym (awaited s t at head (Err b) h e)) g
+unawaited table is s t at head b w h e g = subst (λ (r : Result State Breach). Gives is r (Err w))
+    (sym (awaited table s t at head (Err b) h e)) g
 
 -- It has a breach itself.
-pub member_wrong : {X Y : Type 0} (is : X → nodes.Node → Type 0) (also : Y → State → Type 0) (s : State) (t : Tree)
+pub member_wrong : (table : Layout) {X Y : Type 0} (is : X → nodes.Node → Type 0) (also : Y → State → Type 0) (s : State) (t : Tree)
     (at : ℕ) (head : Head) (a : judged.Awaited) (w : ReadFault) → HeadIs at head t
     → judged.awaits table s at head.identifier.class head.identifier.tag ≡ Ok a
     → Gives is (judged.judged table a.types t) (Err w) → Gives also (judged_member table s t) (Err w)
-member_wrong is also s t at head a w h e g =
-    subst (λ (r : Result State Breach). Gives also r (Err w)) (sym (awaited s t at head (Ok a) h e))
+member_wrong table is also s t at head a w h e g =
+    subst (λ (r : Result State Breach). Gives also r (Err w)) (sym (awaited table s t at head (Ok a) h e))
     (gives_err is also (judged.stepped s at a.step) (judged.judged table a.types t) w g)
 
 -- It is read, and reading goes on behind it or has a breach there.
-pub member_steps : (s : State) (t : Tree) (at : ℕ) (head : Head) (a : judged.Awaited) (n : nodes.Node)
+pub member_steps : (table : Layout) (s : State) (t : Tree) (at : ℕ) (head : Head) (a : judged.Awaited) (n : nodes.Node)
     → HeadIs at head t
     → judged.awaits table s at head.identifier.class head.identifier.tag ≡ Ok a → judged.judged table a.types t ≡ Ok n
     → judged_member table s t ≡ judged.stepped s at a.step n
-member_steps s t at head a n h e g =
-    awaited s t at head (Ok a) h e ∙ ap (λ (q : Result nodes.Node Breach). and_then (judged.stepped s at a.step) q) g
+member_steps table s t at head a n h e g =
+    awaited table s t at head (Ok a) h e ∙ ap (λ (q : Result nodes.Node Breach). and_then (judged.stepped s at a.step) q) g
 
 -- ---- a constructed element
 
-pub opened : (types : List forms.Alternative) (a : forms.Alternative) (at class tag : ℕ) (ts : Trees)
+pub opened : (table : Layout) (types : List forms.Alternative) (a : forms.Alternative) (at class tag : ℕ) (ts : Trees)
     (r : Result State Breach) → forms.by_tag class tag types ≡ Some a
     → judged_all table (judged.begun at a.content) ts ≡ r → judged.judged table types (Branch at class tag ts)
     ≡ and_then (λ s. judged.settled at a (judged.ended s)) r
-opened types a at class tag ts r is e = rw is
+opened table types a at class tag ts r is e = rw is
     (ap (λ (q : Result State Breach). and_then (λ s. judged.settled at a (judged.ended s)) q) e)
 
 -- ---- a primitive element
 
-pub piece_same : (bytes : List ℕ) (at : ℕ) (head : Head) (t : Tree) (octets : List ℕ)
+pub piece_same : (table : Layout) (bytes : List ℕ) (at : ℕ) (head : Head) (t : Tree) (octets : List ℕ)
     (b : LeafIs bytes at head t octets) (types : List forms.Alternative) (end : ℕ) (part : List ℕ)
     → Some end ≡ option_map (λ (n : ℕ). head.content + n) head.extent
     → part ≡ take (end - head.content) (drop head.content bytes)
     → (judged.judged table types t ≡ judged.judged table types
     (Leaf at head.identifier.class head.identifier.tag part)) × (end ≡ at + length octets)
-piece_same bytes at head t octets b types end part e is =
+piece_same table bytes at head t octets b types end part e is =
     let known : Some end ≡ Some (head.content + length b.content) = e
     ∙ ap (λ (x : Option ℕ). option_map (λ (n : ℕ). head.content + n) x) b.extent in
     let there : end ≡ head.content + length b.content = cc known in

@@ -15,6 +15,7 @@ use Rattle.x5_model_typed.specs.Trees as trees
 use Rattle.x5_model_typed.specs.Trees.{Tree, Trees, Leaf, Branch, Bare, Row, Lies, LieAll, plain}
 use Rattle.x5_model_typed.specs.Nodes as nodes
 use Rattle.x5_model_typed.specs.Named.{Named}
+use Rattle.x5_model_typed.specs.Forms.{Layout}
 use Rattle.x5_model_typed.specs.Judged as judged
 use Rattle.x5_model_typed.proofs.Places.{lies_spells}
 use Rattle.x5_typed.specs.declared.fault.Breach.{Breach}
@@ -23,8 +24,7 @@ use Rattle.x5_typed.specs.declared.fault.ReadFault.{ReadFault}
 use Rattle.x5_typed.specs.declared.fault.ReadFault.TheVariants as faults
 use Rattle.x5_types.specs.declared.node.Node.{Node}
 use Rattle.x5_typed.specs.Breaches.{Gives, breach_view}
-use Rattle.x5_typed.specs.Comes.{ComesTo, faulty, more, whole}
-use Rattle.x5_types.specs.FormView.{table}
+use Rattle.x5_typed.specs.Comes.{Comes, faulty, more, whole}
 use Rattle.x5_types.specs.NodeView.{node_view}
 use Rattle.x5_model_typed.specs.Typed.{Spells as SpellsValue}
 use Rattle.x5_model_typed.proofs.Soundness.{judged_is}
@@ -64,42 +64,42 @@ pub all_stand : (octets : List ℕ) → Stands octets 0 octets
 all_stand octets = front_stands octets octets [] (sym (append-nil octets))
 
 -- Where there is a first fault.
-pub faulty_comes : (form : Named) (octets : List ℕ) (fault : BerFault)
+pub faulty_comes : (table : Layout) (form : Named) (octets : List ℕ) (fault : BerFault)
     → FirstFault octets outermost 0 (fault_view fault)
     → ((e : Element) (s : List ℕ) → Spells 1 e s → Stands octets 0 s → ⊥) → (r : Result nodes.Node judged.Breach)
-    → ComesTo form octets r
+    → Comes table form octets r
     → Gives {X = Node} (λ m n. node_view m ≡ n) r (Err (faults.Breach (Ber fault)))
-faulty_comes form octets fault is none r (faulty other that) =
+faulty_comes table form octets fault is none r (faulty other that) =
     ap (λ (f : octet_faults.Fault). judged.Ber f) (one_first_fault octets outermost 0 (fault_view fault) other is that)
-faulty_comes form octets fault is none r (more tree first rest o l e) =
+faulty_comes table form octets fault is none r (more tree first rest o l e) =
     absurd (none (plain tree) first (lies_spells 1 0 tree first l) (front_stands octets first (o ∷ rest) e))
-faulty_comes form octets fault is none r (whole tree l) =
+faulty_comes table form octets fault is none r (whole tree l) =
     absurd (none (plain tree) octets (lies_spells 1 0 tree octets l) (all_stand octets))
 
 -- Where an element stands with octets behind it.
-pub more_comes : (form : Named) (octets : List ℕ) (next : ℕ) (b : Breach) → next < length octets
+pub more_comes : (table : Layout) (form : Named) (octets : List ℕ) (next : ℕ) (b : Breach) → next < length octets
     → breach_view b ≡ judged.Ber (octet_faults.BadTag next)
     → ((f : octet_faults.Fault) → FirstFault octets outermost 0 f → ⊥)
     → ((e : Element) (s : List ℕ) → Spells 1 e s → Stands octets 0 s → next ≡ 0 + length s)
-    → (r : Result nodes.Node judged.Breach) → ComesTo form octets r
+    → (r : Result nodes.Node judged.Breach) → Comes table form octets r
     → Gives {X = Node} (λ m n. node_view m ≡ n) r (Err (faults.Breach b))
-more_comes form octets next b less is none only r (faulty other that) = absurd (none other that)
-more_comes form octets next b less is none only r (more tree first rest o l e) =
+more_comes table form octets next b less is none only r (faulty other that) = absurd (none other that)
+more_comes table form octets next b less is none only r (more tree first rest o l e) =
     let same : next ≡ length first = omega (
       arith,
       only (plain tree) first (lies_spells 1 0 tree first l)
           (front_stands octets first (o ∷ rest) e),
     ) in
     is ∙ ap (λ (n : ℕ). judged.Ber (octet_faults.BadTag n)) same
-more_comes form octets next b less is none only r (whole tree l) =
+more_comes table form octets next b less is none only r (whole tree l) =
     absurd (omega (arith, less, only (plain tree) octets (lies_spells 1 0 tree octets l) (all_stand octets)))
 
-pub comes_more : (form : Named) (octets : List ℕ) (next : ℕ) (e : Element) (s : List ℕ) → next < length octets
+pub comes_more : (table : Layout) (form : Named) (octets : List ℕ) (next : ℕ) (e : Element) (s : List ℕ) → next < length octets
     → Spells 1 e s → Stands octets 0 s → next ≡ 0 + length s
-    → (r : Result nodes.Node judged.Breach) × ComesTo form octets r
-comes_more form octets next e s less p stand is = by (drop (0 + length s) octets) stand.split
+    → (r : Result nodes.Node judged.Breach) × Comes table form octets r
+comes_more table form octets next e s less p stand is = by (drop (0 + length s) octets) stand.split
   where
-    by : (rest : List ℕ) → octets ≡ s ++ rest → (r : Result nodes.Node judged.Breach) × ComesTo form octets r
+    by : (rest : List ℕ) → octets ≡ s ++ rest → (r : Result nodes.Node judged.Breach) × Comes table form octets r
     by [] e' = absurd (omega (arith, less, is, ap length e', length-append s []))
     by (o ∷ rest) e' = (
       Err (judged.Ber (octet_faults.BadTag (length s))),
@@ -108,13 +108,13 @@ comes_more form octets next e s less p stand is = by (drop (0 + length s) octets
     )
 
 -- Where one element is all.
-pub whole_comes : (form : Named) (octets : List ℕ) (next : ℕ) (result : Result Node ReadFault) → length octets ≤ next
+pub whole_comes : (table : Layout) (form : Named) (octets : List ℕ) (next : ℕ) (result : Result Node ReadFault) → length octets ≤ next
     → ((f : octet_faults.Fault) → FirstFault octets outermost 0 f → ⊥)
     → ((e : Element) (s : List ℕ) → Spells 1 e s → Stands octets 0 s → next ≡ 0 + length s)
     → ((t : Tree) → Lies 1 0 t octets → Gives (λ m n. node_view m ≡ n) (judged.judged table (table form) t) result)
-    → (r : Result nodes.Node judged.Breach) → ComesTo form octets r → Gives (λ m n. node_view m ≡ n) r result
-whole_comes form octets next result full none only read r (faulty other that) = absurd (none other that)
-whole_comes form octets next result full none only read r (more tree first rest o l e) =
+    → (r : Result nodes.Node judged.Breach) → Comes table form octets r → Gives (λ m n. node_view m ≡ n) r result
+whole_comes table form octets next result full none only read r (faulty other that) = absurd (none other that)
+whole_comes table form octets next result full none only read r (more tree first rest o l e) =
     absurd (omega (
       arith,
       full,
@@ -123,7 +123,7 @@ whole_comes form octets next result full none only read r (more tree first rest 
       ap length e,
       length-append first (o ∷ rest),
     ))
-whole_comes form octets next result full none only read r (whole tree l) = read tree l
+whole_comes table form octets next result full none only read r (whole tree l) = read tree l
 
 pub tree_of : (octets : List ℕ) (next : ℕ) (e : Element) (s : List ℕ) → length octets ≤ next → Spells 1 e s
     → Stands octets 0 s → next ≡ 0 + length s → (t : Tree) × Lies 1 0 t octets
@@ -135,10 +135,10 @@ tree_of octets next e s full p stand is = by (drop (0 + length s) octets) stand.
         ((placed 1 0 e s p).0, subst (λ (o : List ℕ). Lies 1 0 (placed 1 0 e s p).0 o) same (placed 1 0 e s p).1)
     by (o ∷ rest) e' = absurd (omega (arith, full, is, ap length e', length-append s (o ∷ rest)))
 
-pub spelled_by : (form : Named) (octets : List ℕ) (t : Tree) (r : Result Node ReadFault) → Lies 1 0 t octets
+pub spelled_by : (table : Layout) (form : Named) (octets : List ℕ) (t : Tree) (r : Result Node ReadFault) → Lies 1 0 t octets
     → Gives (λ m n. node_view m ≡ n) (judged.judged table (table form) t) r
     → IfOk r (λ m. SpellsValue table form octets (node_view m))
-spelled_by form octets t (Ok m) l g =
+spelled_by table form octets t (Ok m) l g =
     let found = gives_ok (λ (m : Node) (n : nodes.Node). node_view m ≡ n) (judged.judged table (table form) t) m g in
     record {
       tree = t;
@@ -146,4 +146,4 @@ spelled_by form octets t (Ok m) l g =
       is_of = judged_is table t (table form) (node_view m) (found.1
           ∙ ap (λ (n : nodes.Node). Ok n) (sym found.2));
     }
-spelled_by form octets t (Err f) l g = tt
+spelled_by table form octets t (Err f) l g = tt

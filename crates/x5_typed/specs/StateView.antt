@@ -6,6 +6,7 @@ use Rattle.std.specs.declared.result.Result.{Result}
 use Rattle.std.specs.declared.result.Result.TheVariants.{Ok}
 use Rattle.x5_model_typed.specs.Nodes as nodes
 use Rattle.x5_model_typed.specs.Forms as forms
+use Rattle.x5_model_typed.specs.Layouts.{Surroundings}
 use Rattle.x5_model_typed.specs.Judged as judged
 use Rattle.x5_types.specs.FormView.{named_view, content_view, components_view, choices_view}
 use Rattle.x5_types.specs.NodeView.{node_view, option_view}
@@ -28,16 +29,15 @@ step_view step.Next = judged.Next
 step_view (step.InPlace i) = judged.InPlace i
 step_view (step.InSlot i) = judged.InSlot i
 
-abbrev pub awaited_view : Awaited → judged.Awaited
-awaited_view a = record { types = choices_view a.choices; step = step_view a.step }
+abbrev pub awaited_view : Surroundings → Awaited → judged.Awaited
+awaited_view w a = record { types = choices_view w a.choices; step = step_view a.step }
 
-abbrev pub state_view : State → judged.State
-state_view s = record {
+abbrev pub state_view : Surroundings → State → judged.State
+state_view w s = record {
   at = s.at;
-  content = content_view s.content;
+  content = content_view w s.content;
   left = left_view s.left;
-  nodes =
-      map node_view s.nodes.items;
+  nodes = map node_view s.nodes.items;
   slots = map option_view s.slots.items;
   last = s.last;
 }

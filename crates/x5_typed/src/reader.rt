@@ -6,13 +6,14 @@ ghost use Rattle.x5_model_octets.specs.Faults.{begins_with_end, head_at, outermo
 ghost use Rattle.x5_ber.specs.Views.{head_view};
 ghost use Rattle.x5_ber.specs.Reading.{Stands};
 ghost use Rattle.x5_model_typed.specs.Judged as judged;
+ghost use Rattle.x5_model_typed.specs.Layouts as layouts;
 ghost use Rattle.x5_model_typed.specs.Nodes as nodes;
 ghost use Rattle.x5_model_typed.specs.Trees as trees;
 ghost use Rattle.x5_model_typed.specs.Typed.{Spells};
 ghost use Rattle.x5_typed.specs.Breaches.{Gives};
-ghost use Rattle.x5_types.specs.FormView.{alternative_view, choices_view, content_view, named_view, table};
+ghost use Rattle.x5_types.specs.FormView.{alternative_view, around, choices_view, content_view, named_view, table, table_in};
 ghost use Rattle.x5_types.specs.NodeView.{node_view, option_view};
-ghost use Rattle.x5_typed.specs.Comes.{ComesTo};
+ghost use Rattle.x5_typed.specs.Comes.{Comes, ComesTo};
 ghost use Rattle.x5_typed.specs.Places.{EndsAt, Within, behind, is_over_at};
 ghost use Rattle.x5_typed.specs.StateView.{state_view, IsState};
 
@@ -21,7 +22,7 @@ use crate::state::State;
 use std::alloc::Global;
 use x5_ber::{BerFault, Head, read_header, read_tlv};
 use x5_rules::settle;
-use x5_types::{Alternative, Choices, Content, Named, Node, layout, leaf_node};
+use x5_types::{Alternative, Choices, Content, Named, Node, Surroundings, layout, leaf_node};
 
 /// The value as it is kept, by the rule of its type.
 fn settled<'a>(
@@ -30,7 +31,7 @@ fn settled<'a>(
     a: Alternative,
     node: Option<Node<'a>>,
 ) -> Result<Node<'a>, ReadFault>
-    ensures { Gives (λ m n. node_view m ≡ n) (judged.settled at (alternative_view a) (option_view node.entry)) result }
+    ensures { (w : layouts.Surroundings) → Gives (λ m n. node_view m ≡ n) (judged.settled at (alternative_view w a) (option_view node.entry)) result }
 {
     let Some(node) = node else {
         return Err(ReadFault::Breach(wrong_content(at)));
@@ -48,24 +49,26 @@ fn settled<'a>(
 /// A primitive element as a value of one of the types.
 fn read_octets<'a>(
     alloc: Global,
+    surroundings: Surroundings<'_>,
     octets: &'a [u8],
     choices: Choices,
     at: usize,
     class: u8,
     tag: u32,
 ) -> Result<Node<'a>, ReadFault>
-    ensures { Gives (λ m n. node_view m ≡ n) (judged.judged table (choices_view choices) (trees.Leaf at class tag octets.now)) result }
+    ensures { Gives (λ m n. node_view m ≡ n) (judged.judged (table_in surroundings.entry) (choices_view (around surroundings.entry) choices) (trees.Leaf at class tag octets.now)) result }
 {
     let Some(a) = choices.by_tag(class, tag) else {
         return Err(ReadFault::Breach(wrong_tag(at)));
     };
-    let node = leaf_node(alloc, a.content, octets)?;
+    let node = leaf_node(alloc, surroundings, a.content, octets)?;
     settled(alloc, at, a, node)
 }
 
 /// A primitive element, by its head: its value, and the place behind it.
 fn read_piece<'a>(
     alloc: Global,
+    surroundings: Surroundings<'_>,
     bytes: &'a [u8],
     at: usize,
     head: Head,
@@ -75,7 +78,7 @@ fn read_piece<'a>(
     ensures nearer { IfOk result (λ r. Within at r.1 (length bytes.now)) }
     ensures reads { (depth : ℕ) (t : trees.Tree) (octets : List ℕ) → trees.Lies depth at t octets → Stands bytes.now at octets
         → head_at outermost bytes.now at ≡ Ok (head_view head) → head.identifier.constructed ≡ false
-        → Gives (λ m n. (node_view m.0 ≡ n) × (m.1 ≡ at + length octets)) (judged.judged table (choices_view choices) t) result }
+        → Gives (λ m n. (node_view m.0 ≡ n) × (m.1 ≡ at + length octets)) (judged.judged (table_in surroundings.entry) (choices_view (around surroundings.entry) choices) t) result }
 {
     let Some(end) = end_of(bytes, head)? else {
         return Err(ReadFault::Breach(wrong_content(at)));
@@ -83,6 +86,7 @@ fn read_piece<'a>(
     let octets = &bytes[head.content..end];
     let node = read_octets(
         alloc,
+        surroundings,
         octets,
         choices,
         at,
@@ -96,6 +100,7 @@ fn read_piece<'a>(
 #[cycle(reading)]
 fn read_element<'a>(
     alloc: Global,
+    surroundings: Surroundings<'_>,
     bytes: &'a [u8],
     at: usize,
     head: Head,
@@ -105,12 +110,12 @@ fn read_element<'a>(
     ensures nearer { IfOk result (λ r. Within at r.1 (length bytes.now)) }
     ensures reads { (depth : ℕ) (t : trees.Tree) (octets : List ℕ) → trees.Lies depth at t octets → Stands bytes.now at octets
         → head_at outermost bytes.now at ≡ Ok (head_view head)
-        → Gives (λ m n. (node_view m.0 ≡ n) × (m.1 ≡ at + length octets)) (judged.judged table (choices_view choices) t) result }
+        → Gives (λ m n. (node_view m.0 ≡ n) × (m.1 ≡ at + length octets)) (judged.judged (table_in surroundings.entry) (choices_view (around surroundings.entry) choices) t) result }
 {
     if head.identifier.constructed {
-        read_open(alloc, bytes, at, head, choices)
+        read_open(alloc, surroundings, bytes, at, head, choices)
     } else {
-        read_piece(alloc, bytes, at, head, choices)
+        read_piece(alloc, surroundings, bytes, at, head, choices)
     }
 }
 
@@ -118,6 +123,7 @@ fn read_element<'a>(
 #[cycle(reading)]
 fn read_open<'a>(
     alloc: Global,
+    surroundings: Surroundings<'_>,
     bytes: &'a [u8],
     at: usize,
     head: Head,
@@ -127,13 +133,13 @@ fn read_open<'a>(
     ensures nearer { IfOk result (λ r. Within at r.1 (length bytes.now)) }
     ensures reads { (depth : ℕ) (t : trees.Tree) (octets : List ℕ) → trees.Lies depth at t octets → Stands bytes.now at octets
         → head_at outermost bytes.now at ≡ Ok (head_view head) → head.identifier.constructed ≡ true
-        → Gives (λ m n. (node_view m.0 ≡ n) × (m.1 ≡ at + length octets)) (judged.judged table (choices_view choices) t) result }
+        → Gives (λ m n. (node_view m.0 ≡ n) × (m.1 ≡ at + length octets)) (judged.judged (table_in surroundings.entry) (choices_view (around surroundings.entry) choices) t) result }
 {
     let Some(a) = choices.by_tag(head.identifier.class, head.identifier.tag) else {
         return Err(ReadFault::Breach(wrong_tag(at)));
     };
     let end = end_of(bytes, head)?;
-    let (node, next) = read_content(alloc, bytes, at, head.content, end, a.content)?;
+    let (node, next) = read_content(alloc, surroundings, bytes, at, head.content, end, a.content)?;
     let node = settled(alloc, at, a, node)?;
     Ok((node, next))
 }
@@ -158,6 +164,7 @@ fn end_of(bytes: &[u8], head: Head) -> Result<Option<usize>, ReadFault>
 #[cycle(reading)]
 fn read_content<'a>(
     alloc: Global,
+    surroundings: Surroundings<'_>,
     bytes: &'a [u8],
     at: usize,
     place: usize,
@@ -168,11 +175,11 @@ fn read_content<'a>(
     ensures nearer { IfOk result (λ r. (place ≤ r.1) × (r.1 ≤ length bytes.now)) }
     ensures reads { (depth : ℕ) (ts : trees.Trees) (octets : List ℕ) → trees.LieAll depth place ts octets → Stands bytes.now place octets
         → EndsAt bytes.now end (place + length octets)
-        → Gives (λ m s. (option_view m.0 ≡ judged.ended s) × (m.1 ≡ behind end (place + length octets))) (judged.judged_all table (judged.begun at (content_view content)) ts) result }
+        → Gives (λ m s. (option_view m.0 ≡ judged.ended s) × (m.1 ≡ behind end (place + length octets))) (judged.judged_all (table_in surroundings.entry) (judged.begun at (content_view (around surroundings.entry) content)) ts) result }
 {
     let mut state = State::new(alloc, at, content)?;
-    let next = read_members(alloc, bytes, place, end, &mut state)?;
-    let node = state.ended(alloc)?;
+    let next = read_members(alloc, surroundings, bytes, place, end, &mut state)?;
+    let node = state.ended(alloc, surroundings)?;
     Ok((node, next))
 }
 
@@ -199,6 +206,7 @@ fn stands_end(bytes: &[u8], place: usize) -> bool
 #[cycle(reading)]
 fn read_members<'a>(
     alloc: Global,
+    surroundings: Surroundings<'_>,
     bytes: &'a [u8],
     start: usize,
     end: Option<usize>,
@@ -210,11 +218,11 @@ fn read_members<'a>(
     ensures nearer { IfOk result (λ next. (start ≤ next) × (next ≤ length bytes.now)) }
     ensures reads { (depth : ℕ) (ts : trees.Trees) (octets : List ℕ) → trees.LieAll depth start ts octets → Stands bytes.now start octets
         → EndsAt bytes.now end (start + length octets)
-        → Gives (λ next s. (state_view state.new ≡ s) × (next ≡ behind end (start + length octets))) (judged.judged_all table (state_view state.old) ts) result }
+        → Gives (λ next s. (state_view (around surroundings.entry) state.new ≡ s) × (next ≡ behind end (start + length octets))) (judged.judged_all (table_in surroundings.entry) (state_view (around surroundings.entry) state.old) ts) result }
 {
     let mut place = start;
     while !is_over(bytes, place, end) {
-        place = read_member(alloc, bytes, place, state)?;
+        place = read_member(alloc, surroundings, bytes, place, state)?;
     }
     Ok(past_end(bytes, place, end))
 }
@@ -236,6 +244,7 @@ fn past_end(bytes: &[u8], place: usize, end: Option<usize>) -> usize
 #[cycle(reading)]
 fn read_member<'a>(
     alloc: Global,
+    surroundings: Surroundings<'_>,
     bytes: &'a [u8],
     at: usize,
     state: &mut State<'a>,
@@ -245,11 +254,11 @@ fn read_member<'a>(
     ensures kept { IsState state.new }
     ensures nearer { IfOk result (λ next. Within at next (length bytes.now)) }
     ensures reads { (depth : ℕ) (t : trees.Tree) (octets : List ℕ) → trees.Lies depth at t octets → Stands bytes.now at octets
-        → Gives (λ next s. (state_view state.new ≡ s) × (next ≡ at + length octets)) (judged.judged_member table (state_view state.old) t) result }
+        → Gives (λ next s. (state_view (around surroundings.entry) state.new ≡ s) × (next ≡ at + length octets)) (judged.judged_member (table_in surroundings.entry) (state_view (around surroundings.entry) state.old) t) result }
 {
     let head = head_of(bytes, at)?;
     let awaited = state.awaits(at, head.identifier.class, head.identifier.tag)?;
-    let (node, next) = read_element(alloc, bytes, at, head, awaited.choices)?;
+    let (node, next) = read_element(alloc, surroundings, bytes, at, head, awaited.choices)?;
     state.step(alloc, at, awaited.step, node)?;
     Ok(next)
 }
@@ -267,7 +276,48 @@ fn head_of(bytes: &[u8], at: usize) -> Result<Head, ReadFault>
     }
 }
 
-/// Reads octets as a value of the type: the value, if they are one spelling of it and nothing else.
+/// Reads octets as a value of the type in those surroundings: the value, if they are one spelling of it and nothing else.
+///
+/// # Errors
+/// The first breach in the order of reading: the whole first reading, whatever the type, before the second. Or that
+/// memory ran out.
+pub fn read_in<'a>(
+    alloc: Global,
+    surroundings: Surroundings<'_>,
+    form: Named,
+    octets: &'a [u8],
+) -> Result<Node<'a>, ReadFault>
+    // The value or the breach is the one that reading comes to, and it comes to exactly one.
+    ensures reads { (e : Result nodes.Node judged.Breach) → Comes (table_in surroundings.entry) (named_view form) octets.now e
+        → Gives (λ m n. node_view m ≡ n) e result }
+    ensures comes { (e : Result nodes.Node judged.Breach) × Comes (table_in surroundings.entry) (named_view form) octets.now e }
+    // A value is spelled by the octets.
+    ensures spelled { IfOk result (λ m. Spells (table_in surroundings.entry) (named_view form) octets.now (node_view m)) }
+{
+    match read_tlv(octets, 0) {
+        Err(fault) => Err(ReadFault::Breach(Breach::Ber(fault))),
+        Ok((_, next)) if next < octets.len() => Err(ReadFault::Breach(wrong_tag(next))),
+        Ok(_) => read_whole(alloc, surroundings, form, octets),
+    }
+}
+
+/// Octets that are one element, as a value of the type.
+fn read_whole<'a>(
+    alloc: Global,
+    surroundings: Surroundings<'_>,
+    form: Named,
+    octets: &'a [u8],
+) -> Result<Node<'a>, ReadFault>
+    ensures { (t : trees.Tree) → trees.Lies 1 0 t octets.now
+        → Gives (λ m n. node_view m ≡ n) (judged.judged (table_in surroundings.entry) (table_in surroundings.entry (named_view form)) t) result }
+{
+    let head = head_of(octets, 0)?;
+    let (node, _) = read_element(alloc, surroundings, octets, 0, head, layout(form))?;
+    Ok(node)
+}
+
+/// Reads octets as a value of a type that depends on no surroundings, as those of messages of users and between agents: the value,
+/// if they are one spelling of it and nothing else.
 ///
 /// # Errors
 /// The first breach in the order of reading: the whole first reading, whatever the type, before the second. Or that
@@ -279,19 +329,5 @@ pub fn read<'a>(alloc: Global, form: Named, octets: &'a [u8]) -> Result<Node<'a>
     // A value is spelled by the octets.
     ensures spelled { IfOk result (λ m. Spells table (named_view form) octets.now (node_view m)) }
 {
-    match read_tlv(octets, 0) {
-        Err(fault) => Err(ReadFault::Breach(Breach::Ber(fault))),
-        Ok((_, next)) if next < octets.len() => Err(ReadFault::Breach(wrong_tag(next))),
-        Ok(_) => read_whole(alloc, form, octets),
-    }
-}
-
-/// Octets that are one element, as a value of the type.
-fn read_whole<'a>(alloc: Global, form: Named, octets: &'a [u8]) -> Result<Node<'a>, ReadFault>
-    ensures { (t : trees.Tree) → trees.Lies 1 0 t octets.now
-        → Gives (λ m n. node_view m ≡ n) (judged.judged table (table (named_view form)) t) result }
-{
-    let head = head_of(octets, 0)?;
-    let (node, _) = read_element(alloc, octets, 0, head, layout(form))?;
-    Ok(node)
+    read_in(alloc, Surroundings::Nowhere, form, octets)
 }

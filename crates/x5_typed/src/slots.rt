@@ -3,8 +3,9 @@ ghost use Rattle.std.specs.Prelude.{◌≡◌, ◌+◌, ◌<◌, ◌∷◌, [], 
 ghost use Rattle.std.specs.List.{list_all};
 ghost use Rattle.x5_model_typed.specs.Forms as forms;
 ghost use Rattle.x5_model_typed.specs.Judged as judged;
+ghost use Rattle.x5_model_typed.specs.Layouts as layouts;
 ghost use Rattle.x5_typed.specs.Breaches.{breach_view};
-ghost use Rattle.x5_types.specs.FormView.{choices_view, component_view, components_view, content_view, named_view, presence_view, table};
+ghost use Rattle.x5_types.specs.FormView.{choices_view, component_view, components_view, content_view, named_view, presence_view};
 ghost use Rattle.x5_types.specs.NodeView.{node_view, option_view};
 ghost use Rattle.x5_typed.specs.StateView.{awaited_view, left_view, IsPlace, IsSlot, SlotIs};
 
@@ -98,7 +99,7 @@ fn listed_behind(components: &'static [Component], i: usize) -> Left
 
 /// The components of a content.
 pub(crate) fn components_in(content: Content) -> Left
-    ensures { left_view result ≡ judged.components_in (content_view content) }
+    ensures { (w : layouts.Surroundings) → left_view result ≡ judged.components_in (content_view w content) }
 {
     match content {
         Content::Sequence(components) | Content::Set(components) => Left::Listed(components),
@@ -114,9 +115,9 @@ pub(crate) fn sequence_awaits(
     tag: u32,
 ) -> Result<Awaited, Breach>
     ensures fits { IfOk result (λ a. IsPlace (length (left_view left.now)) a.step) }
-    ensures awaits { MatchResult result
-        (λ a. judged.sequence_awaits table at class tag 0 (left_view left.now) ≡ Ok (awaited_view a))
-        (λ b. judged.sequence_awaits table at class tag 0 (left_view left.now) ≡ Err (breach_view b)) }
+    ensures awaits { (w : layouts.Surroundings) → MatchResult result
+        (λ a. judged.sequence_awaits (layouts.layout w) at class tag 0 (left_view left.now) ≡ Ok (awaited_view w a))
+        (λ b. judged.sequence_awaits (layouts.layout w) at class tag 0 (left_view left.now) ≡ Err (breach_view b)) }
 {
     for i in 0..left.len() {
         let component = left.component(i);
@@ -152,9 +153,9 @@ pub(crate) fn set_awaits(
 ) -> Result<Awaited, Breach>
     requires { length slots.now ≡ length (left_view left.now) }
     ensures fits { IfOk result (λ a. IsSlot (length slots.now) a.step) }
-    ensures awaits { MatchResult result
-        (λ a. judged.set_awaits table at class tag 0 (left_view left.now) (map option_view slots.now) ≡ Ok (awaited_view a))
-        (λ b. judged.set_awaits table at class tag 0 (left_view left.now) (map option_view slots.now) ≡ Err (breach_view b)) }
+    ensures awaits { (w : layouts.Surroundings) → MatchResult result
+        (λ a. judged.set_awaits (layouts.layout w) at class tag 0 (left_view left.now) (map option_view slots.now) ≡ Ok (awaited_view w a))
+        (λ b. judged.set_awaits (layouts.layout w) at class tag 0 (left_view left.now) (map option_view slots.now) ≡ Err (breach_view b)) }
 {
     for i in 0..left.len() {
         let choices = left.component(i).choices();

@@ -2,8 +2,9 @@
 ghost use Rattle.std.specs.Prelude.{◌≡◌, ◌≤◌, ◌<◌, ◌+◌, ◌++◌, ◌∷◌, ◌||◌, [], map, drop, MatchResult, IfOk, OnOk, Ok, Err, Some, length, take, slice_set};
 ghost use Rattle.std.specs.List.{list_all};
 ghost use Rattle.x5_model_typed.specs.Judged as judged;
+ghost use Rattle.x5_model_typed.specs.Layouts as layouts;
 ghost use Rattle.x5_typed.specs.Breaches.{breach_view, Gives};
-ghost use Rattle.x5_types.specs.FormView.{content_view, named_view, table};
+ghost use Rattle.x5_types.specs.FormView.{around, content_view, named_view};
 ghost use Rattle.x5_types.specs.NodeView.{node_view, option_view};
 ghost use Rattle.x5_typed.specs.StateView.{state_view, awaited_view, step_view, left_view, awaits_bits, IsState, Fits, IsSequence, no_node};
 
@@ -14,8 +15,8 @@ use crate::slots::{
 use std::alloc::Global;
 use x5_memory::NoMemory;
 use x5_types::{
-    BIT_SEGMENT, Bytes, Choices, Component, Content, Named, Node, SEGMENT, layout, read_bits,
-    read_leaf,
+    BIT_SEGMENT, Bytes, Choices, Component, Content, Named, Node, SEGMENT, Surroundings, layout,
+    read_bits, read_leaf,
 };
 
 /// Where reading stands: the element's place and content, the components that may still come, what the members so far
@@ -51,7 +52,7 @@ fn is_last_ragged(nodes: &[Node<'_>]) -> bool
 }
 
 fn next_of(form: Named) -> Awaited
-    ensures { awaited_view result ≡ record { types = table (named_view form); step = judged.Next } }
+    ensures { (w : layouts.Surroundings) → awaited_view w result ≡ record { types = layouts.layout w (named_view form); step = judged.Next } }
 {
     Awaited {
         choices: layout(form),
@@ -64,9 +65,9 @@ impl<'a> State<'a> {
     pub(crate) fn awaits(&self, at: usize, class: u8, tag: u32) -> Result<Awaited, Breach>
         requires { IsState self.now }
         ensures fits { IfOk result (λ a. Fits a.step self.now) }
-        ensures awaits { MatchResult result
-            (λ a. judged.awaits table (state_view self.now) at class tag ≡ Ok (awaited_view a))
-            (λ b. judged.awaits table (state_view self.now) at class tag ≡ Err (breach_view b)) }
+        ensures awaits { (w : layouts.Surroundings) → MatchResult result
+            (λ a. judged.awaits (layouts.layout w) (state_view w self.now) at class tag ≡ Ok (awaited_view w a))
+            (λ b. judged.awaits (layouts.layout w) (state_view w self.now) at class tag ≡ Err (breach_view b)) }
     {
         match self.content {
             Content::Primitive(_) | Content::Never => Err(wrong_content(self.at)),
@@ -91,9 +92,9 @@ impl<'a> State<'a> {
     /// The next segment of a bit string: one with unused bits is the last.
     fn awaits_bits(&self) -> Result<Awaited, Breach>
         ensures fits { IfOk result (λ a. Fits a.step self.now) }
-        ensures awaits { MatchResult result
-            (λ a. awaits_bits (state_view self.now) ≡ Ok (awaited_view a))
-            (λ b. awaits_bits (state_view self.now) ≡ Err (breach_view b)) }
+        ensures awaits { (w : layouts.Surroundings) → MatchResult result
+            (λ a. awaits_bits (state_view w self.now) ≡ Ok (awaited_view w a))
+            (λ b. awaits_bits (state_view w self.now) ≡ Err (breach_view b)) }
     {
         if is_last_ragged(&self.nodes) {
             Err(wrong_content(self.last))
@@ -107,7 +108,7 @@ impl<'a> State<'a> {
 
     /// The beginning of a content.
     pub(crate) fn new(alloc: Global, at: usize, content: Content) -> Result<State<'a>, NoMemory>
-        ensures begun { IfOk result (λ s. state_view s ≡ judged.begun at (content_view content)) }
+        ensures begun { (w : layouts.Surroundings) → IfOk result (λ s. state_view w s ≡ judged.begun at (content_view w content)) }
         ensures kept { IfOk result IsState }
     {
         let left = components_in(content);
@@ -123,9 +124,13 @@ impl<'a> State<'a> {
     }
 
     /// What the content is that is over.
-    pub(crate) fn ended(self, alloc: Global) -> Result<Option<Node<'a>>, NoMemory>
+    pub(crate) fn ended(
+        self,
+        alloc: Global,
+        surroundings: Surroundings<'_>,
+    ) -> Result<Option<Node<'a>>, NoMemory>
         requires { IsState self }
-        ensures { IfOk result (λ n. option_view n ≡ judged.ended (state_view self.entry)) }
+        ensures { IfOk result (λ n. option_view n ≡ judged.ended (state_view (around surroundings.entry) self.entry)) }
     {
         match self.content {
             Content::Primitive(_) | Content::Never => Ok(None),
@@ -135,7 +140,7 @@ impl<'a> State<'a> {
             Content::Set(_) => with_slots(alloc, self.slots, &self.left),
             Content::Joined(leaf) => {
                 let octets = joined(alloc, &self.nodes)?;
-                read_leaf(alloc, leaf, Bytes::Kept(octets))
+                read_leaf(alloc, surroundings, leaf, Bytes::Kept(octets))
             }
             Content::JoinedBits(leaf) => {
                 let bits = joined_bits(alloc, &self.nodes)?;
@@ -154,7 +159,7 @@ impl<'a> State<'a> {
     ) -> Result<(), ReadFault>
         requires fits { Fits step self.old }
         requires state { IsState self.old }
-        ensures stepped { Gives (λ _ t. state_view self.new ≡ t) (judged.stepped (state_view self.old) at (step_view step) (node_view node.entry)) result }
+        ensures stepped { (w : layouts.Surroundings) → Gives (λ _ t. state_view w self.new ≡ t) (judged.stepped (state_view w self.old) at (step_view step) (node_view node.entry)) result }
         ensures kept { IsState self.new }
     {
         match step {
@@ -169,7 +174,7 @@ impl<'a> State<'a> {
 
     fn push(&mut self, at: usize, node: Node<'a>) -> Result<(), ReadFault>
         requires state { IsState self.old }
-        ensures stepped { Gives (λ _ t. state_view self.new ≡ t) (judged.stepped (state_view self.old) at judged.Next (node_view node.entry)) result }
+        ensures stepped { (w : layouts.Surroundings) → Gives (λ _ t. state_view w self.new ≡ t) (judged.stepped (state_view w self.old) at judged.Next (node_view node.entry)) result }
         ensures kept { IsState self.new }
     {
         self.nodes.push(node)?;
@@ -180,7 +185,7 @@ impl<'a> State<'a> {
     fn put(&mut self, at: usize, i: usize, node: Node<'a>)
         requires state { IsState self.old }
         requires fits { i < length self.old.slots.items }
-        ensures stepped { Ok (state_view self.new) ≡ judged.stepped (state_view self.old) at (judged.InSlot i) (node_view node.entry) }
+        ensures stepped { (w : layouts.Surroundings) → Ok (state_view w self.new) ≡ judged.stepped (state_view w self.old) at (judged.InSlot i) (node_view node.entry) }
         ensures kept { IsState self.new }
     {
         fill(&mut self.slots, i, node);
@@ -190,7 +195,7 @@ impl<'a> State<'a> {
     fn place(&mut self, alloc: Global, at: usize, i: usize, node: Node<'a>) -> Result<(), ReadFault>
         requires fits { i < length (left_view self.old.left) }
         requires sequence { IsSequence self.old }
-        ensures stepped { Gives (λ _ t. state_view self.new ≡ t) (judged.stepped (state_view self.old) at (judged.InPlace i) (node_view node.entry)) result }
+        ensures stepped { (w : layouts.Surroundings) → Gives (λ _ t. state_view w self.new ≡ t) (judged.stepped (state_view w self.old) at (judged.InPlace i) (node_view node.entry)) result }
         ensures kept { IsState self.new }
     {
         let component = self.left.component(i);
@@ -230,7 +235,7 @@ fn push_defaults(
 }
 
 fn empty_slots<'a>(alloc: Global, content: Content) -> Result<Vec<Option<Node<'a>>>, NoMemory>
-    ensures { IfOk result (λ slots. map option_view slots.items ≡ judged.slots_in (content_view content)) }
+    ensures { (w : layouts.Surroundings) → IfOk result (λ slots. map option_view slots.items ≡ judged.slots_in (content_view w content)) }
 {
     match content {
         Content::Set(components) => empty(alloc, components),

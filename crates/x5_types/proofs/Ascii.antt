@@ -8,6 +8,7 @@ use Rattle.std.specs.List.{list_all}
 use Rattle.std.specs.Str.{IsAscii, IsUtf8}
 use Rattle.x5_model.specs.Normal.{is_printable}
 use Rattle.x5_model.specs.Words.{same_octets}
+use Rattle.x5_model_typed.specs.Layouts.{Surroundings}
 use Rattle.x5_model_typed.specs.Leaves as leaves
 use Rattle.x5_types.specs.declared.form.Letters.{Letters}
 use Rattle.x5_types.specs.declared.form.Letters.TheVariants as letters
@@ -45,11 +46,15 @@ agent_text t e =
     (and_parts _ (nat_le (length t) 32) (and_parts _ (not (same_octets t (codes "user"))) e).0).0 in
     all_low leaves.may_stand_in_agent agent_low t (and_parts (leaves.begins_with_letter t) _ front).1
 
-are_ascii : (ls : Letters) (t : List ℕ) → letters_view ls t ≡ true → IsAscii t
-are_ascii letters.Numeric t e = text_low leaves.is_numeric numeric_low t e
-are_ascii letters.Printable t e = text_low is_printable printable_low t e
-are_ascii letters.SevenBit t e = text_low leaves.is_seven_bit seven_low t e
-are_ascii letters.Agent t e = agent_text t (first_so (leaves.is_agent_name t) _ e)
+are_ascii : (w : Surroundings) (ls : Letters) (t : List ℕ) → letters_view w ls t ≡ true → IsAscii t
+are_ascii w letters.Numeric t e = text_low leaves.is_numeric numeric_low t e
+are_ascii w letters.Printable t e = text_low is_printable printable_low t e
+are_ascii w letters.SevenBit t e = text_low leaves.is_seven_bit seven_low t e
+are_ascii w letters.Agent t e = agent_text t (first_so (leaves.is_agent_name t) _ e)
+are_ascii w letters.WorldAgent t e = agent_text t (first_so (leaves.is_agent_name t) _ e)
 
-pub are_utf8 : (ls : Letters) (t : List ℕ) → letters_view ls t ≡ true → IsUtf8 t
-are_utf8 ls t e = IsUtf8-from_ascii t (are_ascii ls t e)
+pub are_utf8 : (w : Surroundings) (ls : Letters) (t : List ℕ) → letters_view w ls t ≡ true → IsUtf8 t
+are_utf8 w ls t e = IsUtf8-from_ascii t (are_ascii w ls t e)
+
+pub agents_are_utf8 : (t : List ℕ) → leaves.is_agent_name t ≡ true → IsUtf8 t
+agents_are_utf8 t e = IsUtf8-from_ascii t (agent_text t e)

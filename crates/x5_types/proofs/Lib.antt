@@ -1,8 +1,10 @@
+pub mod Agents
 mod Arcs
+mod Ascii
 mod BitLaws
 mod Cells
 mod Magnitudes
 pub mod Nodes
-pub mod TwoParts
-mod Ascii
 mod Sameness
+mod Times
+pub mod TwoParts

@@ -10,7 +10,11 @@ use Rattle.x5_model_typed.specs.Rules as rules
 use Rattle.x5_model_typed.specs.Judged as judged
 use Rattle.x5_model_typed.specs.Layouts as layouts
 use Rattle.std.specs.declared.option.Option.TheVariants.{None}
-use Rattle.std.specs.Prelude.{false}
+use Rattle.std.specs.Prelude.{false, nat_lt}
+use Rattle.x5_know.specs.Moments.{Start, moment_count, moment_of, moment_text}
+use Rattle.x5_know.specs.Names.{has_name}
+use Rattle.x5_types.specs.declared.surroundings.Surroundings.{Surroundings}
+use Rattle.x5_types.specs.declared.surroundings.Surroundings.TheVariants as surroundings
 use Rattle.x5_types.specs.declared.form.Operation.{Operation}
 use Rattle.x5_types.specs.declared.form.Operation.TheVariants as o
 use Rattle.x5_types.specs.declared.form.Named.{Named}
@@ -53,8 +57,10 @@ named_view n.DapRequest = named.DapRequest
 named_view n.DapAnswer = named.DapAnswer
 named_view n.DspRequest = named.DspRequest
 named_view n.DspAnswer = named.DspAnswer
+named_view n.DispMessage = named.DispMessage
 named_view n.DapResult = named.DapResult
 named_view n.DspResult = named.DspResult
+named_view n.DispResult = named.DispResult
 named_view n.AnyNumber = named.AnyNumber
 named_view n.Boolean = named.Boolean
 named_view n.Null = named.Null
@@ -62,6 +68,7 @@ named_view n.AnyOid = named.AnyOid
 named_view n.Value = named.Value
 named_view n.Part = named.Part
 named_view n.AgentName = named.AgentName
+named_view n.Time = named.Time
 named_view n.Options = named.Options
 named_view n.RefType = named.RefType
 named_view n.Name = named.Name
@@ -100,6 +107,24 @@ named_view n.AttributeError = named.AttributeError
 named_view n.NameError = named.NameError
 named_view n.ServiceError = named.ServiceError
 named_view n.UpdateError = named.UpdateError
+named_view n.ShadowError = named.ShadowError
+named_view n.Agreement = named.Agreement
+named_view n.ShadowArgument = named.ShadowArgument
+named_view n.UpdateArgument = named.UpdateArgument
+named_view n.Refresh = named.Refresh
+named_view n.Total = named.Total
+named_view n.Entries = named.Entries
+named_view n.Entry = named.Entry
+named_view n.Knowns = named.Knowns
+named_view n.Known = named.Known
+named_view n.NonSpecifics = named.NonSpecifics
+named_view n.NonSpecific = named.NonSpecific
+named_view n.WorldAgents = named.WorldAgents
+named_view n.WorldAgent = named.WorldAgent
+named_view n.WorldAgentName = named.WorldAgentName
+named_view n.Steps = named.Steps
+named_view n.Step = named.Step
+named_view n.Renamed = named.Renamed
 named_view (n.Argument op) = named.Argument (operation_view op)
 named_view (n.Chained op) = named.Chained (operation_view op)
 named_view (n.Outcome op) = named.Outcome (operation_view op)
@@ -108,27 +133,45 @@ named_view (n.Enumeration low high) = named.Enumeration low high
 named_view (n.Filter levels) = named.Filter levels
 named_view (n.Filters levels) = named.Filters levels
 
+-- No world: in messages of users and between agents there are no times, and agents of any name.
+abbrev pub nowhere : layouts.Surroundings
+nowhere = record { moment = λ t. None; time = λ m. None; is_agent = λ a. false }
+
+-- A world: its start, of which each moment that there is has a date and time, and its agents.
+abbrev pub world : Start → List (List ℕ) → layouts.Surroundings
+world start names = record {
+  moment = moment_of start;
+  time = λ m. leaves.where_so (nat_lt m moment_count) (moment_text start m);
+  is_agent = has_name names;
+}
+
+abbrev pub around : Surroundings → layouts.Surroundings
+around surroundings.Nowhere = nowhere
+around (surroundings.World start names) = world start.now names.now
+
 abbrev pub numbers_view : Numbers → ℤ → Bool
 numbers_view numbers.Any = leaves.any_number
 numbers_view (numbers.FromTo low high) = leaves.from_to low high
 numbers_view numbers.RefType = leaves.one_of (1 ∷ 2 ∷ 3 ∷ 4 ∷ 5 ∷ 8 ∷ [])
 
-abbrev pub letters_view : Letters → List ℕ → Bool
-letters_view letters.Numeric = leaves.text_of leaves.is_numeric
-letters_view letters.Printable = leaves.text_of is_printable
-letters_view letters.SevenBit = leaves.text_of leaves.is_seven_bit
-letters_view letters.Agent = λ t. if leaves.is_agent_name t then layouts.any_agent t else false
+abbrev pub letters_view : layouts.Surroundings → Letters → List ℕ → Bool
+letters_view w letters.Numeric = leaves.text_of leaves.is_numeric
+letters_view w letters.Printable = leaves.text_of is_printable
+letters_view w letters.SevenBit = leaves.text_of leaves.is_seven_bit
+letters_view w letters.Agent = λ t. if leaves.is_agent_name t then layouts.any_agent t else false
+letters_view w letters.WorldAgent = λ t. if leaves.is_agent_name t then w.is_agent t else false
 
-abbrev pub leaf_view : Leaf → forms.Leaf (List ℕ)
-leaf_view leaf.Boolean = leaves.boolean
-leaf_view leaf.Null = leaves.null
-leaf_view (leaf.Number ns) = leaves.number (numbers_view ns)
-leaf_view leaf.Oid = leaves.oid leaves.any_oid
-leaf_view leaf.ShortOid = leaves.oid leaves.short_oid
-leaf_view leaf.Octets = leaves.octet_string
-leaf_view (leaf.Text ls) = leaves.text_where (letters_view ls)
-leaf_view leaf.Universal = leaves.universal_string
-leaf_view leaf.Segment = judged.octets_leaf
+abbrev pub leaf_view : layouts.Surroundings → Leaf → forms.Leaf (List ℕ)
+leaf_view w leaf.Boolean = leaves.boolean
+leaf_view w leaf.Null = leaves.null
+leaf_view w (leaf.Number ns) = leaves.number (numbers_view ns)
+leaf_view w leaf.Oid = leaves.oid leaves.any_oid
+leaf_view w leaf.ShortOid = leaves.oid leaves.short_oid
+leaf_view w leaf.Octets = leaves.octet_string
+leaf_view w (leaf.Text ls) = leaves.text_where (letters_view w ls)
+leaf_view w leaf.Universal = leaves.universal_string
+leaf_view w leaf.Time = layouts.time_leaf w
+leaf_view w leaf.Segment = judged.octets_leaf
 
 abbrev pub bit_leaf_view : BitLeaf → forms.Leaf (List Bool)
 bit_leaf_view bits.Options = leaves.options
@@ -151,6 +194,9 @@ codes_view codes.ChainedArguments = layouts.named_by (layouts.operation_codes na
 codes_view codes.Outcomes = layouts.named_by (layouts.operation_codes named.Outcome)
 codes_view codes.DapErrors = layouts.named_by layouts.dap_errors
 codes_view codes.DspErrors = layouts.named_by layouts.dsp_errors
+codes_view codes.ShadowOperations = layouts.named_by layouts.shadow_operations
+codes_view codes.ShadowResults = layouts.named_by layouts.shadow_results
+codes_view codes.ShadowErrors = layouts.named_by layouts.shadow_errors
 
 abbrev pub presence_view : Presence → forms.Presence
 presence_view presence.Required = forms.Required
@@ -163,15 +209,15 @@ component_view c = record { tag = c.tag; form = named_view c.form; presence = pr
 abbrev pub components_view : List Component → List forms.Component
 components_view cs = map component_view cs
 
-abbrev pub content_view : Content → forms.Content
-content_view (content.Primitive l) = forms.Primitive (leaf_view l)
-content_view (content.Joined l) = forms.Joined (leaf_view l)
-content_view (content.JoinedBits l) = forms.JoinedBits (bit_leaf_view l)
-content_view (content.Explicit f) = forms.Explicit (named_view f)
-content_view (content.Sequence cs) = forms.Sequence (components_view cs.now)
-content_view (content.Set cs) = forms.Set (components_view cs.now)
-content_view (content.Members f) = forms.Members (named_view f)
-content_view content.Never = forms.Never
+abbrev pub content_view : layouts.Surroundings → Content → forms.Content
+content_view w (content.Primitive l) = forms.Primitive (leaf_view w l)
+content_view w (content.Joined l) = forms.Joined (leaf_view w l)
+content_view w (content.JoinedBits l) = forms.JoinedBits (bit_leaf_view l)
+content_view w (content.Explicit f) = forms.Explicit (named_view f)
+content_view w (content.Sequence cs) = forms.Sequence (components_view cs.now)
+content_view w (content.Set cs) = forms.Set (components_view cs.now)
+content_view w (content.Members f) = forms.Members (named_view f)
+content_view w content.Never = forms.Never
 
 abbrev pub rule_view : Rule → nodes.Node → Option nodes.Node
 rule_view rule.Any = forms.any_node
@@ -184,29 +230,35 @@ rule_view rule.Text = rules.text_rule
 rule_view rule.Parts = rules.parts_rule
 rule_view rule.Progress = rules.progress_rule
 rule_view rule.Trace = rules.trace_rule
+rule_view rule.Entry = rules.entry_rule
+rule_view rule.Known = rules.known_rule
+rule_view rule.Masters = rules.masters_rule
 
-abbrev pub alternative_view : Alternative → forms.Alternative
-alternative_view a = record {
+abbrev pub alternative_view : layouts.Surroundings → Alternative → forms.Alternative
+alternative_view w a = record {
   class = a.class;
   tag = a.tag;
-  content = content_view a.content;
-  marked =
-      a.marked;
+  content = content_view w a.content;
+  marked = a.marked;
   settles = rule_view a.rule;
 }
 
-abbrev pub types_view : List Alternative → List forms.Alternative
-types_view types = map alternative_view types
+abbrev pub types_view : layouts.Surroundings → List Alternative → List forms.Alternative
+types_view w types = map (alternative_view w) types
 
-abbrev pub choices_view : Choices → List forms.Alternative
-choices_view (choices.Listed types) = types_view types.now
-choices_view (choices.One a) = alternative_view a ∷ []
-choices_view (choices.Filter levels) = layouts.filter levels
+abbrev pub choices_view : layouts.Surroundings → Choices → List forms.Alternative
+choices_view w (choices.Listed types) = types_view w types.now
+choices_view w (choices.One a) = alternative_view w a ∷ []
+choices_view w (choices.Filter levels) = layouts.filter levels
 
--- No world: in messages of users and between agents there are no times, and agents of any name.
-abbrev pub nowhere : layouts.Surroundings
-nowhere = record { moment = λ t. None; time = λ m. None; is_agent = λ a. false }
-
--- The types of messages.
+-- The types of messages of users and between agents.
 abbrev pub table : forms.Layout
 table = layouts.layout nowhere
+
+-- The types of messages in a world.
+abbrev pub world_table : Start → List (List ℕ) → forms.Layout
+world_table start names = layouts.layout (world start names)
+
+-- The types of messages in their surroundings.
+abbrev pub table_in : Surroundings → forms.Layout
+table_in s = layouts.layout (around s)

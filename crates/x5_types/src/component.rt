@@ -2,14 +2,15 @@
 ghost use Rattle.std.specs.Prelude.{◌≡◌, ◌∷◌, []};
 ghost use Rattle.x5_model_typed.specs.Forms as forms;
 ghost use Rattle.x5_model_typed.specs.Judged as judged;
-ghost use Rattle.x5_types.specs.FormView.{choices_view, component_view, named_view, table};
+ghost use Rattle.x5_model_typed.specs.Layouts as layouts;
+ghost use Rattle.x5_types.specs.FormView.{choices_view, component_view, named_view};
 
 use crate::form::{Alternative, Choices, Component, Content, Named, Presence, Rule};
 use crate::table::layout;
 
 /// An explicit context tag around a type.
 fn tagged(tag: u32, form: Named) -> Choices
-    ensures { choices_view result ≡ forms.context tag (forms.Explicit (named_view form)) ∷ [] }
+    ensures { (w : layouts.Surroundings) → choices_view w result ≡ forms.context tag (forms.Explicit (named_view form)) ∷ [] }
 {
     Choices::One(Alternative {
         class: 2,
@@ -23,7 +24,7 @@ fn tagged(tag: u32, form: Named) -> Choices
 impl Component {
     /// The types that its elements are of.
     pub fn choices(self) -> Choices
-        ensures { choices_view result ≡ forms.alternatives table (component_view self) }
+        ensures { (w : layouts.Surroundings) → choices_view w result ≡ forms.alternatives (layouts.layout w) (component_view self) }
     {
         match self.tag {
             None => layout(self.form),

@@ -2,7 +2,7 @@
 ghost use Rattle.std.specs.Prelude.{◌≡◌, ◌∷◌, [], MatchOption, None, Some};
 ghost use Rattle.x5_model_typed.specs.Forms as forms;
 ghost use Rattle.x5_model_typed.specs.Layouts as layouts;
-ghost use Rattle.x5_types.specs.FormView.{types_view, choices_view, alternative_view, content_view};
+ghost use Rattle.x5_types.specs.FormView.{alternative_view, choices_view, content_view, types_view};
 
 /// What a request asks for (X.511).
 #[derive(Clone, Copy)]
@@ -24,11 +24,14 @@ pub enum Named {
     DapAnswer,
     DspRequest,
     DspAnswer,
+    /// A message of shadowing, either way (X.525).
+    DispMessage,
     Argument(Operation),
     /// The argument of a chained operation (X.518, section 12).
     Chained(Operation),
     DapResult,
     DspResult,
+    DispResult,
     Outcome(Operation),
     AnyNumber,
     /// An INTEGER from the first to the second.
@@ -41,6 +44,8 @@ pub enum Named {
     Value,
     Part,
     AgentName,
+    /// A moment as a date and time.
+    Time,
     Options,
     RefType,
     Name,
@@ -82,6 +87,24 @@ pub enum Named {
     NameError,
     ServiceError,
     UpdateError,
+    ShadowError,
+    Agreement,
+    ShadowArgument,
+    UpdateArgument,
+    Refresh,
+    Total,
+    Entries,
+    Entry,
+    Knowns,
+    Known,
+    NonSpecifics,
+    NonSpecific,
+    WorldAgents,
+    WorldAgent,
+    WorldAgentName,
+    Steps,
+    Step,
+    Renamed,
 }
 
 /// Which numbers an INTEGER or ENUMERATED has.
@@ -102,6 +125,8 @@ pub enum Letters {
     SevenBit,
     /// The name of an agent.
     Agent,
+    /// The name of an agent of the world.
+    WorldAgent,
 }
 
 /// Contents of octets.
@@ -117,6 +142,8 @@ pub enum Leaf {
     Text(Letters),
     /// Four octets a character.
     Universal,
+    /// The date and time of a moment.
+    Time,
     /// A segment of a string.
     Segment,
 }
@@ -150,6 +177,9 @@ pub enum Codes {
     Outcomes,
     DapErrors,
     DspErrors,
+    ShadowOperations,
+    ShadowResults,
+    ShadowErrors,
 }
 
 /// Whether a component has to be there, and what it is where it isn't. The number of a code names the type of the
@@ -200,6 +230,9 @@ pub enum Rule {
     Parts,
     Progress,
     Trace,
+    Entry,
+    Known,
+    Masters,
 }
 
 /// A tag that a type's elements may have, with the content and the rule of the whole. Where the tag says which of
@@ -225,9 +258,9 @@ pub enum Choices {
 impl Choices {
     /// The alternative with the tag.
     pub fn by_tag(self, class: u8, tag: u32) -> Option<Alternative>
-        ensures { MatchOption result
-            (forms.by_tag class tag (choices_view self) ≡ None)
-            (λ a. forms.by_tag class tag (choices_view self) ≡ Some (alternative_view a)) }
+        ensures { (w : layouts.Surroundings) → MatchOption result
+            (forms.by_tag class tag (choices_view w self) ≡ None)
+            (λ a. forms.by_tag class tag (choices_view w self) ≡ Some (alternative_view w a)) }
     {
         match self {
             Choices::Listed(types) => listed_by_tag(types, class, tag),
@@ -238,9 +271,9 @@ impl Choices {
 }
 
 fn one_by_tag(alternative: Alternative, class: u8, tag: u32) -> Option<Alternative>
-    ensures { MatchOption result
-        (forms.by_tag class tag (alternative_view alternative ∷ []) ≡ None)
-        (λ a. forms.by_tag class tag (alternative_view alternative ∷ []) ≡ Some (alternative_view a)) }
+    ensures { (w : layouts.Surroundings) → MatchOption result
+        (forms.by_tag class tag (alternative_view w alternative ∷ []) ≡ None)
+        (λ a. forms.by_tag class tag (alternative_view w alternative ∷ []) ≡ Some (alternative_view w a)) }
 {
     if alternative.class == class && alternative.tag == tag {
         Some(alternative)
@@ -250,9 +283,9 @@ fn one_by_tag(alternative: Alternative, class: u8, tag: u32) -> Option<Alternati
 }
 
 fn listed_by_tag(types: &'static [Alternative], class: u8, tag: u32) -> Option<Alternative>
-    ensures { MatchOption result
-        (forms.by_tag class tag (types_view types.now) ≡ None)
-        (λ a. forms.by_tag class tag (types_view types.now) ≡ Some (alternative_view a)) }
+    ensures { (w : layouts.Surroundings) → MatchOption result
+        (forms.by_tag class tag (types_view w types.now) ≡ None)
+        (λ a. forms.by_tag class tag (types_view w types.now) ≡ Some (alternative_view w a)) }
 {
     for a in types {
         if a.class == class && a.tag == tag {
@@ -264,9 +297,9 @@ fn listed_by_tag(types: &'static [Alternative], class: u8, tag: u32) -> Option<A
 
 /// The content of a filter with the context tag, of so many levels at most. The 17th on its way has none.
 fn filter_content(levels: u8, tag: u32) -> Option<Content>
-    ensures { MatchOption result
+    ensures { (w : layouts.Surroundings) → MatchOption result
         (forms.by_tag 2 tag (layouts.filter levels) ≡ None)
-        (λ c. forms.by_tag 2 tag (layouts.filter levels) ≡ Some (forms.choice tag (content_view c))) }
+        (λ c. forms.by_tag 2 tag (layouts.filter levels) ≡ Some (forms.choice tag (content_view w c))) }
 {
     if tag > 3 {
         return None;
@@ -282,9 +315,9 @@ fn filter_content(levels: u8, tag: u32) -> Option<Content>
 }
 
 fn filter_by_tag(levels: u8, class: u8, tag: u32) -> Option<Alternative>
-    ensures { MatchOption result
+    ensures { (w : layouts.Surroundings) → MatchOption result
         (forms.by_tag class tag (layouts.filter levels) ≡ None)
-        (λ a. forms.by_tag class tag (layouts.filter levels) ≡ Some (alternative_view a)) }
+        (λ a. forms.by_tag class tag (layouts.filter levels) ≡ Some (alternative_view w a)) }
 {
     if class != 2 {
         return None;

@@ -2,8 +2,9 @@
 ghost use Rattle.std.specs.Prelude.{◌≡◌, IfOk};
 ghost use Rattle.x5_model_typed.specs.Forms as forms;
 ghost use Rattle.x5_model_typed.specs.Judged as judged;
+ghost use Rattle.x5_model_typed.specs.Layouts as layouts;
 ghost use Rattle.x5_model_typed.specs.Leaves as leaves;
-ghost use Rattle.x5_types.specs.FormView.{bit_leaf_view, content_view, leaf_view};
+ghost use Rattle.x5_types.specs.FormView.{around, bit_leaf_view, content_view, leaf_view};
 ghost use Rattle.x5_types.specs.NodeView.{bytes_view, option_view};
 
 use crate::bits::{bits_of_content, read_bits};
@@ -11,6 +12,7 @@ use crate::form::{BitLeaf, Content, Leaf};
 use crate::node::{Bytes, Node};
 use crate::number::number;
 use crate::oid::{oid, short_oid};
+use crate::surroundings::Surroundings;
 use crate::text::{text, universal};
 use std::alloc::Global;
 use x5_memory::NoMemory;
@@ -44,14 +46,29 @@ fn octet_string<'a>(octets: Bytes<'a>) -> Option<Node<'a>>
     }
 }
 
+/// The moment of a date and time.
+fn time<'a>(
+    alloc: Global,
+    surroundings: Surroundings<'_>,
+    octets: &[u8],
+) -> Result<Option<Node<'a>>, NoMemory>
+    ensures { IfOk result (λ n. option_view n ≡ (layouts.time_leaf (around surroundings.entry)).reads octets.now) }
+{
+    match surroundings.moment(alloc, octets)? {
+        Some(moment) => Ok(Some(Node::Number(i64::from(moment.0)))),
+        None => Ok(None),
+    }
+}
+
 /// What the octets of a content say, which may have been joined from segments. None if they are outside the type
 /// (X.690, section 8).
 pub fn read_leaf<'a>(
     alloc: Global,
+    surroundings: Surroundings<'_>,
     leaf: Leaf,
     octets: Bytes<'a>,
 ) -> Result<Option<Node<'a>>, NoMemory>
-    ensures { IfOk result (λ n. option_view n ≡ (leaf_view leaf).reads (bytes_view octets.entry)) }
+    ensures { IfOk result (λ n. option_view n ≡ (leaf_view (around surroundings.entry) leaf).reads (bytes_view octets.entry)) }
 {
     match leaf {
         Leaf::Boolean => Ok(boolean(octets.as_slice())),
@@ -60,8 +77,9 @@ pub fn read_leaf<'a>(
         Leaf::Oid => oid(alloc, octets.as_slice()),
         Leaf::ShortOid => short_oid(alloc, octets.as_slice()),
         Leaf::Octets => Ok(octet_string(octets)),
-        Leaf::Text(letters) => Ok(text(letters, octets)),
+        Leaf::Text(letters) => Ok(text(surroundings, letters, octets)),
         Leaf::Universal => universal(alloc, octets.as_slice()),
+        Leaf::Time => time(alloc, surroundings, octets.as_slice()),
         Leaf::Segment => Ok(Some(Node::Octets(octets))),
     }
 }
@@ -82,14 +100,16 @@ fn read_bit_content<'a>(
 /// What a primitive content says. None if it is outside the type, or the type has no primitive contents.
 pub fn leaf_node<'a>(
     alloc: Global,
+    surroundings: Surroundings<'_>,
     content: Content,
     octets: &'a [u8],
 ) -> Result<Option<Node<'a>>, NoMemory>
-    ensures { IfOk result (λ n. option_view n ≡ judged.leaf_node (content_view content) octets.now) }
+    ensures { IfOk result (λ n. option_view n ≡ judged.leaf_node (content_view (around surroundings.entry) content) octets.now) }
 {
     match content {
         Content::Primitive(leaf) | Content::Joined(leaf) => read_leaf(
             alloc,
+            surroundings,
             leaf,
             Bytes::Lent(octets),
         ),

@@ -1,63 +1,18 @@
-//! The types of messages (X.511, X.518, with numbers of this project's own where the standards' aren't used), as
+//! The types of messages (X.511, X.518, X.525, with numbers of this project's own where the standards' aren't used), as
 //! `docs/FORMATS.md` shows them in the notation of X.680.
-ghost use Rattle.std.specs.Prelude.{◌≡◌, MatchOption, None, Some};
+ghost use Rattle.std.specs.Prelude.{◌≡◌};
 ghost use Rattle.x5_model_typed.specs.Forms as forms;
 ghost use Rattle.x5_model_typed.specs.Leaves as leaves;
 ghost use Rattle.x5_model_typed.specs.Layouts as layouts;
-ghost use Rattle.x5_model_typed.specs.Named as named;
-ghost use Rattle.x5_types.specs.FormView.{choices_view, types_view, content_view, named_view, operation_view, codes_view, table};
+ghost use Rattle.x5_types.specs.FormView.{choices_view, content_view, named_view};
 
 use crate::form::{
     Alternative, BitLeaf, Choices, Codes, Component, Content, Given, Leaf, Letters, Named, Numbers,
-    Operation, Presence, Rule,
+    Presence, Rule,
 };
-
-macro_rules! universal {
-    ($tag:expr, $content:expr, $rule:expr) => {
-        Alternative {
-            class: 0,
-            tag: $tag,
-            marked: false,
-            content: $content,
-            rule: $rule,
-        }
-    };
-}
-
-macro_rules! choice {
-    ($tag:expr, $content:expr) => {
-        Alternative {
-            class: 2,
-            tag: $tag,
-            marked: true,
-            content: $content,
-            rule: Rule::Any,
-        }
-    };
-}
-
-macro_rules! component {
-    ($tag:expr, $form:expr, $presence:expr) => {
-        Component {
-            tag: $tag,
-            form: $form,
-            presence: $presence,
-        }
-    };
-}
-
-macro_rules! chained {
-    ($operation:expr) => {
-        &[universal!(
-            16,
-            Content::Sequence(&[
-                component!(None, Named::Chaining, Presence::Required),
-                component!(None, Named::Argument($operation), Presence::Required)
-            ]),
-            Rule::Any
-        )]
-    };
-}
+use crate::macros::{choice, component, universal};
+use crate::operations::{argument, chained, outcome};
+use crate::shadow;
 
 const DAP_REQUEST: &[Alternative] = &[choice!(
     1,
@@ -462,205 +417,6 @@ const UPDATE_ERROR: &[Alternative] = &[universal!(
     Rule::Any
 )];
 
-const READ_ARGUMENT: &[Alternative] = &[universal!(
-    17,
-    Content::Set(&[
-        component!(Some(0), Named::Name, Presence::Required),
-        component!(
-            Some(1),
-            Named::Selection,
-            Presence::Default(Given::AllAttributes)
-        ),
-        component!(
-            Some(30),
-            Named::Controls,
-            Presence::Default(Given::NoControls)
-        )
-    ]),
-    Rule::Any
-)];
-
-const COMPARE_ARGUMENT: &[Alternative] = &[universal!(
-    17,
-    Content::Set(&[
-        component!(Some(0), Named::Name, Presence::Required),
-        component!(Some(1), Named::Assertion, Presence::Required),
-        component!(
-            Some(30),
-            Named::Controls,
-            Presence::Default(Given::NoControls)
-        )
-    ]),
-    Rule::Any
-)];
-
-const LIST_BELOW_ARGUMENT: &[Alternative] = &[universal!(
-    17,
-    Content::Set(&[
-        component!(Some(0), Named::Name, Presence::Required),
-        component!(
-            Some(30),
-            Named::Controls,
-            Presence::Default(Given::NoControls)
-        )
-    ]),
-    Rule::Any
-)];
-
-const SEARCH_ARGUMENT: &[Alternative] = &[universal!(
-    17,
-    Content::Set(&[
-        component!(Some(0), Named::Name, Presence::Required),
-        component!(
-            Some(1),
-            Named::NumberBelow(0, 2),
-            Presence::Default(Given::Zero)
-        ),
-        component!(
-            Some(2),
-            Named::Filter(16),
-            Presence::Default(Given::Everything)
-        ),
-        component!(
-            Some(4),
-            Named::Selection,
-            Presence::Default(Given::AllAttributes)
-        ),
-        component!(
-            Some(30),
-            Named::Controls,
-            Presence::Default(Given::NoControls)
-        )
-    ]),
-    Rule::Any
-)];
-
-const ADD_ENTRY_ARGUMENT: &[Alternative] = &[universal!(
-    17,
-    Content::Set(&[
-        component!(Some(0), Named::Name, Presence::Required),
-        component!(Some(1), Named::Attributes, Presence::Required),
-        component!(
-            Some(30),
-            Named::Controls,
-            Presence::Default(Given::NoControls)
-        )
-    ]),
-    Rule::Any
-)];
-
-const REMOVE_ENTRY_ARGUMENT: &[Alternative] = &[universal!(
-    17,
-    Content::Set(&[
-        component!(Some(0), Named::Name, Presence::Required),
-        component!(
-            Some(30),
-            Named::Controls,
-            Presence::Default(Given::NoControls)
-        )
-    ]),
-    Rule::Any
-)];
-
-const MODIFY_ENTRY_ARGUMENT: &[Alternative] = &[universal!(
-    17,
-    Content::Set(&[
-        component!(Some(0), Named::Name, Presence::Required),
-        component!(Some(1), Named::Changes, Presence::Required),
-        component!(
-            Some(30),
-            Named::Controls,
-            Presence::Default(Given::NoControls)
-        )
-    ]),
-    Rule::Any
-)];
-
-const MODIFY_DN_ARGUMENT: &[Alternative] = &[universal!(
-    17,
-    Content::Set(&[
-        component!(Some(0), Named::Name, Presence::Required),
-        component!(Some(1), Named::Rdn, Presence::Required),
-        component!(
-            Some(2),
-            Named::Boolean,
-            Presence::Default(Given::Flag(false))
-        ),
-        component!(
-            Some(30),
-            Named::Controls,
-            Presence::Default(Given::NoControls)
-        )
-    ]),
-    Rule::Any
-)];
-
-const CHAINED_READ: &[Alternative] = chained!(Operation::Read);
-
-const CHAINED_COMPARE: &[Alternative] = chained!(Operation::Compare);
-
-const CHAINED_LIST_BELOW: &[Alternative] = chained!(Operation::ListBelow);
-
-const CHAINED_SEARCH: &[Alternative] = chained!(Operation::Search);
-
-const CHAINED_ADD_ENTRY: &[Alternative] = chained!(Operation::AddEntry);
-
-const CHAINED_REMOVE_ENTRY: &[Alternative] = chained!(Operation::RemoveEntry);
-
-const CHAINED_MODIFY_ENTRY: &[Alternative] = chained!(Operation::ModifyEntry);
-
-const CHAINED_MODIFY_DN: &[Alternative] = chained!(Operation::ModifyDn);
-
-const READ_OUTCOME: &[Alternative] = &[universal!(
-    17,
-    Content::Set(&[
-        component!(Some(0), Named::EntryInfo, Presence::Required),
-        component!(Some(1), Named::Source, Presence::Required)
-    ]),
-    Rule::Any
-)];
-
-const COMPARE_OUTCOME: &[Alternative] = &[universal!(
-    17,
-    Content::Set(&[
-        component!(Some(0), Named::Boolean, Presence::Required),
-        component!(
-            Some(1),
-            Named::Boolean,
-            Presence::Default(Given::Flag(true))
-        ),
-        component!(Some(2), Named::Source, Presence::Required)
-    ]),
-    Rule::Any
-)];
-
-const LIST_BELOW_OUTCOME: &[Alternative] = &[universal!(
-    17,
-    Content::Set(&[
-        component!(Some(0), Named::Subs, Presence::Required),
-        component!(Some(1), Named::Sources, Presence::Required),
-        component!(
-            Some(2),
-            Named::Qualifier,
-            Presence::Default(Given::NoQualifier)
-        )
-    ]),
-    Rule::Any
-)];
-
-const SEARCH_OUTCOME: &[Alternative] = &[universal!(
-    17,
-    Content::Set(&[
-        component!(Some(0), Named::EntryInfos, Presence::Required),
-        component!(Some(1), Named::Sources, Presence::Required),
-        component!(
-            Some(2),
-            Named::Qualifier,
-            Presence::Default(Given::NoQualifier)
-        )
-    ]),
-    Rule::Any
-)];
 /// What a string's segments are (X.690, 8.7.3.2).
 pub const SEGMENT: &[Alternative] = &[universal!(4, Content::Joined(Leaf::Segment), Rule::Any)];
 /// What a bit string's segments are (X.690, 8.6.4.2).
@@ -671,59 +427,14 @@ pub const BIT_SEGMENT: &[Alternative] = &[universal!(
 )];
 
 fn numbers(low: u32, high: u32) -> Content
-    ensures { content_view result ≡ forms.Primitive (leaves.number (leaves.from_to low high)) }
+    ensures { (w : layouts.Surroundings) → content_view w result ≡ forms.Primitive (leaves.number (leaves.from_to low high)) }
 {
     Content::Primitive(Leaf::Number(Numbers::FromTo(low, high)))
 }
 
-fn argument(operation: Operation) -> &'static [Alternative]
-    ensures { types_view result.now ≡ layouts.is (layouts.set (layouts.argument (operation_view operation))) }
-{
-    match operation {
-        Operation::Read => READ_ARGUMENT,
-        Operation::Compare => COMPARE_ARGUMENT,
-        Operation::ListBelow => LIST_BELOW_ARGUMENT,
-        Operation::Search => SEARCH_ARGUMENT,
-        Operation::AddEntry => ADD_ENTRY_ARGUMENT,
-        Operation::RemoveEntry => REMOVE_ENTRY_ARGUMENT,
-        Operation::ModifyEntry => MODIFY_ENTRY_ARGUMENT,
-        Operation::ModifyDn => MODIFY_DN_ARGUMENT,
-    }
-}
-
-fn chained(operation: Operation) -> &'static [Alternative]
-    ensures { types_view result.now ≡ table (named.Chained (operation_view operation)) }
-{
-    match operation {
-        Operation::Read => CHAINED_READ,
-        Operation::Compare => CHAINED_COMPARE,
-        Operation::ListBelow => CHAINED_LIST_BELOW,
-        Operation::Search => CHAINED_SEARCH,
-        Operation::AddEntry => CHAINED_ADD_ENTRY,
-        Operation::RemoveEntry => CHAINED_REMOVE_ENTRY,
-        Operation::ModifyEntry => CHAINED_MODIFY_ENTRY,
-        Operation::ModifyDn => CHAINED_MODIFY_DN,
-    }
-}
-
-fn outcome(operation: Operation) -> &'static [Alternative]
-    ensures { types_view result.now ≡ layouts.is (layouts.outcome (operation_view operation)) }
-{
-    match operation {
-        Operation::Read => READ_OUTCOME,
-        Operation::Compare => COMPARE_OUTCOME,
-        Operation::ListBelow => LIST_BELOW_OUTCOME,
-        Operation::Search => SEARCH_OUTCOME,
-        Operation::AddEntry
-        | Operation::RemoveEntry
-        | Operation::ModifyEntry
-        | Operation::ModifyDn => NULL,
-    }
-}
-
-/// What the type is: the elements that are values of it.
+/// What the type is, in whatever surroundings: the elements that are values of it.
 pub fn layout(form: Named) -> Choices
-    ensures { choices_view result ≡ table (named_view form) }
+    ensures { (w : layouts.Surroundings) → choices_view w result ≡ layouts.layout w (named_view form) }
 {
     match form {
         Named::Filter(levels) => Choices::Filter(levels),
@@ -791,69 +502,26 @@ pub fn layout(form: Named) -> Choices
         Named::NameError => Choices::Listed(NAME_ERROR),
         Named::ServiceError => Choices::Listed(SERVICE_ERROR),
         Named::UpdateError => Choices::Listed(UPDATE_ERROR),
-    }
-}
-
-impl Codes {
-    /// The type that a number names; None of a number that is no code.
-    pub fn named(self, number: i64) -> Option<Named>
-        ensures { MatchOption result
-            (codes_view self number ≡ None)
-            (λ form. codes_view self number ≡ Some (named_view form)) }
-    {
-        match self {
-            Codes::Arguments => match operation(number) {
-                Some(operation) => Some(Named::Argument(operation)),
-                None => None,
-            },
-            Codes::ChainedArguments => match operation(number) {
-                Some(operation) => Some(Named::Chained(operation)),
-                None => None,
-            },
-            Codes::Outcomes => match operation(number) {
-                Some(operation) => Some(Named::Outcome(operation)),
-                None => None,
-            },
-            Codes::DapErrors => match number {
-                1 => Some(Named::AttributeError),
-                2 => Some(Named::NameError),
-                3 => Some(Named::ServiceError),
-                4 => Some(Named::Reference),
-                8 => Some(Named::UpdateError),
-                _ => None,
-            },
-            Codes::DspErrors => match number {
-                1 => Some(Named::AttributeError),
-                2 => Some(Named::NameError),
-                3 => Some(Named::ServiceError),
-                8 => Some(Named::UpdateError),
-                9 => Some(Named::Reference),
-                _ => None,
-            },
-        }
-    }
-}
-
-fn operation(number: i64) -> Option<Operation>
-    ensures argument { MatchOption result
-        (layouts.named_by (layouts.operation_codes named.Argument) number ≡ None)
-        (λ op. layouts.named_by (layouts.operation_codes named.Argument) number ≡ Some (named.Argument (operation_view op))) }
-    ensures chained { MatchOption result
-        (layouts.named_by (layouts.operation_codes named.Chained) number ≡ None)
-        (λ op. layouts.named_by (layouts.operation_codes named.Chained) number ≡ Some (named.Chained (operation_view op))) }
-    ensures outcome { MatchOption result
-        (layouts.named_by (layouts.operation_codes named.Outcome) number ≡ None)
-        (λ op. layouts.named_by (layouts.operation_codes named.Outcome) number ≡ Some (named.Outcome (operation_view op))) }
-{
-    match number {
-        1 => Some(Operation::Read),
-        2 => Some(Operation::Compare),
-        4 => Some(Operation::ListBelow),
-        5 => Some(Operation::Search),
-        6 => Some(Operation::AddEntry),
-        7 => Some(Operation::RemoveEntry),
-        8 => Some(Operation::ModifyEntry),
-        9 => Some(Operation::ModifyDn),
-        _ => None,
+        Named::DispMessage => Choices::Listed(shadow::DISP_MESSAGE),
+        Named::DispResult => Choices::Listed(shadow::DISP_RESULT),
+        Named::Time => Choices::Listed(shadow::TIME),
+        Named::ShadowError => Choices::Listed(shadow::SHADOW_ERROR),
+        Named::Agreement => Choices::Listed(shadow::AGREEMENT),
+        Named::ShadowArgument => Choices::Listed(shadow::SHADOW_ARGUMENT),
+        Named::UpdateArgument => Choices::Listed(shadow::UPDATE_ARGUMENT),
+        Named::Refresh => Choices::Listed(shadow::REFRESH),
+        Named::Total => Choices::Listed(shadow::TOTAL),
+        Named::Entries => Choices::Listed(shadow::ENTRIES),
+        Named::Entry => Choices::Listed(shadow::ENTRY),
+        Named::Knowns => Choices::Listed(shadow::KNOWNS),
+        Named::Known => Choices::Listed(shadow::KNOWN),
+        Named::NonSpecifics => Choices::Listed(shadow::NON_SPECIFICS),
+        Named::NonSpecific => Choices::Listed(shadow::NON_SPECIFIC),
+        Named::WorldAgents => Choices::Listed(shadow::WORLD_AGENTS),
+        Named::WorldAgent => Choices::Listed(shadow::WORLD_AGENT),
+        Named::WorldAgentName => Choices::Listed(shadow::WORLD_AGENT_NAME),
+        Named::Steps => Choices::Listed(shadow::STEPS),
+        Named::Step => Choices::Listed(shadow::STEP),
+        Named::Renamed => Choices::Listed(shadow::RENAMED),
     }
 }

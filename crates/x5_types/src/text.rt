@@ -1,5 +1,5 @@
 //! Strings of characters (X.690, 8.23; X.680, section 41).
-ghost use Rattle.std.specs.Prelude.{◌≡◌, ◌++◌, ◌<◌, IfOk, OnOk, MatchOption, None, Some, codes, drop, true, length, ◌≤◌, ◌+◌, string_bytes, encode_utf8};
+ghost use Rattle.std.specs.Prelude.{◌≡◌, ◌++◌, ◌<◌, IfOk, OnOk, MatchOption, None, Some, codes, drop, if◌then◌else◌, true, false, length, ◌≤◌, ◌+◌, string_bytes, encode_utf8};
 ghost use Rattle.std.specs.List.{list_all};
 ghost use Rattle.std.specs.Str.{IsUtf8};
 ghost use Rattle.std.specs.Option.{option_map};
@@ -8,11 +8,12 @@ ghost use Rattle.x5_model.specs.Words.{same_octets};
 ghost use Rattle.x5_model_typed.specs.Leaves as leaves;
 ghost use Rattle.x5_model_typed.specs.Nodes as nodes;
 ghost use Rattle.x5_types.specs.Cells.{Cell, Cut, encoded};
-ghost use Rattle.x5_types.specs.FormView.{letters_view};
+ghost use Rattle.x5_types.specs.FormView.{around, letters_view};
 ghost use Rattle.x5_types.specs.NodeView.{bytes_view, characters_view, option_view};
 
 use crate::form::Letters;
 use crate::node::{Bytes, Characters, Node};
+use crate::surroundings::Surroundings;
 use std::alloc::Global;
 use x5_memory::NoMemory;
 use x5_syntax::MOST_VALUE_OCTETS;
@@ -71,6 +72,20 @@ fn is_agent_name(text: &[u8]) -> bool
     begins_with_letter(text) && all_in_agent(text) && text.len() <= 32 && !is_user(text)
 }
 
+/// Whether the octets are the name of an agent of the world.
+#[tactic(auto, using(crate::proofs::Ascii::agents_are_utf8))]
+fn is_world_agent(surroundings: Surroundings<'_>, text: &[u8]) -> bool
+    ensures { result ≡ (if leaves.is_agent_name text.now then (around surroundings.entry).is_agent text.now else false) }
+{
+    if !is_agent_name(text) {
+        return false;
+    }
+    match std::str::from_utf8(text) {
+        Ok(name) => surroundings.is_agent(name),
+        Err(_) => false,
+    }
+}
+
 fn all_numeric(text: &[u8]) -> bool
     ensures { result ≡ list_all leaves.is_numeric text.now }
 {
@@ -90,14 +105,15 @@ fn all_seven_bit(text: &[u8]) -> bool
 }
 
 /// Whether the octets are characters that may stand there, not too many of them. No memory.
-pub fn is_text(letters: Letters, text: &[u8]) -> bool
-    ensures { result ≡ letters_view letters text.now }
+pub fn is_text(surroundings: Surroundings<'_>, letters: Letters, text: &[u8]) -> bool
+    ensures { result ≡ letters_view (around surroundings.entry) letters text.now }
 {
     match letters {
         Letters::Numeric => all_numeric(text) && is_length(text),
         Letters::Printable => all_printable(text) && is_length(text),
         Letters::SevenBit => all_seven_bit(text) && is_length(text),
         Letters::Agent => is_agent_name(text),
+        Letters::WorldAgent => is_world_agent(surroundings, text),
     }
 }
 
@@ -121,10 +137,14 @@ fn as_text<'a>(octets: Bytes<'a>) -> Option<Characters<'a>>
 
 /// The text, where its characters may stand there.
 #[tactic(auto, using(crate::proofs::Ascii::are_utf8))]
-pub(crate) fn text<'a>(letters: Letters, octets: Bytes<'a>) -> Option<Node<'a>>
-    ensures { option_view result ≡ (leaves.text_where (letters_view letters)).reads (bytes_view octets.entry) }
+pub(crate) fn text<'a>(
+    surroundings: Surroundings<'_>,
+    letters: Letters,
+    octets: Bytes<'a>,
+) -> Option<Node<'a>>
+    ensures { option_view result ≡ (leaves.text_where (letters_view (around surroundings.entry) letters)).reads (bytes_view octets.entry) }
 {
-    if !is_text(letters, octets.as_slice()) {
+    if !is_text(surroundings, letters, octets.as_slice()) {
         return None;
     }
     Some(Node::Text(as_text(octets)?))

@@ -9,9 +9,8 @@ use Rattle.x5_model.specs.Words.{in_option}
 use Rattle.x5_model_octets.specs.Headers.{Identifier}
 use Rattle.x5_model_octets.specs.Elements.{Element, Elements, identifier_octets, shortest_length, enclosed}
 use Rattle.x5_model_typed.specs.Nodes.{Node, Vacant, Flag, Number, Oid, Bits, Octets, Text, Chosen, Many}
-use Rattle.x5_model_typed.specs.Forms.{Content, Primitive, Joined, JoinedBits, Explicit, Sequence, Set, Members, Never, Alternative}
+use Rattle.x5_model_typed.specs.Forms.{Content, Primitive, Joined, JoinedBits, Explicit, Sequence, Set, Members, Never, Alternative, Layout}
 use Rattle.x5_model_typed.specs.Written.{can_hold, is_marked, is_many, leaf_octets, leaf_or, constructed_of, by_content, primitive_of, written}
-use Rattle.x5_types.specs.FormView.{table}
 use Rattle.x5_writer.specs.Contents.{content_of, element_of, is_chosen, octets_in, octets_of}
 
 in_both : (f g : Alternative → Option Element) → ((a : Alternative) → f a ≡ g a) → (o : Option Alternative) → in_option None f o ≡ in_option None g o
@@ -29,35 +28,35 @@ no_members (Set cs) = refl
 no_members (Members form) = refl
 no_members Never = refl
 
-leaf_alone : (a : Alternative) (n : Node)
-    → content_of false a.content n ≡ by_content a.content (λ form. None) (λ cs. None) (λ form. None)
-    → leaf_or a n None ≡ element_of false a n
-leaf_alone a n h =
+leaf_alone : (table : Layout) (a : Alternative) (n : Node)
+    → content_of table false a.content n ≡ by_content a.content (λ form. None) (λ cs. None) (λ form. None)
+    → leaf_or a n None ≡ element_of table false a n
+leaf_alone table a n h =
     sym (ap (λ (es : Option Elements). in_option (constructed_of a es) (λ octets. Some (primitive_of a octets)) (leaf_octets a.content n)) (h ∙ no_members a.content))
 
-pub plain_is : (types : List Alternative) (n : Node) → is_chosen n ≡ false
-    → written table types n ≡ in_option None (λ a. element_of false a n) (find (can_hold n) types)
-plain_is types Vacant h = in_both _ (λ a. element_of false a Vacant) (λ a. leaf_alone a Vacant refl) (find (can_hold Vacant) types)
-plain_is types (Flag b) h = in_both _ (λ a. element_of false a (Flag b)) (λ a. leaf_alone a (Flag b) refl) (find (can_hold (Flag b)) types)
-plain_is types (Number k) h = in_both _ (λ a. element_of false a (Number k)) (λ a. leaf_alone a (Number k) refl) (find (can_hold (Number k)) types)
-plain_is types (Oid arcs) h = in_both _ (λ a. element_of false a (Oid arcs)) (λ a. leaf_alone a (Oid arcs) refl) (find (can_hold (Oid arcs)) types)
-plain_is types (Bits bits) h = in_both _ (λ a. element_of false a (Bits bits)) (λ a. leaf_alone a (Bits bits) refl) (find (can_hold (Bits bits)) types)
-plain_is types (Octets os) h = in_both _ (λ a. element_of false a (Octets os)) (λ a. leaf_alone a (Octets os) refl) (find (can_hold (Octets os)) types)
-plain_is types (Text t) h = in_both _ (λ a. element_of false a (Text t)) (λ a. leaf_alone a (Text t) refl) (find (can_hold (Text t)) types)
-plain_is types (Chosen tag n) h = absurd (cc h)
-plain_is types (Many ns) h = refl
+pub plain_is : (table : Layout) (types : List Alternative) (n : Node) → is_chosen n ≡ false
+    → written table types n ≡ in_option None (λ a. element_of table false a n) (find (can_hold n) types)
+plain_is table types Vacant h = in_both _ (λ a. element_of table false a Vacant) (λ a. leaf_alone table a Vacant refl) (find (can_hold Vacant) types)
+plain_is table types (Flag b) h = in_both _ (λ a. element_of table false a (Flag b)) (λ a. leaf_alone table a (Flag b) refl) (find (can_hold (Flag b)) types)
+plain_is table types (Number k) h = in_both _ (λ a. element_of table false a (Number k)) (λ a. leaf_alone table a (Number k) refl) (find (can_hold (Number k)) types)
+plain_is table types (Oid arcs) h = in_both _ (λ a. element_of table false a (Oid arcs)) (λ a. leaf_alone table a (Oid arcs) refl) (find (can_hold (Oid arcs)) types)
+plain_is table types (Bits bits) h = in_both _ (λ a. element_of table false a (Bits bits)) (λ a. leaf_alone table a (Bits bits) refl) (find (can_hold (Bits bits)) types)
+plain_is table types (Octets os) h = in_both _ (λ a. element_of table false a (Octets os)) (λ a. leaf_alone table a (Octets os) refl) (find (can_hold (Octets os)) types)
+plain_is table types (Text t) h = in_both _ (λ a. element_of table false a (Text t)) (λ a. leaf_alone table a (Text t) refl) (find (can_hold (Text t)) types)
+plain_is table types (Chosen tag n) h = absurd (cc h)
+plain_is table types (Many ns) h = refl
 
-pub chosen_is : (types : List Alternative) (tag : ℕ) (n : Node)
-    → written table types (Chosen tag n) ≡ in_option None (λ a. element_of true a n) (find (is_marked tag) types)
-chosen_is types tag Vacant = refl
-chosen_is types tag (Flag b) = refl
-chosen_is types tag (Number k) = refl
-chosen_is types tag (Oid arcs) = refl
-chosen_is types tag (Bits bits) = refl
-chosen_is types tag (Octets os) = refl
-chosen_is types tag (Text t) = refl
-chosen_is types tag (Chosen l m) = refl
-chosen_is types tag (Many ns) = refl
+pub chosen_is : (table : Layout) (types : List Alternative) (tag : ℕ) (n : Node)
+    → written table types (Chosen tag n) ≡ in_option None (λ a. element_of table true a n) (find (is_marked tag) types)
+chosen_is table types tag Vacant = refl
+chosen_is table types tag (Flag b) = refl
+chosen_is table types tag (Number k) = refl
+chosen_is table types tag (Oid arcs) = refl
+chosen_is table types tag (Bits bits) = refl
+chosen_is table types tag (Octets os) = refl
+chosen_is table types tag (Text t) = refl
+chosen_is table types tag (Chosen l m) = refl
+chosen_is table types tag (Many ns) = refl
 
 around : (a b c d : List ℕ) → a ++ (b ++ (c ++ d)) ≡ (a ++ b ++ c) ++ d
 around a b c d = sym (append_assoc a b (c ++ d)) ∙ sym (append_assoc (a ++ b) c d)

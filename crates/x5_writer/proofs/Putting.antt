@@ -6,11 +6,10 @@ use Rattle.std.specs.declared.result.Result.{Result}
 use Rattle.std.specs.declared.result.Result.TheVariants.{Ok, Err}
 use Rattle.x5_model_octets.specs.Elements.{Element, Elements, More, Nil, canonical, canonical_all}
 use Rattle.std.specs.Result.{IsErrAnd}
-use Rattle.x5_model_typed.specs.Forms.{Alternative}
+use Rattle.x5_model_typed.specs.Forms.{Alternative, Layout}
 use Rattle.x5_model_typed.specs.Nodes.{row}
 use Rattle.x5_model_typed.specs.Written.{one_before, single, written, written_members}
 use Rattle.x5_types.specs.declared.node.Node.{Node}
-use Rattle.x5_types.specs.FormView.{table}
 use Rattle.x5_types.specs.NodeView.{node_view}
 use Rattle.x5_writer.proofs.Members.{none_there}
 use Rattle.x5_writer.specs.Puts.{Puts}
@@ -66,10 +65,10 @@ pub by_error : {X : Type 0} (f : X → List ℕ) (o : Option X) (old new : List 
 by_error f o old new fault r is put = subst (λ q. Puts f o old new q) (sym (err_is r fault is)) put
 
 -- a member that has none
-pub no_member : (types : List Alternative) (items : List Node) (i : ℕ) (x : Node) (old mid new : List ℕ) (fault : WriteFault)
+pub no_member : (table : Layout) (types : List Alternative) (items : List Node) (i : ℕ) (x : Node) (old mid new : List ℕ) (fault : WriteFault)
     → i < length items → x ≡ get_or items i x
     → Puts {Y = Unit {0}} canonical (written table types (node_view x)) mid new (Err fault)
     → Puts {Y = Unit {0}} canonical_all (written_members table types (row (map node_view items))) old new (Err fault)
-no_member types items i x old mid new Misfit lt is put =
-    none_there types items i x lt (ap (λ (y : Node). written table types (node_view y)) (sym is) ∙ put)
-no_member types items i x old mid new NoMemory lt is put = tt
+no_member table types items i x old mid new Misfit lt is put =
+    none_there table types items i x lt (ap (λ (y : Node). written table types (node_view y)) (sym is) ∙ put)
+no_member table types items i x old mid new NoMemory lt is put = tt

@@ -1,20 +1,21 @@
 //! Which alternative of a type is written for a value.
 ghost use Rattle.std.specs.Prelude.{◌≡◌, MatchOption, None, Some, false};
 ghost use Rattle.std.specs.List.{find};
+ghost use Rattle.x5_model_typed.specs.Layouts as layouts;
 ghost use Rattle.x5_model_typed.specs.Nodes as nodes;
 ghost use Rattle.x5_model_typed.specs.Written as written;
-ghost use Rattle.x5_types.specs.FormView.{alternative_view, choices_view, content_view, types_view};
+ghost use Rattle.x5_types.specs.FormView.{alternative_view, around, choices_view, content_view, types_view};
 ghost use Rattle.x5_types.specs.NodeView.{node_view};
 ghost use Rattle.x5_writer.specs.Contents.{is_chosen};
 
 use crate::leaf::holds;
-use x5_types::{Alternative, Choices, Content, Node};
+use x5_types::{Alternative, Choices, Content, Node, Surroundings};
 
 /// The alternative that is marked with the tag.
 pub(crate) fn marked(choices: Choices, tag: u32) -> Option<Alternative>
-    ensures { MatchOption result
-        (find (written.is_marked tag) (choices_view choices) ≡ None)
-        (λ a. find (written.is_marked tag) (choices_view choices) ≡ Some (alternative_view a)) }
+    ensures { (w : layouts.Surroundings) → MatchOption result
+        (find (written.is_marked tag) (choices_view w choices) ≡ None)
+        (λ a. find (written.is_marked tag) (choices_view w choices) ≡ Some (alternative_view w a)) }
 {
     match choices {
         Choices::Listed(types) => listed_marked(types, tag),
@@ -30,9 +31,9 @@ pub(crate) fn marked(choices: Choices, tag: u32) -> Option<Alternative>
 }
 
 fn listed_marked(types: &'static [Alternative], tag: u32) -> Option<Alternative>
-    ensures { MatchOption result
-        (find (written.is_marked tag) (types_view types.now) ≡ None)
-        (λ a. find (written.is_marked tag) (types_view types.now) ≡ Some (alternative_view a)) }
+    ensures { (w : layouts.Surroundings) → MatchOption result
+        (find (written.is_marked tag) (types_view w types.now) ≡ None)
+        (λ a. find (written.is_marked tag) (types_view w types.now) ≡ Some (alternative_view w a)) }
 {
     for a in types {
         if a.marked && a.tag == tag {
@@ -43,15 +44,19 @@ fn listed_marked(types: &'static [Alternative], tag: u32) -> Option<Alternative>
 }
 
 /// The first alternative whose content says the value.
-pub(crate) fn holding(choices: Choices, node: &Node<'_>) -> Option<Alternative>
+pub(crate) fn holding(
+    surroundings: Surroundings<'_>,
+    choices: Choices,
+    node: &Node<'_>,
+) -> Option<Alternative>
     ensures { MatchOption result
-        (find (written.can_hold (node_view node.now)) (choices_view choices) ≡ None)
-        (λ a. find (written.can_hold (node_view node.now)) (choices_view choices) ≡ Some (alternative_view a)) }
+        (find (written.can_hold (node_view node.now)) (choices_view (around surroundings.entry) choices) ≡ None)
+        (λ a. find (written.can_hold (node_view node.now)) (choices_view (around surroundings.entry) choices) ≡ Some (alternative_view (around surroundings.entry) a)) }
 {
     match choices {
-        Choices::Listed(types) => listed_holding(types, node),
+        Choices::Listed(types) => listed_holding(surroundings, types, node),
         Choices::One(alternative) => {
-            if can_hold(alternative, node) {
+            if can_hold(surroundings, alternative, node) {
                 Some(alternative)
             } else {
                 None
@@ -61,23 +66,27 @@ pub(crate) fn holding(choices: Choices, node: &Node<'_>) -> Option<Alternative>
     }
 }
 
-fn listed_holding(types: &'static [Alternative], node: &Node<'_>) -> Option<Alternative>
+fn listed_holding(
+    surroundings: Surroundings<'_>,
+    types: &'static [Alternative],
+    node: &Node<'_>,
+) -> Option<Alternative>
     ensures { MatchOption result
-        (find (written.can_hold (node_view node.now)) (types_view types.now) ≡ None)
-        (λ a. find (written.can_hold (node_view node.now)) (types_view types.now) ≡ Some (alternative_view a)) }
+        (find (written.can_hold (node_view node.now)) (types_view (around surroundings.entry) types.now) ≡ None)
+        (λ a. find (written.can_hold (node_view node.now)) (types_view (around surroundings.entry) types.now) ≡ Some (alternative_view (around surroundings.entry) a)) }
 {
     for a in types {
-        if can_hold(*a, node) {
+        if can_hold(surroundings, *a, node) {
             return Some(*a);
         }
     }
     None
 }
 
-fn can_hold(a: Alternative, node: &Node<'_>) -> bool
-    ensures { result ≡ written.can_hold (node_view node.now) (alternative_view a) }
+fn can_hold(surroundings: Surroundings<'_>, a: Alternative, node: &Node<'_>) -> bool
+    ensures { result ≡ written.can_hold (node_view node.now) (alternative_view (around surroundings.entry) a) }
 {
-    holds(a.content, node) || (is_many(node) && is_made_of_members(a.content))
+    holds(surroundings, a.content, node) || (is_many(node) && is_made_of_members(a.content))
 }
 
 /// The tag that was chosen and what has it, if the value is one of several.
@@ -100,7 +109,7 @@ pub(crate) fn is_many(node: &Node<'_>) -> bool
 }
 
 fn is_made_of_members(content: Content) -> bool
-    ensures { result ≡ written.is_made_of_members (content_view content) }
+    ensures { (w : layouts.Surroundings) → result ≡ written.is_made_of_members (content_view w content) }
 {
     matches!(
         content,

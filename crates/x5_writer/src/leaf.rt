@@ -2,9 +2,11 @@
 ghost use Rattle.std.specs.Prelude.{◌≡◌, ◌++◌, OnOk, IsTrue};
 ghost use Rattle.std.specs.Option.{is_some, option_map};
 ghost use Rattle.x5_model_typed.specs.Written as written;
-ghost use Rattle.x5_types.specs.FormView.{bit_leaf_view, content_view, leaf_view};
+ghost use Rattle.x5_types.specs.FormView.{around, bit_leaf_view, content_view, leaf_view};
 ghost use Rattle.x5_types.specs.NodeView.{node_view};
 ghost use Rattle.x5_model_typed.specs.Forms as forms;
+ghost use Rattle.x5_model_typed.specs.Layouts as layouts;
+ghost use Rattle.x5_model_typed.specs.Nodes as nodes;
 ghost use Rattle.x5_writer.specs.Contents.{flag_of, octets_in, option_bits};
 
 use crate::backwards::Backwards;
@@ -13,14 +15,16 @@ use crate::string::{put_characters, put_options};
 use std::alloc::Global;
 use x5_memory::NoMemory;
 use x5_syntax::MOST_VALUE_OCTETS;
-use x5_types::{BitLeaf, Content, Leaf, Node, is_among, is_length, is_short, is_text};
+use x5_types::{
+    BitLeaf, Content, Leaf, Node, Surroundings, is_among, is_length, is_short, is_text,
+};
 
 /// Whether octets of the content say the value.
-pub(crate) fn holds(content: Content, node: &Node<'_>) -> bool
-    ensures { result ≡ is_some (written.leaf_octets (content_view content) (node_view node.now)) }
+pub(crate) fn holds(surroundings: Surroundings<'_>, content: Content, node: &Node<'_>) -> bool
+    ensures { result ≡ is_some (written.leaf_octets (content_view (around surroundings.entry) content) (node_view node.now)) }
 {
     match content {
-        Content::Primitive(leaf) | Content::Joined(leaf) => leaf_holds(leaf, node),
+        Content::Primitive(leaf) | Content::Joined(leaf) => leaf_holds(surroundings, leaf, node),
         Content::JoinedBits(leaf) => options_in(leaf, node).is_some(),
         Content::Explicit(_)
         | Content::Sequence(_)
@@ -30,8 +34,8 @@ pub(crate) fn holds(content: Content, node: &Node<'_>) -> bool
     }
 }
 
-fn leaf_holds(leaf: Leaf, node: &Node<'_>) -> bool
-    ensures { result ≡ is_some ((leaf_view leaf).writes (node_view node.now)) }
+fn leaf_holds(surroundings: Surroundings<'_>, leaf: Leaf, node: &Node<'_>) -> bool
+    ensures { result ≡ is_some ((leaf_view (around surroundings.entry) leaf).writes (node_view node.now)) }
 {
     match (leaf, node) {
         (Leaf::Boolean, Node::Flag(_)) | (Leaf::Null, Node::Vacant) => true,
@@ -39,9 +43,22 @@ fn leaf_holds(leaf: Leaf, node: &Node<'_>) -> bool
         (Leaf::Oid, Node::Oid(arcs)) => is_oid(arcs),
         (Leaf::ShortOid, Node::Oid(arcs)) => is_oid(arcs) && is_short(arcs),
         (Leaf::Octets, Node::Octets(octets)) => octets.as_slice().len() <= MOST_VALUE_OCTETS,
-        (Leaf::Text(letters), Node::Text(text)) => is_text(letters, text.as_str().as_bytes()),
+        (Leaf::Text(letters), Node::Text(text)) => {
+            is_text(surroundings, letters, text.as_str().as_bytes())
+        }
         (Leaf::Universal, Node::Text(text)) => is_length(text.as_str().as_bytes()),
+        (Leaf::Time, Node::Number(number)) => has_time(surroundings, *number),
         _ => false,
+    }
+}
+
+/// Whether the moment has a date and time.
+fn has_time(surroundings: Surroundings<'_>, moment: i64) -> bool
+    ensures { result ≡ is_some ((layouts.time_leaf (around surroundings.entry)).writes (nodes.Number moment)) }
+{
+    match u64::try_from(moment) {
+        Ok(moment) => surroundings.has_time(moment),
+        Err(_) => false,
     }
 }
 
@@ -71,14 +88,21 @@ fn flag_in(node: &Node<'_>) -> Option<bool>
 pub(crate) fn put_content(
     alloc: Global,
     out: &mut Backwards,
+    surroundings: Surroundings<'_>,
     content: Content,
     node: &Node<'_>,
 ) -> Result<(), NoMemory>
-    requires { IsTrue (is_some (written.leaf_octets (content_view content) (node_view node.now))) }
-    ensures { OnOk result (out.new ≡ octets_in (written.leaf_octets (content_view content) (node_view node.now)) ++ out.old) }
+    requires { IsTrue (is_some (written.leaf_octets (content_view (around surroundings) content) (node_view node.now))) }
+    ensures { OnOk result (out.new ≡ octets_in (written.leaf_octets (content_view (around surroundings.entry) content) (node_view node.now)) ++ out.old) }
 {
     match content {
-        Content::Primitive(leaf) | Content::Joined(leaf) => put_leaf(alloc, out, leaf, node),
+        Content::Primitive(leaf) | Content::Joined(leaf) => put_leaf(
+            alloc,
+            out,
+            surroundings,
+            leaf,
+            node,
+        ),
         Content::JoinedBits(leaf) => put_bits(out, leaf, node),
         Content::Explicit(_)
         | Content::Sequence(_)
@@ -88,9 +112,15 @@ pub(crate) fn put_content(
     }
 }
 
-fn put_leaf(alloc: Global, out: &mut Backwards, leaf: Leaf, node: &Node<'_>) -> Result<(), NoMemory>
-    requires { IsTrue (is_some ((leaf_view leaf).writes (node_view node.now))) }
-    ensures { OnOk result (out.new ≡ octets_in ((leaf_view leaf).writes (node_view node.now)) ++ out.old) }
+fn put_leaf(
+    alloc: Global,
+    out: &mut Backwards,
+    surroundings: Surroundings<'_>,
+    leaf: Leaf,
+    node: &Node<'_>,
+) -> Result<(), NoMemory>
+    requires { IsTrue (is_some ((leaf_view (around surroundings) leaf).writes (node_view node.now))) }
+    ensures { OnOk result (out.new ≡ octets_in ((leaf_view (around surroundings.entry) leaf).writes (node_view node.now)) ++ out.old) }
 {
     match (leaf, node) {
         (Leaf::Boolean, Node::Flag(flag)) => out.put(if *flag { 255 } else { 0 }),
@@ -99,7 +129,27 @@ fn put_leaf(alloc: Global, out: &mut Backwards, leaf: Leaf, node: &Node<'_>) -> 
         (Leaf::Octets, Node::Octets(octets)) => out.put_all(octets.as_slice()),
         (Leaf::Text(_), Node::Text(text)) => out.put_all(text.as_str().as_bytes()),
         (Leaf::Universal, Node::Text(text)) => put_characters(alloc, out, text.as_str()),
+        (Leaf::Time, Node::Number(number)) => put_time(alloc, out, surroundings, *number),
         _ => Ok(()),
+    }
+}
+
+/// The date and time of a moment.
+fn put_time(
+    alloc: Global,
+    out: &mut Backwards,
+    surroundings: Surroundings<'_>,
+    moment: i64,
+) -> Result<(), NoMemory>
+    requires { IsTrue (is_some ((layouts.time_leaf (around surroundings)).writes (nodes.Number moment))) }
+    ensures { OnOk result (out.new ≡ octets_in ((layouts.time_leaf (around surroundings.entry)).writes (nodes.Number moment)) ++ out.old) }
+{
+    let Ok(moment) = u64::try_from(moment) else {
+        return Ok(());
+    };
+    match surroundings.time(alloc, moment)? {
+        Some(text) => out.put_all(text.as_str().as_bytes()),
+        None => Ok(()),
     }
 }
 

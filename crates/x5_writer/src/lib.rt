@@ -1,4 +1,4 @@
-//! Writing by type: values of the types that messages between agents are made of (X.511, X.518), as their canonical
+//! Writing by type: values of the types that messages between agents are made of (X.511, X.518, X.525), as their canonical
 //! octets (X.690), by one table of types and one writer over it. Octets are written from the last to the first, so
 //! that the length of each content is known before it's written.
 #![tactic(auto)]
@@ -13,5 +13,6 @@ mod string;
 mod writer;
 
 pub use crate::fault::WriteFault;
-pub use crate::writer::write;
+pub use crate::writer::{write, write_in};
 pub use x5_memory::NoMemory;
+pub use x5_types::Surroundings;

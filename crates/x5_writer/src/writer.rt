@@ -4,7 +4,7 @@ ghost use Rattle.std.specs.Option.{is_some};
 ghost use Rattle.x5_model_octets.specs.Elements.{canonical, canonical_all};
 ghost use Rattle.x5_model_typed.specs.Nodes as nodes;
 ghost use Rattle.x5_model_typed.specs.Written as written;
-ghost use Rattle.x5_types.specs.FormView.{alternative_view, component_view, components_view, content_view, named_view, table};
+ghost use Rattle.x5_types.specs.FormView.{alternative_view, around, component_view, components_view, content_view, named_view, table, table_in};
 ghost use Rattle.x5_types.specs.NodeView.{node_view};
 ghost use Rattle.x5_writer.specs.Contents.{components_of, content_of, element_of, octets_in, octets_of};
 ghost use Rattle.x5_writer.specs.LeftView.{left_view};
@@ -17,19 +17,34 @@ use crate::fault::WriteFault;
 use crate::leaf::{holds, put_content};
 use std::alloc::Global;
 use x5_memory::NoMemory;
-use x5_types::{Alternative, Component, Content, Named, Node, layout, same};
+use x5_types::{Alternative, Component, Content, Named, Node, Surroundings, layout, same};
 
-/// Writes the value as the canonical octets of the type (X.690, section 10): definite lengths in the fewest octets,
-/// strings in one piece, components and members in their order, and none that has its default.
+/// Writes the value as the canonical octets of the type in those surroundings (X.690, section 10): definite lengths in the fewest
+/// octets, strings in one piece, components and members in their order, and none that has its default.
+///
+/// # Errors
+/// That it is no value of the type, or that memory ran out.
+pub fn write_in(
+    alloc: Global,
+    surroundings: Surroundings<'_>,
+    form: Named,
+    node: &Node<'_>,
+) -> Result<Vec<u8>, WriteFault>
+    ensures { Writes (written.canonical_octets (table_in surroundings.entry) (named_view form) (node_view node.now)) result }
+{
+    let mut out = Backwards::new(alloc);
+    write_node(alloc, &mut out, surroundings, form, node)?;
+    Ok(out.into_octets())
+}
+
+/// The same of a type that depends on no surroundings, as those of messages of users and between agents.
 ///
 /// # Errors
 /// That it is no value of the type, or that memory ran out.
 pub fn write(alloc: Global, form: Named, node: &Node<'_>) -> Result<Vec<u8>, WriteFault>
     ensures { Writes (written.canonical_octets table (named_view form) (node_view node.now)) result }
 {
-    let mut out = Backwards::new(alloc);
-    write_node(alloc, &mut out, form, node)?;
-    Ok(out.into_octets())
+    write_in(alloc, Surroundings::Nowhere, form, node)
 }
 
 /// The element of a value of the type.
@@ -37,47 +52,54 @@ pub fn write(alloc: Global, form: Named, node: &Node<'_>) -> Result<Vec<u8>, Wri
 fn write_node(
     alloc: Global,
     out: &mut Backwards,
+    surroundings: Surroundings<'_>,
     form: Named,
     node: &Node<'_>,
 ) -> Result<(), WriteFault>
-    ensures { Puts canonical (written.written table (table (named_view form)) (node_view node.now)) out.old out.new result }
+    ensures { Puts canonical (written.written (table_in surroundings.entry) ((table_in surroundings.entry) (named_view form)) (node_view node.now)) out.old out.new result }
 {
     match chosen(node) {
         Some((tag, inner)) => {
             let Some(a) = marked(layout(form), tag) else {
                 return Err(WriteFault::Misfit);
             };
-            write_element(alloc, out, a, inner, true)
+            write_element(alloc, out, surroundings, a, inner, true)
         }
         None => {
-            let Some(a) = holding(layout(form), node) else {
+            let Some(a) = holding(surroundings, layout(form), node) else {
                 return Err(WriteFault::Misfit);
             };
-            write_element(alloc, out, a, node, false)
+            write_element(alloc, out, surroundings, a, node, false)
         }
     }
 }
 
 /// Whether the value is octets of the alternative's content. Where its tag was chosen, a value that has parts isn't.
-fn has_octets(chosen: bool, content: Content, node: &Node<'_>) -> bool
-    ensures { result ≡ is_some (octets_of chosen (content_view content) (node_view node.now)) }
+fn has_octets(
+    surroundings: Surroundings<'_>,
+    chosen: bool,
+    content: Content,
+    node: &Node<'_>,
+) -> bool
+    ensures { result ≡ is_some (octets_of chosen (content_view (around surroundings.entry) content) (node_view node.now)) }
 {
-    !(chosen && is_many(node)) && holds(content, node)
+    !(chosen && is_many(node)) && holds(surroundings, content, node)
 }
 
 /// The primitive element whose octets say the value.
 fn put_primitive(
     alloc: Global,
     out: &mut Backwards,
+    surroundings: Surroundings<'_>,
     a: Alternative,
     node: &Node<'_>,
 ) -> Result<(), NoMemory>
     requires class { a.class < 4 }
-    requires octets { IsTrue (is_some (written.leaf_octets (content_view a.content) (node_view node.now))) }
-    ensures { OnOk result (out.new ≡ canonical (written.primitive_of (alternative_view a) (octets_in (written.leaf_octets (content_view a.content) (node_view node.now)))) ++ out.old) }
+    requires octets { IsTrue (is_some (written.leaf_octets (content_view (around surroundings) a.content) (node_view node.now))) }
+    ensures { OnOk result (out.new ≡ canonical (written.primitive_of (alternative_view (around surroundings.entry) a) (octets_in (written.leaf_octets (content_view (around surroundings.entry) a.content) (node_view node.now)))) ++ out.old) }
 {
     let behind = out.len();
-    put_content(alloc, out, a.content, node)?;
+    put_content(alloc, out, surroundings, a.content, node)?;
     out.put_header(a.class, false, a.tag, out.len() - behind)?;
     Ok(())
 }
@@ -87,19 +109,20 @@ fn put_primitive(
 fn write_element(
     alloc: Global,
     out: &mut Backwards,
+    surroundings: Surroundings<'_>,
     a: Alternative,
     node: &Node<'_>,
     chosen: bool,
 ) -> Result<(), WriteFault>
     requires { a.class < 4 }
-    ensures { Puts canonical (element_of chosen (alternative_view a) (node_view node.now)) out.old out.new result }
+    ensures { Puts canonical (element_of (table_in surroundings.entry) chosen (alternative_view (around surroundings.entry) a) (node_view node.now)) out.old out.new result }
 {
-    if has_octets(chosen, a.content, node) {
-        put_primitive(alloc, out, a, node)?;
+    if has_octets(surroundings, chosen, a.content, node) {
+        put_primitive(alloc, out, surroundings, a, node)?;
         return Ok(());
     }
     let behind = out.len();
-    write_content(alloc, out, a.content, node, chosen)?;
+    write_content(alloc, out, surroundings, a.content, node, chosen)?;
     out.put_header(a.class, true, a.tag, out.len() - behind)?;
     Ok(())
 }
@@ -109,17 +132,24 @@ fn write_element(
 fn write_content(
     alloc: Global,
     out: &mut Backwards,
+    surroundings: Surroundings<'_>,
     content: Content,
     node: &Node<'_>,
     chosen: bool,
 ) -> Result<(), WriteFault>
-    ensures { Puts canonical_all (content_of chosen (content_view content) (node_view node.now)) out.old out.new result }
+    ensures { Puts canonical_all (content_of (table_in surroundings.entry) chosen (content_view (around surroundings.entry) content) (node_view node.now)) out.old out.new result }
 {
     match content {
-        Content::Explicit(form) if chosen => write_node(alloc, out, form, node),
-        Content::Sequence(components) => write_parts(alloc, out, components, node),
-        Content::Set(components) => write_parts(alloc, out, components, node),
-        Content::Members(form) if is_many(node) => write_members(alloc, out, form, node.parts()),
+        Content::Explicit(form) if chosen => write_node(alloc, out, surroundings, form, node),
+        Content::Sequence(components) => write_parts(alloc, out, surroundings, components, node),
+        Content::Set(components) => write_parts(alloc, out, surroundings, components, node),
+        Content::Members(form) if is_many(node) => write_members(
+            alloc,
+            out,
+            surroundings,
+            form,
+            node.parts(),
+        ),
         _ => Err(WriteFault::Misfit),
     }
 }
@@ -129,13 +159,20 @@ fn write_content(
 fn write_parts(
     alloc: Global,
     out: &mut Backwards,
+    surroundings: Surroundings<'_>,
     components: &'static [Component],
     node: &Node<'_>,
 ) -> Result<(), WriteFault>
-    ensures { Puts canonical_all (components_of (node_view node.now) (components_view components.now)) out.old out.new result }
+    ensures { Puts canonical_all (components_of (table_in surroundings.entry) (node_view node.now) (components_view components.now)) out.old out.new result }
 {
     if is_many(node) {
-        write_components(alloc, out, Left::Listed(components), node.parts())
+        write_components(
+            alloc,
+            out,
+            surroundings,
+            Left::Listed(components),
+            node.parts(),
+        )
     } else {
         Err(WriteFault::Misfit)
     }
@@ -146,15 +183,16 @@ fn write_parts(
 fn write_members(
     alloc: Global,
     out: &mut Backwards,
+    surroundings: Surroundings<'_>,
     form: Named,
     members: &[Node<'_>],
 ) -> Result<(), WriteFault>
-    ensures { Puts canonical_all (written.written_members table (table (named_view form)) (nodes.row (map node_view members.now))) out.old out.new result }
+    ensures { Puts canonical_all (written.written_members (table_in surroundings.entry) ((table_in surroundings.entry) (named_view form)) (nodes.row (map node_view members.now))) out.old out.new result }
 {
     let mut i = members.len();
     while i > 0 {
         i -= 1;
-        write_node(alloc, out, form, &members[i])?;
+        write_node(alloc, out, surroundings, form, &members[i])?;
     }
     Ok(())
 }
@@ -164,10 +202,11 @@ fn write_members(
 fn write_components(
     alloc: Global,
     out: &mut Backwards,
+    surroundings: Surroundings<'_>,
     left: Left,
     values: &[Node<'_>],
 ) -> Result<(), WriteFault>
-    ensures { Puts canonical_all (written.written_components table (left_view left) (nodes.row (map node_view values.now))) out.old out.new result }
+    ensures { Puts canonical_all (written.written_components (table_in surroundings.entry) (left_view left) (nodes.row (map node_view values.now))) out.old out.new result }
 {
     let Some((component, others)) = left.split() else {
         return Ok(());
@@ -176,10 +215,16 @@ fn write_components(
         return Err(WriteFault::Misfit);
     };
     if is_default(alloc, component, value)? {
-        return write_components(alloc, out, others, behind);
+        return write_components(alloc, out, surroundings, others, behind);
     }
-    write_components(alloc, out, others.behind(component.presence, value), behind)?;
-    write_component(alloc, out, component, value)
+    write_components(
+        alloc,
+        out,
+        surroundings,
+        others.behind(component.presence, value),
+        behind,
+    )?;
+    write_component(alloc, out, surroundings, component, value)
 }
 
 /// The element of a component, with its explicit tag if it has one.
@@ -187,13 +232,14 @@ fn write_components(
 fn write_component(
     alloc: Global,
     out: &mut Backwards,
+    surroundings: Surroundings<'_>,
     component: Component,
     value: &Node<'_>,
 ) -> Result<(), WriteFault>
-    ensures { Puts canonical (written.tagged_with (component_view component).tag (written.written table (table (component_view component).form) (node_view value.now))) out.old out.new result }
+    ensures { Puts canonical (written.tagged_with (component_view component).tag (written.written (table_in surroundings.entry) ((table_in surroundings.entry) (component_view component).form) (node_view value.now))) out.old out.new result }
 {
     let behind = out.len();
-    write_node(alloc, out, component.form, value)?;
+    write_node(alloc, out, surroundings, component.form, value)?;
     if let Some(tag) = component.tag {
         out.put_header(2, true, tag, out.len() - behind)?;
     }

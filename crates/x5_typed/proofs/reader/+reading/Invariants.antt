@@ -2,6 +2,7 @@
 use Rattle.std.proofs.Common.{◌≤◌, ◌+◌, ◌-◌, ◌*◌, ℕ, List, length}
 use Rattle.x5_ber.specs.Reading.{Stands}
 use Rattle.x5_model_typed.specs.Trees as trees
+use Rattle.x5_types.specs.FormView.{around, table_in}
 use Rattle.x5_typed.specs.Ahead.{Ahead}
 use Rattle.x5_typed.specs.Places.{EndsAt}
 use Rattle.x5_typed.specs.StateView.{state_view, IsState}
@@ -30,7 +31,8 @@ invariant-read_members-loop-alloc l = record {
   ahead : (depth : ℕ) (ts : trees.Trees) (octets : List ℕ) → trees.LieAll depth l.start ts octets
       → Stands l.bytes l.start octets
       → EndsAt l.bytes l.end (l.start + length octets)
-      → Ahead l.bytes depth l.start ts octets (state_view l.fn.state) l.place (state_view l.state);
+      → Ahead (table_in l.surroundings) l.bytes depth l.start ts octets (state_view (around l.surroundings) l.fn.state) l.place
+      (state_view (around l.surroundings) l.state);
 }
 
 abbrev pub decreases-read_members-loop-alloc : goal.decreases-read_members-loop-alloc

@@ -1,6 +1,6 @@
 -- All octets are one element, which is read at the first place.
 use Rattle.std.proofs.Common.{◌+◌, length}
-use Rattle.x5_types.specs.FormView.{choices_view, named_view, table}
+use Rattle.x5_types.specs.FormView.{around, choices_view, named_view, table_in}
 use Rattle.x5_typed.proofs.Heads.{some_head}
 use Rattle.x5_typed.proofs.Whole.{all_stand}
 use Rattle.x5_typed.proofs.Elements.{err_is, whole_wrong, whole_read}
@@ -13,13 +13,13 @@ returns-in_err-head c tree l =
 
 pub returns-in_err-node : goal.returns-in_err-node
 returns-in_err-node c tree l =
-    whole_wrong (choices_view c.layout.result) (table (named_view c.args.form)) tree (0 + length c.args.octets.now)
-    c.in_err-node.field-0.0 c.from_residual-in_err-node.result c.layout.ensures
+    whole_wrong (table_in c.args.surroundings) (choices_view (around c.args.surroundings) c.layout.result) ((table_in c.args.surroundings) (named_view c.args.form)) tree (0 + length c.args.octets.now)
+    c.in_err-node.field-0.0 c.from_residual-in_err-node.result (c.layout.ensures (around c.args.surroundings))
     (c.in_err-node.ensures.reads 1 tree c.args.octets.now l (all_stand c.args.octets.now) c.in_ok-head.ensures.head)
     (err_is c.from_residual-in_err-node.result c.in_err-node.field-0.0 c.from_residual-in_err-node.ensures.1)
 
 pub returns : goal.returns
 returns c tree l =
-    whole_read (choices_view c.layout.result) (table (named_view c.args.form)) tree (0 + length c.args.octets.now)
-    c.in_ok-node.node _ c.layout.ensures
+    whole_read (table_in c.args.surroundings) (choices_view (around c.args.surroundings) c.layout.result) ((table_in c.args.surroundings) (named_view c.args.form)) tree (0 + length c.args.octets.now)
+    c.in_ok-node.node _ (c.layout.ensures (around c.args.surroundings))
     (c.in_ok-node.ensures.reads 1 tree c.args.octets.now l (all_stand c.args.octets.now) c.in_ok-head.ensures.head)

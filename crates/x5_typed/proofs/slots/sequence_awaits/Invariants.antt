@@ -1,10 +1,10 @@
 -- What is awaited of all components is what is awaited of those that are left.
 use Rattle.std.proofs.Common.{◌≡◌, drop}
 use Rattle.x5_model_typed.specs.Judged as judged
+use Rattle.x5_model_typed.specs.Layouts.{Surroundings, layout}
 use Rattle.x5_typed.proofs.slots.sequence_awaits.Given as goal
-use Rattle.x5_types.specs.FormView.{table}
 use Rattle.x5_typed.specs.StateView.{left_view}
 
 abbrev pub invariant-loop-i : goal.invariant-loop-i
-invariant-loop-i l = judged.sequence_awaits table l.at l.class l.tag l.i (drop l.i (left_view l.left))
-    ≡ judged.sequence_awaits table l.at l.class l.tag 0 (left_view l.left)
+invariant-loop-i l = (w : Surroundings) → judged.sequence_awaits (layout w) l.at l.class l.tag l.i (drop l.i (left_view l.left))
+    ≡ judged.sequence_awaits (layout w) l.at l.class l.tag 0 (left_view l.left)

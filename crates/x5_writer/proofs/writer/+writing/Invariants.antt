@@ -5,7 +5,7 @@ use Rattle.std.specs.declared.option.Option.TheVariants.{Some}
 use Rattle.x5_model_octets.specs.Elements.{Elements, canonical_all}
 use Rattle.x5_model_typed.specs.Nodes as nodes
 use Rattle.x5_model_typed.specs.Written as written
-use Rattle.x5_types.specs.FormView.{named_view, table}
+use Rattle.x5_types.specs.FormView.{named_view, table_in}
 use Rattle.x5_types.specs.NodeView.{node_view}
 use Rattle.x5_writer.specs.Contents.{weight, weights, more}
 use Rattle.x5_writer.proofs.writer.+writing.Given as goal
@@ -35,7 +35,7 @@ abbrev pub invariant-write_members-loop-i : goal.invariant-write_members-loop-i
 invariant-write_members-loop-i l = record {
   inside : l.i ≤ length l.members;
   put : (es : Elements)
-      × (written.written_members table (table (named_view l.form)) (nodes.row (map node_view (drop l.i l.members))) ≡ Some es)
+      × (written.written_members (table_in l.surroundings) (table_in l.surroundings (named_view l.form)) (nodes.row (map node_view (drop l.i l.members))) ≡ Some es)
       × (l.out ≡ canonical_all es ++ l.fn.out);
 }
 

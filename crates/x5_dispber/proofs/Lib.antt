@@ -1,0 +1,6 @@
+pub mod Clock
+mod Found
+mod InOrder
+mod Parts
+mod ShadowIsSayable
+mod ShadowSpelled

@@ -1,0 +1,11 @@
+-- The references so far, and then those of the other nodes.
+use Rattle.std.proofs.Common.{◌≡◌, ◌++◌, drop, map}
+use Rattle.x5_model_messages.specs.Shadows as shadows
+use Rattle.x5_types.specs.NodeView.{node_view}
+use Rattle.x5_dispber.specs.ShadowViews.{told_other}
+use Rattle.x5_dispber.proofs.read_refreshes.others_in.Given as goal
+
+abbrev pub invariant-loop-node : goal.invariant-loop-node
+invariant-loop-node l =
+    map (told_other l.names) l.others ++ map shadows.non_specific_in (map node_view (drop l.node-index l.nodes))
+    ≡ map shadows.non_specific_in (map node_view l.nodes)

@@ -1,0 +1,11 @@
+-- The changes so far, and then those of the other nodes.
+use Rattle.std.proofs.Common.{◌≡◌, ◌++◌, drop, map}
+use Rattle.x5_model_messages.specs.Shadows as shadows
+use Rattle.x5_types.specs.NodeView.{node_view}
+use Rattle.x5_dispber.specs.ShadowViews.{told_step}
+use Rattle.x5_dispber.proofs.read_refreshes.steps_in.Given as goal
+
+abbrev pub invariant-loop-node : goal.invariant-loop-node
+invariant-loop-node l =
+    map told_step l.steps ++ map shadows.step_in (map node_view (drop l.node-index l.nodes))
+    ≡ map shadows.step_in (map node_view l.nodes)

@@ -1,0 +1,2 @@
+pub mod ShadowViews
+pub mod Sayable

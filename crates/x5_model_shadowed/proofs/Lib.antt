@@ -1,0 +1,5 @@
+pub mod Ordered
+pub mod Fitting
+pub mod Spelled
+pub mod Sending
+pub mod Agents

@@ -1,0 +1,4 @@
+pub mod Within
+pub mod Laws
+pub mod Sending
+pub mod Agents

@@ -1,0 +1,58 @@
+-- The component that has the tag is awaited, where its slot is free.
+use Rattle.std.proofs.Common.{◌≡◌, ◌+◌, Bool, true, false, List, drop, map, sym, ap, ◌∙◌, arith}
+use Rattle.std.proofs.lemmas.List.{drop_all}
+use Rattle.std.specs.declared.result.Result.{Result}
+use Rattle.std.specs.declared.result.Result.TheVariants.{Ok, Err}
+use Rattle.x5_model_typed.specs.Forms as forms
+use Rattle.x5_model_typed.specs.Judged as judged
+use Rattle.x5_model_typed.specs.Layouts.{layout}
+use Rattle.x5_types.specs.FormView.{component_view}
+use Rattle.x5_types.specs.NodeView.{option_view}
+use Rattle.x5_typed.specs.StateView.{left_view}
+use Rattle.x5_typed.proofs.Awaiting.{component_is, slot_taken, slot_free, set_goes_on}
+use Rattle.x5_typed.proofs.slots.set_awaits.Goals as goal
+
+pub returns-then-taken-clause-awaits : goal.returns-then-taken-clause-awaits
+returns-then-taken-clause-awaits c = λ w.
+    let cv = component_view c.component.result in
+    let rest = drop (c.loop-i.i + 1) (left_view c.args.left.now) in
+    let slots = map option_view c.args.slots.now in
+    let here = component_is w c.args.class c.args.tag cv c.choices-choices.result c.by_tag.result true
+    (c.choices-choices.ensures w) (c.by_tag.ensures w) (sym c.is_some.ensures ∙ c.if-is_some.true) in
+    sym (c.loop-i.invariant w)
+    ∙ ap (λ (cs : List forms.Component). judged.set_awaits (layout w) c.args.at c.args.class c.args.tag c.loop-i.i cs (drop c.loop-i.i slots)) c.component.ensures
+    ∙ slot_taken (layout w) c.args.at c.args.class c.args.tag c.loop-i.i cv rest slots here c.if-taken.ensures
+    ∙ ap (λ (b : judged.Breach). let r : Result judged.Awaited judged.Breach = Err b in r) (sym c.wrong_content.ensures)
+
+pub returns-then-is_some-clause-awaits : goal.returns-then-is_some-clause-awaits
+returns-then-is_some-clause-awaits c = λ w.
+    let cv = component_view c.component.result in
+    let rest = drop (c.loop-i.i + 1) (left_view c.args.left.now) in
+    let slots = map option_view c.args.slots.now in
+    let here = component_is w c.args.class c.args.tag cv c.choices-choices.result c.by_tag.result true
+    (c.choices-choices.ensures w) (c.by_tag.ensures w) (sym c.is_some.ensures ∙ c.if-is_some.true) in
+    sym (c.loop-i.invariant w)
+    ∙ ap (λ (cs : List forms.Component). judged.set_awaits (layout w) c.args.at c.args.class c.args.tag c.loop-i.i cs (drop c.loop-i.i slots)) c.component.ensures
+    ∙ slot_free (layout w) c.args.at c.args.class c.args.tag c.loop-i.i cv rest slots here c.if-taken.ensures
+    ∙ ap (λ (types : List forms.Alternative). let r : Result judged.Awaited judged.Breach = Ok (record { types = types; step = judged.InSlot c.loop-i.i }) in r)
+    (sym (c.choices-choices.ensures w))
+
+pub loop-i-preserved : goal.loop-i-preserved
+loop-i-preserved c = λ w.
+    let cv = component_view c.component.result in
+    let rest = drop (c.loop-i.i + 1) (left_view c.args.left.now) in
+    let slots = map option_view c.args.slots.now in
+    let here = component_is w c.args.class c.args.tag cv c.choices-choices.result c.by_tag.result false
+    (c.choices-choices.ensures w) (c.by_tag.ensures w) (sym c.is_some.ensures ∙ c.if-is_some.false) in
+    sym (ap (λ (cs : List forms.Component). judged.set_awaits (layout w) c.args.at c.args.class c.args.tag c.loop-i.i cs (drop c.loop-i.i slots)) c.component.ensures
+    ∙ set_goes_on (layout w) c.args.at c.args.class c.args.tag c.loop-i.i cv rest slots c.is_taken-taken.result here
+    c.is_taken-taken.ensures)
+    ∙ c.loop-i.invariant w
+
+pub returns-clause-awaits : goal.returns-clause-awaits
+returns-clause-awaits c = λ w.
+    let slots = map option_view c.args.slots.now in
+    sym (c.loop-i.invariant w)
+    ∙ ap (λ (cs : List forms.Component). judged.set_awaits (layout w) c.args.at c.args.class c.args.tag c.loop-i.i cs (drop c.loop-i.i slots))
+    (drop_all c.loop-i.i (left_view c.args.left.now) (omega (arith, c.loop-i-test.false, c.len-i-end.ensures)))
+    ∙ ap (λ (b : judged.Breach). let r : Result judged.Awaited judged.Breach = Err b in r) (sym c.wrong_tag.ensures)
