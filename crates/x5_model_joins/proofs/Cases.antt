@@ -25,7 +25,8 @@ use Rattle.x5_model_run.specs.Chain.{Scene, IsCarried, AllLicensed}
 use Rattle.x5_model_run.specs.Covers.{told}
 use Rattle.x5_model_run.specs.Blocked.{Asked}
 use Rattle.x5_model_run.specs.Right.{Right, result, changed, error, referral, unheard}
-use Rattle.x5_model_run.specs.Placed.{is_query_below, is_long, RightReply, usual, unable, limit}
+use Rattle.x5_model_run.specs.Placed.{is_query_below}
+use Rattle.x5_model_replies.specs.Replies.{is_long, RightReply, usual, unable, limit}
 use Rattle.x5_model_theory.specs.Knowledge.{Area}
 use Rattle.x5_model_theory.specs.Described.{knowledge_of}
 use Rattle.x5_model_theory.specs.Changing.{holding}
@@ -35,7 +36,8 @@ use Rattle.x5_model_parts.proofs.Asking.{false_true}
 use Rattle.x5_model_serve.specs.Answering.{is_unavailable, is_service}
 use Rattle.x5_model_serve.specs.Serving.{Hand, line_for, Heard, Unheard, Hears, Whole, limit_reply, is_spent}
 use Rattle.x5_model_run.specs.Thorough.{is_served}
-use Rattle.x5_model_serve.specs.Claims.{line_at, asked_line, SoFar, serving_of, AtHand, Keeps, MayTake, AskedSoFar, TakenRight, last_number, is_settled_line, OnlyBy, MayGather, TakesRight, GathersRight}
+use Rattle.x5_model_serve.specs.Claims.{line_at, asked_line, SoFar, serving_of, AtHand, Keeps, MayTake, AskedSoFar, last_number, is_settled_line, OnlyBy}
+use Rattle.x5_model_replies.specs.Heard.{TakenRight, MayGather, TakesRight, GathersRight}
 use Rattle.x5_model_parts.proofs.Parting.{target_fits}
 use Rattle.x5_model_parts.proofs.Joining.{sight, View, the_view, asks}
 use Rattle.x5_model_theory.proofs.Following.{query_of}

@@ -26,7 +26,8 @@ use Rattle.x5_model_run.specs.Chain.{Scene, AllLicensed, IsCarried, is_user, par
 use Rattle.x5_model_run.specs.Covers.{covered_roots, covers, are_apart, touched, mixed, is_copied, told}
 use Rattle.x5_model_run.specs.Blocked.{Asked, hears_by, hears, IsLost, Blocked, untried, lost}
 use Rattle.x5_model_run.specs.Right.{kept_name, is_copy_source, is_source, same_keys, uncovered, IsResult, Right, result, changed, error, referral, unheard}
-use Rattle.x5_model_run.specs.Placed.{is_query_below, RightReply, usual, unable, limit}
+use Rattle.x5_model_run.specs.Placed.{is_query_below}
+use Rattle.x5_model_replies.specs.Replies.{RightReply, usual, unable, limit}
 use Rattle.x5_model_parts.specs.Standing.{StoodAt, CopiesStand}
 use Rattle.x5_model_parts.specs.Parts.{BeginsHere, rest_needs, looks_into}
 use Rattle.x5_model_theory.proofs.Following.{query_of, part_fits}

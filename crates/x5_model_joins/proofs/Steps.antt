@@ -21,12 +21,14 @@ use Rattle.x5_model_run.specs.Chain.{Scene}
 use Rattle.x5_model_run.specs.Covers.{covered_roots, is_below_wide, told}
 use Rattle.x5_model_run.specs.Blocked.{Asked, hears_by, hears, IsLost, user, asked}
 use Rattle.x5_model_run.specs.Right.{is_found, is_source, same_phase, Right, result, changed, error, referral, unheard}
-use Rattle.x5_model_run.specs.Placed.{is_query_below, RightReply, usual, unable, limit}
+use Rattle.x5_model_run.specs.Placed.{is_query_below}
+use Rattle.x5_model_replies.specs.Replies.{RightReply, usual, unable, limit}
 use Rattle.x5_model_run.proofs.Growing.{lost_grows}
 use Rattle.x5_model_parts.proofs.Asking.{false_true}
 use Rattle.x5_model_serve.specs.Answering.{with_unexplored, in_vain, is_unavailable}
 use Rattle.x5_model_serve.specs.Serving.{is_spent}
-use Rattle.x5_model_serve.specs.Claims.{SoFar, Grows, HeardRight, line_at, asked_line, serving_of}
+use Rattle.x5_model_serve.specs.Claims.{SoFar, Grows, line_at, asked_line, serving_of}
+use Rattle.x5_model_replies.specs.Heard.{HeardRight}
 use Rattle.x5_model_run.specs.Needs.{ends_here}
 use Rattle.x5_model_joins.proofs.Walked.{of_the_rest}
 use Rattle.x5_model_joins.proofs.Backs.{lost_further}

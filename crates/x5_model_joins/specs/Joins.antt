@@ -13,14 +13,16 @@ use Rattle.x5_model_run.specs.Chain.{Scene, AllLicensed, IsCarried, part_request
 use Rattle.x5_model_run.specs.Covers.{covered_roots, mixed, is_copied, told}
 use Rattle.x5_model_run.specs.Blocked.{Asked, IsLost}
 use Rattle.x5_model_run.specs.Right.{IsResult}
-use Rattle.x5_model_run.specs.Placed.{fits, is_query_below, RightReply}
+use Rattle.x5_model_run.specs.Placed.{fits, is_query_below}
+use Rattle.x5_model_replies.specs.Replies.{RightReply}
 use Rattle.x5_model_parts.specs.Standing.{Stands, StoodAt, CopiesStand}
 use Rattle.x5_model_parts.specs.Parts.{asks_for, BeginsHere, rest_needs}
 use Rattle.x5_model_serve.specs.Answering.{is_in_order, local_part, unlimited, merged, limited_answer, with_unexplored}
 use Rattle.x5_model_serve.specs.Answering.{only_unexplored, to_follow, passed_by, in_vain, is_unavailable}
 use Rattle.x5_model_serve.specs.Answering.{rest_of_parts}
 use Rattle.x5_model_serve.specs.Serving.{Hand, hand_of, line_for, Unheard, Hears, is_idle}
-use Rattle.x5_model_serve.specs.Claims.{SoFar, LiesWithin, Grows, asked_line, serving_of, HeardRight, TakenRight}
+use Rattle.x5_model_serve.specs.Claims.{SoFar, LiesWithin, Grows, asked_line, serving_of}
+use Rattle.x5_model_replies.specs.Heard.{HeardRight, TakenRight}
 
 -- ---- what two answers tell together
 -- Sources of parts: no context twice, and each as of now or of a moment at which contexts were the same.

@@ -11,7 +11,8 @@ use Rattle.x5_model_run.specs.History.{Point}
 use Rattle.x5_model_run.specs.Chain.{Scene}
 use Rattle.x5_model_serve.specs.Answering.{merged, with_unexplored, in_vain, is_unavailable, is_service}
 use Rattle.x5_model_serve.specs.Serving.{Hand, Unheard, Hears, Whole, Broken}
-use Rattle.x5_model_serve.specs.Claims.{Keeps, TakesRight, GathersRight}
+use Rattle.x5_model_serve.specs.Claims.{Keeps}
+use Rattle.x5_model_replies.specs.Heard.{TakesRight, GathersRight}
 
 -- What is kept by two things that are done for a query, one after the other, is kept by both together.
 abbrev pub QueriesKeep : Type 0

@@ -25,8 +25,8 @@ use Rattle.x5_model_run.specs.Covers.{told}
 use Rattle.x5_model_run.specs.Blocked.{Asked, came_back, is_answered, hears_by, hears, Blocked}
 use Rattle.x5_model_run.specs.Right as right
 use Rattle.x5_model_run.specs.Right.{master_at, is_holder, is_source, is_found, IsResult, is_for, first_level_at, hears_of, hears_master, nssr_agents, hears_below, hears_nssr, is_pin, knows, hears_pin, hears_taken, is_told, accepts_none, is_noreply, heard_whole, hears_accepted, Right}
-use Rattle.x5_model_run.specs.Placed as placed
-use Rattle.x5_model_run.specs.Placed.{is_long, RightReply}
+use Rattle.x5_model_replies.specs.Replies as placed
+use Rattle.x5_model_replies.specs.Replies.{is_long, RightReply}
 use Rattle.x5_model_run.proofs.Growing.{all_grow}
 use Rattle.x5_model_serve.specs.Answering.{is_service, is_unavailable}
 use Rattle.x5_model_serve.specs.Claims.{Grows}

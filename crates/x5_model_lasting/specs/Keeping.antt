@@ -19,7 +19,8 @@ use Rattle.x5_model_run.specs.Thorough.{is_served}
 use Rattle.x5_model_serve.specs.Serving.{Hand, hand, line_for, carried_for, next_line, with_line, with_accepted}
 use Rattle.x5_model_serve.specs.Serving.{is_spent}
 use Rattle.x5_model_serve.specs.Claims.{Grows, asked_line, is_settled_line, Accepted, depth_at, AtHand, Keeps, MayTake}
-use Rattle.x5_model_serve.specs.Claims.{Apart, AskedSoFar, NotedSoFar, OnlyBy, HeardRight, AtMaster}
+use Rattle.x5_model_serve.specs.Claims.{Apart, AskedSoFar, NotedSoFar, OnlyBy, AtMaster}
+use Rattle.x5_model_replies.specs.Heard.{HeardRight}
 use Rattle.x5_model_lasting.specs.Lasting.{Unaltered, SameLines, Lasts}
 
 -- the line of the message at hand

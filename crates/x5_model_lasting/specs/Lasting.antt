@@ -15,7 +15,7 @@ use Rattle.x5_model_run.specs.Accepting.{lacks_probe, accepting, is_done_before}
 use Rattle.x5_model_run.specs.Covers.{told}
 use Rattle.x5_model_run.specs.Blocked.{Asked, hears_by, IsUntried, IsLost, Blocked}
 use Rattle.x5_model_run.specs.Right.{IsResult, is_told, heard_whole}
-use Rattle.x5_model_run.specs.Placed.{RightReply}
+use Rattle.x5_model_replies.specs.Replies.{RightReply}
 use Rattle.x5_model_run.specs.Thorough.{is_served, is_taken, Thorough}
 use Rattle.x5_model_serve.specs.Answering.{is_service}
 use Rattle.x5_model_serve.specs.Serving.{with_line}

@@ -22,8 +22,9 @@ use Rattle.x5_model_run.specs.Covers.{told}
 use Rattle.x5_model_run.specs.Accepting.{carries_update}
 use Rattle.x5_model_run.specs.Right as right
 use Rattle.x5_model_run.specs.Right.{Right, result, changed, accepts_none, heard_whole}
-use Rattle.x5_model_run.specs.Placed as placed
-use Rattle.x5_model_run.specs.Placed.{RightReply, usual, is_query_below}
+use Rattle.x5_model_replies.specs.Replies as placed
+use Rattle.x5_model_run.specs.Placed.{is_query_below}
+use Rattle.x5_model_replies.specs.Replies.{RightReply, usual}
 use Rattle.x5_model_serve.specs.Finding.{IsLooked}
 use Rattle.x5_model_serve.specs.Answering.{is_service}
 use Rattle.x5_model_serve.specs.Serving.{is_final, is_spent}

@@ -25,7 +25,7 @@ use Rattle.x5_model_run.specs.Chain.{Scene, asks_by, is_asked, is_cleared}
 use Rattle.x5_model_run.specs.Blocked.{is_answered_line, hears_by}
 use Rattle.x5_model_run.specs.Right as right
 use Rattle.x5_model_run.specs.Right.{master_at, first_level_at, hears_of, hears_master, nssr_agents, hears_below, hears_nssr, is_told}
-use Rattle.x5_model_run.specs.Placed.{usual}
+use Rattle.x5_model_replies.specs.Replies.{usual}
 use Rattle.x5_model_run.proofs.Journals.{leads_from}
 use Rattle.x5_model_theory.specs.Leading.{IsSound}
 use Rattle.x5_model_serve.specs.Answering.{above_next}

@@ -16,13 +16,14 @@ use Rattle.x5_model_run.specs.Chain.{Scene, IsCarried}
 use Rattle.x5_model_run.specs.Covers.{covered_roots, told}
 use Rattle.x5_model_run.specs.Right as right
 use Rattle.x5_model_run.specs.Right.{accepts_none, heard_whole, same_phase}
-use Rattle.x5_model_run.specs.Placed as placed
-use Rattle.x5_model_run.specs.Placed.{RightReply, usual}
+use Rattle.x5_model_replies.specs.Replies as placed
+use Rattle.x5_model_replies.specs.Replies.{RightReply, usual}
 use Rattle.x5_model.proofs.Decide.{nat_same_decides}
 use Rattle.x5_model_serve.specs.Finding.{Onward, IsLooked, find}
 use Rattle.x5_model_serve.specs.Answering.{is_service, in_vain, is_unavailable}
 use Rattle.x5_model_serve.specs.Serving.{Hand, hand_of, line_for, Heard, Unheard, Hears, Does, Takes, Casts, heard_or, is_spent, limit_reply}
-use Rattle.x5_model_serve.specs.Claims.{Setting, AtHand, Keeps, HeardRight, TakenRight, IsSpentReply, asked_line, serving_of}
+use Rattle.x5_model_serve.specs.Claims.{Setting, AtHand, Keeps, asked_line, serving_of}
+use Rattle.x5_model_replies.specs.Heard.{HeardRight, TakenRight, IsSpentReply}
 use Rattle.x5_model_find.proofs.Needing.{false_true}
 use Rattle.x5_model_verdicts.proofs.At.{of_settled}
 use Rattle.x5_model_passing.specs.Passing.{PassedOn, Meanwhile}

@@ -17,7 +17,7 @@ use Rattle.x5_model_run.specs.History.{Point, holdings_at}
 use Rattle.x5_model_run.specs.Chain.{Scene, is_in_vain, is_cleared}
 use Rattle.x5_model_run.specs.Blocked.{proceeds, lists_of, IsTried, asked}
 use Rattle.x5_model_run.specs.Right as right
-use Rattle.x5_model_run.specs.Placed.{usual}
+use Rattle.x5_model_replies.specs.Replies.{usual}
 use Rattle.x5_model_run.proofs.Growing.{contains_more}
 use Rattle.x5_model_theory.specs.Leading.{IsSound}
 use Rattle.x5_model_serve.specs.Answering.{of_these, is_unavailable}

@@ -17,11 +17,12 @@ use Rattle.x5_model_run.specs.Chain.{Scene, AllLicensed, IsCarried}
 use Rattle.x5_model_run.specs.Covers.{touched, told}
 use Rattle.x5_model_run.specs.Blocked.{hears_by, IsLost}
 use Rattle.x5_model_run.specs.Right.{IsResult, heard_whole, is_told}
-use Rattle.x5_model_run.specs.Placed.{RightReply}
+use Rattle.x5_model_replies.specs.Replies.{RightReply}
 use Rattle.x5_model_serve.specs.Finding.{Onward, IsLooked, find}
 use Rattle.x5_model_serve.specs.Answering.{is_service}
 use Rattle.x5_model_serve.specs.Serving.{hand_of, line_for, is_final, is_spent}
-use Rattle.x5_model_serve.specs.Claims.{Setting, Accepted, HeardRight, LiesWithin, asked_line}
+use Rattle.x5_model_serve.specs.Claims.{Setting, Accepted, LiesWithin, asked_line}
+use Rattle.x5_model_replies.specs.Heard.{HeardRight}
 
 -- The receiver of the line l finds that the name goes on by this reference, and k carried it on to one of the
 -- reference's agents. The lines are licensed, so no two have one number.

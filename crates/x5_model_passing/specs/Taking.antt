@@ -9,11 +9,12 @@ use Rattle.x5_model.specs.Problems.{unable_to_proceed}
 use Rattle.x5_model_run.specs.Journal.{Journal, is_wide}
 use Rattle.x5_model_run.specs.History.{Point, holdings_at}
 use Rattle.x5_model_run.specs.Chain.{Scene}
-use Rattle.x5_model_run.specs.Placed.{RightReply}
+use Rattle.x5_model_replies.specs.Replies.{RightReply}
 use Rattle.x5_model_serve.specs.Finding.{Onward, IsLooked, find}
 use Rattle.x5_model_serve.specs.Answering.{is_service, in_vain, of_these, is_unavailable, above_next}
 use Rattle.x5_model_serve.specs.Serving.{Hand, Heard, Hears, Does, Takes, Spreads, Casts, heard_or, is_spent}
-use Rattle.x5_model_serve.specs.Claims.{Setting, IsAgent, AtHand, Keeps, NotedSoFar, TakenRight, IsSpentReply}
+use Rattle.x5_model_serve.specs.Claims.{Setting, IsAgent, AtHand, Keeps, NotedSoFar}
+use Rattle.x5_model_replies.specs.Heard.{TakenRight, IsSpentReply}
 use Rattle.x5_model_serve.specs.Claims.{LiesWithin, serving_of}
 
 -- the name of the message at hand goes on by this reference

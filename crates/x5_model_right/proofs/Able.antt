@@ -20,8 +20,8 @@ use Rattle.x5_model_run.specs.Covers.{answer_below, answer_at_pin, told}
 use Rattle.x5_model_run.specs.Blocked.{Asked}
 use Rattle.x5_model_run.specs.Right as right
 use Rattle.x5_model_run.specs.Right.{Right, result, changed}
-use Rattle.x5_model_run.specs.Placed as placed
-use Rattle.x5_model_run.specs.Placed.{RightReply, usual}
+use Rattle.x5_model_replies.specs.Replies as placed
+use Rattle.x5_model_replies.specs.Replies.{RightReply, usual}
 use Rattle.x5_model_serve.specs.Answering.{is_service}
 use Rattle.x5_model_bounds.specs.Unable.{IsUnable}
 use Rattle.x5_model_bounds.proofs.Able.{replies_able}

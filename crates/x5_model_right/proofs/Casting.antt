@@ -22,7 +22,8 @@ use Rattle.x5_model_run.specs.Right.{heard_whole}
 use Rattle.x5_model_run.specs.Thorough.{is_sent_by}
 use Rattle.x5_model_serve.specs.Answering.{is_service}
 use Rattle.x5_model_serve.specs.Serving.{Hand, line_for, Heard, Unheard, Hears, Sends, is_spent, limit_reply, answered}
-use Rattle.x5_model_serve.specs.Claims.{AtHand, MayTake, NotedSoFar, IsSpentReply, depth_at, asked_line}
+use Rattle.x5_model_serve.specs.Claims.{AtHand, MayTake, NotedSoFar, depth_at, asked_line}
+use Rattle.x5_model_replies.specs.Heard.{IsSpentReply}
 use Rattle.x5_model_bounds.proofs.Able.{replies_able}
 use Rattle.x5_model_bounds.proofs.Unables.{unable_sends_nothing}
 use Rattle.x5_model_passing.proofs.Taking.{casting_is_right}

@@ -29,7 +29,8 @@ use Rattle.x5_model_run.specs.Covers.{is_covered, are_apart, touched, mixed, is_
 use Rattle.x5_model_run.specs.Blocked.{hears, Blocked}
 use Rattle.x5_model_run.specs.Right as right
 use Rattle.x5_model_run.specs.Right.{is_source, is_holder, is_copy_source, copy_name, own_name, kept_name, same_keys, uncovered, IsResult}
-use Rattle.x5_model_run.specs.Placed.{is_query_below, RightReply, usual}
+use Rattle.x5_model_run.specs.Placed.{is_query_below}
+use Rattle.x5_model_replies.specs.Replies.{RightReply, usual}
 use Rattle.x5_model_serve.specs.Finding.{Found, Here, CopyHere, Root, Onward, Nowhere, Stuck, IsLooked, find, by_first, in_own, in_copy, at_pin, resolved}
 use Rattle.x5_model_serve.specs.Answering.{reply_from, copy_source, reply_in_copy}
 use Rattle.x5_model_serve.specs.Serving.{Hand, is_spent}

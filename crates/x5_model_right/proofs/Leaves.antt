@@ -29,7 +29,8 @@ use Rattle.x5_model_run.specs.Accepting.{carries_update, may_accept, is_done_bef
 use Rattle.x5_model_run.specs.Covers.{told}
 use Rattle.x5_model_run.specs.Right as right
 use Rattle.x5_model_run.specs.Right.{master_at, is_master_at, first_level_at, hears_of, hears_master, hears_nssr, hears_below, nssr_agents, is_told, accepts_none}
-use Rattle.x5_model_run.specs.Placed.{fits, RightReply, usual}
+use Rattle.x5_model_run.specs.Placed.{fits}
+use Rattle.x5_model_replies.specs.Replies.{RightReply, usual}
 use Rattle.x5_model_run.specs.Thorough.{is_taken, is_stopped, taken_needs, sends_itself}
 use Rattle.x5_model_theory.proofs.Stages.{no_loop}
 use Rattle.x5_model_updates.proofs.Outcomes.{ok_or_err, tree_made, accepted_over}

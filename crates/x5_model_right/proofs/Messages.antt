@@ -18,7 +18,8 @@ use Rattle.x5_model_run.specs.History.{Point}
 use Rattle.x5_model_run.specs.Chain.{Scene, AllLicensed, IsCarried, carried, is_passed, is_probe_line, is_prohibited, is_user, is_probe, asks_part, probe_request, part_body, part_request, request_for, may_send, may_chain}
 use Rattle.x5_model_run.specs.Blocked.{is_answered_line, came_back, hears_by}
 use Rattle.x5_model_run.specs.Right.{is_noreply, heard_whole}
-use Rattle.x5_model_run.specs.Placed.{is_query_below, RightReply}
+use Rattle.x5_model_run.specs.Placed.{is_query_below}
+use Rattle.x5_model_replies.specs.Replies.{RightReply}
 use Rattle.x5_model_run.specs.Thorough.{is_served, sender_follows}
 use Rattle.x5_model_run.proofs.Carrying.{is_carried}
 use Rattle.x5_model_run.proofs.Growing.{all_grow}

@@ -22,7 +22,7 @@ use Rattle.x5_model_serve.specs.Finding.{Here, Onward, Stuck, IsLooked, find}
 use Rattle.x5_model_serve.specs.Answering.{in_vain, is_unavailable}
 use Rattle.x5_model_serve.specs.Serving.{Hand, hand_of, line_for, Heard, Unheard, Hears, Takes, Casts, is_idle, is_final, is_spent, heard_or}
 use Rattle.x5_model_serve.specs.Claims.{AtHand, Keeps, MayTake, AskedSoFar, LiesWithin, depth_at, is_settled_line, is_served_itself, asked_line, line_at}
-use Rattle.x5_model_run.specs.Placed.{RightReply}
+use Rattle.x5_model_replies.specs.Replies.{RightReply}
 use Rattle.x5_model_serve.specs.Following.{IsFinalHeard}
 use Rattle.x5_model_serve.proofs.Finals.{idle_is_followed}
 use Rattle.x5_model_find.proofs.Deciding.{onward_needs}

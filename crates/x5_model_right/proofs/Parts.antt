@@ -27,8 +27,9 @@ use Rattle.x5_model_run.specs.Accepting.{carries_update, may_accept, is_done_bef
 use Rattle.x5_model_run.specs.Blocked.{Asked}
 use Rattle.x5_model_run.specs.Right as right
 use Rattle.x5_model_run.specs.Right.{IsResult}
-use Rattle.x5_model_run.specs.Placed as placed
-use Rattle.x5_model_run.specs.Placed.{fits, is_query_below, RightReply, usual}
+use Rattle.x5_model_replies.specs.Replies as placed
+use Rattle.x5_model_run.specs.Placed.{fits, is_query_below}
+use Rattle.x5_model_replies.specs.Replies.{RightReply, usual}
 use Rattle.x5_model_run.specs.Thorough.{is_served, is_taken, is_stopped, taken_needs, is_sent_by, sends_itself, sender_follows}
 use Rattle.x5_model_theory.proofs.Following.{query_of}
 use Rattle.x5_model_parts.specs.Parts.{BeginsHere, begins_here}
@@ -40,7 +41,8 @@ use Rattle.x5_model_joins.proofs.Walked.{in_the_rest}
 use Rattle.x5_model_parts.proofs.Joining.{spots_are_once}
 use Rattle.x5_model_serve.specs.Answering.{reply_from, local_sources, told_in, local_told, taken_before, walked_needs, local_part, rest_of_parts, with_unexplored, only_unexplored, limited_answer, to_follow, passed_by}
 use Rattle.x5_model_serve.specs.Serving.{Hand, hand_of, line_for, Gathered, Whole, Broken, Does, Gathers, holds_now, found_at, begins_parts, parts_refs, at_limit, gathered_reply, is_idle, is_final, is_spent}
-use Rattle.x5_model_serve.specs.Claims.{AtHand, MayTake, MayGather, GatheredRight, SoFar, LiesWithin, is_due_line, is_settled_line, is_served_itself, serving_of, asked_line, line_at, depth_at}
+use Rattle.x5_model_serve.specs.Claims.{AtHand, MayTake, SoFar, LiesWithin, is_due_line, is_settled_line, is_served_itself, serving_of, asked_line, line_at, depth_at}
+use Rattle.x5_model_replies.specs.Heard.{MayGather, GatheredRight}
 use Rattle.x5_model_serve.specs.Following.{IsFinalWhole}
 use Rattle.x5_model_serve.proofs.Finals.{idle_is_followed}
 use Rattle.x5_model_find.proofs.Begins.{begins_alike}

@@ -27,11 +27,12 @@ use Rattle.x5_model_run.specs.Blocked.{Asked}
 use Rattle.x5_model_run.specs.Covers.{told}
 use Rattle.x5_model_run.specs.Right as right
 use Rattle.x5_model_run.specs.Right.{Right, result, changed, is_master_at}
-use Rattle.x5_model_run.specs.Placed as placed
-use Rattle.x5_model_run.specs.Placed.{RightReply, usual, is_long}
+use Rattle.x5_model_replies.specs.Replies as placed
+use Rattle.x5_model_replies.specs.Replies.{RightReply, usual, is_long}
 use Rattle.x5_model_serve.specs.Answering.{is_service, of_these}
 use Rattle.x5_model_serve.specs.Serving.{Hand, line_for, Hears, holds_now, is_spent}
-use Rattle.x5_model_serve.specs.Claims.{AtMaster, HeardRight, TakenRight, is_due_line, is_settled_line, serving_of}
+use Rattle.x5_model_serve.specs.Claims.{AtMaster, is_due_line, is_settled_line, serving_of}
+use Rattle.x5_model_replies.specs.Heard.{HeardRight, TakenRight}
 use Rattle.x5_model_verdicts.proofs.At.{each_of_update, fit_key, scene_update, scene_body, scene_fit}
 use Rattle.x5_model_verdicts.proofs.Below.{At, at_in, before_in, either_first, some_at, of_some, licensed_at, never_again, ended}
 use Rattle.x5_model_verdicts.proofs.NewName.{new_is, new_apart}

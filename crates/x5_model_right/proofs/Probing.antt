@@ -26,12 +26,13 @@ use Rattle.x5_model_run.specs.Covers.{told}
 use Rattle.x5_model_run.specs.Blocked.{Asked, IsLost}
 use Rattle.x5_model_run.specs.Right as right
 use Rattle.x5_model_run.specs.Right.{Right, result, changed}
-use Rattle.x5_model_run.specs.Placed as placed
-use Rattle.x5_model_run.specs.Placed.{RightReply, usual}
+use Rattle.x5_model_replies.specs.Replies as placed
+use Rattle.x5_model_replies.specs.Replies.{RightReply, usual}
 use Rattle.x5_model_run.proofs.Carrying.{is_carried}
 use Rattle.x5_model_serve.specs.Answering.{is_service}
 use Rattle.x5_model_serve.specs.Serving.{Hand, line_for, Heard, Unheard, Hears, carried_for, holds_now, is_spent, limit_reply}
-use Rattle.x5_model_serve.specs.Claims.{NotedSoFar, IsSpentReply, AtMaster, asked_line, depth_at}
+use Rattle.x5_model_serve.specs.Claims.{NotedSoFar, AtMaster, asked_line, depth_at}
+use Rattle.x5_model_replies.specs.Heard.{IsSpentReply}
 use Rattle.x5_model_verdicts.proofs.Asked.{asks, goes_on}
 use Rattle.x5_model_verdicts.proofs.At.{fit_key}
 use Rattle.x5_model_verdicts.proofs.Refused.{target_filled}

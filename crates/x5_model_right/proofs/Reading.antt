@@ -33,7 +33,7 @@ use Rattle.x5_model_run.specs.Covers.{is_covered, are_apart, touched, mixed, is_
 use Rattle.x5_model_run.specs.Blocked.{hears, Blocked}
 use Rattle.x5_model_run.specs.Right as right
 use Rattle.x5_model_run.specs.Right.{master_at, is_source, own_name, kept_name, same_keys, uncovered, is_for, hears_of, hears_master, hears_nssr, hears_pin, hears_taken, is_told, IsResult}
-use Rattle.x5_model_run.specs.Placed.{RightReply, usual}
+use Rattle.x5_model_replies.specs.Replies.{RightReply, usual}
 use Rattle.x5_model_updates.proofs.Held.{of_held}
 use Rattle.x5_model_updates.proofs.Trees.{of_part, tree_filled}
 use Rattle.x5_model_theory.specs.Described.{knowledge_of}

@@ -24,8 +24,9 @@ use Rattle.x5_model_run.specs.Chain.{Scene}
 use Rattle.x5_model_run.specs.Accepting.{carries_update, accepting, is_later, is_done_before}
 use Rattle.x5_model_run.specs.Right as right
 use Rattle.x5_model_run.specs.Right.{same_phase}
-use Rattle.x5_model_run.specs.Placed as placed
-use Rattle.x5_model_run.specs.Placed.{Placed, fits, is_query_below, RightReply, usual}
+use Rattle.x5_model_replies.specs.Replies as placed
+use Rattle.x5_model_run.specs.Placed.{Placed, fits, is_query_below}
+use Rattle.x5_model_replies.specs.Replies.{RightReply, usual}
 use Rattle.x5_model_run.specs.Thorough.{is_taken, sends_itself}
 use Rattle.x5_model_serve.specs.Committed.{committed}
 use Rattle.x5_model_serve.specs.Finding.{Onward, Below, Stuck, find}

@@ -30,8 +30,8 @@ use Rattle.x5_model_run.specs.Accepting.{may_accept, accepting, is_probed, carri
 use Rattle.x5_model_run.specs.Blocked.{Asked, by_user, is_answered_line, is_answered, came_back, hears_by, hears, IsUntried, IsLost, Blocked, user, untried, lost}
 use Rattle.x5_model_run.specs.Right as right
 use Rattle.x5_model_run.specs.Right.{master_at, is_master_at, is_accepted_right, is_due, is_sent_later, is_noreply, heard_whole, accepts_none, is_holder, is_source, is_found, IsResult, is_for, first_level_at, hears_of, hears_master, hears_below, hears_nssr, nssr_agents, is_pin, knows, hears_pin, hears_taken, is_told, hears_accepted, Right, IsRight, Accepts, Finished}
-use Rattle.x5_model_run.specs.Placed as placed
-use Rattle.x5_model_run.specs.Placed.{RightReply, is_long}
+use Rattle.x5_model_replies.specs.Replies as placed
+use Rattle.x5_model_replies.specs.Replies.{RightReply, is_long}
 use Rattle.x5_model_run.specs.Thorough.{is_served, sender_follows, Thorough}
 use Rattle.x5_model_run.proofs.Growing.{all_grow}
 use Rattle.x5_model_run.proofs.Journals.{leads_from}

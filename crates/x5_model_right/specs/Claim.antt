@@ -25,15 +25,17 @@ use Rattle.x5_model_run.specs.History.{Point}
 use Rattle.x5_model_run.specs.Chain.{Scene, IsCarried, is_asked, may_send, may_chain, is_in_vain, is_passed}
 use Rattle.x5_model_run.specs.Accepting.{is_done_before}
 use Rattle.x5_model_run.specs.Right.{heard_whole}
-use Rattle.x5_model_run.specs.Placed.{RightReply}
+use Rattle.x5_model_replies.specs.Replies.{RightReply}
 use Rattle.x5_model_run.specs.Thorough.{is_served, is_sent_by}
 use Rattle.x5_model_serve.specs.Finding.{Onward, IsLooked, find}
 use Rattle.x5_model_serve.specs.Serving.{Hand, line_for, Heard, Unheard, Hears, Gathered, Whole, Broken, Act, Serves}
 use Rattle.x5_model_serve.specs.Serving.{Follows, Sends, Tries, Takes, Spreads, Casts, Gathers, Probes, Updates}
 use Rattle.x5_model_serve.specs.Serving.{holds_now, is_idle, is_final, is_spent}
 use Rattle.x5_model_serve.specs.Claims.{asked_line, serving_of, line_at, LiesWithin, is_settled_line, is_served_itself}
-use Rattle.x5_model_serve.specs.Claims.{depth_at, AtHand, MayTake, AskedSoFar, NotedSoFar, OnlyBy, SoFar, HeardRight}
-use Rattle.x5_model_serve.specs.Claims.{TakenRight, IsSpentReply, MayGather, GatheredRight, AtMaster}
+use Rattle.x5_model_serve.specs.Claims.{depth_at, AtHand, MayTake, AskedSoFar, NotedSoFar, OnlyBy, SoFar}
+use Rattle.x5_model_replies.specs.Heard.{HeardRight}
+use Rattle.x5_model_serve.specs.Claims.{AtMaster}
+use Rattle.x5_model_replies.specs.Heard.{TakenRight, IsSpentReply, MayGather, GatheredRight}
 use Rattle.x5_model_bounds.specs.Bounds.{IsLeft}
 use Rattle.x5_model_right.specs.Kept.{AtOnce, asks_update, KeepsAll, Rests, Comes, is_sent_to, Meanwhile}
 

@@ -18,7 +18,7 @@ use Rattle.x5_model_run.specs.Chain.{Scene, scene_with, scene_at, probe_request}
 use Rattle.x5_model_run.specs.Stage.{budget}
 use Rattle.x5_model_run.specs.Blocked.{Asked, by_user}
 use Rattle.x5_model_run.specs.Right.{Right, AnswersRight, result, changed, error}
-use Rattle.x5_model_run.specs.Placed.{RightReply, RepliesRight, usual, limit}
+use Rattle.x5_model_replies.specs.Replies.{RightReply, RepliesRight, usual, limit}
 use Rattle.x5_model_run.proofs.Licensing.{licensed_by, licensed_first}
 use Rattle.x5_model_serve.specs.Serving.{Hand, hand, Serves, Hears, Does, IsRequest, limit_reply, answers, is_long}
 use Rattle.x5_model_serve.specs.Serving.{goes, casts, updates, breaks, no_probe, spent, sends, final, heard, none_yet}

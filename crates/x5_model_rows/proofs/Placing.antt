@@ -17,7 +17,8 @@ use Rattle.x5_model_run.specs.Blocked.{by_user}
 use Rattle.x5_model_run.specs.Needs.{fails}
 use Rattle.x5_model_run.specs.Right.{IsRight, result, error}
 use Rattle.x5_model_run.specs.Stage.{Stage, stage_of, is_lower, budget}
-use Rattle.x5_model_run.specs.Placed.{Placed, RightReply, usual, unable, limit, RepliesRight, asked_by}
+use Rattle.x5_model_run.specs.Placed.{Placed, asked_by}
+use Rattle.x5_model_replies.specs.Replies.{RightReply, usual, unable, limit, RepliesRight}
 use Rattle.x5_model_run.proofs.Licensing.{licensed_by, licensed_first}
 use Rattle.x5_model_rows.proofs.Literals.{plainly}
 use Rattle.x5_model_rows.proofs.BaseWorld.{base_world, acme, lab, shop, ada}

@@ -153,8 +153,8 @@ apply_over g body = by (fault_of body)
 abbrev pub ground_of : Tree → Ground
 ground_of t = record { entries = t.entries; pins = t.pins; nssrs = []; taken = [] }
 
--- an agent's: the contexts that it holds as their master, of two with one prefix the first, and all pins that it knows,
--- their prefixes included
+-- An agent's: these contexts, which are those that it holds as their master, and all pins that it knows, their prefixes
+-- included. Only what belongs to its context counts there; what lies below a deeper pin is taken, and no more.
 abbrev pub counts_in : List Key → Context → Named → Bool
 counts_in pins c e = belongs pins (key_of c.prefix) (key_at e)
 

@@ -69,7 +69,8 @@ is_first_level a = is_none a.superior
 abbrev pub superior_of : World → ℕ → Option ℕ
 superior_of w a = in_option None (λ agent. agent.superior) (agent_at w a)
 
--- where an agent is given one prefix twice, it holds the first in file order alone
+-- The contexts that an agent holds as their master: where it is given one prefix twice, it holds the first in file order
+-- alone.
 abbrev pub held_contexts : List Key → List Context → List Context
 held_contexts before [] = []
 held_contexts before (c ∷ cs) =

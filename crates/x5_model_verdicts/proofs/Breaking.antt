@@ -31,14 +31,15 @@ use Rattle.x5_model_run.specs.Covers.{told}
 use Rattle.x5_model_run.specs.Blocked.{Asked}
 use Rattle.x5_model_run.specs.Right as right
 use Rattle.x5_model_run.specs.Right.{Right, IsResult, result, changed, is_copy_source, is_source, is_pin, knows, hears_taken, master_at}
-use Rattle.x5_model_run.specs.Placed.{RightReply, usual, unable, limit, is_long}
+use Rattle.x5_model_replies.specs.Replies.{RightReply, usual, unable, limit, is_long}
 use Rattle.x5_model_theory.specs.Described.{knowledge_of}
 use Rattle.x5_model_theory.proofs.Stages.{key_length}
 use Rattle.x5_model_updates.proofs.Own.{known_there}
 use Rattle.x5_model_updates.proofs.Trees.{of_part, tree_one_each, entry_in_area}
 use Rattle.x5_model_serve.specs.Answering.{is_service}
 use Rattle.x5_model_serve.specs.Serving.{Hand, line_for, holds_now}
-use Rattle.x5_model_serve.specs.Claims.{Setting, HeardRight, asked_line, serving_of, AtMaster}
+use Rattle.x5_model_serve.specs.Claims.{Setting, asked_line, serving_of, AtMaster}
+use Rattle.x5_model_replies.specs.Heard.{HeardRight}
 use Rattle.x5_model_verdicts.specs.Verdicts.{BreakIsRight}
 use Rattle.x5_model_verdicts.proofs.NewName.{probe, new_is, name_inside}
 use Rattle.x5_model_verdicts.proofs.Asked.{asks}

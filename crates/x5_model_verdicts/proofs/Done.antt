@@ -26,7 +26,7 @@ use Rattle.x5_model_run.specs.Chain.{Scene, AllLicensed, is_asked, is_cleared}
 use Rattle.x5_model_run.specs.Accepting.{carries_update, lacks_probe, may_accept, accepting, is_probed}
 use Rattle.x5_model_run.specs.Right as right
 use Rattle.x5_model_run.specs.Right.{is_master_at, is_accepted_right}
-use Rattle.x5_model_run.specs.Placed.{RightReply, usual}
+use Rattle.x5_model_replies.specs.Replies.{RightReply, usual}
 use Rattle.x5_model_updates.proofs.Judges.{accepts_alone, accepts_probed, unable_masters_none}
 use Rattle.x5_model_serve.specs.Serving.{Hand, with_accepted, holds_now, judged}
 use Rattle.x5_model_serve.specs.Claims.{Setting, Accepted, Keeps, NotedSoFar, is_due_line, is_settled_line, serving_of, AtMaster}

@@ -19,7 +19,7 @@ use Rattle.x5_model_run.specs.Blocked.{proceeds, lists_of, IsTried, asked}
 use Rattle.x5_model_run.specs.Needs.{passing_needs, needs}
 use Rattle.x5_model_run.specs.Right as right
 use Rattle.x5_model_run.specs.Right.{accepts_none, same_phase}
-use Rattle.x5_model_run.specs.Placed.{RightReply, usual}
+use Rattle.x5_model_replies.specs.Replies.{RightReply, usual}
 use Rattle.x5_model_run.proofs.Growing.{contains_more}
 use Rattle.x5_model_updates.proofs.Probes.{Probe}
 use Rattle.x5_model_serve.specs.Answering.{of_these, is_unavailable}

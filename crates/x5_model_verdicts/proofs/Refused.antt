@@ -33,7 +33,7 @@ use Rattle.x5_model_run.specs.Covers.{told}
 use Rattle.x5_model_run.specs.Blocked.{Asked}
 use Rattle.x5_model_run.specs.Right as right
 use Rattle.x5_model_run.specs.Right.{master_at, is_for, hears_of, hears_master, hears_nssr, hears_pin, hears_taken, is_pin, knows, is_told}
-use Rattle.x5_model_run.specs.Placed.{usual}
+use Rattle.x5_model_replies.specs.Replies.{usual}
 use Rattle.x5_model_theory.specs.Described.{knowledge_of}
 use Rattle.x5_model_updates.proofs.Outcomes.{clashes, add_none, add_free, rename_none, rename_some, none_or_some, ok_or_err, over_update}
 use Rattle.x5_model_updates.proofs.Grounds.{Knows, Taken, taken_decides}

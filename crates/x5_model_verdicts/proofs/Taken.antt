@@ -32,7 +32,7 @@ use Rattle.x5_model_run.specs.Covers.{told, mixed, is_copied, source_tree}
 use Rattle.x5_model_run.specs.Blocked.{Asked, is_answered_line, came_back, hears_by, hears}
 use Rattle.x5_model_run.specs.Right as right
 use Rattle.x5_model_run.specs.Right.{Right, IsResult, result, changed, is_copy_source, is_holder, is_source, is_for, hears_of, hears_pin, is_pin, knows, hears_taken, master_at}
-use Rattle.x5_model_run.specs.Placed.{RightReply, usual}
+use Rattle.x5_model_replies.specs.Replies.{RightReply, usual}
 use Rattle.x5_model_theory.specs.Described.{knowledge_of}
 use Rattle.x5_model_updates.proofs.Lookups.{entry_found}
 use Rattle.x5_model_updates.proofs.Outcomes.{none_or_some}
@@ -40,7 +40,8 @@ use Rattle.x5_model_updates.proofs.Trees.{of_part}
 use Rattle.x5_model_updates.proofs.Divided.{one_pin}
 use Rattle.x5_model_updates.proofs.Judges.{refuses_present}
 use Rattle.x5_model_serve.specs.Serving.{Hand, line_for, holds_now, judged}
-use Rattle.x5_model_serve.specs.Claims.{Setting, HeardRight, asked_line, serving_of, AtMaster}
+use Rattle.x5_model_serve.specs.Claims.{Setting, asked_line, serving_of, AtMaster}
+use Rattle.x5_model_replies.specs.Heard.{HeardRight}
 use Rattle.x5_model_verdicts.specs.Verdicts.{TakenIsRight}
 use Rattle.x5_model_verdicts.proofs.At.{form, holds_is, judge, line_in, of_settled}
 use Rattle.x5_model_verdicts.proofs.Refused.{able, is_told_by, told_is}

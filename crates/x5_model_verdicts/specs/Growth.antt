@@ -12,7 +12,7 @@ use Rattle.x5_model_run.specs.Chain.{Scene}
 use Rattle.x5_model_run.specs.Covers.{told}
 use Rattle.x5_model_run.specs.Blocked.{Asked}
 use Rattle.x5_model_run.specs.Right.{heard_whole}
-use Rattle.x5_model_run.specs.Placed.{RightReply}
+use Rattle.x5_model_replies.specs.Replies.{RightReply}
 use Rattle.x5_model_serve.specs.Answering.{is_service}
 use Rattle.x5_model_serve.specs.Serving.{Hand, Act, Does, Tries}
 use Rattle.x5_model_serve.specs.Claims.{Accepted, Grows}

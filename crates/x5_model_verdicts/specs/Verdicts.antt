@@ -14,11 +14,12 @@ use Rattle.x5_model_run.specs.Journal.{Line, Journal, depth}
 use Rattle.x5_model_run.specs.Needs.{due_probes}
 use Rattle.x5_model_run.specs.History.{Point}
 use Rattle.x5_model_run.specs.Chain.{Scene}
-use Rattle.x5_model_run.specs.Placed.{RightReply}
+use Rattle.x5_model_replies.specs.Replies.{RightReply}
 use Rattle.x5_model_serve.specs.Answering.{is_service, of_these, is_unavailable}
 use Rattle.x5_model_serve.specs.Serving.{Hand, Heard, Sends, Hears, Does, Probes, with_accepted, holds_now, judged}
 use Rattle.x5_model_serve.specs.Serving.{is_spent}
-use Rattle.x5_model_serve.specs.Claims.{Setting, Accepted, Keeps, NotedSoFar, TakenRight, AtMaster, is_settled_line}
+use Rattle.x5_model_serve.specs.Claims.{Setting, Accepted, Keeps, NotedSoFar, AtMaster, is_settled_line}
+use Rattle.x5_model_replies.specs.Heard.{TakenRight}
 use Rattle.x5_model_serve.specs.Claims.{serving_of}
 
 -- Nothing was accepted before.
