@@ -80,7 +80,7 @@ module _ (s : State) (r : Request) (key : Key) (own : ℕ) (id : NodeId) (is : I
     its_context : room.before ≡ is.kept
     its_context = kept_inside (sym room.was ∙ is.held)
 
-    same : IsSame is.kept room.after
+    pub same : IsSame is.kept room.after
     same = subst (λ (c : Kept). IsSame c room.after) its_context room.changed
 
     full_target : 0 < length (target_of r.body)
@@ -89,10 +89,10 @@ module _ (s : State) (r : Request) (key : Key) (own : ℕ) (id : NodeId) (is : I
         let f : 0 < length key = full in
         omega arith
 
-    change_is : IsChangeOf is.kept.nodes.nodes r.body plan.change
+    pub change_is : IsChangeOf is.kept.nodes.nodes r.body plan.change
     change_is = subst (λ (k : Kept). IsChangeOf k.nodes.nodes r.body plan.change) (kept_inside (sym p.held ∙ is.held)) p.change
 
-    step_is : IsStepOf (entries_of is.kept.nodes.nodes) r.body plan.step
+    pub step_is : IsStepOf (entries_of is.kept.nodes.nodes) r.body plan.step
     step_is = subst (λ (k : Kept). IsStepOf (entries_of k.nodes.nodes) r.body plan.step) (kept_inside (sym p.held ∙ is.held)) p.step
 
     pub roomy : slice_get t.own own ≡ Some room.after

@@ -1,6 +1,6 @@
 -- Where nothing but room was made the target has its place as before, and the plan is the update's still; and what is
 -- ready has the room that its change needs.
-use Rattle.std.proofs.Common.{◌≡◌, ℕ, zero, suc, ◌<◌, ◌∷◌, [], List, length, map, refl, sym, ap, subst, ◌∙◌, Some, slice_set}
+use Rattle.std.proofs.Common.{◌≡◌, ℕ, true, zero, suc, ◌<◌, ◌∷◌, [], List, length, map, refl, sym, ap, subst, ◌∙◌, Some, slice_set}
 use Rattle.std.specs.Prelude.{slice_get}
 use Rattle.x5_model.specs.Words.{distinct}
 use Rattle.x5_model.specs.Keys.{Key, same_key}
