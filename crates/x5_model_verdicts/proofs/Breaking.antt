@@ -160,15 +160,15 @@ module _ (p : Point) (s : Scene) (k : Hand) (i j : Journal) (set : Setting p s) 
         never_refused (λ key. false) (tree_at p) n.message.target is_entry.0 x filled is_entry.1
         (sym (ap (ask_marked (λ key. false) (tree_at p)) request) ∙ sym (told_going (λ key. false) (tree_at p) n.message (ap (λ (y : Progress). is_done y) next)) ∙ sym (ap (told (λ key. false) (tree_at p)) message) ∙ h)
 
-  breaks_by : (there : In at.at_hand.line j.lines) → j.accepted ≡ i.accepted → (over : Bool) (stood : ℕ) (reply : Reply) → is_service unable_to_proceed reply ≡ false → is_service unavailable reply ≡ false → (x : DirError) → reply ≡ Failed x
+  breaks_by : (here_still : In at.at_hand.line j.lines) → j.accepted ≡ i.accepted → (over : Bool) (stood : ℕ) (reply : Reply) → is_service unable_to_proceed reply ≡ false → is_service unavailable reply ≡ false → (x : DirError) → reply ≡ Failed x
       → RightReply p s (asked_line n stood) j over reply → RightReply p s (serving_of i k at.at_hand.line.number) j over reply
-  breaks_by there stays over stood _ not_able un x e (limit on l none) =
-      limit (own_answered at.at_hand.line (length i.accepted) j.lines there) (elim (either_true over (is_long (asked_line n stood) j.lines) l) [
+  breaks_by here_still stays over stood _ not_able un x e (limit on l none) =
+      limit (own_answered at.at_hand.line (length i.accepted) j.lines here_still) (elim (either_true over (is_long (asked_line n stood) j.lines) l) [
         | inl y ↦ or_left over _ y
         | inr y ↦ absurd (not_long (asked_line n stood) j.lines (short n stands) short y)
       ]) (or_left _ _ ((nat_same_decides (length j.accepted) (length i.accepted)).1 (ap length stays)))
-  breaks_by there stays over stood _ not_able un x e (unable u) = cc
-  breaks_by there stays over stood reply not_able un x e (usual on w) = absurd (by reply e not_able un w)
+  breaks_by here_still stays over stood _ not_able un x e (unable u) = cc
+  breaks_by here_still stays over stood reply not_able un x e (usual on w) = absurd (by reply e not_able un w)
     where
       able : is_unable (s.holdings n.receiver) n.message ≡ false
       able = not_true (is_unable (s.holdings n.receiver) n.message) on
@@ -183,5 +183,5 @@ module _ (p : Point) (s : Scene) (k : Hand) (i j : Journal) (set : Setting p s) 
 pub break_is_right : BreakIsRight
 break_is_right p s most k i j r a x set at due not_able un short keeps stays t =
     let h : HeardRight p s most (serving_of i k at.at_hand.line.number) j t.0 (Failed x) = t.3 in
-    let there : In at.at_hand.line j.lines = subst (λ (xs : List Line). In at.at_hand.line xs) (sym keeps.grows.1) (in_right at.at_hand.line keeps.grows.0 i.lines (line_in p s k i set at)) in
-    breaks_by p s k i j set at r due t.0 a t.2 h.stands h.heard short there stays (nat_le most (length j.lines)) h.stood (Failed x) not_able un x refl h.right
+    let here_still : In at.at_hand.line j.lines = subst (λ (xs : List Line). In at.at_hand.line xs) (sym keeps.grows.1) (in_right at.at_hand.line keeps.grows.0 i.lines (line_in p s k i set at)) in
+    breaks_by p s k i j set at r due t.0 a t.2 h.stands h.heard short here_still stays (nat_le most (length j.lines)) h.stood (Failed x) not_able un x refl h.right
