@@ -107,8 +107,8 @@ RightStays =
     → RightReply p s q j spent reply → RightReply p s q (record j { lines = l ∷ j.lines }) spent reply
 
 -- A right reply stays right where lines are added, and accepting agents, if what it says of these stays. With the same
--- accepting agents no more is asked (`RightStays` of x5_model_serve is this for one line): that a reply was lost
--- meanwhile excuses `unavailable` and a limit, and that messages ran out excuses more.
+-- accepting agents no more is asked (`RightStays` is this for one line): that a reply was lost meanwhile excuses
+-- `unavailable` and a limit, and that messages ran out excuses more.
 abbrev pub RightLasts : Type 0
 RightLasts =
     (p : Point) (s : Scene) (q : Asked) (reply : Reply) (spent later : Bool) (i j : Journal)

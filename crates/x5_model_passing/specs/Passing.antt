@@ -90,8 +90,8 @@ WithinPassesBack =
     → PassedOn p s l k from r lines → LiesWithin p (asked_line k at) reply → LiesWithin p (asked_line l stood) reply
 
 -- What was accepted since the serving of l began, when so many things stood: by a query nothing; and who says that
--- somebody wasn't heard, or that a limit ended it, accepted nothing, or a reply was lost. What is accepted is right, and
--- only grows.
+-- somebody wasn't heard, or that a limit ended it, accepted nothing, or a reply was lost. What is accepted is right,
+-- and only grows.
 pub record Meanwhile (p : Point) (s : Scene) (l : Line) (stood : ℕ) (j : Journal) (reply : Reply) : Type 0 where
   pub accepted : Accepted p s j
   pub only_more : j.accepted ≡ [] → stood ≡ 0
