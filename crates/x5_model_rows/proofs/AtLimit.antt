@@ -250,22 +250,22 @@ abbrev pub add_bench : Request
 add_bench = plainly (AddEntry new_bench (give 0 (oid (2 ∷ 5 ∷ 6 ∷ 7 ∷ []) ∷ []) ∷ []))
 
 abbrev pub adding : Scene
-adding = scene_with losing_bench 1 (after 125 new_bench add_bench)
+adding = scene_with losing_bench 1 (after 125 lab add_bench)
 
 abbrev pub add_at_beta : Line
 add_at_beta = raw_line adding
 
 abbrev pub add_at_gamma : Line
-add_at_gamma = passes 2 add_at_beta 2 new_bench (Next 3) NonSpecific add_bench NoReply
+add_at_gamma = passes 2 add_at_beta 2 lab (Next 3) NonSpecific add_bench NoReply
 
 abbrev pub probes_delta : ℕ → Line → Line
 probes_delta number l = passes number l 3 new_bench (Next 4) NonSpecific (probe_request new_bench) Sent
 
 abbrev pub add_at_delta : Line
-add_at_delta = passes 4 add_at_beta 3 new_bench (Next 3) NonSpecific add_bench Sent
+add_at_delta = passes 4 add_at_beta 3 lab (Next 3) NonSpecific add_bench Sent
 
 abbrev pub again_at_gamma : Line
-again_at_gamma = passes 5 add_at_delta 2 new_bench (Next 3) Supplier add_bench Sent
+again_at_gamma = passes 5 add_at_delta 2 lab (Next 3) Supplier add_bench Sent
 
 abbrev pub done_once : Journal
 done_once =
