@@ -1,7 +1,7 @@
 -- The cases of the loop over references: each joins what was gathered so far with what one more reference brought, and
 -- shows that nobody was asked by that reference before.
 use Rattle.std.proofs.Common.{◌≡◌, ℕ, ◌+◌, ◌<◌, ◌≤◌, Bool, true, false, ◌&&◌, ◌||◌, ◌==◌, nat_le, nat_lt, ◌⊎◌, inl, inr, List, [], ◌∷◌, ◌++◌, length, refl, sym, ap, subst, ◌∙◌, arith, Option}
-use Rattle.std.specs.List.{list_any, list_all}
+use Rattle.std.specs.List.{list_all}
 use Rattle.std.specs.Option.{is_some, is_none}
 use Rattle.std.proofs.lemmas.Bool.Decides.{Decides-eqb}
 use Rattle.x5_model.specs.Words.{first_of}
@@ -15,7 +15,7 @@ use Rattle.x5_model.specs.Answers.{Answer, DirError, Reply, Answered, Failed}
 use Rattle.x5_model.specs.Problems.{unavailable}
 use Rattle.x5_model.proofs.KeyLaws.{key_decides}
 use Rattle.x5_model.specs.Statics.{fault_of}
-use Rattle.x5_model.proofs.Lists.{both_true, either_true, or_left, or_right, in_first, in_left, in_right, of_map, of_filter, any_in, of_any}
+use Rattle.x5_model.proofs.Lists.{both_true, either_true, or_left, or_right, in_first, in_left, in_right, of_map, of_filter, any_in}
 use Rattle.x5_model_tree.specs.Tree.{Tree, key_at, keys_of, part, is_there, is_there_or_root}
 use Rattle.x5_model_tree.specs.Ask.{Refuses}
 use Rattle.x5_model_run.specs.Journal.{Line, Journal, depth, is_done, is_wide, same_progress}

@@ -10,7 +10,7 @@ use Rattle.x5_model.specs.Values.{Name, key_of}
 use Rattle.x5_model.specs.Entries.{Named}
 use Rattle.x5_model.specs.References.{Next, Reference}
 use Rattle.x5_model.specs.Answers.{Source, Changed, DirError, NoSuchObject, AttributeProblem, UpdateProblem, ServiceProblem, Reply, Answered}
-use Rattle.x5_model.specs.Problems.{entry_already_exists, unavailable, unable_to_proceed}
+use Rattle.x5_model.specs.Problems.{entry_already_exists, unable_to_proceed}
 use Rattle.x5_model.specs.Statics.{fault_of}
 use Rattle.x5_model.proofs.Lists.{both_true, and_true, either_true, not_true, or_left, or_right, has_in, of_has}
 use Rattle.x5_model_tree.specs.Tree.{lowest}

@@ -1,7 +1,6 @@
 -- A right reply is passed back, by the cases of what is right.
 use Rattle.std.proofs.Common.{◌≡◌, ℕ, nat_lt, ◌==◌, Bool, true, false, not, ◌&&◌, ◌||◌, inl, inr, ◌⊎◌, List, [], ◌∷◌, length, refl, sym, ap, subst, ◌∙◌, Option, Some, if◌then◌else◌}
 use Rattle.std.proofs.lemmas.Bool.Decides.{Decides-eqb}
-use Rattle.std.specs.List.{list_any}
 use Rattle.std.specs.Option.{is_none}
 use Rattle.x5_model.specs.Words.{is_empty, has}
 use Rattle.x5_model.specs.Members.{In}
@@ -12,7 +11,7 @@ use Rattle.x5_model.specs.Requests.{Body, Read, Compare, ListBelow, Search, AddE
 use Rattle.x5_model.specs.Answers.{DirError, ServiceProblem, Reply, Answered, Failed}
 use Rattle.x5_model.specs.Statics.{fault_of}
 use Rattle.x5_model.specs.Problems.{unavailable, unable_to_proceed, administrative_limit_exceeded}
-use Rattle.x5_model.proofs.Lists.{both_true, either_true, or_left, or_right, true_or_false, any_in}
+use Rattle.x5_model.proofs.Lists.{both_true, either_true, or_left, or_right, true_or_false}
 use Rattle.x5_model_tree.specs.Ask.{Refuses, is_update}
 use Rattle.x5_model_run.specs.Journal.{Line, Journal, depth, is_done, is_wide}
 use Rattle.x5_model_run.specs.Needs.{falls_short}

@@ -10,7 +10,7 @@ use Rattle.x5_model.specs.Values.{key_of}
 use Rattle.x5_model.specs.Entries.{Named}
 use Rattle.x5_model.specs.Requests.{Subset}
 use Rattle.x5_model.specs.References.{Progress, Start, Next, Done, Reference, Chained}
-use Rattle.x5_model.specs.Answers.{Answer, Reply, Answered, Failed}
+use Rattle.x5_model.specs.Answers.{Answer, Reply, Answered}
 use Rattle.x5_model.specs.Problems.{unavailable, unable_to_proceed, administrative_limit_exceeded}
 use Rattle.x5_model.proofs.Lists.{both_true, or_left, or_right, not_false, in_right, any_in, of_any}
 use Rattle.x5_model_tree.specs.Tree.{lowest}

@@ -13,7 +13,7 @@ use Rattle.x5_model.specs.References.{Reference, Chained}
 use Rattle.x5_model.specs.Answers.{DirError, UpdateProblem, ServiceProblem, Reply, Answered, Failed}
 use Rattle.x5_model.proofs.KeyLaws.{key_decides}
 use Rattle.x5_model.proofs.Decide.{nat_same_decides}
-use Rattle.x5_model.proofs.Lists.{both_true, and_true, either_true, or_left, or_right, in_right, of_any}
+use Rattle.x5_model.proofs.Lists.{both_true, and_true, either_true, or_left, or_right, in_right}
 use Rattle.x5_model_tree.specs.Ask.{Refuses, is_update}
 use Rattle.x5_model_tree.specs.Apply.{apply}
 use Rattle.x5_model_run.specs.Network.{Fate, Lost, NoReply, Sent, arrives, is_sent, is_unheard}

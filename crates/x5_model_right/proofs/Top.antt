@@ -6,7 +6,7 @@ use Rattle.std.proofs.lemmas.Bool.Decides.{leb_tells}
 use Rattle.std.specs.Prelude.{IsTrue}
 use Rattle.std.specs.Option.{is_some, is_none}
 use Rattle.x5_model.specs.Statics.{fault_of}
-use Rattle.std.specs.List.{list_any, list_all, AllByRecursion}
+use Rattle.std.specs.List.{list_all, AllByRecursion}
 use Rattle.x5_model.specs.Words.{has, is_empty, some_and, in_option}
 use Rattle.x5_model.specs.Members.{In, here}
 use Rattle.x5_model.specs.Values.{Name, key_of}
@@ -16,7 +16,7 @@ use Rattle.x5_model.specs.References.{Reference}
 use Rattle.x5_model.specs.Answers.{Answer, DirError, NoSuchObject, AttributeProblem, UpdateProblem, ServiceProblem, Reply}
 use Rattle.x5_model.specs.Problems.{entry_already_exists}
 use Rattle.x5_model.proofs.Decide.{nat_same_decides}
-use Rattle.x5_model.proofs.Lists.{both_true, and_true, either_true, not_true, or_left, or_right, true_or_false, in_first, in_right, any_in, of_any, all_in, of_all, of_find}
+use Rattle.x5_model.proofs.Lists.{both_true, and_true, either_true, not_true, or_left, or_right, true_or_false, in_first, in_right, any_in, all_in, of_all, of_find}
 use Rattle.x5_model_tree.specs.Tree.{lowest}
 use Rattle.x5_model_tree.specs.Masters.{master_of}
 use Rattle.x5_model_tree.specs.Ask.{is_update, sources_of, unexplored_of}

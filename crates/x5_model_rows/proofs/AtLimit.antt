@@ -12,7 +12,7 @@ use Rattle.x5_model.specs.Requests.{Request, AddEntry}
 use Rattle.x5_model.specs.References.{Next, NonSpecific, Supplier, Reference}
 use Rattle.x5_model.specs.Answers.{Answered, Changed, Failed, ServiceProblem}
 use Rattle.x5_model.specs.Problems.{unavailable}
-use Rattle.x5_model_tree.specs.World.{Context, Agent, World}
+use Rattle.x5_model_tree.specs.World.{Context, World}
 use Rattle.x5_model_tree.specs.Consistent.{first_breach}
 use Rattle.x5_model_run.specs.Network.{Fate, Lost, NoReply, Sent, Down}
 use Rattle.x5_model_run.specs.Journal.{Line, Journal}

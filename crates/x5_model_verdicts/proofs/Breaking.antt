@@ -1,9 +1,8 @@
 -- What a probe brings beside answers and agents that weren't heard is a limit: a right reply to a probe's read has no
 -- other error, case by case.
-use Rattle.std.proofs.Common.{nat_le, length-append, nat_lt, ◌≤◌, map, arith, ◌≡◌, ◌<◌, ℕ, ◌==◌, Bool, true, false, not, ◌&&◌, ◌||◌, inl, inr, List, [], ◌∷◌, ◌++◌, length, refl, sym, ap, subst, ◌∙◌, Option, Some, None, if◌then◌else◌}
+use Rattle.std.proofs.Common.{nat_le, length-append, nat_lt, ◌≤◌, map, arith, ◌≡◌, ◌<◌, ℕ, Bool, true, false, not, ◌&&◌, inl, inr, List, [], ◌∷◌, ◌++◌, length, refl, sym, ap, subst, ◌∙◌, Option, Some, None, if◌then◌else◌}
 use Rattle.std.specs.Option.{is_none}
 use Rattle.std.proofs.lemmas.Bool.Decides.{leb_tells}
-use Rattle.std.specs.List.{list_any}
 use Rattle.x5_model.specs.Members.{In}
 use Rattle.x5_model.specs.Keys.{Key, is_prefix}
 use Rattle.x5_model.specs.Values.{Name, key_of, name_above}
@@ -14,7 +13,7 @@ use Rattle.x5_model.specs.Answers.{DirError, Reply, Failed}
 use Rattle.x5_model.specs.Problems.{unavailable, unable_to_proceed}
 use Rattle.x5_model.specs.Statics.{fault_of}
 use Rattle.x5_model.proofs.KeyLaws.{key_decides}
-use Rattle.x5_model.proofs.Lists.{not_true, not_false, of_any, in_left, in_right, both_true, either_true, or_left, or_right, any_in, in_map}
+use Rattle.x5_model.proofs.Lists.{not_true, not_false, of_any, in_left, in_right, both_true, either_true, or_left, in_map}
 use Rattle.x5_model.proofs.Prefixes.{prefix_decides, same_by_length, prefix_itself, prefix_length}
 use Rattle.x5_model.proofs.Decide.{less_decides, nat_same_decides}
 use Rattle.x5_model_tree.specs.World.{Specific}
