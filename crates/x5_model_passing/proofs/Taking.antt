@@ -67,7 +67,6 @@ module _ (p : Point) (s : Scene) (most : ℕ) (l : Line) (r : Reference) (i j : 
     reads = λ off. ap length (on.keeps.reads off);
     silent = λ e. elim (quiet (off_of e)) [ inl f ↦ inl (ap length f) | inr f ↦ inr f ];
   }
-
     where
       off_of : (is_service unavailable reply || is_service administrative_limit_exceeded reply) ≡ true → is_off reply ≡ true
       off_of e = elim (either_true (is_service unavailable reply) (is_service administrative_limit_exceeded reply) e) [

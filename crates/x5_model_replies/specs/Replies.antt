@@ -1,5 +1,5 @@
 -- A right reply to a message from agent to agent, over consistent knowledge (X.518, sections 17 to 21).
-use Rattle.std.specs.Prelude.{◌≡◌, ◌-◌, Bool, false, not, ◌||◌, ◌==◌, IsTrue, List, length}
+use Rattle.std.specs.Prelude.{◌≡◌, Bool, false, not, ◌||◌, ◌==◌, IsTrue, List, length}
 use Rattle.std.specs.declared.option.Option.TheVariants.{None, Some}
 use Rattle.x5_model.specs.Words.{is_empty}
 use Rattle.x5_model.specs.Answers.{ServiceProblem, Reply, Failed}
