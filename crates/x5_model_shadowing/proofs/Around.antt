@@ -1,10 +1,10 @@
 -- In a world that a file describes agents have names that messages have room for, each once; and as many moments have a
 -- date and time as four octets count.
-use Rattle.std.proofs.Common.{◌≡◌, ◌<◌, ℕ, ◌^◌, nat_lt, nat_le, Bool, true, false, not, ◌&&◌, List, [], ◌∷◌, length, map, refl, sym, ap, subst, ◌∙◌, arith, codes, Some}
+use Rattle.std.proofs.Common.{◌≡◌, ◌<◌, ℕ, nat_lt, nat_le, Bool, true, false, not, List, [], ◌∷◌, length, refl, sym, ap, subst, ◌∙◌, codes, Some}
 use Rattle.std.proofs.lemmas.Bool.{lt-ltb}
 use Rattle.std.specs.List.{list_all}
 use Rattle.std.specs.Cmp.Lexicographic.{bytes_decides}
-use Rattle.x5_model.specs.Members.{In, here, there}
+use Rattle.x5_model.specs.Members.{In}
 use Rattle.x5_model.specs.Values.{Text}
 use Rattle.x5_model.specs.Words.{same_octets}
 use Rattle.x5_model.proofs.Lists.{both_true, and_true, any_in, all_in, of_all, of_map}

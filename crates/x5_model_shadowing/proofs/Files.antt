@@ -1,11 +1,11 @@
 -- The names at which a described world's non-specific subordinate references stand are UTF-8: each was read from a text,
 -- whose reading takes no others.
-use Rattle.std.proofs.Common.{◌≡◌, ℕ, Bool, true, false, not, ◌&&◌, List, [], ◌∷◌, ◌++◌, map, refl, ap, subst, ◌∙◌, Option, Some, None, Result, Ok, Err, codes}
+use Rattle.std.proofs.Common.{◌≡◌, ℕ, Bool, true, List, [], ◌∷◌, ◌++◌, map, refl, ap, subst, ◌∙◌, Option, Some, None, Result, Ok, Err, codes}
 use Rattle.std.specs.List.{list_all, flat_map}
 use Rattle.serde_json.specs.Data.{Data, Items}
 use Rattle.serde_json.specs.Events.{items_len}
 use Rattle.serde_json.specs.Find.{get}
-use Rattle.x5_model.specs.Values.{Text, Name, NameValue, key_of, written}
+use Rattle.x5_model.specs.Values.{Text, Name, NameValue, key_of}
 use Rattle.x5_model.specs.Entries.{Named}
 use Rattle.x5_model.specs.Normal.{stored}
 use Rattle.x5_model.proofs.Lists.{all_in}
@@ -13,7 +13,7 @@ use Rattle.x5_model_tree.specs.World.{Nssr, Context, Agent, World}
 use Rattle.x5_model_tree.specs.Described.{most_agents, most_agreements, most_with_copies, most_references}
 use Rattle.x5_model_text.specs.NameText.{NameFault, name_of_text}
 use Rattle.x5_model_text_laws.proofs.GivenNames.{name_given}
-use Rattle.x5_model_world.specs.Reading.{◌>>=◌, at, needed, if_fit, if_few, members_at, text_at, list_if_any, some_at, if_name, name_at, entry_name_at}
+use Rattle.x5_model_world.specs.Reading.{at, needed, if_fit, if_few, members_at, text_at, list_if_any, some_at, if_name, name_at, entry_name_at}
 use Rattle.x5_model_world.specs.ContextText.{Nssrs, is_place, counted, nssr_members, nssr_behind, entries_behind, nssrs_behind, Contexts, with_context, with_entries, context_members, context_behind, contexts_behind, agents_behind}
 use Rattle.x5_model_world.specs.AgentText.{no_references, references_behind, new_name, agent_if_any, agent_members, agent_with, with_contexts, with_these, Agents, agent_behind, all_behind, names_behind}
 use Rattle.x5_model_world.specs.StartText.{start_of}
@@ -26,7 +26,7 @@ use Rattle.x5_model_fitting.specs.Names.{Each, are_utf8}
 use Rattle.x5_model_limits.specs.Described.{name_is_utf8}
 use Rattle.x5_model_limits.proofs.Lists.{each_none, each_one, each_both}
 use Rattle.x5_model_within.proofs.Texts.{written_stored}
-use Rattle.x5_model_shadowing.specs.Files.{context_nssrs_are_utf8, agent_nssrs_are_utf8, nssrs_are_utf8, FilesHaveUtf8}
+use Rattle.x5_model_shadowing.specs.Files.{context_nssrs_are_utf8, agent_nssrs_are_utf8, FilesHaveUtf8}
 
 -- ---- names
 

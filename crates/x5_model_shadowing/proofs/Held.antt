@@ -1,13 +1,13 @@
 -- What agents hold at a line can be sent: parts of the one tree, now or as of a moment, with the references that the file
 -- describes, or such as name a context that its agent masters.
-use Rattle.std.proofs.Common.{◌≡◌, ℕ, ◌-◌, ◌==◌, nat_lt, Bool, true, not, ◌&&◌, List, [], ◌∷◌, ◌++◌, length, map, drop, refl, sym, subst, Option, Some, None}
+use Rattle.std.proofs.Common.{◌≡◌, ℕ, ◌-◌, ◌==◌, nat_lt, Bool, true, not, ◌&&◌, List, [], length, map, refl, sym, subst, Option, Some, None}
 use Rattle.std.proofs.lemmas.Bool.{lt-ltb}
 use Rattle.std.proofs.lemmas.Option.{slice_get_within}
 use Rattle.std.specs.List.{filter, list_all}
 use Rattle.x5_model.specs.Words.{is_empty, in_option, distinct}
 use Rattle.x5_model.specs.Members.{In}
 use Rattle.x5_model.specs.Keys.{Key, same_key, parent}
-use Rattle.x5_model.specs.Values.{Name, key_of}
+use Rattle.x5_model.specs.Values.{key_of}
 use Rattle.x5_model.specs.Entries.{Named}
 use Rattle.x5_model.proofs.Lists.{both_true, and_true, of_filter, of_find, of_all}
 use Rattle.x5_model_tree.specs.World.{Specific, Nssr, Context, Agent, Agreement, World}
@@ -18,9 +18,8 @@ use Rattle.x5_model_tree.proofs.Gives.{owner_of}
 use Rattle.x5_model_tree.proofs.Stored.{stored_is}
 use Rattle.x5_model_theory.proofs.Views.{at_place as agent_is}
 use Rattle.x5_model_heard.specs.Told.{are_agents}
-use Rattle.x5_model_run.specs.Holdings.{Held, Copy}
+use Rattle.x5_model_run.specs.Holdings.{Copy}
 use Rattle.x5_model_run.specs.History.{Point, knowledge_at, tree_at, tree_of_moment, as_of, references_below, own_context, sent_references, mastered_at, copy_as_of, copy_by, agreements_of, agent_holdings, no_holdings, holdings_at}
-use Rattle.x5_model_known.specs.Holding.{access_names}
 use Rattle.x5_model_known.proofs.Describing.{at_place, of_held}
 use Rattle.x5_model_refreshed.proofs.Leading.{knowledge_stays}
 use Rattle.x5_model_fitting.specs.Names.{Each, NameWithin}
@@ -65,7 +64,7 @@ module _ (w : World) (described : IsDescribed w) (utf8 : world_is_utf8 w ≡ tru
   references_sendable : (a : Agent) → In a w.agents → Each (SendableSpecific size) a.subordinate
   references_sendable a i k j =
       let p = both_true (is_agent_name a.name) _ (of_all (is_agent w) a w.agents described.agents i) in
-      let q = both_true (list_all _ a.contexts) _ p.1 in
+      let q = both_true (list_all (is_context w) a.contexts) _ p.1 in
       let r = both_true (are_references w a.subordinate) (are_references w a.cross) q.1 in
       let s = both_true (list_all (is_reference w) a.subordinate)
       (distinct same_key (map (λ (x : Specific). key_of x.pin) a.subordinate)) r.0 in

@@ -1,6 +1,6 @@
 -- What agents keep of changes can be sent: a master notes steps of accepted updates, by entries of the one tree, and a
 -- consumer keeps what its supplier kept.
-use Rattle.std.proofs.Common.{◌≡◌, ℕ, ◌+◌, ◌==◌, nat_lt, Bool, true, false, List, [], ◌∷◌, ◌++◌, length, map, refl, subst, Option, Some, None, Ok, if◌then◌else◌}
+use Rattle.std.proofs.Common.{◌≡◌, ℕ, ◌+◌, ◌==◌, nat_lt, Bool, true, false, List, [], ◌∷◌, ◌++◌, length, sym, ap, subst, Option, Some, None, Ok, Err, if◌then◌else◌}
 use Rattle.std.specs.List.{filter}
 use Rattle.x5_model.specs.Words.{in_option}
 use Rattle.x5_model.specs.Members.{here, there}
@@ -10,9 +10,9 @@ use Rattle.x5_model.proofs.Lists.{of_filter}
 use Rattle.x5_model_tree.specs.World.{Agreement, World}
 use Rattle.x5_model_tree.specs.Tree.{Tree, part}
 use Rattle.x5_model_tree.specs.Masters.{masters, pins}
-use Rattle.x5_model_tree.specs.Apply.{apply}
+use Rattle.x5_model_tree.specs.Apply.{Applied, apply}
 use Rattle.x5_model_tree.specs.Described.{IsDescribed}
-use Rattle.x5_model_run.specs.History.{Acceptance, Refreshed, Deed, Nothing, Outs, Loses, Accepts, Refreshes, Splits, Unsplits, Did, Point, tree_with, tree_by, knowledge_by, as_of}
+use Rattle.x5_model_run.specs.History.{Acceptance, Refreshed, Deed, Nothing, Outs, Loses, Accepts, Refreshes, Splits, Unsplits, Did, tree_with, tree_by, knowledge_by, as_of}
 use Rattle.x5_model_run.specs.Refresh.{is_change_in, consumed_by}
 use Rattle.x5_model_refreshed.specs.Steps.{Step, step_of}
 use Rattle.x5_model_refreshed.specs.Logs.{Log, steps_later, noted_of, noted, stamped, brought, log_after, logs_by}
@@ -64,7 +64,7 @@ module _ (moment : ℕ) (ps : List Key) (pin : Key) where
       → SendableLog (noted moment ps pin t accepted)
   noted_all [] t taken within each = each_none Sendable
   noted_all (a ∷ more) t taken within each =
-      let u = taken.1.0 in
+      let u = taken.1 in
       let e : apply t a.request ≡ Ok u.0 = u.1 in
       each_both Sendable (noted_of moment ps pin t a) (noted moment ps pin (tree_with t a.request) more)
       (noted_one t u.0 a (within a here) e each)
@@ -72,8 +72,12 @@ module _ (moment : ℕ) (ps : List Key) (pin : Key) where
       (subst (Each SendableEntry) (with_is t u.0 a.request e)
       (applied_sendable t u.0 a.request (within a here) e each)))
     where
-      with_is : (t u : Tree) (r : Request) → apply t r ≡ Ok u → u.entries ≡ (tree_with t r).entries
-      with_is t u r e = rw e refl
+      or_same : Tree → Applied → Tree
+      or_same old (Ok new) = new
+      or_same old (Err x) = old
+
+      with_is : (old new : Tree) (r : Request) → apply old r ≡ Ok new → new.entries ≡ (tree_with old r).entries
+      with_is old new r q = ap (λ (o : Applied). (or_same old o).entries) (sym q)
 
 -- ---- a consumer
 
@@ -155,10 +159,10 @@ module _ (w : World) (described : IsDescribed w) (utf8 : world_is_utf8 w ≡ tru
 
   all_logs : (past : List Did) → AllHappen w past → BoundedPast past → AllLogs (logs_by w past)
   all_logs [] h b a pin = each_none Sendable
-  all_logs (d ∷ before) h b =
+  all_logs (d ∷ before) h b a pin =
       let earlier : BoundedPast before = (λ x j. b x (there j)) in
       after_deed before d.deed h.0 (b d here) (tree_sendable w described utf8 before h.1 earlier)
-      (all_logs before h.1 earlier)
+      (all_logs before h.1 earlier) a pin
 
 pub logs_sendable : LogsSendable
 logs_sendable p a pin line =

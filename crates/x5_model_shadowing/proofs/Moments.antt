@@ -1,19 +1,18 @@
 -- The stamps of refreshes are moments of lines before, so four octets count them where they count the line's own moment.
-use Rattle.std.proofs.Common.{◌≡◌, ◌≤◌, ◌<◌, ℕ, ◌+◌, ◌^◌, ◌==◌, Bool, true, false, inl, inr, List, [], ◌∷◌, ◌++◌, length, refl, sym, ap, subst, ◌∙◌, arith, Option, Some, None, if◌then◌else◌}
+use Rattle.std.proofs.Common.{◌≡◌, ◌≤◌, ◌<◌, ℕ, ◌+◌, ◌^◌, ◌==◌, Bool, true, false, inl, inr, List, [], ◌∷◌, length, refl, ap, arith, Option, Some, None, if◌then◌else◌}
 use Rattle.std.specs.List.{find}
-use Rattle.x5_model.specs.Words.{first_of, in_option, when}
-use Rattle.x5_model.specs.Members.{In, here, there}
-use Rattle.x5_model.specs.Keys.{Key}
+use Rattle.x5_model.specs.Words.{in_option, when}
+use Rattle.x5_model.specs.Members.{In}
 use Rattle.x5_model.specs.Values.{key_of}
 use Rattle.x5_model.proofs.Lists.{in_first, in_either, of_find}
 use Rattle.x5_model_tree.specs.World.{Agreement, World}
 use Rattle.x5_model_tree.specs.Masters.{masters}
 use Rattle.x5_model_run.specs.History.{Refreshed, Deed, Nothing, Outs, Loses, Accepts, Refreshes, Splits, Unsplits, Did, Point, moment_of, knowledge_at, refresh_of, refreshes_of, stamp_of, as_of, acked}
 use Rattle.x5_model_run.specs.Refresh.{consumed_by, supplied}
-use Rattle.x5_model_refreshed.specs.Replaying.{IsBrought, Happens, AllHappen}
+use Rattle.x5_model_refreshed.specs.Replaying.{Happens, AllHappen}
 use Rattle.x5_model_refreshed.proofs.Stamping.{newest_in}
 use Rattle.x5_model_fitting.specs.Requests.{CountWithin, IfThere}
-use Rattle.x5_model_shadowing.specs.Lines.{IsBoundedLine, MomentsCounted, LineIsCounted}
+use Rattle.x5_model_shadowing.specs.Lines.{LineIsCounted}
 
 -- all stamps are so
 abbrev AreLow : Point → ℕ → Type 0

@@ -1,23 +1,23 @@
 -- An accepted update leaves entries of values that are of their types' kinds, with their normal forms: each value that
 -- comes in was offered with its own, or stands in a name within the limits of messages.
-use Rattle.std.proofs.Common.{◌≡◌, ℕ, ◌+◌, Bool, true, false, not, ◌&&◌, ◌==◌, nat_lt, inl, inr, List, [], ◌∷◌, length, map, refl, sym, ap, subst, ◌∙◌, Option, Some, None, Result, Ok, Err, if◌then◌else◌}
+use Rattle.std.proofs.Common.{◌≡◌, ℕ, ◌+◌, Bool, true, false, not, ◌&&◌, ◌==◌, nat_lt, inl, inr, List, [], ◌∷◌, length, refl, sym, ap, subst, ◌∙◌, Option, Some, None, Result, Ok, Err, if◌then◌else◌}
 use Rattle.std.specs.Cmp.Lexicographic.{bytes_decides}
 use Rattle.std.specs.List.{cons_option, filter, filter_map, list_any, list_all}
 use Rattle.std.specs.Result.{result_ok}
 use Rattle.x5_model.specs.Words.{is_empty, insert_sorted, in_option, same_octets}
 use Rattle.x5_model.specs.Members.{In, here, there}
-use Rattle.x5_model.specs.Values.{Text, TypeRef, Known, Unknown, Value, TextValue, StoredValue, Offered, Pair, Rdn, written_pair}
+use Rattle.x5_model.specs.Values.{Text, TypeRef, Known, Unknown, TextValue, StoredValue, Offered, Pair, Rdn, written_pair}
 use Rattle.x5_model.specs.Types.{Kind, is_known, may_name, kind_of}
 use Rattle.x5_model.specs.Normal.{ValueFault, WrongSyntax, most_octets, most_pairs, over, first_found, rdn_over, ascends, is_pair, is_text_of_kind, text_normal, within, normal_of, stored_pair, stored_rdn, written_rdn}
 use Rattle.x5_model.specs.Entries.{Stored, Entry}
-use Rattle.x5_model.specs.Assertions.{normal_for, offered}
+use Rattle.x5_model.specs.Assertions.{normal_for}
 use Rattle.x5_model.specs.Attributes.{value_below, kind_below, attribute_at, values_at, is_present, has_value, entry_with, put_value, drop_value, value_of_pair, has_pair, has_rdn, with_rdn, without_rdn, stored_value, stored_values, with_offered, entry_of}
 use Rattle.x5_model.specs.Changes.{ChangedEntry, and_then, each_value, put_new, drop_old, on_known, changed, changed_by, single_valued, keeps_rdn, modified, renamed}
 use Rattle.x5_model.specs.Requests.{Attribute, Change, AddAttribute, RemoveAttribute, AddValues, RemoveValues}
 use Rattle.x5_model.specs.Answers.{AttributeProblem, UpdateProblem}
 use Rattle.x5_model.specs.Problems.{no_such_attribute_or_value, attribute_or_value_already_exists, not_allowed_on_rdn}
 use Rattle.x5_model.proofs.Decide.{nat_same_decides}
-use Rattle.x5_model.proofs.Lists.{both_true, and_true, all_in, of_all, of_find, of_filter, of_map}
+use Rattle.x5_model.proofs.Lists.{both_true, and_true, all_in, of_all, of_find, of_filter}
 use Rattle.x5_model.proofs.Ascending.{of_insert, of_sorted}
 use Rattle.x5_model_tree.specs.Described.{is_normal, is_stored_value, is_stored_attribute}
 use Rattle.x5_model_updates.proofs.Outcomes.{single_is}

@@ -1,5 +1,5 @@
 -- The lines of a run whose requests are within the limits lead to a line that is.
-use Rattle.std.proofs.Common.{◌≡◌, ◌<◌, ℕ, ◌+◌, ◌^◌, List, [], ◌∷◌, ◌++◌, length, refl, arith, length-append}
+use Rattle.std.proofs.Common.{◌≡◌, ◌<◌, ◌+◌, ◌^◌, List, [], ◌∷◌, length, refl, arith, length-append}
 use Rattle.x5_model_tree.specs.World.{World}
 use Rattle.x5_model_run.specs.History.{Did}
 use Rattle.x5_model_run.specs.Run.{Command, Block, Judge, IsRun, begin, next}

@@ -1,23 +1,21 @@
 -- The one tree has entries that can be sent, at every line of a run whose accepted updates are within the limits: those
 -- that the file describes, and what the updates made of them.
-use Rattle.std.proofs.Common.{◌≡◌, ℕ, ◌-◌, zero, suc, ◌&&◌, true, List, [], ◌∷◌, length, drop, refl, Option, Some, None, Ok, Err}
+use Rattle.std.proofs.Common.{◌≡◌, ℕ, ◌-◌, zero, suc, ◌&&◌, true, List, [], ◌∷◌, length, drop, refl, Ok, Err}
 use Rattle.std.specs.List.{list_all}
 use Rattle.x5_model.specs.Members.{In, here, there}
-use Rattle.x5_model.specs.Words.{ascending, is_empty}
+use Rattle.x5_model.specs.Words.{is_empty}
 use Rattle.x5_model.specs.Values.{last_rdn}
-use Rattle.x5_model.specs.Entries.{Named}
 use Rattle.x5_model.specs.Attributes.{is_ordered, has_rdn}
 use Rattle.x5_model.specs.Statics.{entry_refusals}
-use Rattle.x5_model.specs.Requests.{Request}
 use Rattle.x5_model.proofs.Lists.{both_true, of_all, of_flat}
 use Rattle.x5_model.proofs.Ascending.{of_sorted}
-use Rattle.x5_model_tree.specs.World.{Context, Agent, World}
+use Rattle.x5_model_tree.specs.World.{Context, World}
 use Rattle.x5_model_tree.specs.Tree.{Tree, named_below}
 use Rattle.x5_model_tree.specs.Masters.{Mastered, mastered, all_entries}
 use Rattle.x5_model_tree.specs.Apply.{Applied, apply}
 use Rattle.x5_model_tree.specs.Described.{is_stored, is_stored_attribute, is_stored_entry, is_stored_context, is_stored_agent, is_entry_name, is_kept, is_rooted, is_context, is_agent, is_agent_name, IsDescribed}
 use Rattle.x5_model_tree.proofs.Gives.{of_numbered, owner_of}
-use Rattle.x5_model_run.specs.History.{Acceptance, Deed, Nothing, Outs, Loses, Accepts, Refreshes, Splits, Unsplits, Did, Point, tree_with, tree_accepting, tree_after, tree_by, tree_at, tree_of_moment}
+use Rattle.x5_model_run.specs.History.{Acceptance, Deed, Nothing, Outs, Loses, Accepts, Refreshes, Splits, Unsplits, Did, Point, tree_with, tree_accepting, tree_after, tree_by, tree_at}
 use Rattle.x5_model_refreshed.specs.Replaying.{AreTaken, Happens, AllHappen}
 use Rattle.x5_model_fitting.specs.Names.{Each}
 use Rattle.x5_model_fitting.specs.Requests.{RequestWithin}
@@ -92,8 +90,8 @@ module _ (w : World) (described : IsDescribed w) (utf8 : world_is_utf8 w ≡ tru
       let f = of_flat (λ (m : Mastered). m.context.entries) e (mastered w)
       (of_sorted named_below e (all_entries w) i) in
       mastered_sendable w described utf8 f.0 f.1 e f.2
-  tree_sendable (d ∷ before) h b =
-      deed_sendable before d.deed h.0 (b d here) (tree_sendable before h.1 (λ x j. b x (there j)))
+  tree_sendable (d ∷ before) h b e i =
+      deed_sendable before d.deed h.0 (b d here) (tree_sendable before h.1 (λ x j. b x (there j))) e i
 
 -- the lines before an earlier one
 happened_before : (w : World) (k : ℕ) (past : List Did) → AllHappen w past → AllHappen w (drop k past)

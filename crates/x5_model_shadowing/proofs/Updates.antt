@@ -1,7 +1,6 @@
 -- An accepted update leaves entries that can be sent where it found such, and what its master notes of it can be sent.
 use Rattle.std.proofs.Common.{◌≡◌, Bool, true, false, not, inl, inr, List, [], ◌∷◌, ◌++◌, map, refl, sym, subst, arith, Option, Some, None, Ok, Err, if◌then◌else◌}
 use Rattle.std.specs.Prelude.{⊤}
-use Rattle.std.specs.List.{filter}
 use Rattle.std.specs.Option.{option_map}
 use Rattle.x5_model.specs.Words.{in_option}
 use Rattle.x5_model.specs.Keys.{same_key, is_prefix, parent}
@@ -15,14 +14,13 @@ use Rattle.x5_model.proofs.Lists.{in_first, in_either, of_filter, of_map, of_all
 use Rattle.x5_model.proofs.Ascending.{of_sorted}
 use Rattle.x5_model_tree.specs.Described.{is_stored_attribute}
 use Rattle.x5_model_tree.specs.Tree.{Tree, key_at, named_below, sorted_entries, entry_at}
-use Rattle.x5_model_tree.specs.Apply.{Ground, add, remove, modify, rename, update, apply_over, ground_of, apply}
+use Rattle.x5_model_tree.specs.Apply.{Ground, add, remove, modify, rename, update, ground_of, apply}
 use Rattle.x5_model_updates.specs.Afterwards.{new_entry, name_after}
 use Rattle.x5_model_updates.proofs.Lookups.{entry_found}
 use Rattle.x5_model_updates.proofs.Ordered.{added_ordered, modified_ordered, renamed_ordered}
 use Rattle.x5_model_updates.proofs.Outcomes.{moved_entry, ok_list, same_list, added, removed, changed_so, renamed_so, accepted_over, tree_made}
 use Rattle.x5_model_refreshed.specs.Steps.{Step, Add, Remove, Modify, Rename, modify_step, step_of}
-use Rattle.x5_model_fitting.specs.Names.{Each, NameWithin, RdnWithin}
-use Rattle.x5_model_fitting.specs.Terms.{AttributeWithin}
+use Rattle.x5_model_fitting.specs.Names.{Each}
 use Rattle.x5_model_fitting.specs.Requests.{ChangeWithin, BodyWithin, RequestWithin}
 use Rattle.x5_model_limits.specs.Holding.{BoundedEntry}
 use Rattle.x5_model_limits.specs.Steps.{BoundedStep}

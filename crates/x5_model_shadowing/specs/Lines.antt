@@ -1,8 +1,8 @@
 -- At every line of a run over consistent knowledge, whose requests are within the limits of messages, what agents hold
 -- and keep of changes can be sent, and each message of a refresh is within the limits (X.525, sections 7 and 9 to 12).
-use Rattle.std.specs.Prelude.{◌≡◌, ℕ, ◌+◌, Bool, true, List, ◌∷◌, length}
+use Rattle.std.specs.Prelude.{◌≡◌, ℕ, ◌+◌, Bool, true, List, length}
 use Rattle.std.specs.declared.option.Option.{Option}
-use Rattle.std.specs.declared.option.Option.TheVariants.{None, Some}
+use Rattle.std.specs.declared.option.Option.TheVariants.{None}
 use Rattle.x5_model.specs.Keys.{Key}
 use Rattle.x5_model.specs.Members.{In}
 use Rattle.x5_model.specs.Values.{Text}
