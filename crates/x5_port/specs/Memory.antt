@@ -3,6 +3,7 @@ use Rattle.std.specs.Prelude.{◌≡◌, ℕ, ◌+◌, ◌==◌, nat_lt, min, Bo
 use Rattle.std.specs.Prelude.{None, Result, Ok, Err, string_bytes, Vec, ⊤}
 use Rattle.std.specs.List.{list_any}
 use Rattle.std.specs.Option.{option_map}
+use Rattle.x5_port.specs.Names.{names_in}
 use Rattle.x5_port.specs.Outside.{File, content_of, last_count}
 use Rattle.x5_port.specs.declared.fault.FileFault.{FileFault}
 use Rattle.x5_port.specs.declared.fault.FileFault.TheVariants.{Failed, TooLong, NoMemory}
@@ -29,6 +30,10 @@ files_in files = map file_of files.held.items
 abbrev pub failed_in : MemoryFiles → Option (List ℕ)
 failed_in files = option_map string_bytes files.failed
 
+-- the names of all calls so far, the last one first
+abbrev pub asked_in : MemoryFiles → List (List ℕ)
+asked_in files = names_in files.asked.items
+
 -- no file, no call and no fault yet
 pub record IsNewFiles (files : MemoryFiles) (failing : List ℕ) : Type 0 where
   pub no_files : files_in files ≡ []
@@ -36,6 +41,7 @@ pub record IsNewFiles (files : MemoryFiles) (failing : List ℕ) : Type 0 where
   pub no_calls : files.schedule.calls ≡ 0
   pub no_faults : files.faults ≡ 0
   pub none_failed : failed_in files ≡ None
+  pub none_asked : asked_in files ≡ []
 
 -- the calls and the faults so far are the same
 pub record SameButFiles (old new : MemoryFiles) : Type 0 where
@@ -43,6 +49,7 @@ pub record SameButFiles (old new : MemoryFiles) : Type 0 where
   pub calls_are : new.schedule.calls ≡ old.schedule.calls
   pub faults_are : new.faults ≡ old.faults
   pub failed_is : failed_in new ≡ failed_in old
+  pub asked_is : asked_in new ≡ asked_in old
 
 -- what a file's reader is answered where the call isn't to fail
 abbrev pub read_in : Option (List ℕ) → ℕ → Result (List ℕ) FileFault

@@ -1,6 +1,6 @@
 -- What files and a sink of octets tell of themselves, and what the answers of their calls mean.
-use Rattle.std.specs.Prelude.{◌≡◌, ◌≢◌, ℕ, ◌<◌, ◌≤◌, List, ◌++◌, length, take, Option, Some, None, Result, Ok, Err}
-use Rattle.std.specs.Prelude.{IsSomeAnd, ⊤}
+use Rattle.std.specs.Prelude.{◌≡◌, ◌≢◌, ℕ, ◌<◌, ◌≤◌, ◌⊎◌, List, ◌∷◌, ◌++◌, length, take, Option, Some, None}
+use Rattle.std.specs.Prelude.{Result, Ok, Err, IsSomeAnd, ⊤}
 use Rattle.std.specs.List.{find}
 use Rattle.std.specs.Option.{option_map}
 use Rattle.std.specs.Str.{bytes_eq}
@@ -40,6 +40,14 @@ failed_after (Ok octets) name before = before
 failed_after (Err Failed) name before = Some name
 failed_after (Err TooLong) name before = before
 failed_after (Err NoMemory) name before = before
+
+-- A file was asked for by this name, with this answer: the name stands in front of those before. Where memory ran out,
+-- the call may have ended before that, and then nothing was read.
+abbrev pub IsAsked : {T : Type 0} → Result T FileFault → List ℕ → List (List ℕ) → List (List ℕ) → Type 0
+IsAsked (Ok octets) name before now = now ≡ name ∷ before
+IsAsked (Err Failed) name before now = now ≡ name ∷ before
+IsAsked (Err TooLong) name before now = now ≡ name ∷ before
+IsAsked (Err NoMemory) name before now = (now ≡ name ∷ before) ⊎ (now ≡ before)
 
 -- what was taken, with these octets after it
 abbrev pub with_octets : List ℕ → Option (List ℕ) → Option (List ℕ)

@@ -3,8 +3,9 @@ ghost use Rattle.std.specs.Prelude.{◌≡◌, ℕ, ◌+◌, ◌-◌, ◌<◌, �
 ghost use Rattle.std.specs.List.{find};
 ghost use Rattle.std.specs.Option.{option_map, option_copied};
 ghost use Rattle.std.specs.Str.{bytes_eq};
-ghost use Rattle.x5_port.specs.Outside.{IsContent, IsLonger, Rose, failed_after, with_octets};
+ghost use Rattle.x5_port.specs.Outside.{IsAsked, IsContent, IsLonger, Rose, failed_after, with_octets};
 
+use crate::asked::{first_name, put_name};
 use crate::fault::{Failed, FileFault, raised};
 use crate::port::{Files, Sink};
 use std::alloc::Global;
@@ -60,6 +61,7 @@ pub struct MemoryFiles {
     schedule: Schedule,
     faults: u64,
     failed: Option<String>,
+    asked: Vec<String>,
 }
 
 impl MemoryFiles {
@@ -76,6 +78,7 @@ impl MemoryFiles {
             schedule: Schedule::new(alloc, failing)?,
             faults: 0,
             failed: None,
+            asked: Vec::new(alloc),
         })
     }
 
@@ -113,13 +116,15 @@ impl MemoryFiles {
 }
 
 impl Files for MemoryFiles {
-    ghost use Rattle.x5_port.specs.Memory.{files_in, failed_in, Answers, answer_of, CountsCall};
+    ghost use Rattle.x5_port.specs.Memory.{files_in, failed_in, asked_in, Answers, answer_of, CountsCall};
 
     ghost contents = { λ files. Some (files_in files) };
 
     ghost fault_count = { λ files. files.faults };
 
     ghost last_failed = { failed_in };
+
+    ghost names_asked = { asked_in };
 
     fn faults(&self) -> u64 {
         self.faults
@@ -133,6 +138,7 @@ impl Files for MemoryFiles {
         ensures failed_name { failed_in self.new ≡ failed_after result name.now (failed_in self.old) }
         ensures rising { self.old.faults ≤ self.new.faults }
         ensures same_contents { Some (files_in self.new) ≡ Some (files_in self.old) }
+        ensures asked { IsAsked result name.now (asked_in self.old) (asked_in self.new) }
 
         // Unless memory runs out, the answer is known before the call.
         ensures answer { Answers result (answer_of self.old name.now limit) }
@@ -140,6 +146,7 @@ impl Files for MemoryFiles {
         ensures same_marks { self.new.schedule.failing.items ≡ self.old.schedule.failing.items }
     {
         let kept = String::from_str(alloc, name)?;
+        put_name(&mut self.asked, alloc, name)?;
         let outcome = if self.schedule.next_fails() {
             Err(FileFault::Failed)
         } else {
@@ -154,6 +161,10 @@ impl Files for MemoryFiles {
 
     fn failed(&self) -> Option<&str> {
         self.failed.as_ref().map(|name| name.as_str())
+    }
+
+    fn asked(&self) -> Option<&str> {
+        first_name(&self.asked)
     }
 }
 

@@ -1,7 +1,8 @@
 // The traits of the outside: files that are read whole, and a sink that takes octets.
 ghost use Rattle.std.specs.Prelude.{◌≡◌, ◌≢◌, ℕ, ◌+◌, ◌<◌, ◌≤◌, List, length, take, Option, IfOk, IsErrOf, OnOk, OnErr, MatchResult, vec_len};
+ghost use Rattle.std.specs.List.{slice_get};
 ghost use Rattle.std.specs.Option.{option_copied};
-ghost use Rattle.x5_port.specs.Outside.{File, IsContent, IsLonger, Rose, failed_after, with_octets, TookPrefix};
+ghost use Rattle.x5_port.specs.Outside.{File, IsAsked, IsContent, IsLonger, Rose, failed_after, with_octets, TookPrefix};
 
 use crate::fault::{Failed, FileFault};
 use std::alloc::Global;
@@ -20,6 +21,9 @@ pub trait Files {
     /// The name of the last call that was answered `Failed`.
     ghost last_failed: { Self → Option (List ℕ) };
 
+    /// The names of all calls so far, the last one first.
+    ghost names_asked: { Self → List (List ℕ) };
+
     /// How many faults there were. Takes no memory.
     fn faults(&self) -> u64
         ensures { result ≡ fault_count self.now };
@@ -32,11 +36,16 @@ pub trait Files {
         ensures failed { IsErrOf result FileFault.Failed → Rose (fault_count self.old) (fault_count self.new) }
         ensures failed_name { last_failed self.new ≡ failed_after result name.now (last_failed self.old) }
         ensures rising { fault_count self.old ≤ fault_count self.new }
-        ensures same_contents { contents self.new ≡ contents self.old };
+        ensures same_contents { contents self.new ≡ contents self.old }
+        ensures asked { IsAsked result name.now (names_asked self.old) (names_asked self.new) };
 
     /// The name of the last call that was answered `Failed`. Takes no memory.
     fn failed(&self) -> Option<&str>
         ensures { option_copied result ≡ last_failed self.now };
+
+    /// The name of the last call. Takes no memory.
+    fn asked(&self) -> Option<&str>
+        ensures { option_copied result ≡ slice_get (names_asked self.now) 0 };
 }
 
 /// A sink that takes octets.
