@@ -3,7 +3,7 @@ ghost use Rattle.std.specs.Prelude.{◌≡◌, ℕ, ◌+◌, ◌-◌, ◌<◌, �
 ghost use Rattle.std.specs.List.{find};
 ghost use Rattle.std.specs.Option.{option_map, option_copied};
 ghost use Rattle.std.specs.Str.{bytes_eq};
-ghost use Rattle.x5_port.specs.Outside.{IsAsked, IsContent, IsLonger, Rose, failed_after, with_octets};
+ghost use Rattle.x5_port.specs.Outside.{IsAsked, IsContent, IsLonger, Rose, failed_after, faults_after, next_count, with_octets};
 
 use crate::asked::{first_name, put_name};
 use crate::fault::{Failed, FileFault, raised};
@@ -19,7 +19,7 @@ struct Schedule {
 }
 
 impl Schedule {
-    ghost use Rattle.x5_port.specs.Memory.{is_marked, next_number};
+    ghost use Rattle.x5_port.specs.Memory.{is_marked};
 
     fn new(alloc: Global, failing: &[u64]) -> Result<Schedule, NoMemory>
         ensures { IfOk result (λ schedule. (schedule.failing.items ≡ failing.now) × (schedule.calls ≡ 0)) }
@@ -32,8 +32,8 @@ impl Schedule {
 
     // Counts a call, and says whether it is to fail.
     fn next_fails(&mut self) -> bool
-        ensures marked { result ≡ is_marked self.old.failing.items (next_number self.old.calls) }
-        ensures counted { self.new ≡ record self.old { calls = next_number self.old.calls } }
+        ensures marked { result ≡ is_marked self.old.failing.items (next_count self.old.calls) }
+        ensures counted { self.new ≡ record self.old { calls = next_count self.old.calls } }
     {
         self.calls = self.calls.saturating_add(1);
         self.failing.contains(&self.calls)
@@ -137,6 +137,7 @@ impl Files for MemoryFiles {
         ensures failed { IsErrOf result FileFault.Failed → Rose self.old.faults self.new.faults }
         ensures failed_name { failed_in self.new ≡ failed_after result name.now (failed_in self.old) }
         ensures rising { self.old.faults ≤ self.new.faults }
+        ensures faults { self.new.faults ≡ faults_after result self.old.faults }
         ensures same_contents { Some (files_in self.new) ≡ Some (files_in self.old) }
         ensures asked { IsAsked result name.now (asked_in self.old) (asked_in self.new) }
 
@@ -212,7 +213,7 @@ impl MemorySink {
 }
 
 impl Sink for MemorySink {
-    ghost use Rattle.x5_port.specs.Memory.{octets_in, next_is_marked, next_number};
+    ghost use Rattle.x5_port.specs.Memory.{octets_in, next_is_marked};
 
     ghost octets = { λ sink. Some (octets_in sink) };
 
@@ -229,11 +230,13 @@ impl Sink for MemorySink {
         ensures failed { OnErr result (Rose self.old.faults self.new.faults) }
         ensures nothing_taken { OnErr result (Some (octets_in self.new) ≡ Some (octets_in self.old)) }
         ensures rising { self.old.faults ≤ self.new.faults }
+        ensures no_fault { OnOk result (self.new.faults ≡ self.old.faults) }
+        ensures one_fault { OnErr result (self.new.faults ≡ next_count self.old.faults) }
 
         // It takes what fits, unless this call is to fail.
         ensures count { IfOk result (λ count. count ≡ min (length piece.now) (min self.old.most (self.old.room))) }
         ensures unmarked { OnOk result (next_is_marked self.old ≡ false) }
-        ensures counted { self.new.schedule ≡ record self.old.schedule { calls = next_number self.old.schedule.calls } }
+        ensures counted { self.new.schedule ≡ record self.old.schedule { calls = next_count self.old.schedule.calls } }
         ensures cause { OnErr result (IsTrue (next_is_marked self.old) ⊎ (self.old.room ≡ 0) × (0 < length piece.now)) }
         ensures room { OnOk result (self.new.room + length (octets_in self.new) ≡ self.old.room + length (octets_in self.old)) }
         ensures same_room { OnErr result (self.new.room ≡ self.old.room) }

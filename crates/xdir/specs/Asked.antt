@@ -23,8 +23,8 @@ StopsEarly WriteFault = ⊤
 StopsEarly NoMemory = ⊤
 StopsEarly TooLong = ⊤
 
--- The world file is asked for, once, and then, where it is taken, the script, once; or it ends before the script is, or,
--- where memory ran out, before any is.
+-- The world file is asked for, once, and then, where it is taken, the script, once; or it ends before the script is, or
+-- (where memory ran out) before any is.
 abbrev pub AsksBoth : Status → Option (List File) → FileNames → List (List ℕ) → List (List ℕ) → Type 0
 AsksBoth status told names old new =
     (new ≡ names.script ∷ names.world ∷ old) × TakesWorld told names.world

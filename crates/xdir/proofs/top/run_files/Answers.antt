@@ -3,6 +3,7 @@
 use Rattle.std.proofs.Common.{ℕ, List, Option, sym, subst}
 use Rattle.x5_load.specs.Views.{file_view}
 use Rattle.x5_port.specs.Outside.{File, IsContent}
+use Rattle.x5_words.specs.Forms.{FileNames}
 use Rattle.xdir.specs.Steps.{ReadsFile, WritesScriptFile}
 use Rattle.xdir.specs.Summed.{SumsScriptFile}
 use Rattle.xdir.proofs.Asking.{asks_both, asks_refused}
@@ -19,8 +20,8 @@ run_world-requires-clause-utf8 g c = in_utf8 c.in-Ok-load.world c.deref.result.n
 
 pub returns-in-Ok-load-clause-asks : goal.returns-in-Ok-load-clause-asks
 returns-in-Ok-load-clause-asks g c =
-    let told = g.F.Files.contents c.args.files.now in
-    let names = record { world = c.args.world.now; script = c.args.script.now } in
+    let told : Option (List File) = g.F.Files.contents c.args.files.now in
+    let names : FileNames = record { world = c.args.world.now; script = c.args.script.now } in
     asks_both c.run_world.result told names (g.F.Files.names_asked c.args.files.now) (g.F.Files.names_asked c.read_whole.new.self)
     (g.F.Files.names_asked c.run_world.new.files) c.in-Ok.ensures.asked
     (takes told names c.deref.result.now (subst (λ (octets : List ℕ). IsContent told c.args.world.now octets) (sym c.deref.ensures.value) c.in-Ok.ensures.content)

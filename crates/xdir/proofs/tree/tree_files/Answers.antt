@@ -2,6 +2,7 @@
 use Rattle.std.proofs.Common.{ℕ, List, Option, sym, subst}
 use Rattle.x5_load.specs.Views.{file_view}
 use Rattle.x5_port.specs.Outside.{File, IsContent}
+use Rattle.x5_words.specs.Forms.{FileNames}
 use Rattle.xdir.specs.Checked.{ReadsChecked}
 use Rattle.xdir.specs.Tree.{TellsFile}
 use Rattle.xdir.proofs.Asking.{asks_both, asks_refused}
@@ -15,8 +16,8 @@ tree_script-requires-clause-described g c = loaded c.in-Ok-load.world c.deref.re
 
 pub returns-in-Ok-load-clause-asks : goal.returns-in-Ok-load-clause-asks
 returns-in-Ok-load-clause-asks g c =
-    let told = g.F.Files.contents c.args.files.now in
-    let names = record { world = c.args.world.now; script = c.args.script.now } in
+    let told : Option (List File) = g.F.Files.contents c.args.files.now in
+    let names : FileNames = record { world = c.args.world.now; script = c.args.script.now } in
     asks_both c.tree_script.result told names (g.F.Files.names_asked c.args.files.now) (g.F.Files.names_asked c.read_whole.new.self)
     (g.F.Files.names_asked c.tree_script.new.files) c.in-Ok.ensures.asked
     (takes told names c.deref.result.now
