@@ -8,11 +8,7 @@ use std::alloc::Global;
 use x5_memory::NoMemory;
 
 // Puts a name in front of those before.
-pub(crate) fn put_name(
-    names: &mut Vec<String>,
-    alloc: Global,
-    name: &str,
-) -> Result<(), NoMemory>
+pub(crate) fn put_name(names: &mut Vec<String>, alloc: Global, name: &str) -> Result<(), NoMemory>
     ensures put { OnOk result (names_in names.new.items ≡ name.now ∷ names_in names.old.items) }
     ensures unchanged { OnErr result (names_in names.new.items ≡ names_in names.old.items) }
 {

@@ -1,6 +1,6 @@
 -- Each piece that the sink takes keeps the loop's invariant: taking a first part and then some of the rest is taking a
 -- longer first part, and the count of faults stays.
-use Rattle.std.proofs.Common.{List, ℕ, Option, take, drop, length, ◌-◌, ap, ◌∙◌, arith, rules}
+use Rattle.std.proofs.Common.{List, ℕ, Option, take, drop, length, ◌-◌, ap, ◌∙◌, rules}
 use Rattle.x5_port.specs.Outside.{with_octets}
 use Rattle.x5_port.proofs.Octets.{with_octets-take}
 use Rattle.x5_port.proofs.port.put_all.Goals as goal
