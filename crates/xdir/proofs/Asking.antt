@@ -1,16 +1,17 @@
 -- Which files are asked for, from the script's file to both, by how it ends.
-use Rattle.std.proofs.Common.{◌≡◌, ◌⊎◌, inl, inr, ℕ, List, ◌∷◌, Option, refl, sym, ap, subst, ◌∙◌}
-use Rattle.x5_port.specs.Outside.{File, IsAsked}
-use Rattle.x5_words.specs.Forms.{FileNames, Form, Run, Check, Tree, GenRun, GenWorld, GenScript, Show}
-use Rattle.xdir.specs.Asked.{AsksOne, StopsEarly, AsksBoth, AsksForm}
+use Rattle.std.proofs.Common.{◌≡◌, inl, inr, ℕ, List, ◌∷◌, Option, sym, ap, subst, ◌∙◌}
+use Rattle.x5_port.specs.Outside.{File}
+use Rattle.x5_words.specs.Forms.{FileNames}
+use Rattle.xdir.specs.Asked.{AsksOne, StopsEarly, AsksBoth}
 use Rattle.xdir.specs.Run.{TakesWorld}
 use Rattle.xdir.specs.Steps.{WritesSuchLine}
 use Rattle.xdir.specs.declared.top.Status.{Status}
-use Rattle.xdir.specs.declared.top.Status.TheVariants.{Done, Refused, Usage, ReadFault, WriteFault, NoMemory, Inconsistent, TooLong}
+use Rattle.xdir.specs.declared.top.Status.TheVariants.{Done, Refused, Usage, ReadFault, WriteFault, NoMemory}
+use Rattle.xdir.specs.declared.top.Status.TheVariants.{Inconsistent, TooLong}
 
 -- the script behind the world, which is taken
-pub asks_both : (status : Status) (told : Option (List File)) (names : FileNames) (old mid new : List (List ℕ)) → mid ≡ names.world ∷ old
-    → TakesWorld told names.world → AsksOne status names.script mid new → AsksBoth status told names old new
+pub asks_both : (status : Status) (told : Option (List File)) (names : FileNames) (old mid new : List (List ℕ))
+    → mid ≡ names.world ∷ old → TakesWorld told names.world → AsksOne status names.script mid new → AsksBoth status told names old new
 asks_both status told names old mid new world takes (inl script) =
     inl (script ∙ ap (λ (asked : List (List ℕ)). names.script ∷ asked) world, takes)
 asks_both status told names old mid new world takes (inr (out_of_memory, none)) =
@@ -33,24 +34,3 @@ pub asks_refused : (told : Option (List File)) (names : FileNames) (asked now : 
     → WritesSuchLine status P old new before after → AsksBoth status told names asked now
 asks_refused told names asked now world status P old new before after w =
     inr (inl (stops_early status P old new before after w, world))
-
--- memory ran out while the world file was read
-pub asks_either : (told : Option (List File)) (names : FileNames) (asked now : List (List ℕ)) → (now ≡ names.world ∷ asked) ⊎ (now ≡ asked)
-    → AsksBoth NoMemory told names asked now
-asks_either told names asked now (inl world) = inr (inl (tt, world))
-asks_either told names asked now (inr none) = inr (inr (refl, none))
-
--- or while one file alone was
-pub asks_one : (name : List ℕ) (asked now : List (List ℕ)) → (now ≡ name ∷ asked) ⊎ (now ≡ asked) → AsksOne NoMemory name asked now
-asks_one name asked now (inl one) = inl one
-asks_one name asked now (inr none) = inr (refl, none)
-
--- or before any was
-pub asks_none : (form : Form) (told : Option (List File)) (asked : List (List ℕ)) → AsksForm form NoMemory told asked asked
-asks_none (Run names summary) told asked = inr (inr (refl, refl))
-asks_none (Check name) told asked = inr (refl, refl)
-asks_none (Tree names) told asked = inr (inr (refl, refl))
-asks_none (GenRun number) told asked = refl
-asks_none (GenWorld number) told asked = refl
-asks_none (GenScript number) told asked = refl
-asks_none (Show name) told asked = inr (refl, refl)

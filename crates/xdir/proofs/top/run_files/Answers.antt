@@ -22,10 +22,12 @@ pub returns-in-Ok-load-clause-asks : goal.returns-in-Ok-load-clause-asks
 returns-in-Ok-load-clause-asks g c =
     let told : Option (List File) = g.F.Files.contents c.args.files.now in
     let names : FileNames = record { world = c.args.world.now; script = c.args.script.now } in
-    asks_both c.run_world.result told names (g.F.Files.names_asked c.args.files.now) (g.F.Files.names_asked c.read_whole.new.self)
-    (g.F.Files.names_asked c.run_world.new.files) c.in-Ok.ensures.asked
-    (takes told names c.deref.result.now (subst (λ (octets : List ℕ). IsContent told c.args.world.now octets) (sym c.deref.ensures.value) c.in-Ok.ensures.content)
-    (file_view c.in-Ok-load.world) c.in-Ok-load.ensures.loads (readable told c.args.world.now c.in-Ok.octets.items c.in-Ok.ensures.content c.in-Ok.ensures.fits))
+    asks_both c.run_world.result told names (g.F.Files.names_asked c.args.files.now)
+    (g.F.Files.names_asked c.read_whole.new.self) (g.F.Files.names_asked c.run_world.new.files) c.in-Ok.ensures.asked
+    (takes told names c.deref.result.now
+    (subst (λ (octets : List ℕ). IsContent told c.args.world.now octets) (sym c.deref.ensures.value) c.in-Ok.ensures.content)
+    (file_view c.in-Ok-load.world) c.in-Ok-load.ensures.loads
+    (readable told c.args.world.now c.in-Ok.octets.items c.in-Ok.ensures.content c.in-Ok.ensures.fits))
     c.run_world.ensures.asks
 
 pub returns-in-Ok-load-clause-reads : goal.returns-in-Ok-load-clause-reads
