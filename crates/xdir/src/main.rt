@@ -1,7 +1,7 @@
 // A directory in a simulated network of agents, run by a script.
 #![tactic(auto)]
 
-ghost use Rattle.std.specs.Prelude.{◌≡◌};
+ghost use Rattle.std.specs.Prelude.{◌≡◌, [], map, slice_index_or, string_bytes};
 ghost use Rattle.std.specs.Process.{exit_status};
 ghost use Rattle.xdir.specs.Statuses.{exit_number};
 
@@ -46,7 +46,9 @@ fn main(rt: HostRuntime) -> ExitCode {
 }
 
 // The name of the world file, which stands behind the command.
-fn world_name(words: &[String]) -> &str {
+fn world_name(words: &[String]) -> &str
+    ensures { result.now ≡ slice_index_or (map string_bytes words.now) 1 [] }
+{
     match words {
         [_, world, ..] => world.as_str(),
         _ => "",
