@@ -1,7 +1,7 @@
 -- Answers that a limit ends (X.511, section 12.8: administrativeLimitExceeded). A message that 128 agents had is
--- answered so, and so is one for which such a message was sent; over a network that sends no further message that ends
--- it. Where messages were left and no trace was so long, the answer is refused; and an update that it ends is answered
--- `changed` by nobody.
+-- answered so, and so is one for which such a message was sent and came back; over a network that sends no further
+-- message that ends it. Where messages were left and no trace was so long, the answer is refused; and an update that
+-- it ends is answered `changed` by nobody.
 use Rattle.std.specs.Prelude.{◌≡◌, ℕ, zero, suc, true, false, List, [], ◌∷◌}
 use Rattle.std.specs.declared.option.Option.TheVariants.{None, Some}
 use Rattle.std.proofs.Common.{refl, ap}
