@@ -4,6 +4,7 @@
 
 mod asking;
 mod begin;
+mod carrying;
 mod counts;
 mod delivered;
 mod exchange;
