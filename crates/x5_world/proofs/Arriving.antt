@@ -111,7 +111,7 @@ IsFine o = ProblemWithin 11 (number_of o)
 fine_is : (x y : RefreshOutcome) → Some x ≡ Some y → IsFine x → IsFine y
 fine_is x y e h = subst IsFine (some_is e) h
 
-none_some : {A : Type 0} {x : A} → None ≡ Some x → ⊥
+pub none_some : {A : Type 0} {x : A} → None ≡ Some x → ⊥
 none_some e = cc
 
 either_of : (k : ℕ) → ((k == 2) || (k == 6)) ≡ true → ProblemWithin 11 k

@@ -244,7 +244,9 @@ fn opened(
 {
     let first = fate_of_first(world, &by.agreement, by.push);
     let lines = first_line(alloc, world, by, first)?;
-    match answered(alloc, start, world.names(), by, problem_of(&supplied), first)? {
+    let problem = problem_of(&supplied);
+    let begun = answered(alloc, start, world.names(), by, problem, first)?;
+    match begun {
         refresh::Start::Ended(became) => Ok(stopped(lines, became)),
         refresh::Start::GoesOn => updated(alloc, start, world, by, lines, supplied),
     }
@@ -305,8 +307,8 @@ fn by_place(
     match opens(push, problem_of(&supplied)) {
         refresh::Start::Ended(became) => Ok(stopped(Listed::new(alloc), became)),
         refresh::Start::GoesOn => {
-            let by = told(alloc, start, world, by)?;
-            opened(alloc, start, world, &by, supplied)
+            let way = told(alloc, start, world, by)?;
+            opened(alloc, start, world, &way, supplied)
         }
     }
 }
