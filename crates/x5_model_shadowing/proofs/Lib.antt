@@ -1,0 +1,10 @@
+pub mod OfKinds
+pub mod Updates
+pub mod Trees
+pub mod Held
+pub mod Logs
+pub mod Moments
+pub mod Runs
+pub mod Around
+pub mod Sent
+pub mod Files

@@ -1,0 +1,4 @@
+pub mod Holding
+pub mod Messages
+pub mod Lines
+pub mod Files
