@@ -1,5 +1,5 @@
 -- What is read as it was asked or replied is just that; and it is within the limits of messages.
-use Rattle.std.proofs.Common.{◌≡◌, ℕ, ◌≤◌, Bool, true, false, List, refl, sym, ap, ◌∙◌, arith}
+use Rattle.std.proofs.Common.{◌≡◌, ℕ, Bool, true, false, List, [], ◌∷◌, map, refl, sym, ap}
 use Rattle.std.specs.declared.option.Option.{Option}
 use Rattle.std.specs.declared.option.Option.TheVariants.{None, Some}
 use Rattle.x5_know.specs.Moments.{Start}
@@ -9,7 +9,11 @@ use Rattle.x5_model_fitting.specs.Replies.{ProblemWithin}
 use Rattle.x5_model_fitting.specs.Requests.{CountWithin, IfThere}
 use Rattle.x5_model_messages.specs.Shadows as shadows
 use Rattle.x5_model_shadowed.specs.Within.{MomentWithin, RefreshWithin, ShadowWithin, operations}
+use Rattle.x5_ops.specs.declared.knowledge.Step.{Step}
 use Rattle.x5_types.specs.FormView.{world}
+use Rattle.x5_dispber.specs.ShadowViews.{told_step}
+use Rattle.x5_refresh.specs.declared.brought.Brought.{Brought}
+use Rattle.x5_refresh.specs.declared.brought.Brought.TheVariants.{Total, Steps}
 use Rattle.x5_shadow_wire.specs.Carried.{asked_of, asking, bringing, code_of, problem_of, replying}
 use Rattle.x5_shadow_wire.specs.declared.asked.Asked.{Asked}
 use Rattle.x5_shadow_wire.specs.declared.replied.Problem.{Problem}
@@ -59,3 +63,39 @@ module _ (start : Start) (names : List (List ℕ)) where
   pub updating_within : (agreement stamp : ℕ) (r : shadows.Refresh) → CountWithin agreement → CountWithin stamp
       → RefreshWithin (world start names) r → ShadowWithin (world start names) (shadows.Update agreement stamp r)
   updating_within agreement stamp r n m h = (n, moment_within start names stamp m, h)
+
+-- ---- what an update sends
+
+pub agreement_in : shadows.Shadow → ℕ
+agreement_in (shadows.Update agreement stamp refresh) = agreement
+agreement_in other = 0
+
+pub stamp_in : shadows.Shadow → ℕ
+stamp_in (shadows.Update agreement stamp refresh) = stamp
+stamp_in other = 0
+
+pub refresh_in : shadows.Shadow → shadows.Refresh
+refresh_in (shadows.Update agreement stamp refresh) = refresh
+refresh_in other = shadows.Nothing
+
+pub is_update : shadows.Shadow → Bool
+is_update (shadows.Update agreement stamp refresh) = true
+is_update other = false
+
+pub differ : true ≡ false → ⊥
+differ e = cc
+
+-- no message of changes has none
+pub steps_bring : (names : List (List ℕ)) (given : List Step) (sent : Brought)
+    → shadows.Steps (map told_step given) ≡ bringing names sent → bringing names (Steps given) ≡ bringing names sent
+steps_bring names [] sent e = absurd (none_sent sent e)
+  where
+    has_steps : shadows.Refresh → Bool
+    has_steps (shadows.Steps []) = false
+    has_steps other = true
+
+    none_sent : (b : Brought) → shadows.Steps [] ≡ bringing names b → ⊥
+    none_sent (Total c) q = differ (sym (ap has_steps q))
+    none_sent (Steps []) q = differ (sym (ap has_steps q))
+    none_sent (Steps (s ∷ more)) q = differ (sym (ap has_steps q))
+steps_bring names (s ∷ more) sent e = e

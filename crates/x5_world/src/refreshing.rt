@@ -146,25 +146,28 @@ fn taken(
     alloc: Global,
     start: &Start,
     world: &mut World,
-    place: usize,
-    total: bool,
+    by: &Way,
     read: Arrived,
     last: Fate,
 ) -> Result<u64, NoMemory>
     requires consumer { read.agreement.consumer < length world.old.names }
-    requires there { place < length world.old.acked }
+    requires there { by.now.place < length world.old.acked }
     requires can { CanBring world.old read.agreement (Sent read.stamp read.brought) }
-    ensures left { IfOk result (λ count. IsLeft world.old read.agreement place (Sent read.stamp read.brought) (finished total read.agreement.number read.stamp count (fate_view last)) world.new) }
+    ensures left { IfOk result (λ count. IsLeft world.old read.agreement by.now.place (Sent read.stamp read.brought) (finished by.now.total read.agreement.number read.stamp count (fate_view last)) world.new) }
     ensures count { IfOk result (λ count. is_lost (fate_view last) ≡ false → count ≡ count_in read.brought) }
     ensures only { IfOk result (λ _. OnlyHeld world.old world.new) }
 {
     if !last.arrives() {
         return Ok(0);
     }
-    let stamp = read.stamp;
-    let count = world.accept(alloc, &read.agreement, stamp, read.brought)?;
+    let Arrived {
+        agreement,
+        stamp,
+        brought,
+    } = read;
+    let count = world.accept(alloc, &agreement, stamp, brought)?;
     if is_heard(last) {
-        acknowledged(alloc, start, world, place, stamp)?;
+        acknowledged(alloc, start, world, by.place, stamp)?;
     }
     Ok(count)
 }
@@ -199,7 +202,7 @@ fn updated(
     )?)?;
     let read = arrived(alloc, start, world, by, supplied)?;
     let stamp = read.stamp;
-    let count = taken(alloc, start, world, by.place, by.total, read, last)?;
+    let count = taken(alloc, start, world, by, read, last)?;
     Ok(Refreshment {
         lines,
         became: ended(by.total, stamp, count, last),

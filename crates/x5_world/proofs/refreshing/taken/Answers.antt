@@ -5,4 +5,4 @@ use Rattle.x5_world.proofs.refreshing.taken.Goals as goal
 
 pub acknowledged-requires : goal.acknowledged-requires
 acknowledged-requires c =
-    subst (λ (n : Net). c.args.place < length n.acked) (sym c.in_ok-count.ensures.taken.new_is) c.requires.there
+    subst (λ (n : Net). c.args.by.now.place < length n.acked) (sym c.in_ok-count.ensures.taken.new_is) c.requires.there
