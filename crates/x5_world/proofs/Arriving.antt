@@ -221,21 +221,22 @@ module _ (a b : Content) (m : ℕ) (same : AreSame a b) (before : State) (pin : 
 
   -- with the references as they were sent
   abbrev kept : Kept
-  kept = record r.kept { subordinate = b.specific; nssrs = b.nssr }
+  kept = record (r.kept) { subordinate = b.specific; nssrs = b.nssr }
 
   abbrev copy : CopyKept
   copy = record was { refreshed = Some (kept, m) }
 
-  abbrev then : State
-  then = record before { copies = slice_set before.copies t.place copy }
+  abbrev state_with : State
+  state_with = record before { copies = slice_set before.copies t.place copy }
+
+  -- as it was taken
+  abbrev seen : Copy
+  seen = copy_view (record was { refreshed = Some (r.kept, m) })
 
   copy_seen : copy_view copy ≡ copy_view t.copied.after
   copy_seen =
-      (λ i. copy_view (record was {
-        refreshed = Some (record r.kept { subordinate = b.specific; nssrs = b.nssr }, m);
-      }))
-      ∙ (λ i. record (copy_view (record was { refreshed = Some (r.kept, m) })) {
-        held = record (copy_view (record was { refreshed = Some (r.kept, m) })).held {
+      (λ i. record seen {
+        held = record (seen.held) {
           subordinate = (sym same.references ∙ ap (map specific_view) (sym r.content_is.subordinate)) i;
           nssrs = (sym same.nssrs ∙ ap (map nssr_view) (sym r.content_is.nssrs)) i;
         };
@@ -245,7 +246,7 @@ module _ (a b : Content) (m : ℕ) (same : AreSame a b) (before : State) (pin : 
   notes_seen : copy_notes copy ≡ copy_notes t.copied.after
   notes_seen = ap copy_notes (sym r.after_is)
 
-  pub holds_same : holdings_view after ≡ holdings_view then
+  pub holds_same : holdings_view after ≡ holdings_view state_with
   holds_same =
       ap holdings_view t.copied.new_is
       ∙ ap (λ (cs : List Copy). record (holdings_view before) { copies = cs })
@@ -253,7 +254,7 @@ module _ (a b : Content) (m : ℕ) (same : AreSame a b) (before : State) (pin : 
       ∙ ap (slice_set (map copy_view before.copies) t.place) (sym copy_seen)
       ∙ sym (map-set copy_view before.copies t.place copy))
 
-  pub keeps_same : logs_view after ≡ logs_view then
+  pub keeps_same : logs_view after ≡ logs_view state_with
   keeps_same =
       ap logs_view t.copied.new_is
       ∙ ap (λ (cs : List (Option Notes)). record (logs_view before) { copies = cs })
@@ -261,7 +262,7 @@ module _ (a b : Content) (m : ℕ) (same : AreSame a b) (before : State) (pin : 
       ∙ ap (slice_set (map copy_notes before.copies) t.place) (sym notes_seen)
       ∙ sym (map-set copy_notes before.copies t.place copy))
 
-  pub taken_so : IsTaken before pin (IsReplaced b m) then
+  pub taken_so : IsTaken before pin (IsReplaced b m) state_with
   taken_so = record {
     place = t.place;
     copied = record {
@@ -284,12 +285,12 @@ module _ (a b : Content) (m : ℕ) (same : AreSame a b) (before : State) (pin : 
     at = t.at;
   }
 
-taken_same : (old : Net) (g : Agreement) (m : ℕ) (a b : Brought) (new : Net) → IsSame a b → IsTakenAt old g m a new
-    → IsTakenAt old g m b new
-taken_same old g m (Total a) (Total b) new same t =
+taken_same : (old : Net) (g : Agreement) (m : ℕ) (a b : Brought) (mid : Net) → IsSame a b → IsTakenAt old g m a mid
+    → IsTakenAt old g m b mid
+taken_same old g m (Total a) (Total b) mid same t =
     let pin : Key = key_of g.context in record {
       before = t.before;
-      after = then a b m same t.before pin t.after t.taken;
+      after = state_with a b m same t.before pin t.after t.taken;
       holds = t.holds;
       logs = t.logs;
       taken = taken_so a b m same t.before pin t.after t.taken;
@@ -298,9 +299,9 @@ taken_same old g m (Total a) (Total b) new same t =
         logs = slice_set old.logs g.consumer (keeps_same a b m same t.before pin t.after t.taken i);
       });
     }
-taken_same old g m (Total a) (Steps b) new same t = absurd same
-taken_same old g m (Steps a) (Total b) new same t = absurd same
-taken_same old g m (Steps a) (Steps b) new same t = subst (λ (xs : List CodeStep). IsTakenAt old g m (Steps xs) new) same t
+taken_same old g m (Total a) (Steps b) mid same t = absurd same
+taken_same old g m (Steps a) (Total b) mid same t = absurd same
+taken_same old g m (Steps a) (Steps b) mid same t = subst (λ (xs : List CodeStep). IsTakenAt old g m (Steps xs) mid) same t
 
 abbrev brought_in : Brought → Supplied → Brought
 brought_in other (Sent stamp brought) = brought
