@@ -83,12 +83,7 @@ fn received(alloc: Global, start: &Start, world: &World, by: &Way) -> Result<Way
 }
 
 /// In a pull, the way as the supplier has it by what the consumer asks (requestShadowUpdate).
-pub(crate) fn asked(
-    alloc: Global,
-    start: &Start,
-    world: &World,
-    by: Way,
-) -> Result<Way, NoMemory>
+pub(crate) fn asked(alloc: Global, start: &Start, world: &World, by: Way) -> Result<Way, NoMemory>
     requires sound { IsSound world.now }
     requires way { IsWay world.now by }
     ensures { IfOk result (λ way. way ≡ by) }
@@ -142,11 +137,13 @@ fn replied(
             let read = carried_problem(alloc, start, names, operation, None)?;
             Ok(start_by(read))
         }
-        refresh::Start::Ended(Refreshed::Failed {
-            problem,
-            held,
-            given,
-        }) => {
+        refresh::Start::Ended(
+            Refreshed::Failed {
+                problem,
+                held,
+                given,
+            },
+        ) => {
             let sent = Problem {
                 number: problem,
                 held,

@@ -97,14 +97,7 @@ fn totals_of(
 {
     let mut totals = Totals::new();
     for command in commands {
-        count_command(
-            alloc,
-            start,
-            network,
-            is_consistent,
-            command,
-            &mut totals,
-        )?;
+        count_command(alloc, start, network, is_consistent, command, &mut totals)?;
     }
     Ok(totals)
 }
