@@ -1,6 +1,6 @@
 -- Entries that are grown one behind the other: what is taken so far and what is left are all, and what is left is grown
 -- over what is taken.
-use Rattle.std.proofs.Common.{◌≡◌, ℕ, ◌+◌, ◌<◌, ◌≤◌, true, ◌⊎◌, ◌↔◌, inl, inr, List, [], ◌∷◌, length, drop, get_or, refl, subst}
+use Rattle.std.proofs.Common.{◌≡◌, ℕ, ◌+◌, ◌<◌, ◌≤◌, true, ◌⊎◌, ◌↔◌, inl, inr, List, [], ◌∷◌, length, drop, get_or, sym, ap, subst, ◌∙◌}
 use Rattle.std.specs.List.{list_all}
 use Rattle.x5_model.specs.Members.{In, here, there}
 use Rattle.x5_model.specs.Words.{ascending}
@@ -8,7 +8,7 @@ use Rattle.x5_model.specs.Entries.{Named}
 use Rattle.x5_model.proofs.Lists.{both_true, in_first}
 use Rattle.x5_model_tree.specs.Tree.{named_below}
 use Rattle.x5_model_tree.specs.Described.{is_grown, is_kept}
-use Rattle.x5_dse.specs.Linked.{entries_of}
+use Rattle.x5_dse.specs.Linked.{Nodes, entries_of}
 use Rattle.x5_ops.proofs.Dropping.{drop_at}
 use Rattle.x5_holdings.specs.State.{Kept, OnlyEntries}
 use Rattle.x5_agents.specs.Growing.{Grown}
@@ -26,13 +26,17 @@ pub record SoFar (first : Kept) (all : List Named) (now : Kept) (left : List Nam
   pub grown : is_grown (entries_of now.nodes.nodes) left ≡ true
   pub kept : list_all is_kept left ≡ true
 
-pub begun : (first : Kept) (all : List Named) → ascending named_below (entries_of first.nodes.nodes) ≡ true
-    → is_grown (entries_of first.nodes.nodes) all ≡ true → list_all is_kept all ≡ true → SoFar first all first all
-begun first all order grown kept = record {
-  order = order;
-  members = λ e. ((λ s. s), λ s. s);
-  rest = record { prefix = refl; log = refl; subordinate = refl; nssrs = refl };
-  grown = grown;
+pub begun : (first : Kept) (all : List Named) (now : Kept) → now.nodes ≡ first.nodes → OnlyEntries first now
+    → ascending named_below (entries_of first.nodes.nodes) ≡ true → is_grown (entries_of first.nodes.nodes) all ≡ true
+    → list_all is_kept all ≡ true → SoFar first all now all
+begun first all now nodes others order grown kept = record {
+  order = ap (λ (ns : Nodes). ascending named_below (entries_of ns.nodes)) nodes ∙ order;
+  members = λ e. (
+    (λ s. subst (λ (ns : Nodes). In e (entries_of ns.nodes) ⊎ In e all) nodes s),
+    λ s. subst (λ (ns : Nodes). In e (entries_of ns.nodes) ⊎ In e all) (sym nodes) s,
+  );
+  rest = others;
+  grown = ap (λ (ns : Nodes). is_grown (entries_of ns.nodes) all) nodes ∙ grown;
   kept = kept;
 }
 
@@ -100,3 +104,15 @@ pub at_end : (first : Kept) (all : List Named) (now : Kept) (i : ℕ) → length
     → Grown first all now
 at_end first all now i le s =
     all_taken first all now (subst (λ (left : List Named). SoFar first all now left) (nothing_left all i le) s)
+
+-- with its index in order
+pub finished : (first : Kept) (all : List Named) (now after : Kept) → after.nodes ≡ now.nodes → OnlyEntries now after
+    → Grown first all now → Grown first all after
+finished first all now after nodes others g = record {
+  order = ap (λ (ns : Nodes). ascending named_below (entries_of ns.nodes)) nodes ∙ g.order;
+  members = λ e. (
+    (λ i. (g.members e).0 (subst (λ (ns : Nodes). In e (entries_of ns.nodes)) nodes i)),
+    λ x. subst (λ (ns : Nodes). In e (entries_of ns.nodes)) (sym nodes) ((g.members e).1 x),
+  );
+  rest = still_only first now after g.rest others;
+}

@@ -9,39 +9,39 @@ ghost use Rattle.x5_dse.specs.Linked.{entries_of};
 ghost use Rattle.x5_agents.specs.Growing.{Grown};
 
 use std::alloc::Global;
-use x5_holdings::Held;
+use x5_holdings::{Filling, Held};
 use x5_index::Room;
 use x5_memory::NoMemory;
 use x5_ops::Named;
 
 /// The context with this entry more. The one above it is there, and it isn't.
-fn with_entry(alloc: Global, held: Held, named: &Named) -> Result<Held, NoMemory>
-    requires order { ascending named_below (entries_of held.nodes.nodes) ≡ true }
-    requires grown { is_grown (entries_of held.nodes.nodes) (named.now ∷ []) ≡ true }
+fn with_entry(alloc: Global, filling: Filling, named: &Named) -> Result<Filling, NoMemory>
+    requires order { ascending named_below (entries_of filling.nodes.nodes) ≡ true }
+    requires grown { is_grown (entries_of filling.nodes.nodes) (named.now ∷ []) ≡ true }
     requires kept { is_kept named.now ≡ true }
-    ensures { IfOk result (λ after. Grown held (named.now ∷ []) after) }
+    ensures { IfOk result (λ after. Grown filling (named.now ∷ []) after) }
 {
-    let mut held = held;
+    let mut filling = filling;
     let room = Room::new(alloc, &named.entry)?;
-    held.reserve(1, room.len())?;
+    filling.reserve(1, room.len())?;
     let name = named.name.clone()?;
     let entry = named.entry.clone()?;
-    let Ok(_node) = held.insert(name, entry, room) else {
+    let Ok(_node) = filling.insert(name, entry, room) else {
         unreachable!()
     };
-    Ok(held)
+    Ok(filling)
 }
 
-/// The context with these entries more, each behind the one above it.
+/// The context with these entries more, each behind the one above it. Its index is put into order once, when all are there.
 pub(crate) fn with_entries(alloc: Global, held: Held, entries: &[Named]) -> Result<Held, NoMemory>
     requires order { ascending named_below (entries_of held.nodes.nodes) ≡ true }
     requires grown { is_grown (entries_of held.nodes.nodes) entries.now ≡ true }
     requires kept { list_all is_kept entries.now ≡ true }
     ensures { IfOk result (λ after. Grown held entries.now after) }
 {
-    let mut held = held;
+    let mut filling = held.filling();
     for named in entries {
-        held = with_entry(alloc, held, named)?;
+        filling = with_entry(alloc, filling, named)?;
     }
-    Ok(held)
+    Ok(filling.finish())
 }

@@ -1,6 +1,6 @@
 -- The entries of a whole context, taken one by one in the order of their keys: each next one can be added, and comes behind all
 -- others.
-use Rattle.std.proofs.Common.{◌≡◌, ℕ, zero, suc, ◌+◌, ◌<◌, ◌≤◌, true, false, inl, inr, List, [], ◌∷◌, ◌++◌, length, drop, get_or, refl, sym, ap, subst, ◌∙◌, Some, append_assoc, arith}
+use Rattle.std.proofs.Common.{◌≡◌, true, false, inl, inr, List, [], ◌∷◌, ◌++◌, refl, sym, ap, subst, ◌∙◌, Some, append_assoc}
 use Rattle.std.proofs.lemmas.List.{append-nil}
 use Rattle.std.specs.Option.{option_map}
 use Rattle.x5_model.specs.Members.{In, here}
@@ -15,9 +15,8 @@ use Rattle.x5_model_tree.specs.Tree.{key_at, named_below, is_there, sorted_entri
 use Rattle.x5_model_tree.proofs.Order.{named_chain, named_never}
 use Rattle.x5_dse.specs.declared.node.NodeId.{NodeId}
 use Rattle.x5_dse.specs.declared.node.DseFault.{DseFault}
-use Rattle.x5_dse.specs.Linked.{Node, entries_of}
+use Rattle.x5_dse.specs.Linked.{Node, Nodes, entries_of}
 use Rattle.x5_dse.specs.Changes.{Inserted, NotInserted}
-use Rattle.x5_ops.proofs.Dropping.{drop_at}
 use Rattle.x5_holdings.specs.State.{Kept, OnlyEntries}
 use Rattle.x5_model_refreshed.specs.Doable.{IsBelow, CanAdd, AreWhole}
 use Rattle.x5_consume.specs.Building.{IsExtended}
@@ -142,11 +141,11 @@ pub record SoFar (first : Kept) (all : List Named) (now : Kept) (left : List Nam
   pub begins : first_of (entries_in now) ≡ first_of (entries_in first)
   pub rest : OnlyEntries first now
 
-pub begun : (first : Kept) (all : List Named) → SoFar first all first all
-begun first all = record {
-  split = refl;
-  begins = refl;
-  rest = record { prefix = refl; log = refl; subordinate = refl; nssrs = refl };
+pub begun : (first : Kept) (all : List Named) (now : Kept) → now.nodes ≡ first.nodes → OnlyEntries first now → SoFar first all now all
+begun first all now nodes others = record {
+  split = ap (λ (ns : Nodes). entries_of ns.nodes ++ all) nodes;
+  begins = ap (λ (ns : Nodes). first_of (entries_of ns.nodes)) nodes;
+  rest = others;
 }
 
 module _ (pin : Key) (first : Kept) (all : List Named) (whole : AreWhole pin (entries_in first ++ all))
@@ -181,18 +180,10 @@ one_taken pin first all now e left after begins s x = record {
 pub all_taken : (first : Kept) (all : List Named) (now : Kept) → SoFar first all now [] → IsExtended first all now
 all_taken first all now s = record { entries = sym (append-nil (entries_in now)) ∙ s.split; rest = s.rest }
 
--- by places
-pub at_place : (first : Kept) (all : List Named) (now : Kept) (i : ℕ) (e : Named) → i < length all → e ≡ get_or all i e
-    → SoFar first all now (drop i all) → SoFar first all now (e ∷ drop (i + 1) all)
-at_place first all now i e lt is s = subst (λ (left : List Named). SoFar first all now left) (drop_at all i e lt is) s
-
-nothing_left : {A : Type 0} (xs : List A) (i : ℕ) → length xs ≤ i → drop i xs ≡ []
-nothing_left [] zero le = refl
-nothing_left [] (suc i) le = refl
-nothing_left (x ∷ xs) zero le = absurd (omega arith)
-nothing_left (x ∷ xs) (suc i) le = nothing_left xs i (omega arith)
-
-pub at_end : (first : Kept) (all : List Named) (now : Kept) (i : ℕ) → length all ≤ i → SoFar first all now (drop i all)
-    → IsExtended first all now
-at_end first all now i le s =
-    all_taken first all now (subst (λ (left : List Named). SoFar first all now left) (nothing_left all i le) s)
+-- with its index in order
+pub finished : (first : Kept) (all : List Named) (now after : Kept) → after.nodes ≡ now.nodes → OnlyEntries now after
+    → IsExtended first all now → IsExtended first all after
+finished first all now after nodes others x = record {
+  entries = ap (λ (ns : Nodes). entries_of ns.nodes) nodes ∙ x.entries;
+  rest = still_only first now after x.rest others;
+}

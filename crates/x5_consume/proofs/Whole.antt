@@ -1,5 +1,5 @@
 -- A whole content: its first entry is the prefix's.
-use Rattle.std.proofs.Common.{◌≡◌, ℕ, ◌<◌, List, [], ◌∷◌, ◌++◌, length, sym, ap, subst, ◌∙◌, arith, Some, None}
+use Rattle.std.proofs.Common.{◌≡◌, ℕ, ◌<◌, List, [], ◌∷◌, ◌++◌, length, drop, slice_index_or, sym, ap, subst, ◌∙◌, arith, Some, None}
 use Rattle.std.proofs.lemmas.List.{length-map}
 use Rattle.std.specs.Option.{option_map}
 use Rattle.x5_model.specs.Words.{first_of}
@@ -16,6 +16,11 @@ use Rattle.x5_holdings.specs.State.{Kept}
 use Rattle.x5_consume.specs.Building.{IsExtended}
 use Rattle.x5_model_refreshed.specs.Doable.{AreWhole}
 use Rattle.x5_consume.specs.Taken.{IsContent}
+
+-- taken apart
+pub first_and_others : (xs : List Named) (x : Named) → 0 < length xs → x ≡ slice_index_or xs 0 x → xs ≡ x ∷ drop 1 xs
+first_and_others [] x f at = absurd (omega arith)
+first_and_others (y ∷ ys) x f at = ap (λ (z : Named). z ∷ ys) (sym at)
 
 key_inside : {a b : Key} → Some a ≡ Some b → a ≡ b
 key_inside e = cc

@@ -1,6 +1,6 @@
 //! A copy, made of the content of a total refresh.
 
-ghost use Rattle.std.specs.Prelude.{◌≡◌, ◌++◌, ◌∷◌, [], true, IfOk, Some, option_map};
+ghost use Rattle.std.specs.Prelude.{◌≡◌, ◌++◌, ◌∷◌, [], true, IfOk, MatchOption, Some, option_map};
 ghost use Rattle.x5_model.specs.Keys.{Key};
 ghost use Rattle.x5_model.specs.Values.{key_of};
 ghost use Rattle.x5_model.specs.Words.{ascending, first_of};
@@ -11,38 +11,51 @@ ghost use Rattle.x5_consume.specs.Taken.{IsContent};
 ghost use Rattle.x5_consume.specs.Building.{IsExtended};
 
 use std::alloc::Global;
-use x5_holdings::{ChangeLog, Held};
+use x5_holdings::{ChangeLog, Filling, Held};
 use x5_index::Room;
 use x5_memory::NoMemory;
-use x5_ops::{Content, Moment, Named};
+use x5_ops::{Content, Moment, Named, NamedList};
 
 /// The context with this entry more, behind all others.
-fn with_entry(alloc: Global, held: Held, named: &Named) -> Result<Held, NoMemory>
-    requires order { ascending named_below (entries_of held.nodes.nodes ++ named.now ∷ []) ≡ true }
-    requires can { CanAdd (entries_of held.nodes.nodes) named.now }
-    ensures { IfOk result (λ after. IsExtended held (named.now ∷ []) after) }
+fn with_entry(alloc: Global, filling: Filling, named: Named) -> Result<Filling, NoMemory>
+    requires order { ascending named_below (entries_of filling.nodes.nodes ++ named ∷ []) ≡ true }
+    requires can { CanAdd (entries_of filling.nodes.nodes) named }
+    ensures { IfOk result (λ after. IsExtended filling (named ∷ []) after) }
 {
-    let mut held = held;
+    let mut filling = filling;
     let room = Room::new(alloc, &named.entry)?;
-    held.reserve(1, room.len())?;
-    let name = named.name.clone()?;
-    let entry = named.entry.clone()?;
-    let Ok(_node) = held.insert(name, entry, room) else {
+    filling.reserve(1, room.len())?;
+    let Named { name, entry } = named;
+    let Ok(_node) = filling.insert(name, entry, room) else {
         unreachable!()
     };
-    Ok(held)
+    Ok(filling)
 }
 
-/// The context with these entries more. They are in the order of their keys, each behind the one above it.
-fn with_entries(alloc: Global, held: Held, entries: &[Named]) -> Result<Held, NoMemory>
-    requires { (pin : Key) × AreWhole pin (entries_of held.nodes.nodes ++ entries.now) × (option_map key_at (first_of (entries_of held.nodes.nodes)) ≡ Some pin) }
-    ensures { IfOk result (λ after. IsExtended held entries.now after) }
+/// The context with these entries more. They are in the order of their keys, each behind the one above it. Its index is put into
+/// order once, when all are there.
+fn with_entries(alloc: Global, held: Held, entries: Vec<Named>) -> Result<Held, NoMemory>
+    requires { (pin : Key) × AreWhole pin (entries_of held.nodes.nodes ++ entries.items) × (option_map key_at (first_of (entries_of held.nodes.nodes)) ≡ Some pin) }
+    ensures { IfOk result (λ after. IsExtended held entries.items after) }
 {
-    let mut held = held;
+    let mut filling = held.filling();
     for named in entries {
-        held = with_entry(alloc, held, named)?;
+        filling = with_entry(alloc, filling, named)?;
     }
-    Ok(held)
+    Ok(filling.finish())
+}
+
+/// The first of these entries, and the others; None where there is none. No memory.
+#[tactic(auto, using(crate::proofs::Whole::first_and_others))]
+fn parted(entries: NamedList) -> Option<(Named, Vec<Named>)>
+    ensures { MatchOption result (entries ≡ []) (λ p. entries ≡ p.0 ∷ p.1.items) }
+{
+    let mut others = entries.into_vec();
+    if others.is_empty() {
+        return None;
+    }
+    let first = others.remove(0);
+    Some((first, others))
 }
 
 /// What the content is as a context that is held, with no changes since the stamp.
@@ -56,12 +69,11 @@ pub(crate) fn held_of(alloc: Global, content: Content, stamp: Moment) -> Result<
         specific,
         nssr,
     } = content;
-    let Some((first, rest)) = entries.as_slice().split_first() else {
+    let Some((first, rest)) = parted(entries) else {
         unreachable!()
     };
     let log = ChangeLog::new(alloc, stamp);
-    let prefix = first.name.clone()?;
-    let entry = first.entry.clone()?;
-    let held = Held::new(alloc, prefix, entry, log, specific, nssr)?;
+    let Named { name, entry } = first;
+    let held = Held::new(alloc, name, entry, log, specific, nssr)?;
     with_entries(alloc, held, rest)
 }

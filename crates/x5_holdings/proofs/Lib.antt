@@ -6,6 +6,7 @@ pub mod Spotted
 pub mod Knowing
 pub mod Holding
 pub mod Posted
+pub mod Filled
 pub mod Changed
 pub mod Placing
 pub mod Replacing

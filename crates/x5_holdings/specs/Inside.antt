@@ -6,6 +6,7 @@ use Rattle.x5_holdings.specs.State.{Kept, CopyKept, State, IsKept, IsBrought, ar
 use Rattle.x5_holdings.specs.Tables.{AreTables}
 use Rattle.x5_holdings.specs.declared.held.Held.TheInside as held
 use Rattle.x5_holdings.specs.declared.held.Copied.TheInside as copied
+use Rattle.x5_holdings.specs.declared.filling.Filling.TheInside as filling
 use Rattle.x5_holdings.specs.declared.holdings.Holdings.TheInside as holdings
 
 abbrev pub kept_view : held.Inside → Kept
@@ -22,6 +23,22 @@ pub record IsHeld (h : held.Inside) : Type 0 where
   pub kept : IsKept (kept_view h)
   pub below : AreRowsOf h.below (map (λ k. key_of k.pin) h.subordinate)
   pub wide : AreRowsOf h.wide (map (λ n. key_of n.at) h.nssrs)
+
+-- a context that is being filled, its postings as they came
+abbrev pub filling_view : filling.Inside → Kept
+filling_view f = record {
+  prefix = f.prefix;
+  nodes = f.tree;
+  postings = f.postings;
+  log = f.log;
+  subordinate = f.subordinate;
+  nssrs = f.nssrs;
+}
+
+pub record IsFilling (f : filling.Inside) : Type 0 where
+  pub kept : IsKept (filling_view f)
+  pub below : AreRowsOf f.below (map (λ k. key_of k.pin) f.subordinate)
+  pub wide : AreRowsOf f.wide (map (λ n. key_of n.at) f.nssrs)
 
 abbrev pub copy_kept : copied.Inside → CopyKept
 copy_kept c = record { prefix = c.prefix; supplier = c.supplier; refreshed = c.refreshed }

@@ -28,14 +28,14 @@ use x5_ops::{AgentId, Moment, Nssr, NssrList, Request, Specific, SpecificList};
 /// references and NSSRs that belong to it (X.501, section 22).
 #[derive(Debug, Drop)]
 pub struct Held {
-    prefix: Name,
+    pub(crate) prefix: Name,
     pub(crate) tree: DseTree,
     pub(crate) postings: Postings,
     pub(crate) log: ChangeLog,
-    subordinate: SpecificList,
-    nssrs: NssrList,
-    below: Pins,
-    wide: Pins,
+    pub(crate) subordinate: SpecificList,
+    pub(crate) nssrs: NssrList,
+    pub(crate) below: Pins,
+    pub(crate) wide: Pins,
 }
 
 impl Model for Held {

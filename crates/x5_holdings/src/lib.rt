@@ -5,6 +5,7 @@
 mod below;
 mod changing;
 mod copied;
+mod filling;
 mod held;
 mod holdings;
 mod log;
@@ -16,6 +17,7 @@ mod runs;
 mod tables;
 
 pub use changing::EntryChange;
+pub use filling::Filling;
 pub use held::{Copied, Held, may_use_copies};
 pub use holdings::{Holdings, Pin};
 pub use log::{ChangeLog, Logged};

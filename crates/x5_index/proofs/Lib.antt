@@ -5,3 +5,4 @@ pub mod Taking
 pub mod Terms
 pub mod Finding
 pub mod Laws
+pub mod Gathering

@@ -1,6 +1,6 @@
 -- The terms of an entry are its values, in their order; and so what is put for them stands for the entry.
 use Rattle.std.specs.Prelude.{nat_lt}
-use Rattle.std.proofs.Common.{◌≡◌, ◌≢◌, ℕ, Bool, true, false, cond, not, ◌&&◌, ◌==◌, inl, inr, List, [], ◌∷◌, ◌++◌, map, refl, sym, ap, subst, arith, Some}
+use Rattle.std.proofs.Common.{◌≡◌, ◌≢◌, ◌↔◌, ◌⊎◌, ℕ, Bool, true, false, cond, not, ◌&&◌, ◌==◌, inl, inr, List, [], ◌∷◌, ◌++◌, map, refl, sym, ap, subst, arith, Some}
 use Rattle.std.proofs.lemmas.Grind.{common_steps}
 use Rattle.std.specs.List.{list_all, flat_map, find}
 use Rattle.std.specs.Cmp.Lexicographic.{bytes_decides, nat_list_cmp_total}
@@ -130,30 +130,34 @@ once_in_order (t ∷ ts) h =
 
 -- ---- what is put or taken away for them
 
-not_there : (old : List Posting) (node : ℕ) (p : Posting) → is_there old node ≡ false → p.node ≡ node → In p old → ⊥
+pub not_there : (old : List Posting) (node : ℕ) (p : Posting) → is_there old node ≡ false → p.node ≡ node → In p old → ⊥
 not_there old node p h e i =
     let f : (p.node == node) ≡ false = none_of (λ q. q.node == node) p old h i in
     let g : (p.node == node) ≡ true = is_number p.node node e in
     cc
 
-pub is_put : (old after : List Posting) (node : ℕ) (e : Entry) → is_there old node ≡ false → is_ordered e ≡ true → AreAdded old node (terms_of e) after → IsPut old node e after
-is_put old after node e none h added = record {
+pub is_put_by : (old after : List Posting) (node : ℕ) (e : Entry) → is_there old node ≡ false → is_ordered e ≡ true
+    → ((p : Posting) → In p after ↔ (In p old ⊎ ((p.node ≡ node) × In p.term (terms_of e)))) → IsPut old node e after
+is_put_by old after node e none h same = record {
   here = record { exact = λ kind normal. (forth kind normal, back kind normal) };
-  others = record { same = λ p n. (from p n, λ i. (added.same p).1 (inl i)) };
+  others = record { same = λ p n. (from p n, λ i. (same p).1 (inl i)) };
 }
   where
     forth : (kind : ℕ) (normal : List ℕ) → In (record { term = (kind, normal); node = node }) after → has_value e kind normal ≡ true
     forth kind normal i =
-        elim ((added.same (record { term = (kind, normal); node = node })).0 i) [
+        elim ((same (record { term = (kind, normal); node = node })).0 i) [
           | inl j ↦ absurd (not_there old node (record { term = (kind, normal); node = node }) none refl j)
           | inr w ↦ term_is_value e kind normal h w.1
         ]
 
     back : (kind : ℕ) (normal : List ℕ) → has_value e kind normal ≡ true → In (record { term = (kind, normal); node = node }) after
-    back kind normal v = (added.same (record { term = (kind, normal); node = node })).1 (inr (refl, value_is_term e kind normal v))
+    back kind normal v = (same (record { term = (kind, normal); node = node })).1 (inr (refl, value_is_term e kind normal v))
 
     from : (p : Posting) → p.node ≢ node → In p after → In p old
-    from p n i = elim ((added.same p).0 i) [ inl j ↦ j | inr w ↦ absurd (n w.0) ]
+    from p n i = elim ((same p).0 i) [ inl j ↦ j | inr w ↦ absurd (n w.0) ]
+
+pub is_put : (old after : List Posting) (node : ℕ) (e : Entry) → is_there old node ≡ false → is_ordered e ≡ true → AreAdded old node (terms_of e) after → IsPut old node e after
+is_put old after node e none h added = is_put_by old after node e none h added.same
 
 pub is_dropped : (old after : List Posting) (node : ℕ) (e : Entry) → IsEntryAt old node e → AreTaken old node (terms_of e) [] after → IsDropped old node after
 is_dropped old after node e at taken = record {

@@ -1,5 +1,5 @@
 -- Where a posting is in a list in order, or where it would go; and what is put there, taken away and found there.
-use Rattle.std.specs.Prelude.{◌≡◌, ◌↔◌, ◌⊎◌, ℕ, suc, if◌then◌else◌, IsTrue, List, [], ◌∷◌}
+use Rattle.std.specs.Prelude.{◌≡◌, ◌↔◌, ◌⊎◌, ℕ, suc, if◌then◌else◌, IsTrue, List, [], ◌∷◌, map}
 use Rattle.std.specs.declared.option.Option.{Option}
 use Rattle.std.specs.declared.option.Option.TheVariants.{None, Some}
 use Rattle.std.specs.declared.result.Result.{Result}
@@ -19,6 +19,14 @@ place_of (p ∷ ps) x = if posting_below p x then suc (place_of ps x) else 0
 abbrev pub IsFoundAt : List Posting → Posting → Result ℕ ℕ → Type 0
 IsFoundAt postings x (Ok place) = (place ≡ place_of postings x) × In x postings
 IsFoundAt postings x (Err place) = (place ≡ place_of postings x) × ¬ In x postings
+
+-- what a node's terms are in an index
+abbrev pub postings_for : ℕ → List KeyPair → List Posting
+postings_for node terms = map (λ t. record { term = t; node = node }) terms
+
+-- both have the same postings, whatever their order
+abbrev pub HaveSame : List Posting → List Posting → Type 0
+HaveSame some others = (p : Posting) → In p others ↔ In p some
 
 -- postings of the node are there for these terms too
 pub record AreAdded (old : List Posting) (node : ℕ) (terms : List KeyPair) (after : List Posting) : Type 0 where

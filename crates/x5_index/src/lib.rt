@@ -2,11 +2,13 @@
 //! this project's own; values are compared by their normal forms (X.501, section 8: matching rules).
 #![tactic(auto)]
 
+mod gathered;
 mod lookup;
 mod posting;
 mod postings;
 mod room;
 
+pub use gathered::Gathered;
 pub use lookup::NodeList;
 pub use postings::Postings;
 pub use room::Room;

@@ -70,6 +70,13 @@ fn compare(posting: &Posting, kind: TypeId, normal: &Normal, node: usize) -> Ord
     compare_terms(&posting.term, kind, normal).then(posting.node.cmp(&node))
 }
 
+/// How a posting stands to another.
+pub(crate) fn compare_postings(one: &Posting, other: &Posting) -> Ordering
+    ensures { result ≡ posting_cmp one.now other.now }
+{
+    compare(one, other.term.kind, &other.term.normal, other.node)
+}
+
 /// The place of the posting of this type, normal form and node, or where it would go. No memory.
 pub(crate) fn find(
     postings: &[Posting],

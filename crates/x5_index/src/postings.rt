@@ -10,6 +10,7 @@ ghost use Rattle.x5_index.specs.Index.{posting_below, term_below, terms_in, term
 ghost use Rattle.x5_index.specs.Lookup.{IsLookUp};
 ghost use Rattle.x5_index.specs.Places.{AreAdded, AreTaken};
 
+use crate::gathered::Gathered;
 use crate::lookup::{NodeList, asserted, assertion_of};
 use crate::posting::{Posting, Term, find, has_term};
 use crate::room::Room;
@@ -125,6 +126,22 @@ impl Postings {
         Postings {
             postings: Vec::new(alloc),
         }
+    }
+
+    /// Postings in their order. No memory.
+    pub(crate) fn of(postings: Vec<Posting>) -> Postings
+        requires { IsTrue (ascending posting_below postings.items) }
+        ensures { result.postings ≡ postings.items }
+    {
+        Postings { postings }
+    }
+
+    /// The same nodes with the same values, to which others can be put that come in no order. No memory.
+    pub fn gathered(self) -> Gathered
+        ensures { result.postings ≡ self.postings }
+    {
+        let Postings { postings } = self;
+        Gathered::of(postings)
     }
 
     /// How many values can be put without memory. No memory.

@@ -118,6 +118,10 @@ module _ (s : Scene) (q r : Asked) where
     cleared = t.cleared;
   })
 
+-- who was heard stands among the lines
+pub heard_line : (test : Line → Bool) (q : Asked) (lines : List Line) → hears_by test q lines ≡ true → (l : Line) × In l lines × (test l ≡ true)
+heard_line test q lines h = some_there (λ l before. test l && came_back q l before) test (λ l before e. (both_true (test l) (came_back q l before) e).0) lines h
+
 -- a line comes back to itself
 pub own_back : (test : Line → Bool) (l : Line) (stood : ℕ) (lines : List Line) → In l lines → test l ≡ true → hears_by test (asked_line l stood) lines ≡ true
 own_back test l stood [] i h = elim i [ ]

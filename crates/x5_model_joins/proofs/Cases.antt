@@ -1,7 +1,7 @@
 -- The cases of the loop over references: each joins what was gathered so far with what one more reference brought, and
 -- shows that nobody was asked by that reference before.
 use Rattle.std.proofs.Common.{◌≡◌, ℕ, ◌+◌, ◌<◌, ◌≤◌, Bool, true, false, ◌&&◌, ◌||◌, ◌==◌, nat_le, nat_lt, ◌⊎◌, inl, inr, List, [], ◌∷◌, ◌++◌, length, refl, sym, ap, subst, ◌∙◌, arith, Option}
-use Rattle.std.specs.List.{list_any, list_all}
+use Rattle.std.specs.List.{list_all}
 use Rattle.std.specs.Option.{is_some, is_none}
 use Rattle.std.proofs.lemmas.Bool.Decides.{Decides-eqb}
 use Rattle.x5_model.specs.Words.{first_of}
@@ -15,7 +15,7 @@ use Rattle.x5_model.specs.Answers.{Answer, DirError, Reply, Answered, Failed}
 use Rattle.x5_model.specs.Problems.{unavailable}
 use Rattle.x5_model.proofs.KeyLaws.{key_decides}
 use Rattle.x5_model.specs.Statics.{fault_of}
-use Rattle.x5_model.proofs.Lists.{both_true, either_true, or_left, or_right, in_first, in_left, in_right, of_map, of_filter, any_in, of_any}
+use Rattle.x5_model.proofs.Lists.{both_true, either_true, or_left, or_right, in_first, in_left, in_right, of_map, of_filter, any_in}
 use Rattle.x5_model_tree.specs.Tree.{Tree, key_at, keys_of, part, is_there, is_there_or_root}
 use Rattle.x5_model_tree.specs.Ask.{Refuses}
 use Rattle.x5_model_run.specs.Journal.{Line, Journal, depth, is_done, is_wide, same_progress}
@@ -23,7 +23,7 @@ use Rattle.x5_model_run.specs.Needs.{target_of, is_unable}
 use Rattle.x5_model_run.specs.History.{Point, knowledge_at, tree_at}
 use Rattle.x5_model_run.specs.Chain.{Scene, IsCarried, AllLicensed}
 use Rattle.x5_model_run.specs.Covers.{told}
-use Rattle.x5_model_run.specs.Blocked.{Asked}
+use Rattle.x5_model_run.specs.Blocked.{Asked, hears_by}
 use Rattle.x5_model_run.specs.Right.{Right, result, changed, error, referral, unheard}
 use Rattle.x5_model_run.specs.Placed.{is_query_below}
 use Rattle.x5_model_replies.specs.Replies.{is_long, RightReply, usual, unable, limit}
@@ -41,6 +41,7 @@ use Rattle.x5_model_replies.specs.Heard.{TakenRight, MayGather, TakesRight, Gath
 use Rattle.x5_model_parts.proofs.Parting.{target_fits}
 use Rattle.x5_model_parts.proofs.Joining.{sight, View, the_view, asks}
 use Rattle.x5_model_theory.proofs.Following.{query_of}
+use Rattle.x5_model_joins.proofs.Backs.{heard_line}
 use Rattle.x5_model_joins.proofs.Walked.{in_the_rest}
 use Rattle.x5_model_joins.proofs.Following.{no_update_below}
 use Rattle.x5_model_joins.proofs.Keeping.{at_most, queries_keep}
@@ -275,10 +276,11 @@ not_unable s q done e = go q.message.progress done e
         let c = both_true (is_wide q.message.kind) false b.1 in
         false_true c.1
 
-not_long : (q : Asked) (lines : List Line) → length q.message.trace < 128 → ((e : Line) → In e lines → depth e < 128) → is_long q lines ≡ true → ⊥
-not_long q lines short all e = elim (either_true (length q.message.trace == 128) (list_any (λ x. depth x == 128) lines) e) [
+-- where no trace has 128 items, no message is so long
+pub not_long : (q : Asked) (lines : List Line) → length q.message.trace < 128 → ((e : Line) → In e lines → depth e < 128) → is_long q lines ≡ true → ⊥
+not_long q lines short all e = elim (either_true (length q.message.trace == 128) (hears_by (λ x. depth x == 128) q lines) e) [
   | inl h ↦ (let n : length q.message.trace ≡ 128 = (Decides-eqb (length q.message.trace) 128).0 h in omega (arith, short, n))
-  | inr h ↦ (let x = of_any (λ y. depth y == 128) lines h in let n : depth x.0 ≡ 128 = (Decides-eqb (depth x.0) 128).0 x.2 in let m = all x.0 x.1 in omega (arith, n, m))
+  | inr h ↦ (let x = heard_line (λ y. depth y == 128) q lines h in let n : depth x.0 ≡ 128 = (Decides-eqb (depth x.0) 128).0 x.2 in let m = all x.0 x.1 in omega (arith, n, m))
 ]
 
 other_error : (p : Point) (s : Scene) (q : Asked) (j : Journal) (reply : Reply) → Right p s q j reply → (x : DirError) → reply ≡ Failed x → is_service unavailable (Failed x) ≡ false → told (λ key. false) (tree_at p) q.message ≡ Refuses x
@@ -292,7 +294,7 @@ breaks_by : (p : Point) (s : Scene) (q : Asked) (j : Journal) (spent : Bool) (re
     → (told (λ key. false) (tree_at p) q.message ≡ Refuses x → ⊥) → is_done q.message.progress ≡ true → (is_long q j.lines ≡ true → ⊥) → (Failed x ≡ limit_reply) × (spent ≡ true)
 breaks_by p s q j spent reply (usual h right) x e f never done short = absurd (never (other_error p s q j reply right x e f))
 breaks_by p s q j spent reply (unable h) x e f never done short = absurd (not_unable s q done h)
-breaks_by p s q j spent reply (limit h) x e f never done short = (sym e, elim (either_true spent (is_long q j.lines) h) [ inl y ↦ y | inr y ↦ absurd (short y) ])
+breaks_by p s q j spent reply (limit on h none) x e f never done short = (sym e, elim (either_true spent (is_long q j.lines) h) [ inl y ↦ y | inr y ↦ absurd (short y) ])
 
 on_line : {from : Option ℕ} {r : Reference} {m : Chained} (o : Hand) (number : ℕ) → IsCarried from (line_for o) r m → IsCarried from (line_at o number) r m
 on_line o number c = record {

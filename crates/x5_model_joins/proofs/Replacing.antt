@@ -57,7 +57,7 @@ from_right p s q j reply (unheard l h n) c e f = cc
 pub result_of : (p : Point) (s : Scene) (q : Asked) (j : Journal) (spent : Bool) (reply : Reply) → RightReply p s q j spent reply → (c : Answer) → reply ≡ Answered c → is_update q.message.request.body ≡ false → IsResult p s q j.lines c
 result_of p s q j spent reply (usual h right) c e f = from_right p s q j reply right c e f
 result_of p s q j spent reply (unable h) c e f = cc
-result_of p s q j spent reply (limit h) c e f = cc
+result_of p s q j spent reply (limit on h none) c e f = cc
 
 -- what is final and blocked is lost
 all_lost : (s : Scene) (q : Asked) (lines : List Line) (us : List Reference) → AllByRecursion (Blocked s q lines) us → is_empty (filter (λ r. not r.tried) us) ≡ true → AllByRecursion (IsLost s q lines) us

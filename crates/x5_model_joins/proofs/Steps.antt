@@ -161,7 +161,7 @@ from_unheard p s q j reply (unheard {r = v} l h n) u e query = (let same : v ≡
 unavailable_is : (p : Point) (s : Scene) (q : Asked) (j : Journal) (spent : Bool) (reply : Reply) → RightReply p s q j spent reply → (u : Reference) → reply ≡ is_unavailable u → is_query_below q.message.request.body ≡ true → IsLost s q j.lines u × (same_phase q u ≡ true)
 unavailable_is p s q j spent reply (usual h right) u e query = from_unheard p s q j reply right u e query
 unavailable_is p s q j spent reply (unable h) u e query = (let wrong : unable_to_proceed ≡ unavailable = cc in absurd (omega (arith, wrong)))
-unavailable_is p s q j spent reply (limit h) u e query = cc
+unavailable_is p s q j spent reply (limit on h none) u e query = cc
 
 in_vain_is : (s : Scene) (q : Asked) (lines : List Line) (u : Reference) → IsLost s q lines u → in_vain u ≡ u
 in_vain_is s q lines u h = ap (λ (b : Bool). record u { tried = b }) (sym (by h))

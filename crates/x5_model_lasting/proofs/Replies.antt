@@ -10,7 +10,7 @@ use Rattle.x5_model.specs.Values.{Name, key_of}
 use Rattle.x5_model.specs.Entries.{Named}
 use Rattle.x5_model.specs.References.{Next, Reference}
 use Rattle.x5_model.specs.Answers.{Source, Changed, DirError, NoSuchObject, AttributeProblem, UpdateProblem, ServiceProblem, Reply, Answered}
-use Rattle.x5_model.specs.Problems.{entry_already_exists, unavailable, unable_to_proceed, administrative_limit_exceeded}
+use Rattle.x5_model.specs.Problems.{entry_already_exists, unable_to_proceed}
 use Rattle.x5_model.specs.Statics.{fault_of}
 use Rattle.x5_model.proofs.Lists.{both_true, and_true, either_true, not_true, or_left, or_right, has_in, of_has}
 use Rattle.x5_model_tree.specs.Tree.{lowest}
@@ -29,6 +29,7 @@ use Rattle.x5_model_replies.specs.Replies as placed
 use Rattle.x5_model_replies.specs.Replies.{is_long, RightReply}
 use Rattle.x5_model_run.proofs.Growing.{all_grow}
 use Rattle.x5_model_serve.specs.Answering.{is_service, is_unavailable}
+use Rattle.x5_model_serve.specs.Serving.{limit_reply}
 use Rattle.x5_model_serve.specs.Claims.{Grows}
 use Rattle.x5_model_lasting.specs.Lasting.{RightStays, ResultStays, TellerStays, IsSilent, Unaltered, RightLasts}
 use Rattle.x5_model_lasting.proofs.Lines.{grown, some_more, heard_stays, untried_stays, lost_stays, blocked_stays}
@@ -175,6 +176,13 @@ module _ (p : Point) (s : Scene) (q : Asked) (i j : Journal) (grows : Grows i j)
   none_stays : length j.accepted ≡ length i.accepted → accepts_none q i ≡ true → accepts_none q j ≡ true
   none_stays same e = ap (λ n. n == q.stood) same ∙ e
 
+  nothing_new : length j.accepted ≡ length i.accepted → (accepts_none q i || not (heard_whole i.lines)) ≡ true
+      → (accepts_none q j || not (heard_whole j.lines)) ≡ true
+  nothing_new same none = elim (either_true (accepts_none q i) (not (heard_whole i.lines)) none) [
+    | inl e ↦ or_left (accepts_none q j) (not (heard_whole j.lines)) (none_stays same e)
+    | inr e ↦ or_right (accepts_none q j) (not (heard_whole j.lines)) (loss_stays e)
+  ]
+
   same_count : (reply : Reply) → length j.accepted ≡ length i.accepted → Right p s q i reply → Right p s q j reply
   same_count _ same (right.result on res query none) = right.result (came on) (result_stays p s q _ i j grows res) query
       (none_stays same none)
@@ -182,10 +190,7 @@ module _ (p : Point) (s : Scene) (q : Asked) (i j : Journal) (grows : Grows i j)
   same_count _ same (right.error {x} on t o none) = right.error (came on) t (teller_stays p s q x i j grows o) (none_stays same none)
   same_count _ same (right.referral {r} u phase none) = right.referral (untried_stays s q r i j grows u) phase (none_stays same none)
   same_count _ same (right.unheard {r} l phase none) = right.unheard (lost_stays s q r i j grows l) phase
-      (elim (either_true (accepts_none q i) (not (heard_whole i.lines)) none) [
-        | inl e ↦ or_left (accepts_none q j) (not (heard_whole j.lines)) (none_stays same e)
-        | inr e ↦ or_right (accepts_none q j) (not (heard_whole j.lines)) (loss_stays e)
-      ])
+      (nothing_new same none)
 
   is_changed : (reply : Reply) → reply ≡ Answered Changed → is_update q.message.request.body ≡ true → Right p s q i reply
       → Right p s q j reply
@@ -199,20 +204,17 @@ module _ (p : Point) (s : Scene) (q : Asked) (i j : Journal) (grows : Grows i j)
       → Right p s q i reply → Right p s q j reply
   is_silent_still _ silent no_error (right.result on res query none) = absurd (elim silent [
     | inl u ↦ true_false false u.0 refl
-    | inr u ↦ elim u [ inl e ↦ true_false false e refl | inr e ↦ true_false false e refl ]
+    | inr e ↦ true_false false e refl
   ])
   is_silent_still _ silent no_error (right.changed on update some) = right.changed (came on) update (changed_stays some)
   is_silent_still _ silent no_error (right.error {x} on t o none) = absurd (no_error x t)
   is_silent_still _ silent no_error (right.referral {r} u phase none) = absurd (elim silent [
     | inl v ↦ true_false false v.0 refl
-    | inr v ↦ elim v [ inl e ↦ true_false false e refl | inr e ↦ true_false false e refl ]
+    | inr e ↦ true_false false e refl
   ])
   is_silent_still _ silent no_error (right.unheard {r} l phase none) = elim silent [
     | inl v ↦ right.unheard (lost_stays s q r i j grows l) phase (or_right (accepts_none q j) (not (heard_whole j.lines)) (ap not v.1))
-    | inr v ↦ elim v [
-      | inl e ↦ true_false (is_service unable_to_proceed (is_unavailable r)) e refl
-      | inr e ↦ true_false (is_service administrative_limit_exceeded (is_unavailable r)) e refl
-    ]
+    | inr e ↦ true_false (is_service unable_to_proceed (is_unavailable r)) e refl
   ]
 
   pub right_lasts_by : (reply : Reply) → Unaltered p q reply i j → Right p s q i reply → Right p s q j reply
@@ -221,11 +223,28 @@ module _ (p : Point) (s : Scene) (q : Asked) (i j : Journal) (grows : Grows i j)
   right_lasts_by reply (inr (inr x)) r = is_silent_still reply x.0 x.1 r
 
   long_stays : is_long q i.lines ≡ true → is_long q j.lines ≡ true
-  long_stays e = elim (either_true (length q.message.trace == 128) (list_any (λ l. depth l == 128) i.lines) e) [
-    | inl h ↦ or_left (length q.message.trace == 128) (list_any (λ l. depth l == 128) j.lines) h
-    | inr h ↦ or_right (length q.message.trace == 128) (list_any (λ l. depth l == 128) j.lines)
-        (grown (λ lines. list_any (λ l. depth l == 128) lines ≡ true) (λ l lines f. or_right _ _ f) i j grows h)
+  long_stays e = elim (either_true (length q.message.trace == 128) (hears_by (λ l. depth l == 128) q i.lines) e) [
+    | inl h ↦ or_left (length q.message.trace == 128) (hears_by (λ l. depth l == 128) q j.lines) h
+    | inr h ↦ or_right (length q.message.trace == 128) (hears_by (λ l. depth l == 128) q j.lines)
+        (heard_stays (λ l. depth l == 128) q i j grows h)
   ]
+
+  -- what a limit says of acceptance
+  limit_silent : Unaltered p q limit_reply i j → (accepts_none q i || not (heard_whole i.lines)) ≡ true
+      → (accepts_none q j || not (heard_whole j.lines)) ≡ true
+  limit_silent (inl same) none = nothing_new same none
+  limit_silent (inr (inl e)) none = (let f = e.0 in cc)
+  limit_silent (inr (inr x)) none = elim x.0 [
+    | inl v ↦ or_right (accepts_none q j) (not (heard_whole j.lines)) (ap not v.1)
+    | inr e ↦ true_false (is_service unable_to_proceed limit_reply) e refl
+  ]
+
+  pub limit_stays : (spent later : Bool) → (spent ≡ true → later ≡ true) → Unaltered p q limit_reply i j → is_answered q i.lines ≡ true
+      → (spent || is_long q i.lines) ≡ true → (accepts_none q i || not (heard_whole i.lines)) ≡ true → RightReply p s q j later limit_reply
+  limit_stays spent later spend same on long none = placed.limit (came on) (elim (either_true spent (is_long q i.lines) long) [
+    | inl e ↦ or_left later (is_long q j.lines) (spend e)
+    | inr e ↦ or_right later (is_long q j.lines) (long_stays e)
+  ]) (limit_silent same none)
 
 pub right_lasts : RightLasts
 right_lasts p s q reply spent later i j g more spend same r = by reply same r
@@ -233,10 +252,7 @@ right_lasts p s q reply spent later i j g more spend same r = by reply same r
     by : (y : Reply) → Unaltered p q y i j → RightReply p s q i spent y → RightReply p s q j later y
     by y same (placed.usual able r) = placed.usual able (right_lasts_by p s q i j g more y same r)
     by _ same (placed.unable h) = placed.unable h
-    by _ same (placed.limit h) = placed.limit (elim (either_true spent (is_long q i.lines) h) [
-      | inl e ↦ or_left later (is_long q j.lines) (spend e)
-      | inr e ↦ or_right later (is_long q j.lines) (long_stays p s q i j g more e)
-    ])
+    by _ same (placed.limit on long none) = limit_stays p s q i j g more spent later spend same on long none
 
 pub right_stays : RightStays
 right_stays p s q j l spent reply r = right_lasts p s q reply spent spent j (record j { lines = l ∷ j.lines }) (l ∷ [], refl) (λ a i. i)

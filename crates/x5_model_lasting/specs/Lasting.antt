@@ -1,6 +1,6 @@
 -- What is said of messages and replies stays said where lines are added to a journal (X.518, sections 10 and 17 to 20):
 -- who was heard, asked in vain or passed; what is lost; which reply is right; which line is served and settled.
-use Rattle.std.specs.Prelude.{◌≡◌, ℕ, ◌≤◌, ◌⊎◌, Bool, true, false, IsTrue, List, [], ◌∷◌, length}
+use Rattle.std.specs.Prelude.{◌≡◌, ℕ, ◌≤◌, ◌⊎◌, ◌||◌, Bool, true, false, IsTrue, List, [], ◌∷◌, length}
 use Rattle.std.specs.List.{list_all}
 use Rattle.std.specs.declared.option.Option.TheVariants.{Some}
 use Rattle.x5_model.specs.Members.{In}
@@ -83,12 +83,13 @@ TellerStays =
     → Grows i j → is_told p s q i.lines x ≡ true → is_told p s q j.lines x ≡ true
 
 -- ---- replies
--- Replies that say nothing of acceptance once a reply was lost, or never: `unavailable`, or that the receiver is unable
--- to proceed or at a limit.
+-- Replies that say nothing of acceptance once a reply was lost, as `unavailable` or a limit; or never, as that the
+-- receiver is unable to proceed.
 abbrev pub IsSilent : Reply → Journal → Type 0
 IsSilent reply j =
-    ((is_service unavailable reply ≡ true) × (heard_whole j.lines ≡ false))
-    ⊎ ((is_service unable_to_proceed reply ≡ true) ⊎ (is_service administrative_limit_exceeded reply ≡ true))
+    (((is_service unavailable reply || is_service administrative_limit_exceeded reply) ≡ true)
+    × (heard_whole j.lines ≡ false))
+    ⊎ (is_service unable_to_proceed reply ≡ true)
 
 -- What a right reply says of acceptance stays: as many accepted; or an update is answered `changed`, which says that
 -- somebody did; or the reply says nothing of it, and the tree has no error for the message, as once an update was
@@ -106,8 +107,8 @@ RightStays =
     → RightReply p s q j spent reply → RightReply p s q (record j { lines = l ∷ j.lines }) spent reply
 
 -- A right reply stays right where lines are added, and accepting agents, if what it says of these stays. With the same
--- accepting agents no more is asked (`RightStays` of x5_model_serve is this for one line): that a reply was lost
--- meanwhile excuses `unavailable` alone, and that messages ran out excuses more.
+-- accepting agents no more is asked (`RightStays` is this for one line): that a reply was lost meanwhile excuses
+-- `unavailable` and a limit, and that messages ran out excuses more.
 abbrev pub RightLasts : Type 0
 RightLasts =
     (p : Point) (s : Scene) (q : Asked) (reply : Reply) (spent later : Bool) (i j : Journal)

@@ -1,7 +1,6 @@
 -- A right reply is passed back, by the cases of what is right.
-use Rattle.std.proofs.Common.{◌≡◌, ℕ, nat_lt, ◌==◌, Bool, true, false, not, ◌&&◌, ◌||◌, inl, inr, List, [], ◌∷◌, length, refl, sym, ap, subst, ◌∙◌, Option, Some, if◌then◌else◌}
+use Rattle.std.proofs.Common.{◌≡◌, ℕ, nat_lt, ◌==◌, Bool, true, false, not, ◌&&◌, ◌||◌, inl, inr, ◌⊎◌, List, [], ◌∷◌, length, refl, sym, ap, subst, ◌∙◌, Option, Some, if◌then◌else◌}
 use Rattle.std.proofs.lemmas.Bool.Decides.{Decides-eqb}
-use Rattle.std.specs.List.{list_any}
 use Rattle.std.specs.Option.{is_none}
 use Rattle.x5_model.specs.Words.{is_empty, has}
 use Rattle.x5_model.specs.Members.{In}
@@ -11,8 +10,8 @@ use Rattle.x5_model.specs.References.{Reference}
 use Rattle.x5_model.specs.Requests.{Body, Read, Compare, ListBelow, Search, AddEntry, RemoveEntry, ModifyEntry, ModifyDn, Request}
 use Rattle.x5_model.specs.Answers.{DirError, ServiceProblem, Reply, Answered, Failed}
 use Rattle.x5_model.specs.Statics.{fault_of}
-use Rattle.x5_model.specs.Problems.{unavailable, unable_to_proceed}
-use Rattle.x5_model.proofs.Lists.{both_true, either_true, or_left, or_right, true_or_false, any_in}
+use Rattle.x5_model.specs.Problems.{unavailable, unable_to_proceed, administrative_limit_exceeded}
+use Rattle.x5_model.proofs.Lists.{both_true, either_true, or_left, or_right, true_or_false}
 use Rattle.x5_model_tree.specs.Ask.{Refuses, is_update}
 use Rattle.x5_model_run.specs.Journal.{Line, Journal, depth, is_done, is_wide}
 use Rattle.x5_model_run.specs.Needs.{falls_short}
@@ -20,17 +19,18 @@ use Rattle.x5_model_run.specs.History.{Point, tree_at}
 use Rattle.x5_model_run.specs.Chain.{Scene, AllLicensed}
 use Rattle.x5_model_run.specs.Covers.{told}
 use Rattle.x5_model_run.specs.Accepting.{carries_update}
+use Rattle.x5_model_run.specs.Blocked.{hears_by}
 use Rattle.x5_model_run.specs.Right as right
 use Rattle.x5_model_run.specs.Right.{Right, result, changed, accepts_none, heard_whole}
 use Rattle.x5_model_replies.specs.Replies as placed
 use Rattle.x5_model_run.specs.Placed.{is_query_below}
-use Rattle.x5_model_replies.specs.Replies.{RightReply, usual}
+use Rattle.x5_model_replies.specs.Replies.{is_long, RightReply, usual}
 use Rattle.x5_model_serve.specs.Finding.{IsLooked}
 use Rattle.x5_model_serve.specs.Answering.{is_service}
 use Rattle.x5_model_serve.specs.Serving.{is_final, is_spent}
 use Rattle.x5_model_serve.specs.Claims.{Setting, LiesWithin, asked_line}
 use Rattle.x5_model_find.proofs.Needing.{false_true}
-use Rattle.x5_model_joins.proofs.Backs.{own_answered}
+use Rattle.x5_model_joins.proofs.Backs.{own_back, own_answered}
 use Rattle.x5_model_verdicts.proofs.At.{is_entry_read, fit_key, each_of_update, each_off}
 use Rattle.x5_model_verdicts.proofs.Lines.{no_error_after}
 use Rattle.x5_model_passing.specs.Passing.{PassedOn, IsSame, IsBack, Meanwhile, WithinPassesBack, PassesBack}
@@ -80,14 +80,6 @@ not_completed false q e f = refl
 third_true : (a b c d : Bool) → (a && (b && (c && d))) ≡ true → c ≡ true
 third_true a b c d e = (both_true c d (both_true b (c && d) (both_true a (b && (c && d)) e).1).1).0
 
-long_too : (k : Line) (lines : List Line) → In k lines
-    → ((length k.message.trace == 128) || list_any (λ l. depth l == 128) lines) ≡ true → list_any (λ l. depth l == 128) lines ≡ true
-long_too k lines i h = elim (either_true (length k.message.trace == 128) (list_any (λ l. depth l == 128) lines) h) [
-  | inl e ↦ any_in
-      (λ (l : Line). depth l == 128) k lines i e
-  | inr e ↦ e
-]
-
 module _ (p : Point) (s : Scene) (l : Line) (j : Journal) (stood : ℕ) (reply : Reply) (setting : Setting p s)
     (licensed : AllLicensed s j.lines) (stands : In l j.lines) (looked : IsLooked l.message) where
   body_is : is_update l.message.request.body ≡ true → l.message.request.body ≡ s.message.request.body
@@ -119,9 +111,22 @@ module _ (p : Point) (s : Scene) (l k : Line) (from : Option ℕ) (r : Reference
   same : IsSame p l k
   same = (asked_same p s l k from r j.lines x).0
 
+  -- so long a message came back here too
+  long_too : In k j.lines → is_long (asked_line k at) j.lines ≡ true → hears_by (λ y. depth y == 128) (asked_line l stood) j.lines ≡ true
+  long_too i h = heard_too p s l k from r j.lines stood at x back (λ y. depth y == 128)
+      (elim (either_true (length k.message.trace == 128) (hears_by (λ y. depth y == 128) (asked_line k at) j.lines) h) [
+        | inl e ↦ own_back (λ y. depth y == 128) k at j.lines i e
+        | inr e ↦ e
+      ])
+
   module _ (reply : Reply) (m : Meanwhile p s l stood j reply) where
     none_new : length j.accepted ≡ stood → accepts_none (asked_line l stood) j ≡ true
     none_new e = (Decides-eqb (length j.accepted) stood).1 e
+
+    nothing_or_lost : (length j.accepted ≡ stood) ⊎ (heard_whole j.lines ≡ false)
+        → (accepts_none (asked_line l stood) j || not (heard_whole j.lines)) ≡ true
+    nothing_or_lost (inl e) = or_left _ _ (none_new e)
+    nothing_or_lost (inr e) = or_right (accepts_none (asked_line l stood) j) _ (ap not e)
 
     right_too : (y : Reply) → y ≡ reply → is_final y ≡ true → Right p s (asked_line k at) j y → Right p s (asked_line l stood) j y
     right_too _ is done (result {a} b res n c) =
@@ -146,10 +151,7 @@ module _ (p : Point) (s : Scene) (l k : Line) (from : Option ℕ) (r : Reference
     right_too _ is done (right.unheard {r = u} h f c) =
         right.unheard (lost_too p s l k from r j.lines stood at x back u h)
         (subst (λ (d : Bool). (if d then is_done u.progress else not (is_done u.progress)) ≡ true) same.phase f)
-        (elim (m.silent (ap (is_service unavailable) (sym is))) [
-          | inl e ↦ or_left _ _ (none_new e)
-          | inr e ↦ or_right (accepts_none (asked_line l stood) j) _ (ap not e)
-        ])
+        (nothing_or_lost (m.silent (or_left (is_service unavailable reply) _ (ap (is_service unavailable) (sym is)))))
 
     reply_too : (over : Bool) → In k j.lines → (y : Reply) → y ≡ reply → is_final y ≡ true
         → (is_wide r.kind ≡ true → is_service unable_to_proceed y ≡ false) → RightReply p s (asked_line k at) j over y → RightReply p s
@@ -160,11 +162,11 @@ module _ (p : Point) (s : Scene) (l k : Line) (from : Option ℕ) (r : Reference
         third_true (nat_lt (length k.message.trace) 128) (is_none (fault_of k.message.request.body)) (is_wide k.message.kind)
         (falls_short (s.holdings k.receiver) (key_of k.message.target) k.message.progress) u in
         absurd (false_true (sym (able (sym (ap is_wide x.carried.kind_is) ∙ wide))))
-    reply_too over i _ is done able (placed.limit e) =
-        placed.limit (elim (either_true over _ e) [
+    reply_too over i _ is done able (placed.limit on e none) =
+        placed.limit (own_answered l stood j.lines x.stands) (elim (either_true over (is_long (asked_line k at) j.lines) e) [
           | inl y ↦ or_left over _ y
-          | inr y ↦ or_right over _ (or_right (length l.message.trace == 128) _ (long_too k j.lines i y))
-        ])
+          | inr y ↦ or_right over _ (or_right (length l.message.trace == 128) _ (long_too i y))
+        ]) (nothing_or_lost (m.silent (or_right (is_service unavailable reply) _ (ap (is_service administrative_limit_exceeded) (sym is)))))
 
 pub passes_back : PassesBack
 passes_back p s most l k from r j stood reply x m able h =

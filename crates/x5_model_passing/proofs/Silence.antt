@@ -1,5 +1,5 @@
--- Where it is answered that somebody wasn't heard, or that nobody could go on, nothing was accepted meanwhile, or a reply
--- was lost: by one induction over all that is done. Who leaves something to be followed sent nothing, and a list or search
+-- Where it is answered that somebody wasn't heard, that nobody could go on, or that a limit ended it, nothing was accepted
+-- meanwhile, or a reply was lost: by one induction over all that is done. Who leaves something to be followed sent nothing, and a list or search
 -- accepts nothing.
 use Rattle.std.proofs.Common.{◌≡◌, ℕ, Bool, true, false, not, ◌||◌, ◌⊎◌, cond, inl, inr, List, [], ◌∷◌, refl, sym, ap, subst, ◌∙◌, Option, Some, None}
 use Rattle.std.specs.List.{list_any}
@@ -10,8 +10,8 @@ use Rattle.x5_model.specs.Values.{key_of}
 use Rattle.x5_model.specs.Entries.{Named}
 use Rattle.x5_model.specs.Requests.{Subset}
 use Rattle.x5_model.specs.References.{Progress, Start, Next, Done, Reference, Chained}
-use Rattle.x5_model.specs.Answers.{Answer, Reply, Answered, Failed}
-use Rattle.x5_model.specs.Problems.{unavailable, unable_to_proceed}
+use Rattle.x5_model.specs.Answers.{Answer, Reply, Answered}
+use Rattle.x5_model.specs.Problems.{unavailable, unable_to_proceed, administrative_limit_exceeded}
 use Rattle.x5_model.proofs.Lists.{both_true, or_left, or_right, not_false, in_right, any_in, of_any}
 use Rattle.x5_model_tree.specs.Tree.{lowest}
 use Rattle.x5_model_tree.specs.Ask.{is_update, Told, Shows, Compares, Lists, Finds, Changes, Refuses}
@@ -150,6 +150,9 @@ from_final sources (Finds infos cut) = refl
 from_final sources Changes = refl
 from_final sources (Refuses x) = refl
 
+off_unable : (y : Reply) → is_service unable_to_proceed y ≡ true → is_off y ≡ true
+off_unable y e = or_right (is_service unavailable y) _ (or_right (is_service administrative_limit_exceeded y) _ e)
+
 -- who may chain leaves nothing
 left_idle : {b c : Bool} {X : Type 0} → (b ≡ true) ⊎ ((c ≡ true) × X) → c ≡ false → b ≡ true
 left_idle (inl e) f = e
@@ -195,15 +198,11 @@ module _ (s : Scene) (most : ℕ) where
   quiet _ _ _ (probes_all mine r e f d) = λ u. cc
   quiet _ _ _ (misses mine r a noted e f d) = λ u. quiet _ _ _ d
   quiet _ _ _ (taken mine r a b c n y e f g d u) = λ v. cc
-  quiet _ _ _ (breaks mine r a b c n y e f g p q d u) =
-      λ v. absurd (false_true (sym (neither (is_service unavailable (Failed y)) (is_service unable_to_proceed (Failed y)) q p) ∙ v))
-    where
-      neither : (b c : Bool) → b ≡ false → c ≡ false → (b || c) ≡ false
-      neither true c e f = e
-      neither false c e f = f
+  quiet _ _ _ (breaks {k} {i} {j} {l} mine r a b c n y e f g p q d u) = λ v. both i j l (grown s most _ _ _ u) (quiet _ _ _ d)
+      (quiet _ _ _ u v)
   quiet _ _ _ no_probe = inl refl
   quiet _ _ _ (clear {k} {r} {i} {j} {l} a y e d u) = both i j l (grown s most _ _ _ u) (quiet _ _ _ d)
-      (quiet _ _ _ u (or_right (is_service unavailable y) _ e))
+      (quiet _ _ _ u (off_unable y e))
   quiet _ _ _ (unsure {k} {r} {i} {j} {l} a y e d u) = both i j l (grown s most _ _ _ u) (quiet _ _ _ d)
       (quiet _ _ _ u (or_left (is_service unavailable y) _ e))
   quiet _ _ _ (silent {k} {r} {i} {j} {l} a d u) = both i j l (grown s most _ _ _ u) (quiet _ _ _ d) (quiet _ _ _ u)
@@ -246,7 +245,7 @@ module _ (s : Scene) (most : ℕ) where
   quiet _ _ _ (unheard d) = quiet _ _ _ d
   quiet _ _ _ none_asked = inl refl
   quiet _ _ _ (unable_too {from} {o} {r} {i} {j} {l} a y e d u) = both i j l (grown s most _ _ _ u) (quiet _ _ _ d)
-      (quiet _ _ _ u (or_right (is_service unavailable y) _ e))
+      (quiet _ _ _ u (off_unable y e))
   quiet _ _ _ (silent_too {from} {o} {r} {i} {j} {l} a d u) = both i j l (grown s most _ _ _ u) (quiet _ _ _ d) (quiet _ _ _ u)
   quiet _ _ _ (answered {from} {o} {r} {i} {j} {l} b c n a y e f d u) = λ g. both i j l (grown s most _ _ _ u) (quiet _ _ _ d)
       (quiet _ _ _ u g)

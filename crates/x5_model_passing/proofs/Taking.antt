@@ -4,9 +4,9 @@ use Rattle.std.proofs.Common.{◌≡◌, ℕ, Bool, true, false, not, ◌||◌, 
 use Rattle.x5_model.specs.Members.{In, here}
 use Rattle.x5_model.specs.Values.{key_of}
 use Rattle.x5_model.specs.References.{Reference}
-use Rattle.x5_model.specs.Answers.{DirError, Reply}
-use Rattle.x5_model.specs.Problems.{unavailable, unable_to_proceed}
-use Rattle.x5_model.proofs.Lists.{in_first, in_right, or_left, or_right}
+use Rattle.x5_model.specs.Answers.{Changed, DirError, Reply, Answered}
+use Rattle.x5_model.specs.Problems.{unavailable, unable_to_proceed, administrative_limit_exceeded}
+use Rattle.x5_model.proofs.Lists.{in_first, in_right, either_true, or_left, or_right}
 use Rattle.x5_model_tree.specs.Ask.{Refuses}
 use Rattle.x5_model_run.specs.Journal.{Line, Journal, is_done, is_wide}
 use Rattle.x5_model_run.specs.Holdings.{Holdings}
@@ -25,6 +25,7 @@ use Rattle.x5_model_serve.specs.Serving.{Hand, hand_of, line_for, Heard, Unheard
 use Rattle.x5_model_serve.specs.Claims.{Setting, AtHand, Keeps, asked_line, serving_of}
 use Rattle.x5_model_replies.specs.Heard.{HeardRight, TakenRight, IsSpentReply}
 use Rattle.x5_model_find.proofs.Needing.{false_true}
+use Rattle.x5_model_joins.proofs.Backs.{own_answered}
 use Rattle.x5_model_verdicts.proofs.At.{of_settled}
 use Rattle.x5_model_passing.specs.Passing.{PassedOn, Meanwhile}
 use Rattle.x5_model_passing.specs.Acceptance.{IsSilent, is_off}
@@ -64,15 +65,21 @@ module _ (p : Point) (s : Scene) (most : ℕ) (l : Line) (r : Reference) (i j : 
     accepted = on.keeps.accepted;
     only_more = none_before;
     reads = λ off. ap length (on.keeps.reads off);
-    silent = λ e. elim (quiet (or_left (is_service unavailable reply) _ e)) [ inl f ↦ inl (ap length f) | inr f ↦ inr f ];
+    silent = λ e. elim (quiet (off_of e)) [ inl f ↦ inl (ap length f) | inr f ↦ inr f ];
   }
+    where
+      off_of : (is_service unavailable reply || is_service administrative_limit_exceeded reply) ≡ true → is_off reply ≡ true
+      off_of e = elim (either_true (is_service unavailable reply) (is_service administrative_limit_exceeded reply) e) [
+        | inl f ↦ or_left (is_service unavailable reply) _ f
+        | inr f ↦ or_right (is_service unavailable reply) _ (or_left (is_service administrative_limit_exceeded reply) _ f)
+      ]
 
   pub none_by_refusal : (e : DirError) → told (λ key. false) (tree_at p) l.message ≡ Refuses e → accepts_none
       (asked_line l (length i.accepted)) j ≡ true
   none_by_refusal e h =
       (nat_same_decides (length j.accepted) (length i.accepted)).1
-      (none_by_error p s l j (length i.accepted) limit_reply on.setting on.keeps.licensed on.stands on.looked
-      (meanwhile limit_reply (λ f. absurd (false_true f))) e h)
+      (none_by_error p s l j (length i.accepted) (Answered Changed) on.setting on.keeps.licensed on.stands on.looked
+      (meanwhile (Answered Changed) (λ f. absurd (false_true f))) e h)
 
   pub same_phase_here : (u : Reference) → u.progress ≡ r.progress → same_phase (asked_line l (length i.accepted)) u ≡ true
   same_phase_here u e = by (is_done l.message.progress) (ap is_done e ∙ way_phase (holdings_at p l.receiver) l.message r way)
@@ -125,9 +132,13 @@ module _ (p : Point) (s : Scene) (most : ℕ) (l : Line) (r : Reference) (i j : 
           within = h.within;
         }
 
-    spent_here : (reply : Reply) → IsSpentReply most j (Hears reply) → IsRightFor p s most (hand_of l) l.number i j reply
-    spent_here reply (e, f) = subst (λ (y : Reply). IsRightFor p s most (hand_of l) l.number i j y) (is_it reply e)
-        (placed.limit (or_left (is_spent most j) _ f), tt)
+    spent_here : (reply : Reply) → (is_off reply ≡ true → IsSilent i j) → IsSpentReply most j (Hears reply)
+        → IsRightFor p s most (hand_of l) l.number i j reply
+    spent_here reply quiet (e, f) = subst (λ (y : Reply). IsRightFor p s most (hand_of l) l.number i j y) (is_it reply e) (
+      placed.limit (own_answered l (length i.accepted) j.lines on.stands) (or_left (is_spent most j) _ f)
+          (nothing_or_lost (quiet (ap is_off (sym (is_it reply e))))),
+      tt,
+    )
       where
         is_it : (y : Reply) → Hears y ≡ Hears limit_reply → limit_reply ≡ y
         is_it y z = cc
@@ -142,7 +153,7 @@ module _ (p : Point) (s : Scene) (most : ℕ) (l : Line) (r : Reference) (i j : 
     taking_here Unheard narrow did (inr w) = (let e = w.0 in cc)
     taking_here (Hears reply) narrow did (inl w) =
         heard_here reply w.0 (length i.accepted) w.1 w.2 (λ y. absurd (false_true (sym narrow ∙ y))) (quiet s most _ i j did) w.3
-    taking_here (Hears reply) narrow did (inr w) = spent_here reply w
+    taking_here (Hears reply) narrow did (inr w) = spent_here reply (quiet s most _ i j did) w
 
     casting_here : (before : Journal) (a : ℕ) (reply : Reply) → In a r.agents → is_service unable_to_proceed reply ≡ false
         → Does s most (Casts from (hand_of l) r reply) i j
@@ -165,7 +176,7 @@ module _ (p : Point) (s : Scene) (most : ℕ) (l : Line) (r : Reference) (i j : 
           trace_is = c.trace_is;
           request_is = c.request_is;
         })
-    casting_here before a reply ia able did (inr w) = spent_here reply w
+    casting_here before a reply ia able did (inr w) = spent_here reply (quiet s most _ i j did) w
 
 -- ---- for the message at hand
 

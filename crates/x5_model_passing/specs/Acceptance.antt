@@ -4,7 +4,7 @@ use Rattle.std.specs.declared.option.Option.{Option}
 use Rattle.std.specs.declared.option.Option.TheVariants.{Some}
 use Rattle.x5_model.specs.References.{Reference, Chained}
 use Rattle.x5_model.specs.Answers.{Answer, Reply, Answered}
-use Rattle.x5_model.specs.Problems.{unavailable, unable_to_proceed}
+use Rattle.x5_model.specs.Problems.{unavailable, unable_to_proceed, administrative_limit_exceeded}
 use Rattle.x5_model_tree.specs.Ask.{is_update}
 use Rattle.x5_model_run.specs.Journal.{Journal}
 use Rattle.x5_model_run.specs.Chain.{Scene, IsCarried}
@@ -39,9 +39,11 @@ QueriesAcceptNone =
 abbrev pub IsSilent : Journal → Journal → Type 0
 IsSilent i j = (j.accepted ≡ i.accepted) ⊎ (heard_whole j.lines ≡ false)
 
--- somebody wasn't heard, or nobody could go on
+-- somebody wasn't heard, or nobody could go on, or a limit ended it
 abbrev pub is_off : Reply → Bool
-is_off reply = is_service unavailable reply || is_service unable_to_proceed reply
+is_off reply =
+    is_service unavailable reply
+    || (is_service administrative_limit_exceeded reply || is_service unable_to_proceed reply)
 
 -- what is claimed of each thing that is done: of one that is answered, where it is answered so
 abbrev pub SilentWhereOff : Act → Journal → Journal → Type 0
@@ -63,7 +65,7 @@ SilentWhereOff (Gathers from o rs a whole) i j = ⊤
 SilentWhereOff (Probes k r agents noted) i j = IsSilent i j
 SilentWhereOff (Updates k reply) i j = is_off reply ≡ true → IsSilent i j
 
--- Where it is answered that somebody wasn't heard, or that nobody could go on, nothing was accepted meanwhile, or a
--- reply was lost. And what a reply leaves unexplored is left by a query.
+-- Where it is answered that somebody wasn't heard, that nobody could go on, or that a limit ended it, nothing was
+-- accepted meanwhile, or a reply was lost. And what a reply leaves unexplored is left by a query.
 abbrev pub OffIsSilent : Type 0
 OffIsSilent = (s : Scene) (most : ℕ) (x : Act) (i j : Journal) → Does s most x i j → SilentWhereOff x i j

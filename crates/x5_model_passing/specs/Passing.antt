@@ -1,13 +1,13 @@
 -- What is right for a message that was passed on is right for the message for which it was sent (X.518, sections 18 and
 -- 20: name resolution and continuation references).
-use Rattle.std.specs.Prelude.{◌≡◌, ℕ, ◌==◌, ◌⊎◌, Bool, true, false, List, [], length}
+use Rattle.std.specs.Prelude.{◌≡◌, ℕ, ◌==◌, ◌⊎◌, ◌||◌, Bool, true, false, List, [], length}
 use Rattle.std.specs.declared.option.Option.{Option}
 use Rattle.x5_model.specs.Members.{In}
 use Rattle.x5_model.specs.Keys.{Key}
 use Rattle.x5_model.specs.Values.{key_of}
 use Rattle.x5_model.specs.References.{Reference}
 use Rattle.x5_model.specs.Answers.{Answer, DirError, Reply, Answered}
-use Rattle.x5_model.specs.Problems.{unavailable, unable_to_proceed}
+use Rattle.x5_model.specs.Problems.{unavailable, unable_to_proceed, administrative_limit_exceeded}
 use Rattle.x5_model_tree.specs.Tree.{Tree}
 use Rattle.x5_model_tree.specs.Ask.{is_update}
 use Rattle.x5_model_run.specs.Journal.{Line, Journal, is_done, is_wide}
@@ -90,13 +90,15 @@ WithinPassesBack =
     → PassedOn p s l k from r lines → LiesWithin p (asked_line k at) reply → LiesWithin p (asked_line l stood) reply
 
 -- What was accepted since the serving of l began, when so many things stood: by a query nothing; and who says that
--- somebody wasn't heard accepted nothing, or a reply was lost. What is accepted is right, and only grows.
+-- somebody wasn't heard, or that a limit ended it, accepted nothing, or a reply was lost. What is accepted is right,
+-- and only grows.
 pub record Meanwhile (p : Point) (s : Scene) (l : Line) (stood : ℕ) (j : Journal) (reply : Reply) : Type 0 where
   pub accepted : Accepted p s j
   pub only_more : j.accepted ≡ [] → stood ≡ 0
   pub reads : is_update l.message.request.body ≡ false → length j.accepted ≡ stood
   pub silent :
-      is_service unavailable reply ≡ true → (length j.accepted ≡ stood) ⊎ (heard_whole j.lines ≡ false)
+      (is_service unavailable reply || is_service administrative_limit_exceeded reply) ≡ true
+      → (length j.accepted ≡ stood) ⊎ (heard_whole j.lines ≡ false)
 
 -- 4. So a right reply is passed back. Beside that it is right and came back, three things are needed. The lines are
 -- licensed: of two lines with one number, what came back to one need not have come back to the other. No nonSpecific

@@ -19,8 +19,8 @@ pub fn passing_back()
     ensures back { PassesBack }
 {}
 
-/// While a query is served nothing is accepted; and where it is answered that somebody wasn't heard, or that nobody could go
-/// on, nothing was, or a reply was lost: by what is done alone, over any knowledge.
+/// While a query is served nothing is accepted; and where it is answered that somebody wasn't heard, that nobody could go
+/// on, or that a limit ended it, nothing was, or a reply was lost: by what is done alone, over any knowledge.
 pub fn accepting()
     ensures queries { QueriesAcceptNone }
     ensures off { OffIsSilent }

@@ -129,4 +129,4 @@ unable_is p s q j spent reply (usual able r) u = absurd (by reply r u)
     by _ (right.referral l f n) v = false_true v
     by _ (right.unheard l f n) v = false_true v
 unable_is p s q j spent reply (placed.unable h) u = h
-unable_is p s q j spent reply (placed.limit h) u = absurd (false_true u)
+unable_is p s q j spent reply (placed.limit on h none) u = absurd (false_true u)

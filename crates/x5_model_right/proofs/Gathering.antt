@@ -17,7 +17,7 @@ use Rattle.x5_model_theory.proofs.Following.{query_of}
 use Rattle.x5_model_parts.proofs.Joining.{sight}
 use Rattle.x5_model_serve.specs.Answering.{is_unavailable}
 use Rattle.x5_model_serve.specs.Serving.{Hand, line_for, Heard, Unheard, Hears, Whole}
-use Rattle.x5_model_serve.specs.Claims as claims
+use Rattle.x5_model_replies.specs.Heard as claims
 use Rattle.x5_model_serve.specs.Claims.{AtHand, MayTake, AskedSoFar, OnlyBy, SoFar, serving_of}
 use Rattle.x5_model_replies.specs.Heard.{MayGather, GatheredRight}
 use Rattle.x5_model_joins.proofs.Following.{no_update_below}

@@ -364,8 +364,11 @@ module _ (known : NeededAgents) (p : Point) (s : Scene) (g : Ground p s) (from :
                   (ap not (query known p s g k i at look begins)) ((nat_same_decides (length j.accepted) stood).1 same)),
               nested_limited p s (serving_of j k at.line.number) j.lines k.message.request.controls.size a so,
             )
-        by (Broken x) e = subst (λ (y : Reply). RightReply p s (asked_line (line_at k at.line.number) stood) j (is_spent most j) y × LiesWithin p (asked_line (line_at k at.line.number) stood) y) (sym e.0)
-            (placed.limit (or_left (is_spent most j) _ e.1), tt)
+        by (Broken x) e = subst (λ (y : Reply). RightReply p s (asked_line (line_at k at.line.number) stood) j (is_spent most j) y × LiesWithin p (asked_line (line_at k at.line.number) stood) y) (sym e.0) (
+          placed.limit (own_answered at.line stood j.lines stands) (or_left (is_spent most j) _ e.1)
+              (or_left _ _ ((nat_same_decides (length j.accepted) stood).1 same)),
+          tt,
+        )
 
     -- each was taken, or messages ran out
     all_sent : is_spent most j ≡ true ⊎ ((r : Reference) → In r (rest_of_parts (holdings_at p k.receiver) k.message) → is_sent_by j.lines at.line from r ≡ true)

@@ -13,7 +13,7 @@ use Rattle.x5_model.specs.References.{Reference, Chained}
 use Rattle.x5_model.specs.Answers.{DirError, UpdateProblem, ServiceProblem, Reply, Answered, Failed}
 use Rattle.x5_model.proofs.KeyLaws.{key_decides}
 use Rattle.x5_model.proofs.Decide.{nat_same_decides}
-use Rattle.x5_model.proofs.Lists.{both_true, and_true, either_true, or_left, or_right, in_right, of_any}
+use Rattle.x5_model.proofs.Lists.{both_true, and_true, either_true, or_left, or_right, in_right}
 use Rattle.x5_model_tree.specs.Ask.{Refuses, is_update}
 use Rattle.x5_model_tree.specs.Apply.{apply}
 use Rattle.x5_model_run.specs.Network.{Fate, Lost, NoReply, Sent, arrives, is_sent, is_unheard}
@@ -33,6 +33,8 @@ use Rattle.x5_model_serve.specs.Answering.{is_service, of_these}
 use Rattle.x5_model_serve.specs.Serving.{Hand, line_for, Hears, holds_now, is_spent}
 use Rattle.x5_model_serve.specs.Claims.{AtMaster, is_due_line, is_settled_line, serving_of}
 use Rattle.x5_model_replies.specs.Heard.{HeardRight, TakenRight}
+use Rattle.x5_model_joins.proofs.Backs.{own_answered}
+use Rattle.x5_model_joins.proofs.Cases as cases
 use Rattle.x5_model_verdicts.proofs.At.{each_of_update, fit_key, scene_update, scene_body, scene_fit}
 use Rattle.x5_model_verdicts.proofs.Below.{At, at_in, before_in, either_first, some_at, of_some, licensed_at, never_again, ended}
 use Rattle.x5_model_verdicts.proofs.NewName.{new_is, new_apart}
@@ -259,23 +261,15 @@ told_or_limit p s q j over reply (usual on w) x e able un = inr (by reply w e ab
     by _ (right.referral u g c) e able un = cc
     by _ (right.unheard l g c) e able un = cc
 told_or_limit p s q j over _ (placed.unable h) x e able un = cc
-told_or_limit p s q j over _ (placed.limit h) x e able un = inl h
+told_or_limit p s q j over _ (placed.limit on h none) x e able un = inl h
 
 module _ (p : Point) (s : Scene) (most : ℕ) (g : Ground p s) (k : Hand) (i j : Journal) (at : AtMaster p s k i)
     (all : AllLicensed s j.lines) (stands : In at.at_hand.line j.lines) where
   not_long : is_long (serving_of i k at.at_hand.line.number) j.lines ≡ true → ⊥
-  not_long h = elim (either_true (length k.message.trace == 128) _ h) [
-    | inl e ↦
-        let short = g.short j.lines at.at_hand.line all stands in
-        let same : depth at.at_hand.line ≡ length k.message.trace = ap (λ (m : Chained). length m.trace) at.at_hand.message_is in
-        let long = (nat_same_decides (length k.message.trace) 128).0 e in
-        omega (arith, short, same, long)
-    | inr e ↦
-        let w = of_any (λ (l : Line). depth l == 128) j.lines e in
-        let short = g.short j.lines w.0 all w.1 in
-        let long = (nat_same_decides (depth w.0) 128).0 w.2 in
-        omega (arith, short, long)
-  ]
+  not_long h =
+      let short = g.short j.lines at.at_hand.line all stands in
+      let same : depth at.at_hand.line ≡ length k.message.trace = ap (λ (m : Chained). length m.trace) at.at_hand.message_is in
+      cases.not_long (serving_of i k at.at_hand.line.number) j.lines (omega (arith, short, same)) (λ e m. g.short j.lines e all m) h
 
   -- so the line at hand is settled, where messages didn't run out
   pub error_settles : (x : DirError) → RightReply p s (serving_of i k at.at_hand.line.number) j (is_spent most j) (Failed x)
@@ -376,13 +370,15 @@ breaks_right p s most k i j l mine r a before after noted x g h due split able u
       | inr w ↦ record {
         keeps = record { keeps = kept.keeps; since = kept.since; at_once = kept.at_once; reads = λ z. kept.reads refl };
         right = subst (λ (y : Reply). RightReply p s (serving_of i k at.at_hand.line.number) l (is_spent most l) y) (sym (spent_is w.0.0))
-            (placed.limit (or_left (is_spent most l) _ w.0.1));
+            (placed.limit (own_answered at.at_hand.line (length i.accepted) l.lines there) (or_left (is_spent most l) _ w.0.1)
+            (or_left _ _ ((nat_same_decides (length l.accepted) (length i.accepted)).1 (ap length (kept.reads refl).accepted_same))));
         within = within_error p k at.at_hand.line.number (length i.accepted) x (going p s g k i at);
         own = inl w.0.1;
         left = λ z. cc;
       }
       | inl w ↦
           let right = break_is_right p s most k i l r a x g.setting at due able un (λ y m. g.short l.lines y kept.keeps.licensed m)
+          kept.keeps (kept.reads refl).accepted_same
           (taken_of p s most k i j l at.at_hand.line r a (Failed x) w) in
           record {
             keeps = record { keeps = kept.keeps; since = kept.since; at_once = kept.at_once; reads = λ z. kept.reads refl };

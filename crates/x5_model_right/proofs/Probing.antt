@@ -122,7 +122,7 @@ module _ (p : Point) (s : Scene) (q : Asked) (j : Journal) (over : Bool) (reques
       by _ (right.referral u g c) un = cc
       by _ (right.unheard l g c) un = cc
   probe_unable _ (placed.unable h) un = h
-  probe_unable _ (placed.limit h) un = cc
+  probe_unable _ (placed.limit on h none) un = cc
 
   pub probe_lost : (reply : Reply) → RightReply p s q j over reply → is_service unavailable reply ≡ true → (u : Reference)
       × IsLost s q j.lines u
@@ -135,7 +135,7 @@ module _ (p : Point) (s : Scene) (q : Asked) (j : Journal) (over : Bool) (reques
       by _ (right.referral u g c) un = cc
       by _ (right.unheard {r = u} l g c) un = (u, l)
   probe_lost _ (placed.unable h) un = cc
-  probe_lost _ (placed.limit h) un = cc
+  probe_lost _ (placed.limit on h none) un = cc
 
 -- messages that ran out aren't what a service problem of the agent is
 pub not_spent : (n : ℕ) (reply : Reply) (most : ℕ) (j : Journal) → is_service n limit_reply ≡ false → IsSpentReply most j (Hears reply)

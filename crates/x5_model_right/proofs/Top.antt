@@ -6,7 +6,7 @@ use Rattle.std.proofs.lemmas.Bool.Decides.{leb_tells}
 use Rattle.std.specs.Prelude.{IsTrue}
 use Rattle.std.specs.Option.{is_some, is_none}
 use Rattle.x5_model.specs.Statics.{fault_of}
-use Rattle.std.specs.List.{list_any, list_all, AllByRecursion}
+use Rattle.std.specs.List.{list_all, AllByRecursion}
 use Rattle.x5_model.specs.Words.{has, is_empty, some_and, in_option}
 use Rattle.x5_model.specs.Members.{In, here}
 use Rattle.x5_model.specs.Values.{Name, key_of}
@@ -16,7 +16,7 @@ use Rattle.x5_model.specs.References.{Reference}
 use Rattle.x5_model.specs.Answers.{Answer, DirError, NoSuchObject, AttributeProblem, UpdateProblem, ServiceProblem, Reply}
 use Rattle.x5_model.specs.Problems.{entry_already_exists}
 use Rattle.x5_model.proofs.Decide.{nat_same_decides}
-use Rattle.x5_model.proofs.Lists.{both_true, and_true, either_true, not_true, or_left, or_right, true_or_false, in_first, in_right, any_in, of_any, all_in, of_all, of_find}
+use Rattle.x5_model.proofs.Lists.{both_true, and_true, either_true, not_true, or_left, or_right, true_or_false, in_first, in_right, any_in, all_in, of_all, of_find}
 use Rattle.x5_model_tree.specs.Tree.{lowest}
 use Rattle.x5_model_tree.specs.Masters.{master_of}
 use Rattle.x5_model_tree.specs.Ask.{is_update, sources_of, unexplored_of}
@@ -36,7 +36,7 @@ use Rattle.x5_model_run.specs.Thorough.{is_served, sender_follows, Thorough}
 use Rattle.x5_model_run.proofs.Growing.{all_grow}
 use Rattle.x5_model_run.proofs.Journals.{leads_from}
 use Rattle.x5_model_theory.proofs.Carrying.{no_journal_is_long}
-use Rattle.x5_model_joins.proofs.Backs.{hears_further, lost_further}
+use Rattle.x5_model_joins.proofs.Backs.{heard_line, hears_further, lost_further}
 use Rattle.x5_model_bounds.proofs.Going.{sound_by}
 use Rattle.x5_model_serve.specs.Serving.{Hand, hand, Does, Serves, with_line, IsRequest, nothing_yet, user_line, user_in_vain, is_spent, not_heard, not_told, answers}
 use Rattle.x5_model_serve.specs.Claims.{Setting, Accepted, AtHand, is_due_line, is_settled_line, last_number, serving_of}
@@ -343,9 +343,9 @@ module _ (p : Point) (first : ℕ) (r : Request) (set : Setting p (scene_at p fi
         narrow true false e = (let z : false ≡ true = e in cc)
         narrow false b e = (let z : false ≡ true = e in cc)
 
-        long_one : list_any (λ l. depth l == 128) j.lines ≡ true → ⊥
+        long_one : hears_by (λ l. depth l == 128) (serving_of (with_line (user_line (scene_at p first r)) nothing_yet) (hand (scene_at p first r).first (scene_at p first r).message) (user_line (scene_at p first r)).number) j.lines ≡ true → ⊥
         long_one e =
-            let x = of_any (λ l. depth l == 128) j.lines e in
+            let x = heard_line (λ l. depth l == 128) (serving_of (with_line (user_line (scene_at p first r)) nothing_yet) (hand (scene_at p first r).first (scene_at p first r).message) (user_line (scene_at p first r)).number) j.lines e in
             let n = (ground p first r set short names).short j.lines x.0 sv.keeps.keeps.licensed x.1 in
             let m = (nat_same_decides (depth x.0) 128).0 x.2 in
             omega (arith, n, m)
@@ -354,7 +354,7 @@ module _ (p : Point) (first : ℕ) (r : Request) (set : Setting p (scene_at p fi
             → Right p (scene_at p first r) (by_user (scene_at p first r)) j y
         by y (placed.usual able x) = right_too p (scene_at p first r) j (user_line (scene_at p first r)).number sv.keeps.keeps.licensed (back_user fate) (come_user fate) y x
         by _ (placed.unable h) = absurd (narrow (nat_lt (length (scene_at p first r).message.trace) 128) (is_none (fault_of r.body)) h)
-        by _ (placed.limit h) = absurd (elim (either_true (is_spent (budget p) j) _ h) [
+        by _ (placed.limit on h none) = absurd (elim (either_true (is_spent (budget p) j) _ h) [
           | inl e ↦ (let f = not_spent in let z : true ≡ false = sym e ∙ f in cc)
           | inr e ↦ long_one e
         ])

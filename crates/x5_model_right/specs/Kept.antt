@@ -8,7 +8,7 @@ use Rattle.std.specs.declared.option.Option.TheVariants.{Some}
 use Rattle.x5_model.specs.Members.{In}
 use Rattle.x5_model.specs.References.{Reference}
 use Rattle.x5_model.specs.Answers.{Changed, Answered}
-use Rattle.x5_model.specs.Problems.{unable_to_proceed, administrative_limit_exceeded}
+use Rattle.x5_model.specs.Problems.{unable_to_proceed}
 use Rattle.x5_model_tree.specs.Ask.{is_update}
 use Rattle.x5_model_run.specs.Journal.{Line, Journal, depth, same_sender, siblings, some_line, opened_by}
 use Rattle.x5_model_run.specs.History.{Point}
@@ -77,8 +77,7 @@ is_sent_to lines number from r a =
 -- a reply of which nothing is said where an update was accepted meanwhile
 abbrev pub IsUnsaid : Heard → Type 0
 IsUnsaid Unheard = ⊥
-IsUnsaid (Hears reply) =
-    (is_service unable_to_proceed reply ≡ true) ⊎ (is_service administrative_limit_exceeded reply ≡ true)
+IsUnsaid (Hears reply) = is_service unable_to_proceed reply ≡ true
 
 -- where an update was accepted meanwhile, that is what is heard, or some reply was lost
 abbrev pub Meanwhile : Journal → Journal → Heard → Type 0

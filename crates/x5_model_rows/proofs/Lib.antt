@@ -31,5 +31,6 @@ pub mod Handing
 pub mod Doubled
 pub mod Spellings
 pub mod Limits
+pub mod AtLimit
 pub mod Accepting
 pub mod Omitted

@@ -1,7 +1,7 @@
 -- Answers that a limit ends (X.511, section 12.8: administrativeLimitExceeded). A message that 128 agents had is
--- answered so, and so is one for which such a message was sent; over a network that sends no further message that ends
--- it. Where messages were left and no trace was so long, the answer is refused; and an update that it ends is answered
--- `changed` by nobody.
+-- answered so, and so is one for which such a message was sent and came back; over a network that sends no further
+-- message that ends it. Where messages were left and no trace was so long, the answer is refused; and an update that
+-- it ends is answered `changed` by nobody.
 use Rattle.std.specs.Prelude.{◌≡◌, ℕ, zero, suc, true, false, List, [], ◌∷◌}
 use Rattle.std.specs.declared.option.Option.TheVariants.{None, Some}
 use Rattle.std.proofs.Common.{refl, ap}
@@ -72,8 +72,9 @@ long_read = record {
   placed = record { fit = refl; lower = refl; brought = refl };
   licensed = (licensed_first refl refl refl refl refl, tt);
   accepts = record { one = refl; right = refl; probed = refl };
-  finished = λ usual. record { done = refl; at_once = refl };
-  answer = limit refl;
+  done = λ usual. refl;
+  at_once = refl;
+  answer = limit refl refl refl;
 }
 
 pub long_served : IsHandled at_first 1 (after 128 lab name_lab) at_once limit_reply
@@ -91,8 +92,9 @@ longer_read = record {
   placed = record { fit = refl; lower = refl; brought = refl };
   licensed = (licensed_by (read_line 127) 0 0 refl refl refl refl refl, (licensed_first refl refl refl refl refl, tt));
   accepts = record { one = refl; right = refl; probed = refl };
-  finished = λ usual. record { done = refl; at_once = refl };
-  answer = limit refl;
+  done = λ usual. refl;
+  at_once = refl;
+  answer = limit refl refl refl;
 }
 
 abbrev pub lab_nssr : Reference
@@ -113,7 +115,8 @@ short_read = record {
   placed = record { fit = refl; lower = refl; brought = refl };
   licensed = (licensed_by (read_line 126) 0 0 refl refl refl refl refl, (licensed_first refl refl refl refl refl, tt));
   accepts = record { one = refl; right = refl; probed = refl };
-  finished = λ usual. record { done = refl; at_once = refl };
+  done = λ usual. refl;
+  at_once = refl;
   answer = usual refl (result refl (record {
     found = refl;
     sources = refl;
@@ -128,12 +131,12 @@ short_read = record {
 }
 
 pub no_limit_below : RightReply at_first (reading 126) (by_user (reading 126)) (read_journal 126) false limit_reply → ⊥
-no_limit_below (limit over) = no over
+no_limit_below (limit back over none) = no over
 no_limit_below (usual able (error back given known none)) = no (ap fails given)
 
 pub no_limit_alone : RightReply at_first (reading 127) (by_user (reading 127)) (journal (read_line 127 ∷ [])) false
     limit_reply → ⊥
-no_limit_alone (limit over) = no over
+no_limit_alone (limit back over none) = no over
 no_limit_alone (usual able (error back given known none)) = no (ap fails given)
 
 -- Refused too: that with so long a trace another error of the service ends it.
@@ -156,13 +159,13 @@ abbrev pub jan_scene : Scene
 jan_scene = scene_at at_first 3 read_jan
 
 pub spent_right : RightReply at_first jan_scene (by_user jan_scene) (journal (jan_at_delta ∷ [])) true limit_reply
-spent_right = limit refl
+spent_right = limit refl refl refl
 
 -- Refused where messages are left: after that one line, by the definition of right replies and by that of what agents
 -- do; and, by that of what a user is answered, always.
 pub no_limit_left : RightReply at_first jan_scene (by_user jan_scene) (journal (jan_at_delta ∷ [])) false limit_reply
     → ⊥
-no_limit_left (limit over) = no over
+no_limit_left (limit back over none) = no over
 no_limit_left (usual able (error back given known none)) = no (ap fails given)
 
 pub not_served_so : (j : Journal) → IsServed at_first 3 read_jan j limit_reply → ⊥
@@ -195,8 +198,9 @@ longer_add = record {
   placed = record { fit = refl; lower = refl; brought = refl };
   licensed = (licensed_by (add_line 127) 0 0 refl refl refl refl refl, (licensed_first refl refl refl refl refl, tt));
   accepts = record { one = refl; right = refl; probed = refl };
-  finished = λ usual. absurd (no usual);
-  answer = limit refl;
+  done = λ usual. absurd (no usual);
+  at_once = refl;
+  answer = limit refl refl refl;
 }
 
 pub longer_add_served : IsHandled at_first 1 (after 127 acme add_new) add_journal limit_reply
@@ -219,8 +223,9 @@ long_add = record {
   placed = record { fit = refl; lower = refl; brought = refl };
   licensed = (licensed_first refl refl refl refl refl, tt);
   accepts = record { one = refl; right = refl; probed = refl };
-  finished = λ usual. absurd (no usual);
-  answer = limit refl;
+  done = λ usual. absurd (no usual);
+  at_once = refl;
+  answer = limit refl refl refl;
 }
 
 pub not_done_at_limit : (j : Journal) → IsHandled at_first 1 (after 128 acme add_new) j (Answered Changed) → ⊥

@@ -81,7 +81,8 @@ gamma_unable = record {
   placed = record { fit = refl; lower = refl; brought = refl };
   licensed = (licensed_first refl refl refl refl refl, tt);
   accepts = record { one = refl; right = refl; probed = refl };
-  finished = λ usual. record { done = refl; at_once = refl };
+  done = λ usual. refl;
+  at_once = refl;
   answer = unable refl;
 }
 
@@ -120,7 +121,7 @@ pub no_other_agent : (reply : Reply)
     → agent_told reply ≡ 3 → ⊥
 no_other_agent _ (usual able right) e = no able
 no_other_agent _ (unable falls) e = omega (arith, e)
-no_other_agent _ (limit over) e = no over
+no_other_agent _ (limit back over none) e = no over
 
 -- Messages that aren't placed: one whose target isn't what its request asks for; a read of a name that is completed;
 -- one that came no nearer since an agent of its trace; and some that no reference brings to Beta: to a pin that it
@@ -176,7 +177,8 @@ delta_part = record {
   placed = record { fit = refl; lower = refl; brought = refl };
   licensed = (licensed_first refl refl refl refl refl, tt);
   accepts = record { one = refl; right = refl; probed = refl };
-  finished = λ usual. record { done = refl; at_once = refl };
+  done = λ usual. refl;
+  at_once = refl;
   answer = usual refl (result refl (record {
     found = refl;
     sources = refl;
@@ -208,7 +210,8 @@ shop_itself = record {
   placed = record { fit = refl; lower = refl; brought = refl };
   licensed = (licensed_first refl refl refl refl refl, tt);
   accepts = record { one = refl; right = refl; probed = refl };
-  finished = λ usual. record { done = refl; at_once = refl };
+  done = λ usual. refl;
+  at_once = refl;
   answer = usual refl (result refl (record {
     found = refl;
     sources = refl;

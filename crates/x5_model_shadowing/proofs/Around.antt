@@ -33,7 +33,8 @@ agent_named t h =
     let rest = both_true (list_all described.is_name_octet t) _ first.1 in
     and_true _ (not (same_octets t (codes "user")))
     (and_true _ (nat_le (length t) 32)
-    (and_true (leaves.begins_with_letter t) (list_all leaves.may_stand_in_agent t) (sym (begins_same t) ∙ first.0) rest.0)
+    (and_true (leaves.begins_with_letter t) (list_all leaves.may_stand_in_agent t) (sym (begins_same t) ∙ first.0)
+    rest.0)
     short.0)
     rest.1
 

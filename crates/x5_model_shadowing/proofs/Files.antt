@@ -1,5 +1,5 @@
--- The names at which a described world's non-specific subordinate references stand are UTF-8: each was read from a text,
--- whose reading takes no others.
+-- The names at which a described world's non-specific subordinate references stand are UTF-8: each was read from a
+-- text, whose reading takes no others.
 use Rattle.std.proofs.Common.{◌≡◌, ℕ, Bool, true, List, [], ◌∷◌, ◌++◌, map, refl, ap, subst, ◌∙◌, Option, Some, None, Result, Ok, Err, codes}
 use Rattle.std.specs.List.{list_all, flat_map}
 use Rattle.serde_json.specs.Data.{Data, Items}

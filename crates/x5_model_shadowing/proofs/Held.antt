@@ -1,5 +1,5 @@
--- What agents hold at a line can be sent: parts of the one tree, now or as of a moment, with the references that the file
--- describes, or such as name a context that its agent masters.
+-- What agents hold at a line can be sent: parts of the one tree, now or as of a moment, with the references that the
+-- file describes, or such as name a context that its agent masters.
 use Rattle.std.proofs.Common.{◌≡◌, ℕ, ◌-◌, ◌==◌, nat_lt, Bool, true, not, ◌&&◌, List, [], length, map, refl, sym, subst, Option, Some, None}
 use Rattle.std.proofs.lemmas.Bool.{lt-ltb}
 use Rattle.std.proofs.lemmas.Option.{slice_get_within}
@@ -50,7 +50,8 @@ module _ (w : World) (described : IsDescribed w) (utf8 : world_is_utf8 w ≡ tru
       let q = both_true (list_all (is_context w) a.contexts) _ p.1 in
       let r = both_true (is_rooted c c.entries) _ (of_all (is_context w) c a.contexts q.0 j) in
       let l = both_true (list_all is_kept c.entries) _ r.1 in
-      let o = both_true (list_all (is_nssr w c) c.nssrs) (distinct same_key (map (λ (m : Nssr). key_of m.at) c.nssrs)) l.1 in
+      let o = both_true (list_all (is_nssr w c) c.nssrs)
+      (distinct same_key (map (λ (m : Nssr). key_of m.at) c.nssrs)) l.1 in
       let b = both_true (is_there c.entries (key_of n.at)) _ (of_all (is_nssr w c) n c.nssrs o.0 k) in
       let d = both_true (not (is_empty n.agents)) (are_agents size n.agents) b.1 in
       let u = of_all agent_nssrs_are_utf8 a w.agents nssrs i in
@@ -159,7 +160,8 @@ module _ (p : Point) (line : IsBoundedLine p) (described : IsDescribed (knowledg
         each = part_sendable (tree_of_moment p m) (key_of g.context) (trees_sendable p m line)
 
         by : (o : Option Mastered) → mastered_at now (key_of g.context) ≡ o
-            → SendableContext many (in_option (record { prefix = g.context; entries = es; subordinate = []; nssrs = [] })
+            → SendableContext many
+            (in_option (record { prefix = g.context; entries = es; subordinate = []; nssrs = [] })
             (λ c. record {
               prefix = g.context;
               entries = es;
@@ -210,7 +212,10 @@ module _ (p : Point) (line : IsBoundedLine p) (described : IsDescribed (knowledg
         by : (x : Option Agent) → agent_at now me ≡ x
             → SendableHoldings many (in_option (no_holdings me) (agent_holdings p me) x)
         by None e =
-            record { own = each_none (SendableContext many); copies = each_none (λ (c : Copy). SendableContext many c.held) }
+            record {
+              own = each_none (SendableContext many);
+              copies = each_none (λ (c : Copy). SendableContext many c.held);
+            }
         by (Some a) e =
             record { own = own_sendable a (at_place now.agents me a e); copies = copies_sendable_of me }
 

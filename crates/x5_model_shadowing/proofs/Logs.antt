@@ -115,7 +115,8 @@ module _ (w : World) (described : IsDescribed w) (utf8 : world_is_utf8 w ≡ tru
       by : (b : Bool) → SendableLog (if b then logs_by w before a pin ++ new else logs_by w before a pin)
       by true =
           each_both Sendable (logs_by w before a pin) new (logs a pin)
-          (noted_all (length before + 1) (pins (knowledge_by w before)) pin accepted (tree_by w before) taken within each)
+          (noted_all (length before + 1) (pins (knowledge_by w before)) pin accepted (tree_by w before) taken within
+          each)
       by false = logs a pin
 
   after_refreshing : (before : List Did) (f : Refreshed) → AllLogs (logs_by w before)

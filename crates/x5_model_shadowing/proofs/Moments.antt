@@ -1,4 +1,5 @@
--- The stamps of refreshes are moments of lines before, so four octets count them where they count the line's own moment.
+-- The stamps of refreshes are moments of lines before, so four octets count them where they count the line's own
+-- moment.
 use Rattle.std.proofs.Common.{◌≡◌, ◌≤◌, ◌<◌, ℕ, ◌+◌, ◌^◌, ◌==◌, Bool, true, false, inl, inr, List, [], ◌∷◌, length, refl, ap, arith, Option, Some, None, if◌then◌else◌}
 use Rattle.std.specs.List.{find}
 use Rattle.x5_model.specs.Words.{in_option, when}
@@ -49,10 +50,12 @@ supplied_low p g m low e = by (masters (knowledge_at p) g.supplier (key_of g.con
 
     of_copy : (o : Option Agreement) → copied o ≡ Some m → m ≤ length p.past + 1
     of_copy None q = absurd (cc q)
-    of_copy (Some own) q = (let l : m ≤ length p.past = copy_low p (length p.past) own.number m low q in omega (arith, l))
+    of_copy (Some own) q =
+        let l : m ≤ length p.past = copy_low p (length p.past) own.number m low q in omega (arith, l)
 
     by : (b : Bool)
-        → (if b then Some (moment_of p) else copied (consumed_by (knowledge_at p) g.supplier (key_of g.context))) ≡ Some m
+        → (if b then Some (moment_of p) else copied (consumed_by (knowledge_at p) g.supplier (key_of g.context)))
+        ≡ Some m
         → m ≤ length p.past + 1
     by true q = (let s : length p.past + 1 ≡ m = some_is (length p.past + 1) m q in omega (arith, s))
     by false q = of_copy (consumed_by (knowledge_at p) g.supplier (key_of g.context)) q
@@ -103,6 +106,7 @@ line_is_counted p line =
       copies = λ number.
           if_low (as_of p number) (length p.past) (λ m e. copy_low p (length p.past) number m low e) (omega (arith, c));
       acked = λ number.
-          if_low (acked p number) (length p.past) (λ m e. acked_low p (length p.past) number m low e) (omega (arith, c));
+          if_low (acked p number) (length p.past) (λ m e. acked_low p (length p.past) number m low e)
+          (omega (arith, c));
       supplied = λ g. if_low (supplied p g) (length p.past + 1) (λ m e. supplied_low p g m low e) c;
     }

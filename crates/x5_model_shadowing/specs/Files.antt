@@ -1,5 +1,5 @@
--- The names at which non-specific subordinate references stand (X.501, section 22: knowledge) are UTF-8 in a world that a
--- file describes, since reading takes no others.
+-- The names at which non-specific subordinate references stand (X.501, section 22: knowledge) are UTF-8 in a world that
+-- a file describes, since reading takes no others.
 use Rattle.std.specs.Prelude.{◌≡◌, Bool, true, Ok}
 use Rattle.std.specs.List.{list_all}
 use Rattle.serde_json.specs.Data.{Data}

@@ -1,5 +1,5 @@
--- The messages of a refresh (X.525, sections 9 to 12), as they are carried in a world with these agents: what can be sent
--- of what agents hold is within the limits of messages of shadowing.
+-- The messages of a refresh (X.525, sections 9 to 12), as they are carried in a world with these agents: what can be
+-- sent of what agents hold is within the limits of messages of shadowing.
 use Rattle.std.specs.Prelude.{ℕ, Bool, true, false, nat_lt, List, length, map}
 use Rattle.std.specs.declared.option.Option.{Option}
 use Rattle.std.specs.declared.option.Option.TheVariants.{None, Some}

@@ -1,9 +1,8 @@
 -- What a probe brings beside answers and agents that weren't heard is a limit: a right reply to a probe's read has no
 -- other error, case by case.
-use Rattle.std.proofs.Common.{nat_le, length-append, nat_lt, ◌≤◌, map, arith, ◌≡◌, ◌<◌, ℕ, ◌==◌, Bool, true, false, not, ◌&&◌, ◌||◌, inl, inr, List, [], ◌∷◌, ◌++◌, length, refl, sym, ap, subst, ◌∙◌, Option, Some, None, if◌then◌else◌}
+use Rattle.std.proofs.Common.{nat_le, length-append, nat_lt, ◌≤◌, map, arith, ◌≡◌, ◌<◌, ℕ, Bool, true, false, not, ◌&&◌, inl, inr, List, [], ◌∷◌, ◌++◌, length, refl, sym, ap, subst, ◌∙◌, Option, Some, None, if◌then◌else◌}
 use Rattle.std.specs.Option.{is_none}
 use Rattle.std.proofs.lemmas.Bool.Decides.{leb_tells}
-use Rattle.std.specs.List.{list_any}
 use Rattle.x5_model.specs.Members.{In}
 use Rattle.x5_model.specs.Keys.{Key, is_prefix}
 use Rattle.x5_model.specs.Values.{Name, key_of, name_above}
@@ -14,9 +13,9 @@ use Rattle.x5_model.specs.Answers.{DirError, Reply, Failed}
 use Rattle.x5_model.specs.Problems.{unavailable, unable_to_proceed}
 use Rattle.x5_model.specs.Statics.{fault_of}
 use Rattle.x5_model.proofs.KeyLaws.{key_decides}
-use Rattle.x5_model.proofs.Lists.{not_true, not_false, of_any, in_left, both_true, either_true, or_left, or_right, any_in, in_map}
+use Rattle.x5_model.proofs.Lists.{not_true, not_false, of_any, in_left, in_right, both_true, either_true, or_left, in_map}
 use Rattle.x5_model.proofs.Prefixes.{prefix_decides, same_by_length, prefix_itself, prefix_length}
-use Rattle.x5_model.proofs.Decide.{less_decides}
+use Rattle.x5_model.proofs.Decide.{less_decides, nat_same_decides}
 use Rattle.x5_model_tree.specs.World.{Specific}
 use Rattle.x5_model_tree.specs.Tree.{Tree, entry_at}
 use Rattle.x5_model_tree.specs.Ask.{Told, Refuses, absent, read, ask_body, ask_marked}
@@ -40,7 +39,10 @@ use Rattle.x5_model_serve.specs.Answering.{is_service}
 use Rattle.x5_model_serve.specs.Serving.{Hand, line_for, holds_now}
 use Rattle.x5_model_serve.specs.Claims.{Setting, asked_line, serving_of, AtMaster}
 use Rattle.x5_model_replies.specs.Heard.{HeardRight}
+use Rattle.x5_model_joins.proofs.Backs.{own_answered}
+use Rattle.x5_model_joins.proofs.Cases.{not_long}
 use Rattle.x5_model_verdicts.specs.Verdicts.{BreakIsRight}
+use Rattle.x5_model_verdicts.proofs.At.{line_in}
 use Rattle.x5_model_verdicts.proofs.NewName.{probe, new_is, name_inside}
 use Rattle.x5_model_verdicts.proofs.Asked.{asks}
 
@@ -83,9 +85,6 @@ never_refused copies t name e x full q h =
 
 told_going : (copies : Key → Bool) (t : Tree) (m : Chained) → is_done m.progress ≡ false → told copies t m ≡ ask_marked copies t m.request
 told_going copies t m e = rw e refl
-
-long_too : (n : Line) (lines : List Line) → In n lines → ((length n.message.trace == 128) || list_any (λ l. depth l == 128) lines) ≡ true → list_any (λ l. depth l == 128) lines ≡ true
-long_too n lines i h = elim (either_true (length n.message.trace == 128) (list_any (λ l. depth l == 128) lines) h) [ inl e ↦ any_in (λ (l : Line). depth l == 128) n lines i e | inr e ↦ e ]
 
 module _ (p : Point) (s : Scene) (k : Hand) (i j : Journal) (set : Setting p s) (at : AtMaster p s k i) (r : Reference) (due : due_probes (holds_now s i k) k.message ≡ r ∷ []) (n : Line) (a : ℕ)
     (carried : IsCarried (Some k.receiver) (line_for k) (record r { agents = a ∷ [] }) n.message) (stands : In n j.lines) (heard : is_sent n.fate ≡ true) (short : (e : Line) → In e j.lines → depth e < 128) where
@@ -160,15 +159,15 @@ module _ (p : Point) (s : Scene) (k : Hand) (i j : Journal) (set : Setting p s) 
         never_refused (λ key. false) (tree_at p) n.message.target is_entry.0 x filled is_entry.1
         (sym (ap (ask_marked (λ key. false) (tree_at p)) request) ∙ sym (told_going (λ key. false) (tree_at p) n.message (ap (λ (y : Progress). is_done y) next)) ∙ sym (ap (told (λ key. false) (tree_at p)) message) ∙ h)
 
-  breaks_by : (over : Bool) (stood : ℕ) (reply : Reply) → is_service unable_to_proceed reply ≡ false → is_service unavailable reply ≡ false → (x : DirError) → reply ≡ Failed x
+  breaks_by : (here_still : In at.at_hand.line j.lines) → j.accepted ≡ i.accepted → (over : Bool) (stood : ℕ) (reply : Reply) → is_service unable_to_proceed reply ≡ false → is_service unavailable reply ≡ false → (x : DirError) → reply ≡ Failed x
       → RightReply p s (asked_line n stood) j over reply → RightReply p s (serving_of i k at.at_hand.line.number) j over reply
-  breaks_by over stood _ not_able un x e (limit l) =
-      limit (elim (either_true over (is_long (asked_line n stood) j.lines) l) [
+  breaks_by here_still stays over stood _ not_able un x e (limit on l none) =
+      limit (own_answered at.at_hand.line (length i.accepted) j.lines here_still) (elim (either_true over (is_long (asked_line n stood) j.lines) l) [
         | inl y ↦ or_left over _ y
-        | inr y ↦ or_right over _ (or_right (length k.message.trace == 128) _ (long_too n j.lines stands y))
-      ])
-  breaks_by over stood _ not_able un x e (unable u) = cc
-  breaks_by over stood reply not_able un x e (usual on w) = absurd (by reply e not_able un w)
+        | inr y ↦ absurd (not_long (asked_line n stood) j.lines (short n stands) short y)
+      ]) (or_left _ _ ((nat_same_decides (length j.accepted) (length i.accepted)).1 (ap length stays)))
+  breaks_by here_still stays over stood _ not_able un x e (unable u) = cc
+  breaks_by here_still stays over stood reply not_able un x e (usual on w) = absurd (by reply e not_able un w)
     where
       able : is_unable (s.holdings n.receiver) n.message ≡ false
       able = not_true (is_unable (s.holdings n.receiver) n.message) on
@@ -181,6 +180,7 @@ module _ (p : Point) (s : Scene) (k : Hand) (i j : Journal) (set : Setting p s) 
       by _ e not_able un (right.unheard l g c) = cc
 
 pub break_is_right : BreakIsRight
-break_is_right p s most k i j r a x set at due not_able un short t =
+break_is_right p s most k i j r a x set at due not_able un short keeps stays t =
     let h : HeardRight p s most (serving_of i k at.at_hand.line.number) j t.0 (Failed x) = t.3 in
-    breaks_by p s k i j set at r due t.0 a t.2 h.stands h.heard short (nat_le most (length j.lines)) h.stood (Failed x) not_able un x refl h.right
+    let here_still : In at.at_hand.line j.lines = subst (λ (xs : List Line). In at.at_hand.line xs) (sym keeps.grows.1) (in_right at.at_hand.line keeps.grows.0 i.lines (line_in p s k i set at)) in
+    breaks_by p s k i j set at r due t.0 a t.2 h.stands h.heard short here_still stays (nat_le most (length j.lines)) h.stood (Failed x) not_able un x refl h.right

@@ -9,7 +9,7 @@ use Rattle.x5_model.specs.Values.{key_of}
 use Rattle.x5_model.specs.Requests.{Body, Request}
 use Rattle.x5_model.specs.References.{Reference}
 use Rattle.x5_model.specs.Answers.{Changed, DirError, Reply, Answered}
-use Rattle.x5_model.specs.Problems.{unable_to_proceed, administrative_limit_exceeded}
+use Rattle.x5_model.specs.Problems.{unable_to_proceed}
 use Rattle.x5_model.specs.Statics.{fault_of}
 use Rattle.x5_model.proofs.Lists.{both_true, either_true, not_true, not_false, in_right, any_in, of_any, of_all}
 use Rattle.x5_model_tree.specs.Tree.{Tree}
@@ -155,7 +155,7 @@ pub accepted_meanwhile : AcceptedMeanwhile
 accepted_meanwhile p s q j over reply acc some body going more (usual able r) = by reply r
   where
     abbrev_goal : Reply → Type 0
-    abbrev_goal y = (y ≡ Answered Changed) ⊎ ((heard_whole j.lines ≡ false) ⊎ ((is_service unable_to_proceed y ≡ true) ⊎ (is_service administrative_limit_exceeded y ≡ true)))
+    abbrev_goal y = (y ≡ Answered Changed) ⊎ ((heard_whole j.lines ≡ false) ⊎ (is_service unable_to_proceed y ≡ true))
 
     never : {A : Type 0} → accepts_none q j ≡ true → A
     never n = (let f = more in absurd (let z : true ≡ false = sym n ∙ f in cc))
@@ -166,5 +166,8 @@ accepted_meanwhile p s q j over reply acc some body going more (usual able r) = 
     by _ (right.error {x} on t o n) = never n
     by _ (right.referral u f n) = never n
     by _ (right.unheard l f n) = elim (either_true (accepts_none q j) (not (heard_whole j.lines)) n) [ inl e ↦ never e | inr e ↦ inr (inl (not_true (heard_whole j.lines) e)) ]
-accepted_meanwhile p s q j over reply acc some body going more (placed.unable u) = inr (inr (inl refl))
-accepted_meanwhile p s q j over reply acc some body going more (placed.limit l) = inr (inr (inr refl))
+accepted_meanwhile p s q j over reply acc some body going more (placed.unable u) = inr (inr refl)
+accepted_meanwhile p s q j over reply acc some body going more (placed.limit on long none) = elim (either_true (accepts_none q j) (not (heard_whole j.lines)) none) [
+  | inl e ↦ absurd (let f = more in let z : true ≡ false = sym e ∙ f in cc)
+  | inr e ↦ inr (inl (not_true (heard_whole j.lines) e))
+]

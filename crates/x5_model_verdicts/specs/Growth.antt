@@ -4,7 +4,7 @@ use Rattle.std.specs.declared.option.Option.{Option}
 use Rattle.x5_model.specs.Words.{is_empty}
 use Rattle.x5_model.specs.References.{Reference}
 use Rattle.x5_model.specs.Answers.{Changed, DirError, Reply, Answered}
-use Rattle.x5_model.specs.Problems.{unable_to_proceed, administrative_limit_exceeded}
+use Rattle.x5_model.specs.Problems.{unable_to_proceed}
 use Rattle.x5_model_tree.specs.Ask.{Refuses}
 use Rattle.x5_model_run.specs.Journal.{Journal, is_done}
 use Rattle.x5_model_run.specs.History.{Point, tree_at}
@@ -29,15 +29,14 @@ NoErrorAfter =
     → is_done q.message.progress ≡ false → told (λ key. false) (tree_at p) q.message ≡ Refuses x → ⊥
 
 -- Where it was accepted since a message of it was begun, a right reply is `changed`, or some reply was lost; or its
--- receiver was unable to proceed or at a limit, of which nothing is said.
+-- receiver was unable to proceed, of which nothing is said.
 abbrev pub AcceptedMeanwhile : Type 0
 AcceptedMeanwhile =
     (p : Point) (s : Scene) (q : Asked) (j : Journal) (spent : Bool) (reply : Reply)
     → Accepted p s j → is_empty j.accepted ≡ false → q.message.request.body ≡ s.message.request.body
     → is_done q.message.progress ≡ false → (length j.accepted == q.stood) ≡ false → RightReply p s q j spent reply
     → (reply ≡ Answered Changed)
-    ⊎ ((heard_whole j.lines ≡ false)
-    ⊎ ((is_service unable_to_proceed reply ≡ true) ⊎ (is_service administrative_limit_exceeded reply ≡ true)))
+    ⊎ ((heard_whole j.lines ≡ false) ⊎ (is_service unable_to_proceed reply ≡ true))
 
 -- What is accepted while agents are asked in vain comes with a lost reply.
 abbrev pub TriedInVain : Type 0

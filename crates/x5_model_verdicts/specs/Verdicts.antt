@@ -80,13 +80,13 @@ TakenIsRight =
     (Hears (Answered found))
     → RightReply p s (serving_of i k at.at_hand.line.number) j spent (Failed (UpdateProblem entry_already_exists))
 
--- 6. Any other error that a probe brings is a limit, where no trace is long.
+-- 6. Any other error that a probe brings is a limit, where no trace is long: messages ran out, and nothing is accepted.
 abbrev pub BreakIsRight : Type 0
 BreakIsRight =
     (p : Point) (s : Scene) (most : ℕ) (k : Hand) (i j : Journal) (r : Reference) (a : ℕ) (x : DirError)
     → Setting p s → (at : AtMaster p s k i) → due_probes (holds_now s i k) k.message ≡ r ∷ []
     → is_service unable_to_proceed (Failed x) ≡ false → is_service unavailable (Failed x) ≡ false
-    → ((e : Line) → In e j.lines → depth e < 128)
+    → ((e : Line) → In e j.lines → depth e < 128) → Keeps p s most k i j → j.accepted ≡ i.accepted
     → TakenRight p s most (serving_of i k at.at_hand.line.number) (Some k.receiver) k (record r { agents = a ∷ [] }) j
     (Hears (Failed x))
     → RightReply p s (serving_of i k at.at_hand.line.number) j (is_spent most j) (Failed x)

@@ -1,9 +1,10 @@
 -- What the files and the sink in memory hold, and which of their calls are to fail.
-use Rattle.std.specs.Prelude.{◌≡◌, ℕ, ◌+◌, ◌==◌, nat_lt, min, Bool, if◌then◌else◌, List, [], map, length, Option, Some}
+use Rattle.std.specs.Prelude.{◌≡◌, ℕ, ◌==◌, nat_lt, Bool, if◌then◌else◌, List, [], map, length, Option, Some}
 use Rattle.std.specs.Prelude.{None, Result, Ok, Err, string_bytes, Vec, ⊤}
 use Rattle.std.specs.List.{list_any}
 use Rattle.std.specs.Option.{option_map}
-use Rattle.x5_port.specs.Outside.{File, content_of, last_count}
+use Rattle.x5_port.specs.Names.{names_in}
+use Rattle.x5_port.specs.Outside.{File, content_of, next_count}
 use Rattle.x5_port.specs.declared.fault.FileFault.{FileFault}
 use Rattle.x5_port.specs.declared.fault.FileFault.TheVariants.{Failed, TooLong, NoMemory}
 use Rattle.x5_port.specs.declared.memory.HeldFile.{HeldFile}
@@ -13,10 +14,6 @@ use Rattle.x5_port.specs.declared.memory.MemorySink.{MemorySink}
 -- whether the call of this number is to fail
 abbrev pub is_marked : List ℕ → ℕ → Bool
 is_marked failing number = list_any (λ marked. marked == number) failing
-
--- the number of the next call; the count stops at the last value of u64
-abbrev pub next_number : ℕ → ℕ
-next_number calls = min (calls + 1) last_count
 
 abbrev pub file_of : HeldFile → File
 file_of held = record { name = string_bytes held.name; content = held.content.items }
@@ -29,6 +26,10 @@ files_in files = map file_of files.held.items
 abbrev pub failed_in : MemoryFiles → Option (List ℕ)
 failed_in files = option_map string_bytes files.failed
 
+-- the names of all calls so far, the last one first
+abbrev pub asked_in : MemoryFiles → List (List ℕ)
+asked_in files = names_in files.asked.items
+
 -- no file, no call and no fault yet
 pub record IsNewFiles (files : MemoryFiles) (failing : List ℕ) : Type 0 where
   pub no_files : files_in files ≡ []
@@ -36,6 +37,7 @@ pub record IsNewFiles (files : MemoryFiles) (failing : List ℕ) : Type 0 where
   pub no_calls : files.schedule.calls ≡ 0
   pub no_faults : files.faults ≡ 0
   pub none_failed : failed_in files ≡ None
+  pub none_asked : asked_in files ≡ []
 
 -- the calls and the faults so far are the same
 pub record SameButFiles (old new : MemoryFiles) : Type 0 where
@@ -43,6 +45,7 @@ pub record SameButFiles (old new : MemoryFiles) : Type 0 where
   pub calls_are : new.schedule.calls ≡ old.schedule.calls
   pub faults_are : new.faults ≡ old.faults
   pub failed_is : failed_in new ≡ failed_in old
+  pub asked_is : asked_in new ≡ asked_in old
 
 -- what a file's reader is answered where the call isn't to fail
 abbrev pub read_in : Option (List ℕ) → ℕ → Result (List ℕ) FileFault
@@ -52,7 +55,7 @@ read_in (Some content) limit = if nat_lt limit (length content) then Err TooLong
 -- what the next call is answered
 abbrev pub answer_of : MemoryFiles → List ℕ → ℕ → Result (List ℕ) FileFault
 answer_of files name limit =
-    if is_marked files.schedule.failing.items (next_number files.schedule.calls) then Err Failed
+    if is_marked files.schedule.failing.items (next_count files.schedule.calls) then Err Failed
     else read_in (content_of (files_in files) name) limit
 
 -- the answer is this one, unless memory ran out
@@ -68,7 +71,7 @@ octets_in sink = sink.taken.items
 
 -- whether the next call is to fail
 abbrev pub next_is_marked : MemorySink → Bool
-next_is_marked sink = is_marked sink.schedule.failing.items (next_number sink.schedule.calls)
+next_is_marked sink = is_marked sink.schedule.failing.items (next_count sink.schedule.calls)
 
 -- nothing taken, no call and no fault yet
 pub record IsNewSink (sink : MemorySink) (room most : ℕ) (failing : List ℕ) : Type 0 where
@@ -82,6 +85,6 @@ pub record IsNewSink (sink : MemorySink) (room most : ℕ) (failing : List ℕ) 
 -- the call is counted, except where memory ran out before it
 abbrev pub CountsCall : {T : Type 0} → Result T FileFault → ℕ → ℕ → Type 0
 CountsCall (Err NoMemory) before now = ⊤
-CountsCall (Err Failed) before now = now ≡ next_number before
-CountsCall (Err TooLong) before now = now ≡ next_number before
-CountsCall (Ok octets) before now = now ≡ next_number before
+CountsCall (Err Failed) before now = now ≡ next_count before
+CountsCall (Err TooLong) before now = now ≡ next_count before
+CountsCall (Ok octets) before now = now ≡ next_count before

@@ -1,6 +1,6 @@
 -- What files and a sink of octets tell of themselves, and what the answers of their calls mean.
-use Rattle.std.specs.Prelude.{◌≡◌, ◌≢◌, ℕ, ◌<◌, ◌≤◌, List, ◌++◌, length, take, Option, Some, None, Result, Ok, Err}
-use Rattle.std.specs.Prelude.{IsSomeAnd, ⊤}
+use Rattle.std.specs.Prelude.{◌≡◌, ◌≢◌, ℕ, ◌+◌, ◌<◌, min, ◌⊎◌, List, ◌∷◌, ◌++◌, length, take, Option, Some}
+use Rattle.std.specs.Prelude.{None, Result, Ok, Err, IsSomeAnd, ⊤}
 use Rattle.std.specs.List.{find}
 use Rattle.std.specs.Option.{option_map}
 use Rattle.std.specs.Str.{bytes_eq}
@@ -30,9 +30,20 @@ IsLonger (Some files) name limit = IsSomeAnd (content_of files name) (λ content
 abbrev pub last_count : ℕ
 last_count = 18446744073709551615
 
+-- one more; a count stops at its last value
+abbrev pub next_count : ℕ → ℕ
+next_count count = min (count + 1) last_count
+
 -- the count rose, or stands at its last value
 abbrev pub Rose : ℕ → ℕ → Type 0
 Rose before now = now ≢ last_count → before < now
+
+-- how many faults there were, after a call with this answer: no other answer is one
+abbrev pub faults_after : {T : Type 0} → Result T FileFault → ℕ → ℕ
+faults_after (Ok octets) before = before
+faults_after (Err Failed) before = next_count before
+faults_after (Err TooLong) before = before
+faults_after (Err NoMemory) before = before
 
 -- the name of the last call that was answered `Failed`, after a call for this name with this answer
 abbrev pub failed_after : {T : Type 0} → Result T FileFault → List ℕ → Option (List ℕ) → Option (List ℕ)
@@ -41,10 +52,18 @@ failed_after (Err Failed) name before = Some name
 failed_after (Err TooLong) name before = before
 failed_after (Err NoMemory) name before = before
 
+-- A file was asked for by this name, with this answer: the name stands in front of those before. Where memory ran out,
+-- the call may have ended before that, and then nothing was read.
+abbrev pub IsAsked : {T : Type 0} → Result T FileFault → List ℕ → List (List ℕ) → List (List ℕ) → Type 0
+IsAsked (Ok octets) name before now = now ≡ name ∷ before
+IsAsked (Err Failed) name before now = now ≡ name ∷ before
+IsAsked (Err TooLong) name before now = now ≡ name ∷ before
+IsAsked (Err NoMemory) name before now = (now ≡ name ∷ before) ⊎ (now ≡ before)
+
 -- what was taken, with these octets after it
 abbrev pub with_octets : List ℕ → Option (List ℕ) → Option (List ℕ)
 with_octets octets taken = option_map (λ before. before ++ octets) taken
 
--- some first part of the octets was taken, and nothing else
+-- some first part of the octets was taken, but not all of them, and nothing else
 abbrev pub TookPrefix : List ℕ → Option (List ℕ) → Option (List ℕ) → Type 0
-TookPrefix octets before now = (count : ℕ) × (count ≤ length octets) × (now ≡ with_octets (take count octets) before)
+TookPrefix octets before now = (count : ℕ) × (count < length octets) × (now ≡ with_octets (take count octets) before)

@@ -1,6 +1,6 @@
 // The faults of files and sinks.
 ghost use Rattle.std.specs.Prelude.{◌≡◌, ◌≤◌};
-ghost use Rattle.x5_port.specs.Outside.{Rose};
+ghost use Rattle.x5_port.specs.Outside.{Rose, next_count};
 ghost use Rattle.x5_port.specs.declared.fault.FileFault.TheVariants.{NoMemory as NoMemoryFault};
 
 use std::alloc::AllocError;
@@ -45,6 +45,7 @@ pub struct Failed;
 pub(crate) fn raised(count: u64) -> u64
     ensures rose { Rose count result }
     ensures rising { count ≤ result }
+    ensures next { result ≡ next_count count }
 {
     count.saturating_add(1)
 }

@@ -1,6 +1,7 @@
 // The outside: files that are read whole and a sink that takes octets, in memory and real.
 #![tactic(auto)]
 
+mod asked;
 mod fault;
 mod memory;
 mod port;

@@ -3,8 +3,9 @@ ghost use Rattle.std.specs.Prelude.{◌≡◌, ℕ, ◌+◌, ◌-◌, ◌<◌, �
 ghost use Rattle.std.specs.List.{find};
 ghost use Rattle.std.specs.Option.{option_map, option_copied};
 ghost use Rattle.std.specs.Str.{bytes_eq};
-ghost use Rattle.x5_port.specs.Outside.{IsContent, IsLonger, Rose, failed_after, with_octets};
+ghost use Rattle.x5_port.specs.Outside.{IsAsked, IsContent, IsLonger, Rose, failed_after, faults_after, next_count, with_octets};
 
+use crate::asked::{first_name, put_name};
 use crate::fault::{Failed, FileFault, raised};
 use crate::port::{Files, Sink};
 use std::alloc::Global;
@@ -18,7 +19,7 @@ struct Schedule {
 }
 
 impl Schedule {
-    ghost use Rattle.x5_port.specs.Memory.{is_marked, next_number};
+    ghost use Rattle.x5_port.specs.Memory.{is_marked};
 
     fn new(alloc: Global, failing: &[u64]) -> Result<Schedule, NoMemory>
         ensures { IfOk result (λ schedule. (schedule.failing.items ≡ failing.now) × (schedule.calls ≡ 0)) }
@@ -31,8 +32,8 @@ impl Schedule {
 
     // Counts a call, and says whether it is to fail.
     fn next_fails(&mut self) -> bool
-        ensures marked { result ≡ is_marked self.old.failing.items (next_number self.old.calls) }
-        ensures counted { self.new ≡ record self.old { calls = next_number self.old.calls } }
+        ensures marked { result ≡ is_marked self.old.failing.items (next_count self.old.calls) }
+        ensures counted { self.new ≡ record self.old { calls = next_count self.old.calls } }
     {
         self.calls = self.calls.saturating_add(1);
         self.failing.contains(&self.calls)
@@ -60,6 +61,7 @@ pub struct MemoryFiles {
     schedule: Schedule,
     faults: u64,
     failed: Option<String>,
+    asked: Vec<String>,
 }
 
 impl MemoryFiles {
@@ -76,6 +78,7 @@ impl MemoryFiles {
             schedule: Schedule::new(alloc, failing)?,
             faults: 0,
             failed: None,
+            asked: Vec::new(alloc),
         })
     }
 
@@ -113,13 +116,15 @@ impl MemoryFiles {
 }
 
 impl Files for MemoryFiles {
-    ghost use Rattle.x5_port.specs.Memory.{files_in, failed_in, Answers, answer_of, CountsCall};
+    ghost use Rattle.x5_port.specs.Memory.{files_in, failed_in, asked_in, Answers, answer_of, CountsCall};
 
     ghost contents = { λ files. Some (files_in files) };
 
     ghost fault_count = { λ files. files.faults };
 
     ghost last_failed = { failed_in };
+
+    ghost names_asked = { asked_in };
 
     fn faults(&self) -> u64 {
         self.faults
@@ -132,7 +137,9 @@ impl Files for MemoryFiles {
         ensures failed { IsErrOf result FileFault.Failed → Rose self.old.faults self.new.faults }
         ensures failed_name { failed_in self.new ≡ failed_after result name.now (failed_in self.old) }
         ensures rising { self.old.faults ≤ self.new.faults }
+        ensures faults { self.new.faults ≡ faults_after result self.old.faults }
         ensures same_contents { Some (files_in self.new) ≡ Some (files_in self.old) }
+        ensures asked { IsAsked result name.now (asked_in self.old) (asked_in self.new) }
 
         // Unless memory runs out, the answer is known before the call.
         ensures answer { Answers result (answer_of self.old name.now limit) }
@@ -140,6 +147,7 @@ impl Files for MemoryFiles {
         ensures same_marks { self.new.schedule.failing.items ≡ self.old.schedule.failing.items }
     {
         let kept = String::from_str(alloc, name)?;
+        put_name(&mut self.asked, alloc, name)?;
         let outcome = if self.schedule.next_fails() {
             Err(FileFault::Failed)
         } else {
@@ -154,6 +162,10 @@ impl Files for MemoryFiles {
 
     fn failed(&self) -> Option<&str> {
         self.failed.as_ref().map(|name| name.as_str())
+    }
+
+    fn asked(&self) -> Option<&str> {
+        first_name(&self.asked)
     }
 }
 
@@ -201,7 +213,7 @@ impl MemorySink {
 }
 
 impl Sink for MemorySink {
-    ghost use Rattle.x5_port.specs.Memory.{octets_in, next_is_marked, next_number};
+    ghost use Rattle.x5_port.specs.Memory.{octets_in, next_is_marked};
 
     ghost octets = { λ sink. Some (octets_in sink) };
 
@@ -218,11 +230,13 @@ impl Sink for MemorySink {
         ensures failed { OnErr result (Rose self.old.faults self.new.faults) }
         ensures nothing_taken { OnErr result (Some (octets_in self.new) ≡ Some (octets_in self.old)) }
         ensures rising { self.old.faults ≤ self.new.faults }
+        ensures no_fault { OnOk result (self.new.faults ≡ self.old.faults) }
+        ensures one_fault { OnErr result (self.new.faults ≡ next_count self.old.faults) }
 
         // It takes what fits, unless this call is to fail.
         ensures count { IfOk result (λ count. count ≡ min (length piece.now) (min self.old.most (self.old.room))) }
         ensures unmarked { OnOk result (next_is_marked self.old ≡ false) }
-        ensures counted { self.new.schedule ≡ record self.old.schedule { calls = next_number self.old.schedule.calls } }
+        ensures counted { self.new.schedule ≡ record self.old.schedule { calls = next_count self.old.schedule.calls } }
         ensures cause { OnErr result (IsTrue (next_is_marked self.old) ⊎ (self.old.room ≡ 0) × (0 < length piece.now)) }
         ensures room { OnOk result (self.new.room + length (octets_in self.new) ≡ self.old.room + length (octets_in self.old)) }
         ensures same_room { OnErr result (self.new.room ≡ self.old.room) }

@@ -1,7 +1,8 @@
 // The traits of the outside: files that are read whole, and a sink that takes octets.
 ghost use Rattle.std.specs.Prelude.{◌≡◌, ◌≢◌, ℕ, ◌+◌, ◌<◌, ◌≤◌, List, length, take, Option, IfOk, IsErrOf, OnOk, OnErr, MatchResult, vec_len};
+ghost use Rattle.std.specs.List.{slice_get};
 ghost use Rattle.std.specs.Option.{option_copied};
-ghost use Rattle.x5_port.specs.Outside.{File, IsContent, IsLonger, Rose, failed_after, with_octets, TookPrefix};
+ghost use Rattle.x5_port.specs.Outside.{File, IsAsked, IsContent, IsLonger, Rose, failed_after, faults_after, next_count, with_octets, TookPrefix};
 
 use crate::fault::{Failed, FileFault};
 use std::alloc::Global;
@@ -20,6 +21,9 @@ pub trait Files {
     /// The name of the last call that was answered `Failed`.
     ghost last_failed: { Self → Option (List ℕ) };
 
+    /// The names of all calls so far, the last one first.
+    ghost names_asked: { Self → List (List ℕ) };
+
     /// How many faults there were. Takes no memory.
     fn faults(&self) -> u64
         ensures { result ≡ fault_count self.now };
@@ -32,11 +36,17 @@ pub trait Files {
         ensures failed { IsErrOf result FileFault.Failed → Rose (fault_count self.old) (fault_count self.new) }
         ensures failed_name { last_failed self.new ≡ failed_after result name.now (last_failed self.old) }
         ensures rising { fault_count self.old ≤ fault_count self.new }
-        ensures same_contents { contents self.new ≡ contents self.old };
+        ensures faults { fault_count self.new ≡ faults_after result (fault_count self.old) }
+        ensures same_contents { contents self.new ≡ contents self.old }
+        ensures asked { IsAsked result name.now (names_asked self.old) (names_asked self.new) };
 
     /// The name of the last call that was answered `Failed`. Takes no memory.
     fn failed(&self) -> Option<&str>
         ensures { option_copied result ≡ last_failed self.now };
+
+    /// The name of the last call. Takes no memory.
+    fn asked(&self) -> Option<&str>
+        ensures { option_copied result ≡ slice_get (names_asked self.now) 0 };
 }
 
 /// A sink that takes octets.
@@ -62,7 +72,9 @@ pub trait Sink {
         ensures progress { IfOk result (λ count. 0 < length piece.now → 0 < count) }
         ensures failed { OnErr result (Rose (fault_count self.old) (fault_count self.new)) }
         ensures nothing_taken { OnErr result (octets self.new ≡ octets self.old) }
-        ensures rising { fault_count self.old ≤ fault_count self.new };
+        ensures rising { fault_count self.old ≤ fault_count self.new }
+        ensures no_fault { OnOk result (fault_count self.new ≡ fault_count self.old) }
+        ensures one_fault { OnErr result (fault_count self.new ≡ next_count (fault_count self.old)) };
 }
 
 /// Puts all octets into the sink, in as many pieces as it wants. Takes no memory.
@@ -71,6 +83,8 @@ pub fn put_all<K: Sink>(sink: &mut K, bytes: &[u8]) -> Result<(), Failed>
     ensures failed { OnErr result (Rose (K.fault_count sink.old) (K.fault_count sink.new)) }
     ensures taken { OnErr result (TookPrefix bytes.now (K.octets sink.old) (K.octets sink.new)) }
     ensures rising { K.fault_count sink.old ≤ K.fault_count sink.new }
+    ensures no_fault { OnOk result (K.fault_count sink.new ≡ K.fault_count sink.old) }
+    ensures one_fault { OnErr result (K.fault_count sink.new ≡ next_count (K.fault_count sink.old)) }
 {
     let mut done = 0;
     while done < bytes.len() {

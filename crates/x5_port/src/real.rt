@@ -1,7 +1,9 @@
 // Real files, and a sink over a writer such as standard output. They tell nothing.
 ghost use Rattle.std.specs.Prelude.{◌≡◌, ◌≤◌, None, IfOk, length, string_bytes};
 ghost use Rattle.std.specs.Option.{option_map};
+ghost use Rattle.x5_port.specs.Names.{names_in};
 
+use crate::asked::{first_name, put_name};
 use crate::fault::{Failed, FileFault, raised};
 use crate::port::{Files, Sink};
 use std::alloc::Global;
@@ -16,13 +18,14 @@ pub struct RealFiles<R> {
     faults: u64,
     failed: Option<String>,
     reason: Option<ErrorKind>,
+    asked: Vec<String>,
 }
 
 impl<R: rt::Files + Drop> RealFiles<R> {
     ghost use Rattle.x5_port.specs.Real.{IsUntouched};
 
     /// No call was made yet.
-    pub fn new(runtime: R) -> RealFiles<R>
+    pub fn new(alloc: Global, runtime: R) -> RealFiles<R>
         ensures { IsUntouched result }
     {
         RealFiles {
@@ -30,6 +33,7 @@ impl<R: rt::Files + Drop> RealFiles<R> {
             faults: 0,
             failed: None,
             reason: None,
+            asked: Vec::new(alloc),
         }
     }
 
@@ -100,6 +104,8 @@ impl<R: rt::Files + Drop> Files for RealFiles<R> {
 
     ghost last_failed = { λ files. option_map string_bytes files.failed };
 
+    ghost names_asked = { λ files. names_in files.asked.items };
+
     fn faults(&self) -> u64 {
         self.faults
     }
@@ -111,6 +117,7 @@ impl<R: rt::Files + Drop> Files for RealFiles<R> {
         limit: usize,
     ) -> Result<Vec<u8>, FileFault> {
         let kept = String::from_str(alloc, name)?;
+        put_name(&mut self.asked, alloc, name)?;
         let mut reason = None;
         let outcome = self.octets_of(alloc, name, limit, &mut reason);
         if matches!(outcome, Err(FileFault::Failed)) {
@@ -123,6 +130,10 @@ impl<R: rt::Files + Drop> Files for RealFiles<R> {
 
     fn failed(&self) -> Option<&str> {
         self.failed.as_ref().map(|name| name.as_str())
+    }
+
+    fn asked(&self) -> Option<&str> {
+        first_name(&self.asked)
     }
 }
 

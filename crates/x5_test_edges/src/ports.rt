@@ -40,6 +40,7 @@ fn memory_files_answer_each_case(rt: HostRuntime) -> Result<(), Fail> {
     }
     assert_eq!(rt; files.faults(), 2);
     assert_eq!(rt; files.failed().unwrap_or(""), "b");
+    assert_eq!(rt; files.asked().unwrap_or(""), "b");
     Ok(())
 }
 
@@ -66,7 +67,7 @@ fn real_files_read_what_is_there(rt: HostRuntime) -> Result<(), Fail> {
     let alloc = rt.alloc();
     let name = "real_files.txt";
     std::fs::write(&rt, name, "some octets")?;
-    let mut files = RealFiles::new(rt.clone()?);
+    let mut files = RealFiles::new(alloc, rt.clone()?);
     for (limit, wanted) in [(11, Ok(true)), (10, Err(FileFault::TooLong))] {
         let found = reads(alloc, &mut files, name, limit, "some octets");
         assert_eq!(rt; found, wanted, "{limit}");
@@ -77,6 +78,7 @@ fn real_files_read_what_is_there(rt: HostRuntime) -> Result<(), Fail> {
     assert_eq!(rt; found, Err(FileFault::Failed));
     assert_eq!(rt; files.faults(), 1);
     assert_eq!(rt; files.failed().unwrap_or(""), name);
+    assert_eq!(rt; files.asked().unwrap_or(""), name);
     Ok(())
 }
 

@@ -1,6 +1,6 @@
 -- Once its plan is carried out the agent holds what is committed of an update.
-use Rattle.std.proofs.Common.{◌≡◌, ℕ, zero, suc, ◌<◌, ◌≤◌, ◌∷◌, ◌++◌, [], List, map, length, sym, ap, subst, ◌∙◌, arith, Some, Result, Ok, Err, slice_set, if◌then◌else◌}
-use Rattle.std.specs.Prelude.{OnErr, slice_get, nat_lt}
+use Rattle.std.proofs.Common.{◌≡◌, ℕ, zero, suc, ◌<◌, ◌≤◌, ◌∷◌, ◌++◌, [], List, map, length, sym, ap, subst, ◌∙◌, arith, Some, slice_set, if◌then◌else◌}
+use Rattle.std.specs.Prelude.{slice_get, nat_lt}
 use Rattle.x5_model.specs.Words.{first_of, in_option}
 use Rattle.x5_model.specs.Keys.{Key}
 use Rattle.x5_model.specs.Values.{key_of}
@@ -36,18 +36,14 @@ logged_so a b x after e f l = record {
   changes = l.changes ∙ (λ i. latest (f i) ++ x ∷ []);
 }
 
-pub on_err : {T E : Type 0} {P : Type 0} (r : Result T E) → P → OnErr r P
-on_err (Ok x) p = tt
-on_err (Err e) p = p
-
 -- room aside an agent holds the same, and has noted the same
-set_same : {B : Type 0} (f : Kept → B) (xs : List Kept) (n : ℕ) (x y : Kept) → slice_get xs n ≡ Some x → f y ≡ f x
+pub set_same : {B : Type 0} (f : Kept → B) (xs : List Kept) (n : ℕ) (x y : Kept) → slice_get xs n ≡ Some x → f y ≡ f x
     → map f (slice_set xs n y) ≡ map f xs
 set_same f [] n x y g e = cc
 set_same {B} f (z ∷ xs) zero x y g e = ap (λ (h : B). h ∷ map f xs) (e ∙ ap f (sym (kept_inside g)))
 set_same {B} f (z ∷ xs) (suc n) x y g e = ap (λ (hs : List B). f z ∷ hs) (set_same f xs n x y g e)
 
-room_alone : (s t : State) (own : ℕ) → IsOwnChanged s own IsSame t → holdings_view t ≡ holdings_view s
+pub room_alone : (s t : State) (own : ℕ) → IsOwnChanged s own IsSame t → holdings_view t ≡ holdings_view s
 room_alone s t own room =
     ap holdings_view room.new_is
     ∙ ap (λ (l : List Held). record (holdings_view s) { own = l })
@@ -60,6 +56,7 @@ room_alone s t own room =
 
 pub uncommitted : (s t : State) (own : ℕ) → IsOwnChanged s own IsSame t → IsUncommitted s t
 uncommitted s t own room = record {
+  moment = ap (λ (x : State). x.moment) room.new_is;
   holdings = room_alone s t own room;
   bases = ap (λ (x : State). map (λ (c : Kept). c.log.base) x.own) room.new_is
       ∙ set_same (λ (c : Kept). c.log.base) s.own own room.before room.after room.was room.changed.base;
@@ -83,7 +80,7 @@ module _ (s : State) (r : Request) (key : Key) (own : ℕ) (id : NodeId) (is : I
     its_context : room.before ≡ is.kept
     its_context = kept_inside (sym room.was ∙ is.held)
 
-    same : IsSame is.kept room.after
+    pub same : IsSame is.kept room.after
     same = subst (λ (c : Kept). IsSame c room.after) its_context room.changed
 
     full_target : 0 < length (target_of r.body)
@@ -92,11 +89,11 @@ module _ (s : State) (r : Request) (key : Key) (own : ℕ) (id : NodeId) (is : I
         let f : 0 < length key = full in
         omega arith
 
-    change_is : IsChangeOf is.kept r.body plan.change
-    change_is = subst (λ (k : Kept). IsChangeOf k r.body plan.change) (kept_inside (sym p.held ∙ is.held)) p.change
+    pub change_is : IsChangeOf is.kept.nodes.nodes r.body plan.change
+    change_is = subst (λ (k : Kept). IsChangeOf k.nodes.nodes r.body plan.change) (kept_inside (sym p.held ∙ is.held)) p.change
 
-    step_is : IsStepOf is.kept r.body plan.step
-    step_is = subst (λ (k : Kept). IsStepOf k r.body plan.step) (kept_inside (sym p.held ∙ is.held)) p.step
+    pub step_is : IsStepOf (entries_of is.kept.nodes.nodes) r.body plan.step
+    step_is = subst (λ (k : Kept). IsStepOf (entries_of k.nodes.nodes) r.body plan.step) (kept_inside (sym p.held ∙ is.held)) p.step
 
     pub roomy : slice_get t.own own ≡ Some room.after
     roomy = ap (λ (x : State). slice_get x.own own) room.new_is ∙ got_set s.own own room.before room.after room.was

@@ -18,4 +18,5 @@ mod Preparing
 mod Below
 mod Lasts
 mod Doing
+mod Roomy
 mod Wide

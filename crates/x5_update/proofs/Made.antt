@@ -55,7 +55,7 @@ module _ (s : State) (r : Request) (key : Key) (own : ℕ) (id : NodeId) (is : I
 
   module _ (c : Kept) (same : IsSame is.kept c) where
     made : (body : Body) (change : EntryChange) (us : List Named) (d : Kept) → 0 < length (target_of body) → key ≡ key_of (target_of body)
-        → apply_over (ground_in s r) body ≡ Ok us → IsChangeOf is.kept body change → IsMade c change d
+        → apply_over (ground_in s r) body ≡ Ok us → IsChangeOf is.kept.nodes.nodes body change → IsMade c change d
         → Makes pins mine (held_view is.kept) body (entries_of d.nodes.nodes)
     made (AddEntry name attributes) (changes.Add n entry list) us d full at passed is_change (new_id, w) =
         let u : key ≡ parent (key_of name) = at ∙ above_key name in
@@ -123,7 +123,7 @@ module _ (s : State) (r : Request) (key : Key) (own : ℕ) (id : NodeId) (is : I
 
     -- the context then is as the definition changes it
     held_after : (body : Body) (change : EntryChange) (us : List Named) (d : Kept) → r.body ≡ body → 0 < length (target_of body)
-        → key ≡ key_of (target_of body) → apply_over (ground_in s r) body ≡ Ok us → IsChangeOf is.kept body change → IsMade c change d
+        → key ≡ key_of (target_of body) → apply_over (ground_in s r) body ≡ Ok us → IsChangeOf is.kept.nodes.nodes body change → IsMade c change d
         → d.prefix ≡ c.prefix → d.subordinate ≡ c.subordinate → d.nssrs ≡ c.nssrs
         → changed_at r (holdings_view s) (held_view is.kept) ≡ held_view d
     held_after body change us d b full at passed is_change w p q n =
@@ -156,7 +156,7 @@ got_set (z ∷ xs) (suc n) x y e = got_set xs n x y e
 
 module _ (s : State) (r : Request) (key : Key) (own : ℕ) (id : NodeId) (is : IsSeat s r key own id) (c d : Kept) (same : IsSame is.kept c) where
   pub committed_after : (change : EntryChange) (us : List Named) → 0 < length (target_of r.body) → key ≡ key_of (target_of r.body)
-      → apply_over (ground_in s r) r.body ≡ Ok us → IsChangeOf is.kept r.body change → IsMade c change d
+      → apply_over (ground_in s r) r.body ≡ Ok us → IsChangeOf is.kept.nodes.nodes r.body change → IsMade c change d
       → d.prefix ≡ c.prefix → d.subordinate ≡ c.subordinate → d.nssrs ≡ c.nssrs
       → holdings_view (record s { own = slice_set s.own own d }) ≡ committed r (holdings_view s)
   committed_after change us full at passed is_change w p q n =

@@ -88,8 +88,8 @@ add_plan s r own id name attributes is above rdn entry plan none l a n f p =
     record {
       kept = is.kept;
       held = is.held;
-      change = subst (IsChangeOf is.kept (AddEntry name attributes)) (sym p.change) (refl, e, (refl, p.ordered));
-      step = subst (IsStepOf is.kept (AddEntry name attributes)) (sym p.step)
+      change = subst (IsChangeOf is.kept.nodes.nodes (AddEntry name attributes)) (sym p.change) (refl, e, (refl, p.ordered));
+      step = subst (IsStepOf (entries_of is.kept.nodes.nodes) (AddEntry name attributes)) (sym p.step)
           (is.node.named, found s r (parent (key_of name)) own id is, λ i. record { name = sym n i ++ l i ∷ []; entry = e i });
       made = w.0;
       passed = w.1;
@@ -119,8 +119,8 @@ module _ (s : State) (r : Request) (own : ℕ) (id : NodeId) (name : Name) (is :
       record {
         kept = is.kept;
         held = is.held;
-        change = subst (IsChangeOf is.kept (ModifyEntry name list)) (sym p.change) (is.node, is.there, is.at, q, (refl, p.ordered));
-        step = subst (IsStepOf is.kept (ModifyEntry name list)) (sym p.step)
+        change = subst (IsChangeOf is.kept.nodes.nodes (ModifyEntry name list)) (sym p.change) (is.node, is.there, is.at, q, (refl, p.ordered));
+        step = subst (IsStepOf (entries_of is.kept.nodes.nodes) (ModifyEntry name list)) (sym p.step)
             (is.node.named, new, found s r (key_of name) own id is, q, λ i. record { name = sym n i; entry = new });
         made = w.0;
         passed = w.1;
@@ -141,8 +141,8 @@ module _ (s : State) (r : Request) (own : ℕ) (id : NodeId) (name : Name) (is :
       record {
         kept = is.kept;
         held = is.held;
-        change = subst (IsChangeOf is.kept (ModifyDn name to drops)) (sym p.change) (is.node, is.there, is.at, refl, e, (refl, p.ordered));
-        step = subst (IsStepOf is.kept (ModifyDn name to drops)) (sym p.step) (
+        change = subst (IsChangeOf is.kept.nodes.nodes (ModifyDn name to drops)) (sym p.change) (is.node, is.there, is.at, refl, e, (refl, p.ordered));
+        step = subst (IsStepOf (entries_of is.kept.nodes.nodes) (ModifyDn name to drops)) (sym p.step) (
           is.node.named,
           found s r (key_of name) own id is,
           sym n,

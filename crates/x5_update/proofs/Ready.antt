@@ -129,7 +129,7 @@ module _ (s : State) (r : Request) (key : Key) (own : ℕ) (id : NodeId) (is : I
     still P p = subst P (sym same.nodes) p
 
     pub can_change : (body : Body) (change : EntryChange) (us : List Named) → key ≡ key_of (target_of body)
-        → apply_over (ground_in s r) body ≡ Ok us → IsChangeOf is.kept body change → HasRoom c 1 (values_in change)
+        → apply_over (ground_in s r) body ≡ Ok us → IsChangeOf is.kept.nodes.nodes body change → HasRoom c 1 (values_in change)
         → IsReady c change
     can_change (AddEntry name attributes) (changes.Add n entry list) us at passed is_change has =
         let a : Added (ground_in s r) name attributes us =

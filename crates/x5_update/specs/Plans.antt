@@ -29,34 +29,35 @@ use Rattle.x5_update.specs.Judging.{IsStopped}
 abbrev pub IsRoom : Entry → List KeyPair → Type 0
 IsRoom entry room = (room ≡ terms_of entry) × IsTrue (is_ordered entry)
 
--- the change of the context that the update is: of its node, with the attributes that it gets and their values
-abbrev pub IsChangeOf : Kept → Body → EntryChange → Type 0
-IsChangeOf c (AddEntry name attributes) (changes.Add n entry room) =
+-- the change of a context with these nodes that the update is: of its node, with the attributes that it gets and their
+-- values
+abbrev pub IsChangeOf : List Node → Body → EntryChange → Type 0
+IsChangeOf nodes (AddEntry name attributes) (changes.Add n entry room) =
     (n ≡ name) × (entry ≡ added_entry (last_rdn name) attributes) × IsRoom entry room
-IsChangeOf c (RemoveEntry name) (changes.Remove id) =
-    (n : Node) × (node_with c.nodes.nodes id ≡ Some n) × (node_at c.nodes.nodes (key_of name) ≡ Some n)
-IsChangeOf c (ModifyEntry name list) (changes.Replace id entry room) =
-    (n : Node) × (node_with c.nodes.nodes id ≡ Some n) × (node_at c.nodes.nodes (key_of name) ≡ Some n)
+IsChangeOf nodes (RemoveEntry name) (changes.Remove id) =
+    (n : Node) × (node_with nodes id ≡ Some n) × (node_at nodes (key_of name) ≡ Some n)
+IsChangeOf nodes (ModifyEntry name list) (changes.Replace id entry room) =
+    (n : Node) × (node_with nodes id ≡ Some n) × (node_at nodes (key_of name) ≡ Some n)
     × (modified (last_rdn name) list n.named.entry ≡ Ok entry) × IsRoom entry room
-IsChangeOf c (ModifyDn name rdn drops) (changes.Rename id new entry room) =
-    (n : Node) × (node_with c.nodes.nodes id ≡ Some n) × (node_at c.nodes.nodes (key_of name) ≡ Some n) × (new ≡ rdn)
+IsChangeOf nodes (ModifyDn name rdn drops) (changes.Rename id new entry room) =
+    (n : Node) × (node_with nodes id ≡ Some n) × (node_at nodes (key_of name) ≡ Some n) × (new ≡ rdn)
     × (entry ≡ renamed (last_rdn name) rdn drops n.named.entry) × IsRoom entry room
-IsChangeOf c body change = ⊥
+IsChangeOf nodes body change = ⊥
 
--- the step that tells it
-abbrev pub IsStepOf : Kept → Body → Step → Type 0
-IsStepOf c (AddEntry name attributes) (steps.Add e) =
-    (above : Named) × (entry_at (entries_of c.nodes.nodes) (parent (key_of name)) ≡ Some above)
+-- the step that tells it, where these are the context's entries
+abbrev pub IsStepOf : List Named → Body → Step → Type 0
+IsStepOf entries (AddEntry name attributes) (steps.Add e) =
+    (above : Named) × (entry_at entries (parent (key_of name)) ≡ Some above)
     × (e ≡ new_entry above name attributes)
-IsStepOf c (RemoveEntry name) (steps.Remove n) =
-    (old : Named) × (entry_at (entries_of c.nodes.nodes) (key_of name) ≡ Some old) × (n ≡ old.name)
-IsStepOf c (ModifyEntry name list) (steps.Modify e) =
-    (old : Named) × (new : Entry) × (entry_at (entries_of c.nodes.nodes) (key_of name) ≡ Some old)
+IsStepOf entries (RemoveEntry name) (steps.Remove n) =
+    (old : Named) × (entry_at entries (key_of name) ≡ Some old) × (n ≡ old.name)
+IsStepOf entries (ModifyEntry name list) (steps.Modify e) =
+    (old : Named) × (new : Entry) × (entry_at entries (key_of name) ≡ Some old)
     × (modified (last_rdn name) list old.entry ≡ Ok new) × (e ≡ record old { entry = new })
-IsStepOf c (ModifyDn name rdn drops) (steps.Rename n e) =
-    (old : Named) × (entry_at (entries_of c.nodes.nodes) (key_of name) ≡ Some old) × (n ≡ old.name)
+IsStepOf entries (ModifyDn name rdn drops) (steps.Rename n e) =
+    (old : Named) × (entry_at entries (key_of name) ≡ Some old) × (n ≡ old.name)
     × (e ≡ record { name = name_after name rdn old; entry = renamed (last_rdn name) rdn drops old.entry })
-IsStepOf c body step = ⊥
+IsStepOf entries body step = ⊥
 
 -- the change and the step that an addEntry makes, the entry's name being spelled so by its master
 pub record IsAddition (name spelled : Name) (entry : Entry) (plan : Plan) : Type 0 where
@@ -83,8 +84,8 @@ is_clash g name rdn = not (same_key (new_key name rdn) (key_of name)) && is_take
 pub record IsPlanOf (s : State) (own : ℕ) (body : Body) (plan : Plan) (outcome : UpdatedEntries) : Type 0 where
   pub kept : Kept
   pub held : slice_get s.own own ≡ Some kept
-  pub change : IsChangeOf kept body plan.change
-  pub step : IsStepOf kept body plan.step
+  pub change : IsChangeOf kept.nodes.nodes body plan.change
+  pub step : IsStepOf (entries_of kept.nodes.nodes) body plan.step
   pub made : List Named
   pub passed : outcome ≡ Ok made
 

@@ -1,7 +1,8 @@
 //! The change that an accepted update makes (X.511, section 11).
 
-ghost use Rattle.std.specs.Prelude.{◌≡◌, ℕ, true, None, Ok, List, IfOk, OnErr, OnOk};
+ghost use Rattle.std.specs.Prelude.{◌≡◌, ℕ, true, None, Ok, List, IfOk};
 ghost use Rattle.x5_model.specs.Entries.{Named};
+ghost use Rattle.x5_model.specs.Requests.{Request as request};
 ghost use Rattle.x5_model.specs.Statics.{fault_of};
 ghost use Rattle.x5_model.specs.Values.{key_of};
 ghost use Rattle.x5_model_tree.specs.Ask.{is_update};
@@ -9,7 +10,7 @@ ghost use Rattle.x5_model_run.specs.Needs.{target_of};
 ghost use Rattle.x5_ops.specs.ReferenceViews.{chained_view};
 ghost use Rattle.x5_ops.specs.RequestViews.{body_view, request_view};
 ghost use Rattle.x5_holdings.specs.State.{holdings_view};
-ghost use Rattle.x5_update.specs.Committing.{IsCommitted, IsUncommitted};
+ghost use Rattle.x5_update.specs.Committing.{IsCommitted, IsPrepared, IsUncommitted};
 ghost use Rattle.x5_update.specs.Judging.{IsReady, judged};
 ghost use Rattle.x5_update.specs.Plans.{IsPlanOf, values_in};
 ghost use Rattle.x5_update.specs.Seats.{IsSeat};
@@ -53,18 +54,42 @@ fn passed(
     }
 }
 
-/// Does an update that its master passes: the target's context changes, and its log tells it (X.511, section 11; X.525, section 9).
-/// Room is made first; after want of memory the agent holds what it held.
-pub fn commit(alloc: Global, state: &mut Holdings, message: &Chained) -> Result<(), NoMemory>
+/// An update that its master passes, made ready: the place of its target's context, and the change there with the step that tells
+/// it.
+#[derive(Debug, Drop)]
+pub struct Prepared {
+    own: usize,
+    plan: Plan,
+}
+
+/// Makes an update ready that its master passes (X.511, section 11): the target's context gets room for the change, and its log for
+/// the note. Nothing that the agent holds or has noted changes, whether or not memory suffices.
+pub fn make_ready(
+    alloc: Global,
+    state: &mut Holdings,
+    message: &Chained,
+) -> Result<Prepared, NoMemory>
     requires { (names : List (List ℕ)) × IsReady (holdings_view state.old) (chained_view names message.now) }
-    ensures ok { OnOk result (IsCommitted state.old (request_view message.now.request) state.new) }
-    ensures err { OnErr result (IsUncommitted state.old state.new) }
+    ensures same { IsUncommitted state.old state.new }
+    ensures ok { IfOk result (λ update. IsPrepared state.new (request_view message.now.request) update) }
 {
     let place = place_of(state, message);
     let plan = passed(alloc, state, &message.request, place)?;
     state.make_room(place.own, 1, values_of(&plan.change))?;
+    Ok(Prepared {
+        own: place.own,
+        plan,
+    })
+}
+
+/// Does an update that is ready: the target's context changes, and its log tells it with the agent's moment (X.511, section 11;
+/// X.525, section 9). No memory: it always succeeds.
+pub fn commit(state: &mut Holdings, update: Prepared)
+    requires { (r : request) × IsPrepared state.old r update }
+    ensures { (r : request) → IsPrepared state.old r update → IsCommitted state.old r state.new }
+{
     let moment = state.moment();
-    let step = plan.step;
-    state.change(place.own, plan.change, Logged { moment, step });
-    Ok(())
+    let Prepared { own, plan } = update;
+    let Plan { change, step } = plan;
+    state.change(own, change, Logged { moment, step });
 }

@@ -9,6 +9,6 @@ mod plans;
 mod probes;
 mod values;
 
-pub use committing::commit;
+pub use committing::{Prepared, commit, make_ready};
 pub use judging::prepare;
 pub use x5_holdings::Holdings;

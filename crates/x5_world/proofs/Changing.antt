@@ -1,5 +1,5 @@
 -- An update that an agent carries out changes what it holds, and it's a network as before.
-use Rattle.std.proofs.Common.{◌≡◌, ℕ, zero, suc, true, ◌+◌, ◌<◌, ◌⊎◌, inl, inr, List, [], ◌∷◌, length, map, slice_get, slice_set, refl, sym, ap, subst, ◌∙◌, arith, None, Some, Result, Ok, Err, OnOk, OnErr}
+use Rattle.std.proofs.Common.{◌≡◌, ℕ, zero, suc, true, ◌+◌, ◌<◌, ◌⊎◌, inl, inr, List, [], ◌∷◌, length, map, slice_get, slice_set, refl, sym, ap, subst, ◌∙◌, arith, None, Some}
 use Rattle.std.proofs.lemmas.List.{length-map, length-set, map-set}
 use Rattle.x5_model.specs.Words.{in_option}
 use Rattle.x5_model.specs.Requests.{Request}
@@ -81,7 +81,7 @@ net_changed n logs agent r within update net there same noted = record {
   lines = net.lines;
 }
 
--- ---- whether or not there was memory for it
+-- ---- a state in its place
 
 set_same : {A : Type 0} (hs : List A) (i : ℕ) (h : A) → slice_get hs i ≡ Some h → slice_set hs i h ≡ hs
 set_same [] i h e = cc
@@ -138,8 +138,12 @@ module _ (n : Net) (items : List State) (i : ℕ) (s : State) (at : slice_get it
       ∙ set_same (map logs_view items) i (logs_view s) (map_at logs_view items i s at) in
       λ j. record n { agents = hs j; logs = ls j }
 
+  -- it's like a state still of which nothing is committed
+  pub still : (u t : State) → IsLike s u → IsUncommitted u t → IsLike s t
+  still u t like same = (same.holdings ∙ like.0, are_unnoted u t same ∙ like.1)
+
   -- what is committed by a state that is like it, at this moment
-  committed_at : (u t : State) (a moment : ℕ) (r : Request) (old : Net) → IsLike s u → IsCommitted u r t
+  pub committed_at : (u t : State) (a moment : ℕ) (r : Request) (old : Net) → IsLike s u → IsCommitted u r t
       → u.moment ≡ moment → of_states n items ≡ old → moment ≡ old.line + 1 → i ≡ a
       → IsCommittedAt a r old (of_states n (slice_set items i t))
   committed_at u t a moment r old like done at_moment was line place =
@@ -177,30 +181,22 @@ module _ (n : Net) (items : List State) (i : ℕ) (s : State) (at : slice_get it
       (one_bounded (map logs_view items) i (logs_view t) net.noted
       (noted_within u.moment r (holdings_view u) (logs_view u) (logs_view t) (are_noted u t r done) within none held kept))
 
-  pub stays_net : {T E : Type 0} (result : Result T E) (r : Request) (u t : State) → BodyWithin r.body
-      → is_update r.body ≡ true → fault_of r.body ≡ None → IsNet (of_states n items) → i < length n.names → IsLike s u
-      → OnOk result (IsCommitted u r t) → OnErr result (IsUncommitted u t) → IsNet (of_states n (slice_set items i t))
-  stays_net (Ok x) r u t within update none net there like done same =
+  pub stays_net : (r : Request) (u t : State) → BodyWithin r.body → is_update r.body ≡ true → fault_of r.body ≡ None
+      → IsNet (of_states n items) → i < length n.names → IsLike s u → IsCommitted u r t
+      → IsNet (of_states n (slice_set items i t))
+  stays_net r u t within update none net there like done =
       subst IsNet (sym (it_is t r (done.holdings ∙ ap (committed r) like.0)))
       (net_changed (of_states n items) (map logs_view (slice_set items i t)) i r within update net there
       (length-map (slice_set items i t) logs_view ∙ length-set items i t ∙ sym (length-map items logs_view))
       (all_noted r u t within none net like done))
-  stays_net (Err x) r u t within update none net there like done same =
-      subst IsNet (sym (nothing_is t (same.holdings ∙ like.0, are_unnoted u t same ∙ like.1))) net
 
-  pub is_committed : {T E : Type 0} (result : Result T E) (old : Net) (a moment : ℕ) (r : Request) (u t : State)
-      → of_states n items ≡ old → i ≡ a → IsLike s u → u.moment ≡ moment → moment ≡ old.line + 1
-      → OnOk result (IsCommitted u r t) → OnOk result (IsCommittedAt a r old (of_states n (slice_set items i t)))
-  is_committed (Ok x) old a moment r u t was place like at_moment line done =
-      committed_at u t a moment r old like done at_moment was line place
-  is_committed (Err x) old a moment r u t was place like at_moment line done = tt
+  pub is_as_it_was : (old : Net) (u t : State) → of_states n items ≡ old → IsLike s u → IsUncommitted u t
+      → of_states n (slice_set items i t) ≡ old
+  is_as_it_was old u t was like same = nothing_is t (still u t like same) ∙ was
 
-  pub is_as_it_was : {T E : Type 0} (result : Result T E) (old : Net) (u t : State)
-      → of_states n items ≡ old → IsLike s u → OnErr result (IsUncommitted u t)
-      → OnErr result (of_states n (slice_set items i t) ≡ old)
-  is_as_it_was (Ok x) old u t was like same = tt
-  is_as_it_was (Err x) old u t was like same =
-      nothing_is t (same.holdings ∙ like.0, are_unnoted u t same ∙ like.1) ∙ was
+  pub same_net : (u t : State) → IsNet (of_states n items) → IsLike s u → IsUncommitted u t
+      → IsNet (of_states n (slice_set items i t))
+  same_net u t net like same = subst IsNet (sym (nothing_is t (still u t like same))) net
 
 -- ---- the network of nobody
 

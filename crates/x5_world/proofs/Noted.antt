@@ -25,37 +25,37 @@ use Rattle.x5_world.specs.LogViews.{copy_notes, logged_view, logs_view, notes_vi
 
 -- ---- the step that is noted is the update's
 
-step_told : (c : Kept) (b : Body) (s : CodeStep) → IsStepOf c b s
-    → step_of (entries_of c.nodes.nodes) b ≡ Some (step_view s)
-step_told c (Read name selection) s w = absurd w
-step_told c (Compare name assertion) s w = absurd w
-step_told c (ListBelow name) s w = absurd w
-step_told c (Search base subset f selection) s w = absurd w
-step_told c (AddEntry name attributes) (steps.Add e) w =
+step_told : (es : List Named) (b : Body) (s : CodeStep) → IsStepOf es b s
+    → step_of es b ≡ Some (step_view s)
+step_told es (Read name selection) s w = absurd w
+step_told es (Compare name assertion) s w = absurd w
+step_told es (ListBelow name) s w = absurd w
+step_told es (Search base subset f selection) s w = absurd w
+step_told es (AddEntry name attributes) (steps.Add e) w =
     ap (option_map (λ (above : Named). Add (new_entry above name attributes))) w.1 ∙ ap (λ (x : Named). Some (Add x)) (sym w.2)
-step_told c (AddEntry name attributes) (steps.Remove n) w = absurd w
-step_told c (AddEntry name attributes) (steps.Modify e) w = absurd w
-step_told c (AddEntry name attributes) (steps.Rename n e) w = absurd w
-step_told c (RemoveEntry name) (steps.Remove n) w =
+step_told es (AddEntry name attributes) (steps.Remove n) w = absurd w
+step_told es (AddEntry name attributes) (steps.Modify e) w = absurd w
+step_told es (AddEntry name attributes) (steps.Rename n e) w = absurd w
+step_told es (RemoveEntry name) (steps.Remove n) w =
     ap (option_map (λ (old : Named). Remove old.name)) w.1 ∙ (λ i. Some (Remove (sym w.2 i)))
-step_told c (RemoveEntry name) (steps.Add e) w = absurd w
-step_told c (RemoveEntry name) (steps.Modify e) w = absurd w
-step_told c (RemoveEntry name) (steps.Rename n e) w = absurd w
-step_told c (ModifyEntry name changes) (steps.Modify e) w =
+step_told es (RemoveEntry name) (steps.Add e) w = absurd w
+step_told es (RemoveEntry name) (steps.Modify e) w = absurd w
+step_told es (RemoveEntry name) (steps.Rename n e) w = absurd w
+step_told es (ModifyEntry name changes) (steps.Modify e) w =
     ap (in_option None (λ (old : Named). modify_step old (modified (last_rdn name) changes old.entry))) w.2
     ∙ ap (modify_step w.0) w.3 ∙ ap (λ (x : Named). Some (Modify x)) (sym w.4)
-step_told c (ModifyEntry name changes) (steps.Add e) w = absurd w
-step_told c (ModifyEntry name changes) (steps.Remove n) w = absurd w
-step_told c (ModifyEntry name changes) (steps.Rename n e) w = absurd w
-step_told c (ModifyDn name rdn drops) (steps.Rename n e) w =
+step_told es (ModifyEntry name changes) (steps.Add e) w = absurd w
+step_told es (ModifyEntry name changes) (steps.Remove n) w = absurd w
+step_told es (ModifyEntry name changes) (steps.Rename n e) w = absurd w
+step_told es (ModifyDn name rdn drops) (steps.Rename n e) w =
     ap (option_map (λ (old : Named). Rename old.name (record {
       name = name_after name rdn old;
       entry = renamed (last_rdn name) rdn drops old.entry;
     }))) w.1
     ∙ (λ i. Some (Rename (sym w.2 i) (sym w.3 i)))
-step_told c (ModifyDn name rdn drops) (steps.Add e) w = absurd w
-step_told c (ModifyDn name rdn drops) (steps.Remove n) w = absurd w
-step_told c (ModifyDn name rdn drops) (steps.Modify e) w = absurd w
+step_told es (ModifyDn name rdn drops) (steps.Add e) w = absurd w
+step_told es (ModifyDn name rdn drops) (steps.Remove n) w = absurd w
+step_told es (ModifyDn name rdn drops) (steps.Modify e) w = absurd w
 
 -- ---- what a log notes
 
@@ -96,7 +96,7 @@ are_noted s t r c =
       step = step_view c.step;
       held = map_at held_view s.own c.place c.before c.was;
       kept = map_at own_notes s.own c.place c.before c.was;
-      told = step_told c.before r.body c.step c.told;
+      told = step_told (entries_of c.before.nodes.nodes) r.body c.step c.told;
       new_is = ap logs_view c.new_is
           ∙ ap (λ (ns : List Notes). record (logs_view s) { own = ns })
           (map-set own_notes s.own c.place c.after

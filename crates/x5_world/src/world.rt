@@ -169,8 +169,8 @@ impl World {
         &self.agents[agent.0 as usize]
     }
 
-    /// Does an update that the agent passes, as the master of its target: it holds the change then, and notes it with the line's
-    /// moment. The update is within the limits of messages. After want of memory all is as it was.
+    /// Does an update that the agent passes, as the master of its target: it's made ready, and then the agent holds the change, and
+    /// notes it with the line's moment. The update is within the limits of messages. After want of memory all is as it was.
     pub(crate) fn commit(
         &mut self,
         alloc: Global,
@@ -186,7 +186,9 @@ impl World {
         let moment = Moment(self.line + 1);
         let held = &mut self.agents[agent.0 as usize];
         held.set_moment(moment);
-        x5_update::commit(alloc, held, message)
+        let update = x5_update::make_ready(alloc, held, message)?;
+        x5_update::commit(held, update);
+        Ok(())
     }
 
     /// The place of the agreement of this number; the first of several. No memory.

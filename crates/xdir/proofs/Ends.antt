@@ -29,8 +29,9 @@ module _ {P Q : List ℕ → Type 0} (more : (text : List ℕ) → P text → Q 
 
 -- what is said of the texts may say less
 module _ {output first refusal output' first' refusal' : List ℕ → Type 0} (out : (text : List ℕ) → output text → output' text) (part : (text : List ℕ) → first text → first' text) (refuse : (text : List ℕ) → refusal text → refusal' text) where
-  either : (text : List ℕ) → first text ⊎ refusal text → first' text ⊎ refusal' text
-  either text (inl f) = inl (part text f)
+  either : (text : List ℕ) → (output text ⊎ first text) ⊎ refusal text → (output' text ⊎ first' text) ⊎ refusal' text
+  either text (inl (inl o)) = inl (inl (out text o))
+  either text (inl (inr f)) = inl (inr (part text f))
   either text (inr r) = inr (refuse text r)
 
   pub ends_more : (status : Status) (old new : Option (List ℕ)) (before after : ℕ) → Ends output first refusal status old new before after → Ends output' first' refusal' status old new before after

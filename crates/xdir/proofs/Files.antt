@@ -127,6 +127,7 @@ module _ (told : Option (List outside.File)) (names : FileNames) (octets : List 
 
     first_of : (text : List ℕ) → OfScript told names.script (IsFirstScriptOutput f) text → RunsSoFar told names text
     first_of text p = record {
+      next = p.2.first.next;
       rest = p.2.first.rest;
       runs = record {
         world = octets;

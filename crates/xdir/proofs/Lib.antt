@@ -3,6 +3,7 @@ pub mod Sound
 pub mod SoFar
 pub mod Courses
 pub mod Files
+pub mod Asking
 pub mod Beginning
 pub mod Taken
 pub mod ShortNames

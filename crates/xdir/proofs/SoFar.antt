@@ -1,5 +1,5 @@
 -- The output grows by a block for each command, and the network is that of the next line.
-use Rattle.std.proofs.Common.{◌≡◌, ◌≤◌, ◌<◌, ◌+◌, ◌++◌, inl, inr, ℕ, zero, suc, List, [], ◌∷◌, length, map, get_or, Option, Some, refl, sym, ap, subst, ◌∙◌, arith, slice_get, length-append, append_assoc, append-nil}
+use Rattle.std.proofs.Common.{◌≡◌, ◌≤◌, ◌<◌, ◌+◌, ◌++◌, ◌⊎◌, inl, inr, ℕ, zero, suc, List, [], ◌∷◌, length, map, get_or, Option, Some, refl, sym, ap, subst, ◌∙◌, arith, slice_get, length-append, append_assoc, append-nil}
 use Rattle.std.specs.List.{AllByRecursion}
 use Rattle.std.proofs.Common.{All}
 use Rattle.std.proofs.lemmas.List.Elements.{All-get_or}
@@ -174,13 +174,16 @@ pub none_asked : (f : File) (net : Net) (text : List ℕ) (old now : Option (Lis
 none_asked f net text old now stands e whole =
     record { commands = []; are = tt; text = text; is_text = of_nothing f net text stands e; whole = whole }
 
-pub first_output : (f : File) (asked first rest : List Asked) (text : List ℕ) → asked ≡ first ++ rest → IsAskedOutput f first text
-    → IsFirstAskedOutput f asked text
-first_output f asked first rest text parts prints =
-    record { first = first; rest = rest; parts = parts; prints = prints }
+-- the output of the first lines is that of all, or more are to come
+first_output : (f : File) (asked first rest : List Asked) (text : List ℕ) → asked ≡ first ++ rest → IsAskedOutput f first text
+    → IsAskedOutput f asked text ⊎ IsFirstAskedOutput f asked text
+first_output f asked first [] text parts prints =
+    inl (subst (λ (lines : List Asked). IsAskedOutput f lines text) (sym (parts ∙ append-nil first)) prints)
+first_output f asked first (a ∷ rest) text parts prints =
+    inr (record { first = first; next = a; rest = rest; parts = parts; prints = prints })
 
 pub no_output : (f : File) (asked : List Asked) (net : Net) (text : List ℕ) → StandsAt net (point f.world [])
-    → text ≡ knowledge_text f.world → IsFirstAskedOutput f asked text
+    → text ≡ knowledge_text f.world → IsAskedOutput f asked text ⊎ IsFirstAskedOutput f asked text
 no_output f asked net text stands e =
     first_output f asked [] asked text refl
     (record { commands = []; are = tt; prints = is_output f [] net text (of_nothing f net text stands e) })
@@ -200,7 +203,11 @@ module _ (f : File) (asked first : List Asked) (a : Asked) (rest : List Asked) (
     },
   )
   stopped NoMemory net later old mid new begun before after n le far w =
-      inr (record { text = far.text; is = first_output f asked first (a ∷ rest) far.text parts (output_so_far f first net old mid far a); whole = w ∙ far.whole })
+      inr (record {
+        text = far.text;
+        is = record { first = first; next = a; rest = rest; parts = parts; prints = output_so_far f first net old mid far a };
+        whole = w ∙ far.whole;
+      })
   stopped Refused net later old mid new begun before after n le far w = absurd w
   stopped Usage net later old mid new begun before after n le far w = absurd w
   stopped ReadFault net later old mid new begun before after n le far w = absurd w

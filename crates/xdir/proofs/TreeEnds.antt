@@ -27,8 +27,10 @@ use Rattle.xdir.proofs.Files.{no_line, refused_as, refusal_of, takes, wrong_as}
 module _ {output first none refusal output' first' none' refusal' : List ℕ → Type 0}
     (out : (text : List ℕ) → output text → output' text) (part : (text : List ℕ) → first text → first' text)
     (no : (text : List ℕ) → none text → none' text) (refuse : (text : List ℕ) → refusal text → refusal' text) where
-  either : (text : List ℕ) → first text ⊎ (none text ⊎ refusal text) → first' text ⊎ (none' text ⊎ refusal' text)
-  either text (inl f) = inl (part text f)
+  either : (text : List ℕ) → (output text ⊎ first text) ⊎ (none text ⊎ refusal text)
+      → (output' text ⊎ first' text) ⊎ (none' text ⊎ refusal' text)
+  either text (inl (inl o)) = inl (inl (out text o))
+  either text (inl (inr f)) = inl (inr (part text f))
   either text (inr (inl n)) = inr (inl (no text n))
   either text (inr (inr r)) = inr (inr (refuse text r))
 
@@ -118,6 +120,7 @@ module _ (told : Option (List outside.File)) (names : FileNames) (octets : List 
       both = taken p.0 p.1 p.2.0 p.2.1;
       consistent = p.2.2.consistent;
       first = p.2.2.first;
+      next = p.2.2.next;
       rest = p.2.2.rest;
       parts = p.2.2.parts;
       prints = p.2.2.prints;

@@ -1,5 +1,5 @@
 -- What the one tree prints grows by a block for each line, as the tree stands that the lines before have left.
-use Rattle.std.proofs.Common.{◌≡◌, ◌≤◌, ◌+◌, ◌++◌, inl, inr, ℕ, suc, List, [], ◌∷◌, length, map, codes, Option, refl, sym, ap, ◌∙◌, arith, append-nil, append_assoc}
+use Rattle.std.proofs.Common.{◌≡◌, ◌≤◌, ◌+◌, ◌++◌, ◌⊎◌, inl, inr, ℕ, suc, List, [], ◌∷◌, length, map, codes, Option, refl, sym, ap, subst, ◌∙◌, arith, append-nil, append_assoc}
 use Rattle.std.proofs.lemmas.List.{length-map}
 use Rattle.x5_know.specs.Moments.{moment_text}
 use Rattle.x5_model_output.specs.Output.{Names, names_of, knowledge_line}
@@ -16,7 +16,7 @@ use Rattle.x5_port.proofs.Octets.{with_octets-with_octets}
 use Rattle.xdir.proofs.Ends.{rose_later, took_after}
 use Rattle.xdir.proofs.Mapped.{map-snoc}
 use Rattle.xdir.specs.Outcomes.{Wrote}
-use Rattle.xdir.specs.Tree.{plain_command, IsTreeText, IsTold, TellsLines}
+use Rattle.xdir.specs.Tree.{plain_command, IsTreeText, IsTold, IsToldSoFar, TellsLines}
 use Rattle.xdir.specs.declared.top.Status.TheVariants.{WriteFault, NoMemory}
 
 -- the tree after these lines
@@ -67,6 +67,15 @@ module _ (f : File) (consistent : IsConsistent f.world) where
       → now ≡ with_octets text old → IsPrinted f [] t old now
   begun text t old now e is w = record { text = text; is_text = of_nothing text e; leaves = is; written = w }
 
+  -- the output for the first lines is that for all, or more are to come
+  so_far : (asked first rest : List Asked) (text : List ℕ) → asked ≡ first ++ rest → IsTreeText f first text
+      → IsTold f asked text ⊎ IsToldSoFar f asked text
+  so_far asked first [] text parts prints =
+      let all : asked ≡ first = parts ∙ append-nil first in
+      inl (record { consistent = consistent; prints = subst (λ (lines : List Asked). IsTreeText f lines text) (sym all) prints })
+  so_far asked first (a ∷ rest) text parts prints =
+      inr (record { consistent = consistent; first = first; next = a; rest = rest; parts = parts; prints = prints })
+
   pub breaks_begun : (asked : List Asked) (text : List ℕ) (old new : Option (List ℕ)) (before after : ℕ)
       → text ≡ codes "knowledge consistent\n" → Rose before after → TookPrefix text old new
       → TellsLines WriteFault f asked old new before after
@@ -74,7 +83,7 @@ module _ (f : File) (consistent : IsConsistent f.world) where
     rose,
     record {
       text = text;
-      is = inl (record { consistent = consistent; first = []; rest = asked; parts = refl; prints = of_nothing text e });
+      is = inl (so_far asked [] asked text refl (of_nothing text e));
       part = part;
     },
   )
@@ -120,23 +129,17 @@ module _ (f : File) (consistent : IsConsistent f.world) where
       rose_later begun before after le rose,
       record {
         text = far.text ++ block;
-        is = inl (record {
-          consistent = consistent;
-          first = asked ++ a ∷ [];
-          rest = rest;
-          parts = parts ∙ sym (append_assoc asked (a ∷ []) rest);
-          prints = grown;
-        });
+        is = inl (so_far all (asked ++ a ∷ []) rest (far.text ++ block) (parts ∙ sym (append_assoc asked (a ∷ []) rest)) grown);
         part = took_after far.text block old mid new far.written part;
       },
     )
 
   -- memory ran out
-  pub stops : (all asked rest : List Asked) (t : Tree) (old mid : Option (List ℕ)) (before after : ℕ) → all ≡ asked ++ rest
-      → IsPrinted f asked t old mid → TellsLines NoMemory f all old mid before after
-  stops all asked rest t old mid before after parts far = inr (record {
+  pub stops : (all asked : List Asked) (a : Asked) (rest : List Asked) (t : Tree) (old mid : Option (List ℕ)) (before after : ℕ)
+      → all ≡ asked ++ a ∷ rest → IsPrinted f asked t old mid → TellsLines NoMemory f all old mid before after
+  stops all asked a rest t old mid before after parts far = inr (record {
     text = far.text;
-    is = record { consistent = consistent; first = asked; rest = rest; parts = parts; prints = far.is_text };
+    is = record { consistent = consistent; first = asked; next = a; rest = rest; parts = parts; prints = far.is_text };
     whole = far.written;
   })
 

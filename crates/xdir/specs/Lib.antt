@@ -10,6 +10,7 @@ pub mod Taken
 pub mod Shown
 pub mod Checked
 pub mod Made
+pub mod Asked
 pub mod Forms
 pub mod Blocks
 pub mod Counted

@@ -22,14 +22,15 @@ pub record Broke (P : List ℕ → Type 0) (old new : Option (List ℕ)) : Type 
   pub is : P text
   pub part : TookPrefix text old new
 
--- What is written, by how a run ends: the whole output, the line of a refusal, a first part of one of these, or the
--- output of the commands before memory ran out; before both files are read nothing is, but the line of a refused world.
+-- What is written, by how a run ends: the whole output, the line of a refusal, a first part of one of these or of the
+-- output of some first commands, or the output of the commands before the one at which memory ran out; before both
+-- files are read nothing is, but the line of a refused world.
 abbrev pub Ends : (List ℕ → Type 0) → (List ℕ → Type 0) → (List ℕ → Type 0) → Status → Option (List ℕ) →
     Option (List ℕ) → ℕ → ℕ → Type 0
 Ends output first refusal Done old new before after = Wrote output old new
 Ends output first refusal Refused old new before after = Wrote refusal old new
 Ends output first refusal WriteFault old new before after =
-    Rose before after × Broke (λ text. first text ⊎ refusal text) old new
+    Rose before after × Broke (λ text. (output text ⊎ first text) ⊎ refusal text) old new
 Ends output first refusal NoMemory old new before after = (new ≡ old) ⊎ Wrote first old new
 Ends output first refusal ReadFault old new before after = new ≡ old
 Ends output first refusal TooLong old new before after = new ≡ old

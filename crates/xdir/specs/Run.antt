@@ -1,5 +1,5 @@
 -- What `run WORLD SCRIPT` reads and writes, by how it ends. The headline is `Runs`.
-use Rattle.std.specs.Prelude.{◌≡◌, ℕ, ◌⊎◌, List, [], ◌++◌, length, Option, Some, Ok, Err, ⊤}
+use Rattle.std.specs.Prelude.{◌≡◌, ℕ, ◌⊎◌, List, [], ◌∷◌, ◌++◌, length, Option, Some, Ok, Err, ⊤}
 use Rattle.x5_know.specs.Moments.{moment_text}
 use Rattle.x5_model_output.specs.Output.{PrintsRun}
 use Rattle.x5_model_run.specs.Run.{Command}
@@ -51,10 +51,11 @@ pub record Runs (told : Option (List outside.File)) (names : FileNames) (rest : 
   pub are : AreCommands (names_of_agents file.world) asked commands
   pub prints : IsOutput file commands text
 
--- the output of the script's first commands
+-- the output of the script's first commands, of which one more at least is still to come
 pub record RunsSoFar (told : Option (List outside.File)) (names : FileNames) (text : List ℕ) : Type 0 where
+  pub next : Asked
   pub rest : List Asked
-  pub runs : Runs told names rest text
+  pub runs : Runs told names (next ∷ rest) text
 
 -- the file is no JSON, or something is wrong in it, and the text is its line
 pub data RefusesFile (world text : List ℕ) : Type 0 where

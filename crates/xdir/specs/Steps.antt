@@ -1,5 +1,5 @@
 -- What the steps of a run read and write, from the described world on; and of a file that is read, by how that ends.
-use Rattle.std.specs.Prelude.{◌≡◌, ℕ, List, ◌++◌, Option, Some, ⊤}
+use Rattle.std.specs.Prelude.{◌≡◌, ℕ, List, ◌∷◌, ◌++◌, Option, Some, ⊤}
 use Rattle.x5_model_run.specs.Run.{Command}
 use Rattle.x5_model_script.specs.Lines.{Asked}
 use Rattle.x5_model_tree.specs.World.{names_of_agents}
@@ -13,7 +13,7 @@ use Rattle.xdir.specs.declared.top.Status.{Status}
 use Rattle.xdir.specs.declared.top.Status.TheVariants.{Done, Refused, Usage, ReadFault, WriteFault, NoMemory}
 use Rattle.xdir.specs.declared.top.Status.TheVariants.{Inconsistent, TooLong}
 
--- the output of a run of what these lines ask for, and of the first of them
+-- the output of a run of what these lines ask for, and of the first of them, where one more at least is still to come
 pub record IsAskedOutput (f : File) (asked : List Asked) (text : List ℕ) : Type 0 where
   pub commands : List Command
   pub are : AreCommands (names_of_agents f.world) asked commands
@@ -21,8 +21,9 @@ pub record IsAskedOutput (f : File) (asked : List Asked) (text : List ℕ) : Typ
 
 pub record IsFirstAskedOutput (f : File) (asked : List Asked) (text : List ℕ) : Type 0 where
   pub first : List Asked
+  pub next : Asked
   pub rest : List Asked
-  pub parts : asked ≡ first ++ rest
+  pub parts : asked ≡ first ++ next ∷ rest
   pub prints : IsAskedOutput f first text
 
 -- the line of a file that isn't taken was written, or a first part of it

@@ -1,6 +1,6 @@
 -- What `tree WORLD SCRIPT` reads and writes, by how it ends: the script's requests, answered without agents on the one
 -- tree of the world (X.501, section 7: the directory information tree). The headline is `Tells`.
-use Rattle.std.specs.Prelude.{◌≡◌, ℕ, ◌⊎◌, List, ◌++◌, map, Option, Some, Ok, ⊤}
+use Rattle.std.specs.Prelude.{◌≡◌, ℕ, ◌⊎◌, List, ◌∷◌, ◌++◌, map, Option, Some, Ok, ⊤}
 use Rattle.x5_know.specs.Moments.{moment_text}
 use Rattle.x5_model.specs.Answers.{Source}
 use Rattle.x5_model.specs.Requests.{Request}
@@ -61,13 +61,14 @@ pub record Tells (told : Option (List outside.File)) (names : FileNames) (text :
   pub consistent : IsConsistent both.file.world
   pub prints : IsTreeText both.file both.asked text
 
--- for the script's first lines
+-- for the script's first lines, where one more at least is still to come
 pub record TellsSoFar (told : Option (List outside.File)) (names : FileNames) (text : List ℕ) : Type 0 where
   pub both : TakesBoth told names
   pub consistent : IsConsistent both.file.world
   pub first : List Asked
+  pub next : Asked
   pub rest : List Asked
-  pub parts : both.asked ≡ first ++ rest
+  pub parts : both.asked ≡ first ++ next ∷ rest
   pub prints : IsTreeText both.file first text
 
 -- the text is the line on knowledge that isn't consistent: there is no one tree
@@ -77,15 +78,15 @@ pub record TellsNone (told : Option (List outside.File)) (names : FileNames) (te
   pub is_line : text ≡ knowledge_text both.file.world
 
 -- What is written, by how it ends: the whole output, the line on knowledge or of a refusal, a first part of one of
--- these, or the output for the lines before memory ran out; before both files are read nothing is, but the line of a
--- refused world.
+-- these or of the output for some first lines, or the output for the lines before the one at which memory ran out;
+-- before both files are read nothing is, but the line of a refused world.
 abbrev pub EndsTree : (List ℕ → Type 0) → (List ℕ → Type 0) → (List ℕ → Type 0) → (List ℕ → Type 0) → Status
     → Option (List ℕ) → Option (List ℕ) → ℕ → ℕ → Type 0
 EndsTree output first none refusal Done old new before after = Wrote output old new
 EndsTree output first none refusal Inconsistent old new before after = Wrote none old new
 EndsTree output first none refusal Refused old new before after = Wrote refusal old new
 EndsTree output first none refusal WriteFault old new before after =
-    Rose before after × Broke (λ text. first text ⊎ (none text ⊎ refusal text)) old new
+    Rose before after × Broke (λ text. (output text ⊎ first text) ⊎ (none text ⊎ refusal text)) old new
 EndsTree output first none refusal NoMemory old new before after = (new ≡ old) ⊎ Wrote first old new
 EndsTree output first none refusal ReadFault old new before after = new ≡ old
 EndsTree output first none refusal TooLong old new before after = new ≡ old
@@ -117,7 +118,8 @@ ReadsTree Usage names told before after failed old new = ⊥
 
 -- ---- the steps, from the described world on
 
--- what the one tree prints for these lines, or for the first of them, and the line where there is none
+-- what the one tree prints for these lines, or for the first of them with more to come, and the line where there is
+-- none
 pub record IsTold (f : File) (asked : List Asked) (text : List ℕ) : Type 0 where
   pub consistent : IsConsistent f.world
   pub prints : IsTreeText f asked text
@@ -125,8 +127,9 @@ pub record IsTold (f : File) (asked : List Asked) (text : List ℕ) : Type 0 whe
 pub record IsToldSoFar (f : File) (asked : List Asked) (text : List ℕ) : Type 0 where
   pub consistent : IsConsistent f.world
   pub first : List Asked
+  pub next : Asked
   pub rest : List Asked
-  pub parts : asked ≡ first ++ rest
+  pub parts : asked ≡ first ++ next ∷ rest
   pub prints : IsTreeText f first text
 
 pub record IsNoTree (f : File) (asked : List Asked) (text : List ℕ) : Type 0 where

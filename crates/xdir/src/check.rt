@@ -2,6 +2,7 @@
 ghost use Rattle.std.specs.Prelude.{◌≡◌, ◌≤◌, ◌↔◌, length, IfOk, IsTrue, string_bytes};
 ghost use Rattle.x5_know.specs.WorldView.{world_view};
 ghost use Rattle.x5_model_tree.specs.Consistent.{IsConsistent};
+ghost use Rattle.xdir.specs.Asked.{AsksOne};
 ghost use Rattle.xdir.specs.Checked.{ChecksOctets, EndsCheck, ReadsChecked, WritesChecked, WritesKnowledge, knowledge_text};
 
 use crate::knowledge::knowledge_line;
@@ -20,6 +21,7 @@ pub fn check_file<F: Files, K: Sink>(
     files: &mut F,
     out: &mut K,
 ) -> Status
+    ensures asks { AsksOne result name.now (F.names_asked files.old) (F.names_asked files.new) }
     ensures reads { ReadsChecked result name.now (F.contents files.old) (F.fault_count files.old) (F.fault_count files.new) (F.last_failed files.new) }
     ensures writes { WritesChecked result (F.contents files.old) name.now (K.octets out.old) (K.octets out.new) (K.fault_count out.old) (K.fault_count out.new) }
 {

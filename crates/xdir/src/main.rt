@@ -5,7 +5,6 @@ ghost use Rattle.std.specs.Prelude.{◌≡◌};
 ghost use Rattle.std.specs.Process.{exit_status};
 ghost use Rattle.xdir.specs.Statuses.{exit_number};
 
-mod asked;
 mod check;
 mod explained;
 mod generated;
@@ -20,14 +19,13 @@ mod told;
 mod top;
 mod tree;
 
-use asked::AskedFiles;
 use explained::Explained;
 use std::io::{self, ErrorKind};
 use std::process::ExitCode;
 use std::{env, rt};
 use told::ToldSink;
 use top::{MOST_FILE_OCTETS, Status, xdir};
-use x5_port::{RealFiles, RealSink};
+use x5_port::{Files, RealFiles, RealSink};
 use x5_words::FORMS;
 
 fn main(rt: HostRuntime) -> ExitCode {
@@ -35,12 +33,12 @@ fn main(rt: HostRuntime) -> ExitCode {
         Ok(words) => words,
         Err(status) => return ended(&rt, status, "", ""),
     };
-    let mut files = AskedFiles::new(RealFiles::new(&rt));
+    let mut files = RealFiles::new(rt.alloc(), &rt);
     let mut out = ToldSink::new(RealSink::new(io::writer(&rt)));
     let status = xdir(rt.alloc(), &words, &mut files, &mut out);
     let name = files.asked().unwrap_or("the generated files");
     match status {
-        Status::ReadFault => unread(&rt, name, files.files().reason()),
+        Status::ReadFault => unread(&rt, name, files.reason()),
         Status::WriteFault if out.sink().is_closed() => ExitCode::from(status as u8),
         Status::Inconsistent => ended(&rt, status, world_name(&words), out.line()),
         _ => ended(&rt, status, name, out.line()),

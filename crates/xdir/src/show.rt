@@ -1,5 +1,6 @@
 // What a file shows: the elements that its octets spell, or their first fault.
 ghost use Rattle.std.specs.Prelude.{string_bytes};
+ghost use Rattle.xdir.specs.Asked.{AsksOne};
 ghost use Rattle.xdir.specs.Shown.{ShowsOctets, WritesShown};
 ghost use Rattle.xdir.specs.Steps.{Prints, ReadsFile};
 
@@ -10,6 +11,7 @@ use x5_show::{Shown, show};
 
 /// Prints what a file shows. Nothing is printed before the file is read whole.
 pub fn show_file<F: Files, K: Sink>(alloc: Global, name: &str, files: &mut F, out: &mut K) -> Status
+    ensures asks { AsksOne result name.now (F.names_asked files.old) (F.names_asked files.new) }
     ensures reads { ReadsFile result name.now (F.contents files.old) (F.fault_count files.old) (F.fault_count files.new) (F.last_failed files.new) }
     ensures writes { WritesShown result (F.contents files.old) name.now (K.octets out.old) (K.octets out.new) (K.fault_count out.old) (K.fault_count out.new) }
 {

@@ -1,6 +1,6 @@
 // A sink that keeps the beginning of what it took, so that a refusal can be told in words besides.
-ghost use Rattle.std.specs.Prelude.{◌≡◌, ◌<◌, ◌≤◌, ◌++◌, [], IfOk, OnErr, length, take};
-ghost use Rattle.x5_port.specs.Outside.{Rose, with_octets};
+ghost use Rattle.std.specs.Prelude.{◌≡◌, ◌<◌, ◌≤◌, ◌++◌, [], IfOk, OnErr, OnOk, length, take};
+ghost use Rattle.x5_port.specs.Outside.{Rose, next_count, with_octets};
 ghost use Rattle.std.specs.Str.Lossy.{utf8_valid_len};
 ghost use Rattle.xdir.specs.Told.{first_line as line_of, kept, most_kept};
 
@@ -94,6 +94,8 @@ impl<K: Sink + Drop> Sink for ToldSink<K> {
         ensures failed { OnErr result (Rose (K.fault_count self.old.sink) (K.fault_count self.new.sink)) }
         ensures nothing_taken { OnErr result (K.octets self.new.sink ≡ K.octets self.old.sink) }
         ensures rising { K.fault_count self.old.sink ≤ K.fault_count self.new.sink }
+        ensures no_fault { OnOk result (K.fault_count self.new.sink ≡ K.fault_count self.old.sink) }
+        ensures one_fault { OnErr result (K.fault_count self.new.sink ≡ next_count (K.fault_count self.old.sink)) }
         ensures kept { IfOk result (λ count. kept self.new ≡ take most_kept (kept self.old ++ take count piece.now)) }
         ensures none_kept { OnErr result (kept self.new ≡ kept self.old) }
     {

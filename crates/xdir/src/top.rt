@@ -6,6 +6,7 @@ ghost use Rattle.x5_model_limits.specs.Described.{world_is_utf8};
 ghost use Rattle.x5_model_shadowing.specs.Files.{nssrs_are_utf8};
 ghost use Rattle.x5_model_tree.specs.Described.{IsDescribed};
 ghost use Rattle.x5_words.specs.Forms.{form_in};
+ghost use Rattle.xdir.specs.Asked.{AsksBoth, AsksForm, AsksOne};
 ghost use Rattle.xdir.specs.Forms.{ReadsForm, WritesForm};
 ghost use Rattle.xdir.specs.Run.{FilesRead, Writes};
 ghost use Rattle.xdir.specs.Steps.{Prints, ReadsFile, WritesScript, WritesScriptFile};
@@ -70,6 +71,10 @@ pub fn xdir<F: Files, K: Sink>(
 
     // A form that makes its file reads none.
     ensures made { IfSome (form_in (map string_bytes words.now)) (λ form. is_made form ≡ true → files.new ≡ files.old) }
+
+    // Each file that the words name is asked for once at most, the world's before the script's.
+    ensures asks { IfSome (form_in (map string_bytes words.now)) (λ form.
+        AsksForm form result (F.contents files.old) (F.names_asked files.old) (F.names_asked files.new)) }
     ensures reads { IfSome (form_in (map string_bytes words.now)) (λ form.
         ReadsForm form result (F.contents files.old) (F.fault_count files.old) (F.fault_count files.new) (F.last_failed files.new) (K.octets out.old) (K.octets out.new)) }
     ensures writes { IfSome (form_in (map string_bytes words.now)) (λ form.
@@ -112,6 +117,7 @@ fn run_files<F: Files, K: Sink>(
     files: &mut F,
     out: &mut K,
 ) -> Status
+    ensures asks { AsksBoth result (F.contents files.old) (record { world = world.now; script = script.now }) (F.names_asked files.old) (F.names_asked files.new) }
     ensures reads { FilesRead result (record { world = world.now; script = script.now }) (F.contents files.old) (F.fault_count files.old) (F.fault_count files.new) (F.last_failed files.new) (K.octets out.old) (K.octets out.new) }
     ensures writes { printed ≡ Printed.Blocks → Writes result (F.contents files.old) (record { world = world.now; script = script.now }) (K.octets out.old) (K.octets out.new) (K.fault_count out.old) (K.fault_count out.new) }
     ensures sums { printed ≡ Printed.Summary → WritesSummed result (F.contents files.old) (record { world = world.now; script = script.now }) (K.octets out.old) (K.octets out.new) (K.fault_count out.old) (K.fault_count out.new) }
@@ -140,6 +146,7 @@ fn run_world<F: Files, K: Sink>(
     requires utf8 { world_is_utf8 (world_view world) ≡ true }
     requires references { nssrs_are_utf8 (world_view world) ≡ true }
     requires named { IsNamed world }
+    ensures asks { AsksOne result script.now (F.names_asked files.old) (F.names_asked files.new) }
     ensures reads { ReadsFile result script.now (F.contents files.old) (F.fault_count files.old) (F.fault_count files.new) (F.last_failed files.new) }
     ensures writes { printed ≡ Printed.Blocks → WritesScriptFile result (F.contents files.old) script.now (file_view world) (K.octets out.old) (K.octets out.new) (K.fault_count out.old) (K.fault_count out.new) }
     ensures sums { printed ≡ Printed.Summary → SumsScriptFile result (F.contents files.old) script.now (file_view world) (K.octets out.old) (K.octets out.new) (K.fault_count out.old) (K.fault_count out.new) }
@@ -161,6 +168,7 @@ fn run_script<F: Files, K: Sink>(
     out: &mut K,
 ) -> Status
     requires { IsBegun described.now network.old }
+    ensures asks { AsksOne result script.now (F.names_asked files.old) (F.names_asked files.new) }
     ensures reads { ReadsFile result script.now (F.contents files.old) (F.fault_count files.old) (F.fault_count files.new) (F.last_failed files.new) }
     ensures writes { printed ≡ Printed.Blocks → WritesScriptFile result (F.contents files.old) script.now (file_view described.now) (K.octets out.old) (K.octets out.new) (K.fault_count out.old) (K.fault_count out.new) }
     ensures sums { printed ≡ Printed.Summary → SumsScriptFile result (F.contents files.old) script.now (file_view described.now) (K.octets out.old) (K.octets out.new) (K.fault_count out.old) (K.fault_count out.new) }

@@ -11,6 +11,7 @@ ghost use Rattle.x5_model_tree.specs.Masters.{whole};
 ghost use Rattle.x5_one.specs.One.{tree_in};
 ghost use Rattle.x5_ops.specs.RequestViews.{request_view};
 ghost use Rattle.x5_script.specs.Views.{command_view};
+ghost use Rattle.xdir.specs.Asked.{AsksBoth, AsksOne};
 ghost use Rattle.xdir.specs.Checked.{EndsCheck, ReadsChecked};
 ghost use Rattle.xdir.specs.Tree.{IsReplied, ReadsTree, TellsFile, TellsLines, TellsScript, WritesTree, plain_view};
 
@@ -37,6 +38,7 @@ pub fn tree_files<F: Files, K: Sink>(
     files: &mut F,
     out: &mut K,
 ) -> Status
+    ensures asks { AsksBoth result (F.contents files.old) (record { world = world.now; script = script.now }) (F.names_asked files.old) (F.names_asked files.new) }
     ensures reads { ReadsTree result (record { world = world.now; script = script.now }) (F.contents files.old) (F.fault_count files.old) (F.fault_count files.new) (F.last_failed files.new) (K.octets out.old) (K.octets out.new) }
     ensures writes { WritesTree result (F.contents files.old) (record { world = world.now; script = script.now }) (K.octets out.old) (K.octets out.new) (K.fault_count out.old) (K.fault_count out.new) }
 {
@@ -62,6 +64,7 @@ fn tree_script<F: Files, K: Sink>(
     requires described { IsDescribed (world_view world.now) }
     requires named { IsNamed world.now }
     requires few { length world.now.agents ≤ 64 }
+    ensures asks { AsksOne result script.now (F.names_asked files.old) (F.names_asked files.new) }
     ensures reads { ReadsChecked result script.now (F.contents files.old) (F.fault_count files.old) (F.fault_count files.new) (F.last_failed files.new) }
     ensures writes { TellsFile result (F.contents files.old) script.now (file_view world.now) (K.octets out.old) (K.octets out.new) (K.fault_count out.old) (K.fault_count out.new) }
 {

@@ -22,7 +22,7 @@ returns c =
     c.name-item.result c.agents-item.result c.parts.ensures c.name-item.is c.agents-item.is c.requires in
     let name = node_view c.name-item.result in
     let agents = node_view c.agents-item.result in
-    ap (λ (n : Name). record { pin = n; master = agent_name c.args.names.now c.in_ok-access.access.master; shadows = map (agent_name c.args.names.now) c.in_ok-access.access.shadows }) c.in_ok-pin.ensures
-    ∙ c.in_ok-access.ensures name
+    ap (λ (n : Name). record { pin = n; master = agent_name c.args.names.now c.in_ok-access_in.field-0.master; shadows = map (agent_name c.args.names.now) c.in_ok-access_in.field-0.shadows }) c.in_ok-name_of.ensures
+    ∙ c.in_ok-access_in.ensures name
     ∙ ap (shadows.known_of name) c.parts-2.ensures
     ∙ sym (ap shadows.known_in (as_two (node_view c.args.node.now) name agents both.0))

@@ -23,6 +23,6 @@ pub returns : goal.returns
 returns c =
     let both = two_are (λ name agents. All (IsAgent (has_name c.args.names.now)) (nodes.parts agents)) c.parts.result.now _
     c.name-item.result c.agents-item.result c.parts.ensures c.name-item.is c.agents-item.is c.requires in
-    ap₂ other_so c.in_ok-at.ensures (c.in_ok-agents.ensures ∙ ap (map shadows.agent_in) c.parts-2.ensures)
+    ap₂ other_so c.in_ok-name_of.ensures (c.in_ok-agents_in.ensures ∙ ap (map shadows.agent_in) c.parts-2.ensures)
     ∙ sym (ap shadows.non_specific_in
     (as_two (node_view c.args.node.now) (node_view c.name-item.result) (node_view c.agents-item.result) both.0))

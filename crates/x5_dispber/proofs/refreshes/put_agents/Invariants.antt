@@ -7,5 +7,5 @@ use Rattle.x5_dispber.proofs.refreshes.put_agents.Given as goal
 
 abbrev pub invariant-loop-agent : goal.invariant-loop-agent
 invariant-loop-agent l =
-    map node_view l.nodes.new.items ++ map (shadows.agent_node l.copy) (map (agent_name l.names) (drop l.agent-index l.agents))
-    ≡ map node_view l.fn.nodes.old.items ++ map (shadows.agent_node l.copy) (map (agent_name l.names) l.agents)
+    map node_view l.nodes.items ++ map (shadows.agent_node l.copy) (map (agent_name l.names) (drop l.agent-index l.agents))
+    ≡ map node_view l.fn.nodes.items ++ map (shadows.agent_node l.copy) (map (agent_name l.names) l.agents)

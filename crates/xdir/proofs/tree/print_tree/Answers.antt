@@ -1,5 +1,5 @@
 -- A line's block comes behind those of the lines before it; what could be written of it is a first part of the output.
-use Rattle.std.proofs.Common.{◌≤◌, ◌+◌, ℕ, List, ◌∷◌, map, take, drop, sym, subst, ◌∙◌, arith}
+use Rattle.std.proofs.Common.{◌≤◌, ◌+◌, ℕ, List, map, take, drop, sym, subst, ◌∙◌, arith}
 use Rattle.x5_load.specs.Views.{file_view}
 use Rattle.x5_model_script.specs.Lines.{Asked}
 use Rattle.x5_one.specs.One.{tree_in}
@@ -33,7 +33,7 @@ returns-in-Err-line_block-clause-writes g c =
     let i = c.loop-place.place in
     let x = c.index-commands-place.result in
     stops (file_view c.args.world.now) c.requires.consistent (map command_view xs) (map command_view (take i xs))
-    (command_view x ∷ map command_view (drop (i + 1) xs)) (tree_in c.loop-place.tree) (g.K.Sink.octets c.args.out.now)
+    (command_view x) (map command_view (drop (i + 1) xs)) (tree_in c.loop-place.tree) (g.K.Sink.octets c.args.out.now)
     (g.K.Sink.octets c.loop-place.out) (g.K.Sink.fault_count c.args.out.now) (g.K.Sink.fault_count c.loop-place.out)
     (around command_view xs i x c.loop-place-test.true c.index-commands-place.is) c.loop-place.invariant.printed
 

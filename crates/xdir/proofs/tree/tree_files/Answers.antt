@@ -1,16 +1,30 @@
--- The world file comes first: what is read and written over its world is what is read and written of both files.
+-- The world file comes first: what is asked for, read and written over its world is that of both files.
 use Rattle.std.proofs.Common.{ℕ, List, Option, sym, subst}
 use Rattle.x5_load.specs.Views.{file_view}
 use Rattle.x5_port.specs.Outside.{File, IsContent}
+use Rattle.x5_words.specs.Forms.{FileNames}
 use Rattle.xdir.specs.Checked.{ReadsChecked}
 use Rattle.xdir.specs.Tree.{TellsFile}
+use Rattle.xdir.proofs.Asking.{asks_both, asks_refused}
 use Rattle.xdir.proofs.Beginning.{loaded}
-use Rattle.xdir.proofs.Files.{readable}
+use Rattle.xdir.proofs.Files.{readable, takes}
 use Rattle.xdir.proofs.TreeEnds.{writes_tree, reads_tree, writes_refused, reads_refused}
 use Rattle.xdir.proofs.tree.tree_files.Goals as goal
 
 pub tree_script-requires-clause-described : goal.tree_script-requires-clause-described
 tree_script-requires-clause-described g c = loaded c.in-Ok-load.world c.deref.result.now c.in-Ok-load.ensures.loads
+
+pub returns-in-Ok-load-clause-asks : goal.returns-in-Ok-load-clause-asks
+returns-in-Ok-load-clause-asks g c =
+    let told : Option (List File) = g.F.Files.contents c.args.files.now in
+    let names : FileNames = record { world = c.args.world.now; script = c.args.script.now } in
+    asks_both c.tree_script.result told names (g.F.Files.names_asked c.args.files.now)
+    (g.F.Files.names_asked c.read_whole.new.self) (g.F.Files.names_asked c.tree_script.new.files) c.in-Ok.ensures.asked
+    (takes told names c.deref.result.now
+    (subst (λ (octets : List ℕ). IsContent told c.args.world.now octets) (sym c.deref.ensures.value) c.in-Ok.ensures.content)
+    (file_view c.in-Ok-load.world) c.in-Ok-load.ensures.loads
+    (readable told c.args.world.now c.in-Ok.octets.items c.in-Ok.ensures.content c.in-Ok.ensures.fits))
+    c.tree_script.ensures.asks
 
 pub returns-in-Ok-load-clause-reads : goal.returns-in-Ok-load-clause-reads
 returns-in-Ok-load-clause-reads g c =
@@ -41,6 +55,12 @@ returns-in-Ok-load-clause-writes g c =
     (subst (λ (told : Option (List File)). TellsFile c.tree_script.result told c.args.script.now (file_view c.in-Ok-load.world)
     (g.K.Sink.octets c.args.out.now) (g.K.Sink.octets c.tree_script.new.out) (g.K.Sink.fault_count c.args.out.now)
     (g.K.Sink.fault_count c.tree_script.new.out)) c.read_whole.ensures.same_contents c.tree_script.ensures.writes)
+
+pub returns-in-Ok-clause-asks : goal.returns-in-Ok-clause-asks
+returns-in-Ok-clause-asks g c =
+    asks_refused (g.F.Files.contents c.args.files.now) (record { world = c.args.world.now; script = c.args.script.now })
+    (g.F.Files.names_asked c.args.files.now) (g.F.Files.names_asked c.read_whole.new.self) c.in-Ok.ensures.asked
+    c.refuse_world.result _ _ _ _ _ c.refuse_world.ensures
 
 pub returns-in-Ok-clause-reads : goal.returns-in-Ok-clause-reads
 returns-in-Ok-clause-reads g c =
