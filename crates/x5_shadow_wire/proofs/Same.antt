@@ -54,7 +54,7 @@ differ e = cc
 
 -- ---- changes
 
-step_by : shadows.Step → Step
+abbrev step_by : shadows.Step → Step
 step_by (shadows.Add e) = steps.Add e
 step_by (shadows.Remove name) = steps.Remove name
 step_by (shadows.Modify e) = steps.Modify e

@@ -66,19 +66,19 @@ module _ (start : Start) (names : List (List ℕ)) where
 
 -- ---- what an update sends
 
-pub agreement_in : shadows.Shadow → ℕ
+abbrev pub agreement_in : shadows.Shadow → ℕ
 agreement_in (shadows.Update agreement stamp refresh) = agreement
 agreement_in other = 0
 
-pub stamp_in : shadows.Shadow → ℕ
+abbrev pub stamp_in : shadows.Shadow → ℕ
 stamp_in (shadows.Update agreement stamp refresh) = stamp
 stamp_in other = 0
 
-pub refresh_in : shadows.Shadow → shadows.Refresh
+abbrev pub refresh_in : shadows.Shadow → shadows.Refresh
 refresh_in (shadows.Update agreement stamp refresh) = refresh
 refresh_in other = shadows.Nothing
 
-pub is_update : shadows.Shadow → Bool
+abbrev pub is_update : shadows.Shadow → Bool
 is_update (shadows.Update agreement stamp refresh) = true
 is_update other = false
 
@@ -90,7 +90,7 @@ pub steps_bring : (names : List (List ℕ)) (given : List Step) (sent : Brought)
     → shadows.Steps (map told_step given) ≡ bringing names sent → bringing names (Steps given) ≡ bringing names sent
 steps_bring names [] sent e = absurd (none_sent sent e)
   where
-    has_steps : shadows.Refresh → Bool
+    abbrev has_steps : shadows.Refresh → Bool
     has_steps (shadows.Steps []) = false
     has_steps other = true
 

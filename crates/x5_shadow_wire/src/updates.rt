@@ -103,7 +103,7 @@ pub fn carried_update(
     ensures { IfOk result (λ taken. (taken.agreement ≡ update.agreement) × (taken.stamp ≡ update.stamp) × IsSame taken.brought update.brought) }
 {
     counts::number(update.agreement);
-    counts::number(update.stamp.0);
+    counts::moment(Some(update.stamp));
     let message = message_of(update);
     let taken = carried_shadow(alloc, start, names, &message)?;
     match update_in(alloc, taken) {

@@ -12,8 +12,8 @@ carried_shadow-requires c =
     subst (ShadowWithin (world c.args.start.now names)) (sym (c.opening-message.ensures names))
     (asking_within c.args.start.now names c.args.push c.args.asked c.number.ensures c.moment.ensures)
 
-pub returns-in-Some : goal.returns-in-Some
-returns-in-Some c =
+pub returns : goal.returns
+returns c =
     let names = c.args.names.now in
     some_is (sym c.in-Some.is ∙ c.asked_in.ensures names
     ∙ ap asked_of (c.in_ok-taken.ensures ∙ c.opening-message.ensures names)

@@ -14,8 +14,8 @@ carried_shadow-requires c =
     (replying_within c.args.start.now names (operation_view c.args.operation) c.args.problem c.requires c.counted.ensures.held
     c.counted.ensures.given)
 
-pub returns-in-Some : goal.returns-in-Some
-returns-in-Some c =
+pub returns : goal.returns
+returns c =
     let names = c.args.names.now in
     some_is (sym c.in-Some.is ∙ c.problem_in.ensures names
     ∙ ap problem_of (c.in_ok-taken.ensures ∙ c.reply-message.ensures names)

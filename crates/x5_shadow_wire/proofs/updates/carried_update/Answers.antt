@@ -12,10 +12,10 @@ carried_shadow-requires c =
     let names = c.args.names.now in
     subst (ShadowWithin (world c.args.start.now names)) (sym (c.message_of-message.ensures names))
     (updating_within c.args.start.now names c.args.update.agreement c.args.update.stamp
-    (bringing names c.args.update.brought) c.number.ensures c.number-2.ensures c.requires.within)
+    (bringing names c.args.update.brought) c.number.ensures c.moment.ensures c.requires.within)
 
-pub returns-in-Some : goal.returns-in-Some
-returns-in-Some c =
+pub returns : goal.returns
+returns c =
     let names = c.args.names.now in
     let sent = c.args.update in
     let w = subst (IsUpdate names sent.agreement sent.stamp sent.brought) c.in-Some.is
