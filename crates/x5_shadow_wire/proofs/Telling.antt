@@ -85,15 +85,15 @@ is_update other = false
 pub differ : true ≡ false → ⊥
 differ e = cc
 
+abbrev has_steps : shadows.Refresh → Bool
+has_steps (shadows.Steps []) = false
+has_steps other = true
+
 -- no message of changes has none
 pub steps_bring : (names : List (List ℕ)) (given : List Step) (sent : Brought)
     → shadows.Steps (map told_step given) ≡ bringing names sent → bringing names (Steps given) ≡ bringing names sent
 steps_bring names [] sent e = absurd (none_sent sent e)
   where
-    abbrev has_steps : shadows.Refresh → Bool
-    has_steps (shadows.Steps []) = false
-    has_steps other = true
-
     none_sent : (b : Brought) → shadows.Steps [] ≡ bringing names b → ⊥
     none_sent (Total c) q = differ (sym (ap has_steps q))
     none_sent (Steps []) q = differ (sym (ap has_steps q))

@@ -1,7 +1,7 @@
 -- Of a message that sends something it's what that says, and no other is one.
 use Rattle.std.proofs.Common.{sym, ap, ◌∙◌}
 use Rattle.x5_dispber.specs.ShadowViews.{told_shadow}
-use Rattle.x5_shadow_wire.proofs.Telling.{agreement_in, differ, is_update, refresh_in, stamp_in}
+use Rattle.x5_shadow_wire.proofs.Telling.{agreement_in, refresh_in, stamp_in}
 use Rattle.x5_shadow_wire.proofs.updates.update_in.Goals as goal
 
 pub returns-in-Update : goal.returns-in-Update
