@@ -173,7 +173,7 @@ pub(crate) fn answered(
 }
 
 /// What the consumer has of what the supplier sends (updateShadow).
-pub(crate) fn arrived(
+pub(crate) fn update_read(
     alloc: Global,
     start: &Start,
     world: &World,

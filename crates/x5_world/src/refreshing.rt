@@ -15,7 +15,7 @@ ghost use Rattle.x5_world.specs.Refreshing.{AreMessages, CanBring, IsBounded, Is
 ghost use Rattle.x5_world.specs.Refreshing.{block_of, first_fate, last_block, last_fate, last_of, opened_block, problem_in};
 ghost use Rattle.x5_world.specs.declared.refreshing.Supplied.TheVariants.{Sent};
 
-use crate::carrying::{Arrived, acknowledged, answered, arrived, asked, told};
+use crate::carrying::{Arrived, acknowledged, answered, asked, told, update_read};
 use crate::refreshment::Refreshment;
 use crate::world::World;
 use std::alloc::Global;
@@ -200,7 +200,7 @@ fn updated(
         ShadowOperation::UpdateShadow,
         last,
     )?)?;
-    let read = arrived(alloc, start, world, by, supplied)?;
+    let read = update_read(alloc, start, world, by, supplied)?;
     let stamp = read.stamp;
     let count = taken(alloc, start, world, by, read, last)?;
     Ok(Refreshment {

@@ -11,7 +11,7 @@ use Rattle.x5_world.specs.declared.refreshing.Supplied.{Supplied}
 use Rattle.x5_world.specs.declared.refreshing.Way.{Way}
 use Rattle.x5_world.proofs.Arriving.{agreed_there, are_agents}
 use Rattle.x5_world.proofs.Courses.{some_is}
-use Rattle.x5_world.proofs.carrying.arrived.Goals as goal
+use Rattle.x5_world.proofs.carrying.update_read.Goals as goal
 
 pub carried_update-requires-clause-within : goal.carried_update-requires-clause-within
 carried_update-requires-clause-within c =
