@@ -54,14 +54,14 @@ use Rattle.x5_refresh.specs.declared.brought.Brought.TheVariants.{Total, Steps}
 use Rattle.x5_refresh.specs.declared.course.Start.{Start}
 use Rattle.x5_refresh.specs.declared.course.Start.TheVariants.{Ended, GoesOn}
 use Rattle.x5_shadow_wire.specs.Carried.{AreSame, IsSame, bringing}
-use Rattle.x5_world.specs.Carrying.{IsArrived, IsProblem, IsSendable, heard_by}
+use Rattle.x5_world.specs.Shadows.{IsArrived, IsProblem, IsSendable, heard_by}
 use Rattle.x5_world.specs.LogViews.{copy_notes, logs_view}
 use Rattle.x5_world.specs.Logs.{Notes}
 use Rattle.x5_world.specs.Refreshes.{IsSound}
 use Rattle.x5_world.specs.Refreshing.{CanBring, IsBounded, IsBoundedIn, IsBroughtAt, IsLeft, IsSupplied, IsTakenAt, IsWay, acknowledging, count_of, first_fate, is_known_in, last_of, problem_in, stamp_in}
 use Rattle.x5_model_refreshed.specs.Replaying.{IsLed}
 use Rattle.x5_world.specs.State.{Net, StandsAt, holdings_in}
-use Rattle.x5_world.specs.declared.carrying.Arrived.{Arrived}
+use Rattle.x5_world.specs.declared.shadows.Arrived.{Arrived}
 use Rattle.x5_world.specs.declared.refreshing.Supplied.{Supplied}
 use Rattle.x5_world.specs.declared.refreshing.Supplied.TheVariants.{Sent, Refused}
 use Rattle.x5_world.specs.declared.refreshing.Way.{Way}

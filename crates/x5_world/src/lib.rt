@@ -4,7 +4,6 @@
 
 mod asking;
 mod begin;
-mod carrying;
 mod counts;
 mod delivered;
 mod exchange;
@@ -13,6 +12,7 @@ mod links;
 mod naming;
 mod refreshing;
 mod refreshment;
+mod shadows;
 mod stamps;
 mod world;
 

@@ -9,14 +9,14 @@ ghost use Rattle.x5_refresh.specs.Course.{finished, unsent, opening, line_of};
 ghost use Rattle.x5_refresh.specs.Sent.{count_in};
 ghost use Rattle.x5_refresh.specs.Joined.{is_of_supplier};
 ghost use Rattle.x5_world.specs.Answered.{line_names_agents};
-ghost use Rattle.x5_world.specs.Carrying.{IsSendable};
+ghost use Rattle.x5_world.specs.Shadows.{IsSendable};
 ghost use Rattle.x5_world.specs.Refreshes.{IsSound};
 ghost use Rattle.x5_world.specs.Refreshing.{AreMessages, CanBring, IsBounded, IsDoneAt, IsDoneBy, IsInvalid, IsKnown, IsLeft, IsSupplied, IsWay, OnlyHeld};
 ghost use Rattle.x5_world.specs.Refreshing.{block_of, first_fate, last_block, last_fate, last_of, opened_block, problem_in};
 ghost use Rattle.x5_world.specs.declared.refreshing.Supplied.TheVariants.{Sent};
 
-use crate::carrying::{Arrived, acknowledged, answered, asked, told, update_read};
 use crate::refreshment::Refreshment;
+use crate::shadows::{Arrived, acknowledged, answered, asked, told, update_read};
 use crate::world::World;
 use std::alloc::Global;
 use x5_consume::expected;

@@ -11,7 +11,7 @@ use Rattle.x5_refresh.specs.Course.{finished, line_of}
 use Rattle.x5_refresh.specs.Sent.{count_in}
 use Rattle.x5_world.specs.Refreshing.{IsLeft, count_of, last_fate, stamp_in}
 use Rattle.x5_world.specs.State.{Net}
-use Rattle.x5_world.specs.declared.carrying.Arrived.{Arrived}
+use Rattle.x5_world.specs.declared.shadows.Arrived.{Arrived}
 use Rattle.x5_world.proofs.Arriving.{bring_arrived, count_arrived, left_arrived, stamp_arrived}
 use Rattle.x5_world.proofs.Rounding.{last_so}
 use Rattle.x5_world.proofs.Stopping.{finished_same, way_agents}

@@ -6,12 +6,12 @@ use Rattle.x5_know.specs.Moments.{Start}
 use Rattle.x5_model_tree.specs.World.{Agreement}
 use Rattle.x5_refresh.specs.declared.brought.Brought.{Brought}
 use Rattle.x5_shadow_wire.specs.Carried.{IsSame}
-use Rattle.x5_world.specs.Carrying.{IsSendable}
+use Rattle.x5_world.specs.Shadows.{IsSendable}
 use Rattle.x5_world.specs.declared.refreshing.Supplied.{Supplied}
 use Rattle.x5_world.specs.declared.refreshing.Way.{Way}
 use Rattle.x5_world.proofs.Arriving.{agreed_there, are_agents}
 use Rattle.x5_world.proofs.Courses.{some_is}
-use Rattle.x5_world.proofs.carrying.update_read.Goals as goal
+use Rattle.x5_world.proofs.shadows.update_read.Goals as goal
 
 pub carried_update-requires-clause-within : goal.carried_update-requires-clause-within
 carried_update-requires-clause-within c =

@@ -4,7 +4,7 @@ use Rattle.std.proofs.lemmas.Result.{IfOk-weaker}
 use Rattle.x5_ops.specs.JournalViews.{fate_view}
 use Rattle.x5_refresh.specs.Outcomes.{start_view}
 use Rattle.x5_world.proofs.Arriving.{start_fine}
-use Rattle.x5_world.proofs.carrying.answered.Goals as goal
+use Rattle.x5_world.proofs.shadows.answered.Goals as goal
 
 pub replied-requires : goal.replied-requires
 replied-requires c =

@@ -4,7 +4,7 @@ use Rattle.std.proofs.lemmas.Option.{slice_get_within}
 use Rattle.std.proofs.lemmas.Result.{IfOk-weaker}
 use Rattle.x5_world.proofs.Arriving.{none_some}
 use Rattle.x5_world.proofs.Stopping.{none_finds, place_finds}
-use Rattle.x5_world.proofs.carrying.agreed.Goals as goal
+use Rattle.x5_world.proofs.shadows.agreed.Goals as goal
 
 pub agreement-requires : goal.agreement-requires
 agreement-requires c =

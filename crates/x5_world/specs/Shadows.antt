@@ -16,7 +16,7 @@ use Rattle.x5_refresh.specs.declared.course.Start.TheVariants.{Ended, GoesOn}
 use Rattle.x5_shadow_wire.specs.Carried.{IsSame, bringing}
 use Rattle.x5_shadow_wire.specs.declared.asked.Asked.{Asked}
 use Rattle.x5_shadow_wire.specs.declared.replied.Problem.{Problem}
-use Rattle.x5_world.specs.declared.carrying.Arrived.{Arrived}
+use Rattle.x5_world.specs.declared.shadows.Arrived.{Arrived}
 use Rattle.x5_world.specs.declared.refreshing.Supplied.{Supplied}
 use Rattle.x5_world.specs.declared.refreshing.Supplied.TheVariants.{Sent, Refused}
 use Rattle.x5_world.specs.declared.refreshing.Way.{Way}

@@ -8,7 +8,7 @@ ghost use Rattle.x5_ops.specs.JournalViews.{fate_view};
 ghost use Rattle.x5_refresh.specs.Course.{stopped};
 ghost use Rattle.x5_refresh.specs.Joined.{is_of_supplier};
 ghost use Rattle.x5_refresh.specs.Outcomes.{start_view};
-ghost use Rattle.x5_world.specs.Carrying.{IsArrived, IsProblem, IsSendable, heard_by, start_of};
+ghost use Rattle.x5_world.specs.Shadows.{IsArrived, IsProblem, IsSendable, heard_by, start_of};
 ghost use Rattle.x5_world.specs.Refreshes.{IsSound};
 ghost use Rattle.x5_world.specs.Refreshing.{CanBring, IsWay, acknowledging};
 

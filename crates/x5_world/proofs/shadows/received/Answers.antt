@@ -3,12 +3,12 @@ use Rattle.std.proofs.Common.{◌≡◌, ℕ, ◌==◌, sym, ap, subst, ◌∙�
 use Rattle.std.specs.List.{find}
 use Rattle.x5_model_tree.specs.World.{Agreement}
 use Rattle.x5_shadow_wire.specs.declared.asked.Asked.{Asked}
-use Rattle.x5_world.specs.Carrying.{heard_by}
+use Rattle.x5_world.specs.Shadows.{heard_by}
 use Rattle.x5_world.specs.Refreshing.{last_of}
 use Rattle.x5_world.specs.declared.refreshing.Way.{Way}
 use Rattle.x5_world.proofs.Arriving.{agreed_there, heard_same}
 use Rattle.x5_world.proofs.Courses.{some_is}
-use Rattle.x5_world.proofs.carrying.received.Goals as goal
+use Rattle.x5_world.proofs.shadows.received.Goals as goal
 
 pub agreed-requires : goal.agreed-requires
 agreed-requires c =
