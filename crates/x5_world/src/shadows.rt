@@ -4,6 +4,8 @@
 ghost use Rattle.std.specs.Prelude.{◌≡◌, ◌<◌, ◌==◌, ℕ, Bool, IfOk, OnOk, Some, length, true};
 ghost use Rattle.std.specs.List.{find};
 ghost use Rattle.x5_model_tree.specs.World as agreements;
+ghost use Rattle.x5_model_fitting.specs.Replies.{ProblemWithin};
+ghost use Rattle.x5_model_fitting.specs.Requests.{IfThere};
 ghost use Rattle.x5_ops.specs.JournalViews.{fate_view};
 ghost use Rattle.x5_refresh.specs.Course.{stopped};
 ghost use Rattle.x5_refresh.specs.Joined.{is_of_supplier};
@@ -28,6 +30,13 @@ pub(crate) struct Arrived {
     pub agreement: Agreement,
     pub stamp: Moment,
     pub brought: Brought,
+}
+
+/// By which number a message has the agreement. No memory.
+fn number(agreement: &Agreement) -> u32
+    ensures { result ≡ agreement.now.number }
+{
+    agreement.id
 }
 
 /// The agreement of the number that a message has.
@@ -73,7 +82,7 @@ fn received(alloc: Global, start: &Start, world: &World, by: &Way) -> Result<Way
     ensures { IfOk result (λ way. way ≡ by.now) }
 {
     let sent = Asked {
-        agreement: by.agreement.id,
+        agreement: number(&by.agreement),
         last: last_moment(by),
         total: by.total,
     };
@@ -120,6 +129,21 @@ fn start_by(problem: Option<Problem>) -> refresh::Start
     }
 }
 
+/// What whoever sent the first message reads of a reply with this result or problem.
+fn by_reply(
+    alloc: Global,
+    start: &Start,
+    names: &AgentNames,
+    operation: ShadowOperation,
+    problem: Option<Problem>,
+) -> Result<refresh::Start, NoMemory>
+    requires { IfThere (λ p. ProblemWithin 11 p.number) problem }
+    ensures { IfOk result (λ read. read ≡ start_of problem) }
+{
+    let read = carried_problem(alloc, start, names, operation, problem)?;
+    Ok(start_by(read))
+}
+
 /// What follows the first message, as whoever sent it has it: by what is read in the reply, where one comes.
 fn replied(
     alloc: Global,
@@ -133,10 +157,7 @@ fn replied(
 {
     let operation = first_operation(push);
     match begun {
-        refresh::Start::GoesOn => {
-            let read = carried_problem(alloc, start, names, operation, None)?;
-            Ok(start_by(read))
-        }
+        refresh::Start::GoesOn => by_reply(alloc, start, names, operation, None),
         refresh::Start::Ended(
             Refreshed::Failed {
                 problem,
@@ -149,8 +170,7 @@ fn replied(
                 held,
                 given,
             };
-            let read = carried_problem(alloc, start, names, operation, Some(sent))?;
-            Ok(start_by(read))
+            by_reply(alloc, start, names, operation, Some(sent))
         }
         refresh::Start::Ended(unheard) => Ok(refresh::Start::Ended(unheard)),
     }
@@ -190,7 +210,7 @@ pub(crate) fn update_read(
         unreachable!()
     };
     let sent = Update {
-        agreement: by.agreement.id,
+        agreement: number(&by.agreement),
         stamp,
         brought,
     };

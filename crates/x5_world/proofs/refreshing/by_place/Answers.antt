@@ -92,7 +92,7 @@ told-requires-clause-sound c = subst IsSound (sym c.supply.ensures.same) c.requi
 
 pub opened-requires-clause-way : goal.opened-requires-clause-way
 opened-requires-clause-way c =
-    subst (IsWay c.supply.new.self) (sym c.in_ok-way.ensures)
+    subst (IsWay c.supply.new.self) (sym c.in_ok-way-in-GoesOn.ensures)
     (told-way c.args.world.now c.supply.new.self c.in_ok-own.own c.in_ok-by.by c.in_ok-by.ensures c.supply.ensures.same
     c.in_ok-own.ensures.way)
 
@@ -100,22 +100,22 @@ pub opened-requires-clause-supplied : goal.opened-requires-clause-supplied
 opened-requires-clause-supplied c =
     let sent : Supplied = c.in_ok-supplied.supplied in
     let by : Way = c.in_ok-by.by in
-    subst (λ (w : Way). IsSupplied c.supply.new.self w.agreement w.total (last_of w) sent) (sym c.in_ok-way.ensures)
+    subst (λ (w : Way). IsSupplied c.supply.new.self w.agreement w.total (last_of w) sent) (sym c.in_ok-way-in-GoesOn.ensures)
     (subst (λ (n : Net). IsSupplied n by.agreement by.total (last_of by) sent) (sym c.supply.ensures.same)
     (supplied_so c.args.world.now by by.total c.last_moment.result sent refl c.last_moment.ensures
     c.in_ok-supplied.ensures.supplied))
 
 pub opened-requires-clause-goes_on : goal.opened-requires-clause-goes_on
 opened-requires-clause-goes_on c =
-    (λ i. unsent ((ap (λ (w : Way). w.push) (c.in_ok-way.ensures ∙ c.in_ok-by.ensures) ∙ c.in_ok-own.ensures.push) i)
+    (λ i. unsent ((ap (λ (w : Way). w.push) (c.in_ok-way-in-GoesOn.ensures ∙ c.in_ok-by.ensures) ∙ c.in_ok-own.ensures.push) i)
     (sym c.problem_of.ensures i))
     ∙ sym (c.opens.ensures false 0) ∙ ap (start_view false 0) c.in-GoesOn.is
 
-pub returns-clause-done : goal.returns-clause-done
-returns-clause-done c =
+pub returns-in_ok-way-in-GoesOn-clause-done : goal.returns-in_ok-way-in-GoesOn-clause-done
+returns-in_ok-way-in-GoesOn-clause-done c =
     let old : Net = c.args.world.now in
-    let by : Way = c.in_ok-way.way in
-    let same : by ≡ c.in_ok-own.own = c.in_ok-way.ensures ∙ c.in_ok-by.ensures in
+    let by : Way = c.in_ok-way-in-GoesOn.way in
+    let same : by ≡ c.in_ok-own.own = c.in_ok-way-in-GoesOn.ensures ∙ c.in_ok-by.ensures in
     let sent : Supplied = c.in_ok-supplied.supplied in
     let first : Way = c.in_ok-by.by in
     goes_on c.opened.result old c.supply.new.self c.opened.new.world by sent c.args.place c.args.push c.args.total
@@ -123,7 +123,7 @@ returns-clause-done c =
     (ap (λ (w : Way). w.push) same ∙ c.in_ok-own.ensures.push)
     (ap (λ (w : Way). w.total) same ∙ c.in_ok-own.ensures.total)
     (subst (IsWay old) (sym same) c.in_ok-own.ensures.way)
-    (subst (λ (w : Way). IsSupplied old w.agreement w.total (last_of w) sent) (sym c.in_ok-way.ensures)
+    (subst (λ (w : Way). IsSupplied old w.agreement w.total (last_of w) sent) (sym c.in_ok-way-in-GoesOn.ensures)
     (supplied_so old first first.total c.last_moment.result sent refl c.last_moment.ensures
     c.in_ok-supplied.ensures.supplied))
     (opened-requires-clause-goes_on c)

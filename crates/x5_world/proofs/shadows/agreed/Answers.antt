@@ -11,8 +11,8 @@ agreement-requires c =
     let w = place_finds c.args.world.now.agreements c.args.number c.in-Some.place (sym c.place_of.ensures ∙ c.in-Some.is) in
     slice_get_within c.args.world.now.agreements c.in-Some.place w.0 w.2
 
-pub returns-in-Some : goal.returns-in-Some
-returns-in-Some c =
+pub returns : goal.returns
+returns c =
     let w = place_finds c.args.world.now.agreements c.args.number c.in-Some.place (sym c.place_of.ensures ∙ c.in-Some.is) in
     IfOk-weaker c.agreement.result _ _ (λ g at. w.1 ∙ sym w.2 ∙ at) c.agreement.ensures
 

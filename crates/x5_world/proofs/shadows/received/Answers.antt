@@ -15,7 +15,7 @@ agreed-requires c =
     let by : Way = c.args.by.now in (
       by.agreement,
       subst (λ (k : ℕ). find (λ (a : Agreement). a.number == k) c.args.world.now.agreements ≡ Some by.agreement)
-          (sym (ap (λ (a : Asked). a.agreement) c.in_ok-read.ensures ∙ ap (λ (g : Agreement). g.number) c.agreement.view_is))
+          (sym (ap (λ (a : Asked). a.agreement) c.in_ok-read.ensures ∙ c.number.ensures))
           (agreed_there c.args.world.now by c.requires.sound c.requires.way),
     )
 
@@ -26,7 +26,7 @@ returns c =
     let read : c.in_ok-read.read ≡ told =
     c.in_ok-read.ensures
     ∙ (λ i. record {
-      agreement = ap (λ (g : Agreement). g.number) c.agreement.view_is i;
+      agreement = c.number.ensures i;
       last = c.last_moment.ensures i;
       total = by.total;
     }) in
