@@ -126,5 +126,7 @@ returns-in_ok-way-in-GoesOn-clause-done c =
     (subst (λ (w : Way). IsSupplied old w.agreement w.total (last_of w) sent) (sym c.in_ok-way-in-GoesOn.ensures)
     (supplied_so old first first.total c.last_moment.result sent refl c.last_moment.ensures
     c.in_ok-supplied.ensures.supplied))
-    (opened-requires-clause-goes_on c)
+    ((λ i. unsent ((ap (λ (w : Way). w.push) (c.in_ok-way-in-GoesOn.ensures ∙ c.in_ok-by.ensures) ∙ c.in_ok-own.ensures.push) i)
+    (sym c.problem_of.ensures i))
+    ∙ sym (c.opens.ensures false 0) ∙ ap (start_view false 0) c.in-GoesOn.is)
     c.supply.ensures.same c.opened.ensures.block c.opened.ensures.left
