@@ -19,7 +19,7 @@ use Rattle.x5_model_tree.specs.World.{Agent, Agreement, Context, Network, Nssr, 
 use Rattle.x5_model_tree.specs.Masters.{Mastered, agent_at, held_contexts, mastered, masters}
 use Rattle.x5_model_tree.specs.Described.{IsDescribed, are_agents, are_numbers, is_agent, is_agent_name, is_number, is_pair, most_cut, most_lost_messages, nssr_agents, same_pair}
 use Rattle.x5_model_run.specs.Holdings.{Copy, Holdings}
-use Rattle.x5_model_run.specs.History.{Point, agreements_of, as_of, no_holdings}
+use Rattle.x5_model_run.specs.History.{Did, Point, agreements_of, as_of, no_holdings}
 use Rattle.x5_model_run.specs.Refresh.{Changes, base_of, consumed_by}
 use Rattle.x5_model_refreshed.specs.Replaying.{last_256}
 use Rattle.x5_model_run.specs.Stage.{nssr_pairs}
@@ -28,9 +28,10 @@ use Rattle.x5_model_known.specs.Holding.{holdings_name}
 use Rattle.x5_model_known.proofs.Counted.{described_counted}
 use Rattle.x5_model_known.proofs.Describing.{described_name_agents, described_are_themselves, described_names_apart}
 use Rattle.x5_model_fitting.specs.Requests.{IfThere}
-use Rattle.x5_model_limits.specs.Described.{world_is_utf8}
+use Rattle.x5_model_limits.specs.Described.{BoundedDeed, world_is_utf8}
+use Rattle.x5_model_shadowing.specs.Files.{nssrs_are_utf8}
 use Rattle.x5_model_limits.proofs.Described.{described_bounded}
-use Rattle.x5_model_limits.proofs.Lists.{each_map}
+use Rattle.x5_model_limits.proofs.Lists.{each_map, each_none}
 use Rattle.x5_model_settled.proofs.After.{stamped_at_first}
 use Rattle.x5_model_settled.proofs.Held.{held_at_first}
 use Rattle.x5_agents.specs.Unnoted.{AllUnnoted, AreUnnoted}
@@ -380,9 +381,9 @@ logs_stand w n b a = elim (leb_tells (length w.agents) a) [
   | inr y ↦ ap (in_option no_logs (λ (l : Logs). l)) (b.logs a y.1)
 ]
 
-pub stands_begun : (w : World) (n : Net) → IsDescribed w → IsBegun w n
+pub stands_begun : (w : World) (n : Net) → IsDescribed w → world_is_utf8 w ≡ true → nssrs_are_utf8 w ≡ true → IsBegun w n
     → StandsAt n (record { described = w; past = [] })
-stands_begun w n d b = record {
+stands_begun w n d texts references b = record {
   described = d;
   unmoved = tt;
   stamped = λ consistent. stamped_at_first w;
@@ -397,6 +398,7 @@ stands_begun w n d b = record {
   line = b.line;
   happened = λ consistent. tt;
   logs = λ consistent. logs_stand w n b;
+  within = record { texts = texts; references = references; accepted = each_none (λ (d : Did). BoundedDeed d.deed) };
 }
 
 pub room_begun : (w : World) (n : Net) → IsDescribed w → IsBegun w n → HasRoom n 0

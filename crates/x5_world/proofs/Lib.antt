@@ -12,12 +12,14 @@ pub mod Holding
 pub mod Users
 pub mod Adding
 pub mod Changing
-pub mod Worlds
+pub mod Within
+mod Worlds
 pub mod Beginning
 pub mod Unstamped
 pub mod Courses
 pub mod Suppliers
 pub mod Acceptable
+mod Arriving
 pub mod Copied
 pub mod Longer
 pub mod Onward

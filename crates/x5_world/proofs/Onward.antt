@@ -12,7 +12,7 @@ use Rattle.x5_model.proofs.Lists.{true_or_false}
 use Rattle.x5_model_tree.specs.World.{Agreement}
 use Rattle.x5_model_tree.specs.Consistent.{IsConsistent}
 use Rattle.x5_model_run.specs.Holdings.{Copy, Holdings}
-use Rattle.x5_model_run.specs.History.{Nothing, Point, Refreshed, acked, as_of, copy_by, holdings_at, knowledge_at, moment_of, no_holdings, sent_before}
+use Rattle.x5_model_run.specs.History.{Nothing, Refreshes, Point, Refreshed, acked, as_of, copy_by, holdings_at, knowledge_at, moment_of, no_holdings, sent_before}
 use Rattle.x5_model_run.specs.Refresh.{base_of, changes_at}
 use Rattle.x5_model_run.specs.Refresh as refresh
 use Rattle.x5_model_settled.proofs.Held.{held_is_holdings, held_on}
@@ -44,6 +44,7 @@ use Rattle.x5_world.proofs.Copied.{advanced_so, began, content_so, noted_all, re
 use Rattle.x5_world.proofs.Courses.{held_so, led_at, map_at, some_is}
 use Rattle.x5_world.proofs.Keeping.{logs_stay}
 use Rattle.x5_world.proofs.Longer.{consumer_logs, others_logs}
+use Rattle.x5_world.proofs.Within.{one_more_within}
 use Rattle.x5_world.proofs.Suppliers.{copies_noted_at}
 
 -- ---- after nothing
@@ -74,6 +75,7 @@ after_nothing old new p k s e = subst (λ (n : Net). StandsAt n (after_deed p No
   line = one_line old.line old.line (length p.past) refl s.line;
   happened = λ consistent. (tt, s.happened consistent);
   logs = λ consistent a. s.logs consistent a ∙ sym (logs_stay p Nothing k a tt);
+  within = one_more_within p (record { deed = Nothing; sent = k }) tt s.within;
 })
 
 -- ---- lists of which one place was set
@@ -300,4 +302,5 @@ module _ (old : Net) (p : Point) (g : Agreement) (total : Bool) (last : Option �
         line = one_line now.line old.line (length p.past) line s.line;
         happened = λ c. (brought, s.happened c);
         logs = λ c a. heard_keeps f.acknowledged at a ∙ all_keep a;
+        within = one_more_within p (record { deed = Refreshes f; sent = k }) tt s.within;
       })

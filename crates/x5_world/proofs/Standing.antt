@@ -28,6 +28,7 @@ use Rattle.x5_model_settled.specs.Held.{BySteps, held_at, scene_held}
 use Rattle.x5_model_settled.proofs.After.{network_stays, moved_none_after, knows_as_described}
 use Rattle.x5_model_settled.proofs.Held.{held_on, held_after_line, scene_is as settled_scene_is}
 use Rattle.x5_model_settled.proofs.Settled.{lines_handle_right}
+use Rattle.x5_model_fitting.specs.Requests.{RequestWithin}
 use Rattle.x5_model_refreshed.specs.Growing.{IsQuiet}
 use Rattle.x5_model_refreshed.proofs.Running.{did_happen}
 use Rattle.x5_model_settled.proofs.Stamped.{stamped_after}
@@ -35,6 +36,7 @@ use Rattle.x5_world.specs.Logs.{AreNoted, Logs}
 use Rattle.x5_world.specs.State.{Net, StandsAt, HasShortNames, after, holdings_in, logs_in}
 use Rattle.x5_world.specs.Sent.{held_since, scene_of}
 use Rattle.x5_world.proofs.Keeping.{logs_stay}
+use Rattle.x5_world.proofs.Within.{accepted_bounded, one_more_within, quiet_bounded}
 use Rattle.x5_world.proofs.Logging.{logs_after, quiet_acked, quiet_happens, request_acked}
 
 -- ---- what a line is judged by
@@ -132,6 +134,7 @@ stands old new p command block network sent is still quiet s q e f =
       happened = λ consistent. (quiet_happens p did.deed quiet, s.happened consistent);
       logs = λ consistent a. ap (λ (ls : List Logs). logs_in (record old { logs = ls }) a) q.logs ∙ s.logs consistent a
           ∙ sym (logs_stay p did.deed did.sent a quiet);
+      within = one_more_within p did (quiet_bounded did.deed quiet) s.within;
     }
 
 pub after_comment : (old new : Net) (p : Point) → StandsAt old p → IsAs old new old.network old.sent
@@ -207,9 +210,9 @@ pub after_message : (old new : Net) (p : Point) (first : ℕ) (m : Chained) (j :
     (accepted : List ℕ)
     → StandsAt old p → first < length old.names → HasShortNames m.request.body → BySteps p first m j reply
     → ((a : ℕ) → has ◌==◌ j.accepted a ≡ has ◌==◌ accepted a)
-    → IsAfter old new m.request accepted (old.sent + length j.lines)
+    → IsAfter old new m.request accepted (old.sent + length j.lines) → RequestWithin m.request
     → StandsAt new (after (did_by (sends first m) (answers j reply)) p)
-after_message old new p first m j reply accepted s there short asked same q = record {
+after_message old new p first m j reply accepted s there short asked same q fit = record {
   described = s.described;
   unmoved = moved_none_after p.past (sends first m) (answers j reply) s.unmoved;
   stamped = λ consistent. stamped_after BySteps p.described p.past (sends first m) (answers j reply) (refl, refl, asked)
@@ -234,4 +237,5 @@ after_message old new p first m j reply accepted s there short asked same q = re
   );
   logs = λ consistent a. logs_after old new p m.request s consistent accepted q.notes q.others j.accepted (length j.lines)
       (right old p first m j reply s there short asked consistent).one same a;
+  within = one_more_within p (did_by (sends first m) (answers j reply)) (accepted_bounded m.request j fit) s.within;
 }

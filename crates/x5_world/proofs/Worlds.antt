@@ -13,6 +13,7 @@ use Rattle.x5_model_run.specs.Stage.{budget}
 use Rattle.x5_model_run.specs.Chain.{Scene}
 use Rattle.x5_model_serve.specs.Serving.{IsRequest}
 use Rattle.x5_model_settled.specs.Held.{BySteps}
+use Rattle.x5_model_fitting.specs.Requests.{RequestWithin}
 use Rattle.x5_ops.specs.AgentNames.{agent_of}
 use Rattle.x5_ops.specs.AnswerViews.{reply_view}
 use Rattle.x5_ops.specs.JournalViews.{messages_view}
@@ -105,8 +106,9 @@ pub answered : (old new : Net) (p : Point) (first most : ℕ) (m : Chained) (lin
     → most ≡ most_of old
     → messages_view old.names journal.lines ≡ map (λ l. model.printed_line (line_view old.names l)) lines
     → map (agent_of old.names) journal.accepted ≡ accepted → IsAfter old new m.request accepted (old.sent + length lines)
-    → first < length old.names → HasShortNames m.request.body → StandsAt old p → IsAnswered old new p first m reply journal
-answered old new p first most m lines accepted reply journal asked limit printed named q there short s =
+    → first < length old.names → HasShortNames m.request.body → RequestWithin m.request → StandsAt old p
+    → IsAnswered old new p first m reply journal
+answered old new p first most m lines accepted reply journal asked limit printed named q there short fit s =
     let j : model.Journal = journal_of old.names lines accepted in
     let at_line : BySteps p first m j (reply_view old.names reply) =
     subst (λ (x : Scene). IsRequest x (budget p) j (reply_view old.names reply)) (scene_is old p first m s)
@@ -133,5 +135,6 @@ answered old new p first most m lines accepted reply journal asked limit printed
             line = q.line;
             notes = q.notes;
             others = q.others;
-          });
+          })
+          fit;
     }

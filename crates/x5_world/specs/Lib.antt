@@ -9,6 +9,7 @@ pub mod Arrivals
 pub mod Laws
 pub mod Users
 pub mod Refreshing
+pub mod Shadows
 pub mod Refreshes
 pub mod Delivered
 pub mod Once

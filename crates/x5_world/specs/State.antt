@@ -1,6 +1,6 @@
 -- The network of all agents, as contracts see it; and when it is that of a line of a run (X.518, section 8: the
 -- Directory as a distributed system).
-use Rattle.std.specs.Prelude.{◌≡◌, ℕ, ◌+◌, ◌*◌, ◌≤◌, List, ◌∷◌, length, map, slice_get, Some}
+use Rattle.std.specs.Prelude.{◌≡◌, ℕ, ◌+◌, ◌*◌, ◌≤◌, true, List, ◌∷◌, length, map, slice_get, Some}
 use Rattle.std.specs.declared.option.Option.{Option}
 use Rattle.x5_model.specs.Words.{in_option}
 use Rattle.x5_model_tree.specs.World.{Agreement, Network, World, names_of_agents}
@@ -14,6 +14,8 @@ use Rattle.x5_model_updates.specs.Keeping.{NoneMoved}
 use Rattle.x5_model_verdicts.specs.Committing.{IsStamped}
 use Rattle.x5_model_refreshed.specs.Replaying.{AllHappen}
 use Rattle.x5_model_settled.specs.Held.{held_at}
+use Rattle.x5_model_limits.specs.Described.{BoundedPast, world_is_utf8}
+use Rattle.x5_model_shadowing.specs.Files.{nssrs_are_utf8}
 pub use Rattle.x5_dapber.specs.ShortNames.{HasShortNames}
 use Rattle.x5_world.specs.Logs.{Logs, logs_at, no_logs}
 
@@ -45,6 +47,12 @@ logs_in n a = in_option no_logs (λ l. l) (slice_get n.logs a)
 abbrev pub LogsStand : Net → Point → Type 0
 LogsStand n p = (a : ℕ) → logs_in n a ≡ logs_at p a
 
+-- its world's texts are UTF-8, and the updates that the lines before accepted are within the limits of messages
+pub record IsWithin (p : Point) : Type 0 where
+  pub texts : world_is_utf8 p.described ≡ true
+  pub references : nssrs_are_utf8 p.described ≡ true
+  pub accepted : BoundedPast p.past
+
 -- It is the network of this line, whether or not knowledge is consistent: each agent holds what it holds there, and no
 -- context was moved. Over consistent knowledge the stamps of copies are moments of lines before, these lines did what
 -- lines of a run do, and agents keep the last changes.
@@ -63,6 +71,7 @@ pub record StandsAt (n : Net) (p : Point) : Type 0 where
   pub line : n.line ≡ length p.past
   pub happened : IsConsistent p.described → AllHappen p.described p.past
   pub logs : IsConsistent p.described → LogsStand n p
+  pub within : IsWithin p
 
 -- after one more line
 abbrev pub after : Did → Point → Point

@@ -9,19 +9,22 @@ ghost use Rattle.x5_refresh.specs.Course.{finished, unsent, opening, line_of};
 ghost use Rattle.x5_refresh.specs.Sent.{count_in};
 ghost use Rattle.x5_refresh.specs.Joined.{is_of_supplier};
 ghost use Rattle.x5_world.specs.Answered.{line_names_agents};
+ghost use Rattle.x5_world.specs.Shadows.{IsSendable};
 ghost use Rattle.x5_world.specs.Refreshes.{IsSound};
 ghost use Rattle.x5_world.specs.Refreshing.{AreMessages, CanBring, IsBounded, IsDoneAt, IsDoneBy, IsInvalid, IsKnown, IsLeft, IsSupplied, IsWay, OnlyHeld};
 ghost use Rattle.x5_world.specs.Refreshing.{block_of, first_fate, last_block, last_fate, last_of, opened_block, problem_in};
 ghost use Rattle.x5_world.specs.declared.refreshing.Supplied.TheVariants.{Sent};
 
 use crate::refreshment::Refreshment;
+use crate::shadows::{Arrived, acknowledged, answered, asked, told, update_read};
 use crate::world::World;
 use std::alloc::Global;
 use x5_consume::expected;
-use x5_know::{AgentNames, Agreement};
+use x5_know::{AgentNames, Agreement, Start};
 use x5_memory::NoMemory;
 use x5_ops::{Fate, Line, LineList, Listed, Moment, Refreshed, ShadowOperation};
-use x5_refresh::{Brought, Start, begins, ended, opens};
+use x5_refresh as refresh;
+use x5_refresh::{Brought, ended, opens};
 
 /// invalidAgreementID (X.525, section 12): there is no agreement of this number.
 const INVALID_AGREEMENT_ID: u8 = 1;
@@ -84,7 +87,7 @@ fn line(
 
 /// The operation of the first message: in a push the supplier tells the consumer, in a pull the consumer asks (X.525, section 11.1).
 /// No memory.
-fn first_operation(push: bool) -> ShadowOperation
+pub(crate) fn first_operation(push: bool) -> ShadowOperation
     ensures { operation_view result ≡ opening push }
 {
     if push {
@@ -137,29 +140,34 @@ fn stopped(lines: LineList, became: Refreshed) -> Refreshment
     }
 }
 
-/// The consumer takes what was brought, where the message arrives; and the supplier knows it where the reply does too. How many
+/// The consumer takes what it has read, where the message arrives; and the supplier knows it where the reply does too. How many
 /// entries or steps were taken.
 fn taken(
     alloc: Global,
+    start: &Start,
     world: &mut World,
     by: &Way,
-    stamp: Moment,
-    brought: Brought,
+    read: Arrived,
     last: Fate,
 ) -> Result<u64, NoMemory>
-    requires sound { IsSound world.old }
-    requires way { IsWay world.old by.now }
-    requires can { CanBring world.old by.now.agreement (Sent stamp brought) }
-    ensures left { IfOk result (λ count. IsLeft world.old by.now.agreement by.now.place (Sent stamp brought) (finished by.now.total by.now.agreement.number stamp count (fate_view last)) world.new) }
-    ensures count { IfOk result (λ count. is_lost (fate_view last) ≡ false → count ≡ count_in brought) }
+    requires consumer { read.agreement.consumer < length world.old.names }
+    requires there { by.now.place < length world.old.acked }
+    requires can { CanBring world.old read.agreement (Sent read.stamp read.brought) }
+    ensures left { IfOk result (λ count. IsLeft world.old read.agreement by.now.place (Sent read.stamp read.brought) (finished by.now.total read.agreement.number read.stamp count (fate_view last)) world.new) }
+    ensures count { IfOk result (λ count. is_lost (fate_view last) ≡ false → count ≡ count_in read.brought) }
     ensures only { IfOk result (λ _. OnlyHeld world.old world.new) }
 {
     if !last.arrives() {
         return Ok(0);
     }
-    let count = world.accept(alloc, &by.agreement, stamp, brought)?;
+    let Arrived {
+        agreement,
+        stamp,
+        brought,
+    } = read;
+    let count = world.accept(alloc, &agreement, stamp, brought)?;
     if is_heard(last) {
-        world.acknowledge(by.place, stamp);
+        acknowledged(alloc, start, world, by.place, stamp)?;
     }
     Ok(count)
 }
@@ -167,6 +175,7 @@ fn taken(
 /// The last message, behind these, with what it brings (X.525, section 11.3).
 fn updated(
     alloc: Global,
+    start: &Start,
     world: &mut World,
     by: &Way,
     lines: LineList,
@@ -176,15 +185,13 @@ fn updated(
     requires sound { IsSound world.old }
     requires way { IsWay world.old by.now }
     requires can { CanBring world.old by.now.agreement supplied }
+    requires sendable { IsSendable start.now world.old.names supplied }
     requires first { AreMessages world.old.names 1 lines }
     ensures block { IfOk result (λ r. block_of world.old.names by.now.agreement r ≡ last_block by.now.agreement by.now.total supplied (shadows_view world.old.names lines) (last_fate world.old by.now.agreement)) }
     ensures left { IfOk result (λ r. IsLeft world.old by.now.agreement by.now.place supplied (refreshed_view r.heard by.now.agreement.number r.became) world.new) }
     ensures only { IfOk result (λ _. OnlyHeld world.old world.new) }
     ensures messages { IfOk result (λ r. AreMessages world.old.names 2 r.lines) }
 {
-    let Supplied::Sent(stamp, brought) = supplied else {
-        unreachable!()
-    };
     let mut lines = lines;
     let last = fate_of_last(world, &by.agreement);
     lines.push(line(
@@ -193,7 +200,9 @@ fn updated(
         ShadowOperation::UpdateShadow,
         last,
     )?)?;
-    let count = taken(alloc, world, by, stamp, brought, last)?;
+    let read = update_read(alloc, start, world, by, supplied)?;
+    let stamp = read.stamp;
+    let count = taken(alloc, start, world, by, read, last)?;
     Ok(Refreshment {
         lines,
         became: ended(by.total, stamp, count, last),
@@ -214,14 +223,16 @@ fn first_line(alloc: Global, world: &World, by: &Way, first: Fate) -> Result<Lin
     Ok(lines)
 }
 
-/// The first message, and what follows (X.525, sections 11.1 and 11.2).
+/// The first message, and what follows (X.525, sections 11.1 and 11.2): the way is as the receiver of the message has it.
 fn opened(
     alloc: Global,
+    start: &Start,
     world: &mut World,
     by: &Way,
     supplied: Supplied,
 ) -> Result<Refreshment, NoMemory>
     requires room { world.old.sent ≤ 18446744073709551613 }
+    requires few { world.old.line ≤ 100000 }
     requires sound { IsSound world.old }
     requires way { IsWay world.old by.now }
     requires supplied { IsSupplied world.old by.now.agreement by.now.total (last_of by.now) supplied }
@@ -237,9 +248,10 @@ fn opened(
     let first = fate_of_first(world, &by.agreement, by.push);
     let lines = first_line(alloc, world, by, first)?;
     let problem = problem_of(&supplied);
-    match begins(by.push, by.total, problem, by.own, by.acked, first) {
-        Start::Ended(became) => Ok(stopped(lines, became)),
-        Start::GoesOn => updated(alloc, world, by, lines, supplied),
+    let begun = answered(alloc, start, world.names(), by, problem, first)?;
+    match begun {
+        refresh::Start::Ended(became) => Ok(stopped(lines, became)),
+        refresh::Start::GoesOn => updated(alloc, start, world, by, lines, supplied),
     }
 }
 
@@ -266,7 +278,7 @@ fn way_of(world: &World, place: usize, push: bool, total: bool) -> Result<Way, N
 
 /// The moment from which the supplier goes on: in a pull the consumer tells its own, in a push it's the last that was acknowledged
 /// (X.525, section 11.2). No memory.
-fn last_moment(by: &Way) -> Option<Moment>
+pub(crate) fn last_moment(by: &Way) -> Option<Moment>
     ensures { result ≡ last_of by.now }
 {
     if by.push {
@@ -278,35 +290,43 @@ fn last_moment(by: &Way) -> Option<Moment>
 /// A refresh by the agreement of this place.
 fn by_place(
     alloc: Global,
+    start: &Start,
     world: &mut World,
     place: usize,
     push: bool,
     total: bool,
 ) -> Result<Refreshment, NoMemory>
     requires room { world.old.sent ≤ 18446744073709551613 }
+    requires few { world.old.line ≤ 100000 }
     requires sound { IsSound world.old }
     requires there { place < length world.old.agreements }
     ensures done { IfOk result (λ r. IsDoneAt world.old place push total r world.new) }
     ensures only { IfOk result (λ _. OnlyHeld world.old world.new) }
     ensures messages { IfOk result (λ r. AreMessages world.old.names 2 r.lines) }
 {
-    let by = way_of(world, place, push, total)?;
-    let supplied = world.supply(alloc, &by.agreement, total, last_moment(&by))?;
+    let own = way_of(world, place, push, total)?;
+    let by = asked(alloc, start, world, own)?;
+    let supplied = world.supply(alloc, &by.agreement, by.total, last_moment(&by))?;
     match opens(push, problem_of(&supplied)) {
-        Start::Ended(became) => Ok(stopped(Listed::new(alloc), became)),
-        Start::GoesOn => opened(alloc, world, &by, supplied),
+        refresh::Start::Ended(became) => Ok(stopped(Listed::new(alloc), became)),
+        refresh::Start::GoesOn => {
+            let way = told(alloc, start, world, by)?;
+            opened(alloc, start, world, &way, supplied)
+        }
     }
 }
 
 /// A refresh by the agreement of this number, or its problem where there is none.
 pub(crate) fn refreshed(
     alloc: Global,
+    start: &Start,
     world: &mut World,
     number: u32,
     push: bool,
     total: bool,
 ) -> Result<Refreshment, NoMemory>
     requires room { world.old.sent ≤ 18446744073709551613 }
+    requires few { world.old.line ≤ 100000 }
     requires sound { IsSound world.old }
     ensures done { IfOk result (λ r. IsInvalid world.old number r world.new ⊎ IsDoneBy world.old number push total r world.new) }
     ensures only { IfOk result (λ _. OnlyHeld world.old world.new) }
@@ -321,6 +341,6 @@ pub(crate) fn refreshed(
                 given: None,
             },
         )),
-        Some(place) => by_place(alloc, world, place, push, total),
+        Some(place) => by_place(alloc, start, world, place, push, total),
     }
 }

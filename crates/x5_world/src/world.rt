@@ -14,6 +14,7 @@ ghost use Rattle.x5_model_tree.specs.Consistent.{IsConsistent};
 ghost use Rattle.x5_model_tree.specs.Described.{IsDescribed};
 ghost use Rattle.x5_model_fitting.specs.Requests.{BodyWithin, CountWithin, RequestWithin};
 ghost use Rattle.x5_model_limits.specs.Described.{world_is_utf8};
+ghost use Rattle.x5_model_shadowing.specs.Files.{nssrs_are_utf8};
 ghost use Rattle.x5_refresh.specs.Joined.{is_of_supplier};
 ghost use Rattle.x5_refresh.specs.Sent.{CanAccept, count_in};
 ghost use Rattle.x5_holdings.specs.State.{holdings_view};
@@ -48,7 +49,7 @@ use x5_agents::agents_of;
 use x5_dapber::{WireFault, decode_request};
 use x5_dspber::decode_chained;
 use x5_holdings::Holdings;
-use x5_know::{AgentNames, Agreement, AgreementList, Described};
+use x5_know::{AgentNames, Agreement, AgreementList, Described, Start};
 use x5_memory::NoMemory;
 use x5_ops::{AgentId, Chained, Fate, Journal, Listed, Moment, Outage, Reply, Request};
 use x5_refresh::Brought;
@@ -91,6 +92,7 @@ impl World {
         requires described { IsDescribed (world_view described.now) }
         requires named { described.now.names ≡ names_of_agents (world_view described.now) }
         requires utf8 { world_is_utf8 (world_view described.now) ≡ true }
+        requires references { nssrs_are_utf8 (world_view described.now) ≡ true }
         ensures names { IfOk result (λ w. w.names ≡ names_of_agents (world_view described.now)) }
         ensures stands { IfOk result (λ w. StandsAt w (record { described = world_view described.now; past = [] })) }
         ensures room { IfOk result (λ w. HasRoom w 0) }
@@ -512,11 +514,12 @@ impl World {
     }
 
     /// Refreshes the consumer's copy by the agreement of this number, pushed by the supplier or pulled by the consumer, wholly or by
-    /// the changes since its moment (X.525, sections 9 to 12). Knowledge is consistent. After want of memory the network isn't used
-    /// again.
+    /// the changes since its moment (X.525, sections 9 to 12). Its messages go as octets, in which moments are dates and times from this
+    /// start on. Knowledge is consistent. After want of memory the network isn't used again.
     pub fn refresh(
         &mut self,
         alloc: Global,
+        start: &Start,
         number: u32,
         push: bool,
         total: bool,
@@ -528,7 +531,7 @@ impl World {
         ensures named { IfOk result (λ r. list_all (line_names_agents self.old.names) r.lines ≡ true) }
         ensures room_after { IfOk result (λ _. (lines : ℕ) → HasRoom self.old lines → HasRoom self.new (lines + 1)) }
     {
-        let done = refreshed(alloc, self, number, push, total)?;
+        let done = refreshed(alloc, start, self, number, push, total)?;
         self.count(done.lines.len());
         Ok(done)
     }

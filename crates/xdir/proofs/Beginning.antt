@@ -10,6 +10,8 @@ use Rattle.x5_model_limits.specs.Described.{world_is_utf8}
 use Rattle.x5_model_loaded.proofs.Worlds.{file_described}
 use Rattle.x5_model_tree.specs.Described.{IsDescribed}
 use Rattle.x5_model_tree.specs.World.{World}
+use Rattle.x5_model_shadowing.specs.Files.{nssrs_are_utf8}
+use Rattle.x5_model_shadowing.proofs.Files.{files_have_utf8}
 use Rattle.x5_model_within.proofs.Files.{files_are_utf8}
 use Rattle.x5_model_world.specs.WorldFile.{Describes}
 
@@ -22,6 +24,10 @@ loaded d octets h = file_described h.value (file_view d) h.is_found
 pub in_utf8 : (d : Described) (octets : List ℕ) → Describes octets (Ok (file_view d))
     → world_is_utf8 (world_view d) ≡ true
 in_utf8 d octets h = files_are_utf8 h.value (file_view d) h.is_found
+
+pub references_in_utf8 : (d : Described) (octets : List ℕ) → Describes octets (Ok (file_view d))
+    → nssrs_are_utf8 (world_view d) ≡ true
+references_in_utf8 d octets h = files_have_utf8 h.value (file_view d) h.is_found
 
 pub few_loaded : (d : Described) → IsDescribed (world_view d) → length d.agents ≤ 64
 few_loaded d h =

@@ -5,6 +5,7 @@ ghost use Rattle.x5_gen.specs.World.{world_text};
 ghost use Rattle.x5_know.specs.WorldView.{world_view};
 ghost use Rattle.x5_load.specs.Views.{IsNamed, file_view};
 ghost use Rattle.x5_model_limits.specs.Described.{world_is_utf8};
+ghost use Rattle.x5_model_shadowing.specs.Files.{nssrs_are_utf8};
 ghost use Rattle.x5_model_tree.specs.Described.{IsDescribed};
 ghost use Rattle.xdir.specs.Generated.{WritesGenerated, made_files, made_names, script_name};
 ghost use Rattle.xdir.specs.Steps.{Prints};
@@ -48,6 +49,7 @@ fn run_made_world<K: Sink>(alloc: Global, octets: &[u8], number: u32, out: &mut 
 fn run_made_over<K: Sink>(alloc: Global, world: Described, number: u32, out: &mut K) -> Status
     requires described { IsDescribed (world_view world) }
     requires utf8 { world_is_utf8 (world_view world) ≡ true }
+    requires references { nssrs_are_utf8 (world_view world) ≡ true }
     requires named { IsNamed world }
     ensures prints { Prints result }
     ensures sums { SumsScriptFile result (Some (made_files number)) script_name (file_view world) (K.octets out.old) (K.octets out.new) (K.fault_count out.old) (K.fault_count out.new) }

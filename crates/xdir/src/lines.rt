@@ -14,6 +14,7 @@ ghost use Rattle.xdir.specs.Blocks.{IsCourse, IsDone};
 ghost use Rattle.xdir.specs.Taken.{IsTaken};
 
 use std::alloc::Global;
+use x5_know::Start;
 use x5_memory::NoMemory;
 use x5_ops::{AgentId, Journal, Listed, Outage, Request};
 use x5_report::LineOutcome;
@@ -80,6 +81,7 @@ fn ask(
 /// that no copy is refreshed.
 fn refresh(
     alloc: Global,
+    start: &Start,
     network: &mut World,
     is_consistent: bool,
     number: u32,
@@ -96,7 +98,7 @@ fn refresh(
         network.pass();
         return Ok(unrefreshed(alloc));
     }
-    let told = network.refresh(alloc, number, push, total)?;
+    let told = network.refresh(alloc, start, number, push, total)?;
     Ok(Course {
         journal: Journal {
             lines: told.lines,
@@ -145,9 +147,11 @@ fn deliver(
 }
 
 /// Does what a line asks for, and tells what came of it; of a comment there is nothing to tell. Whether knowledge is consistent is
-/// told before the first line. After want of memory the network isn't used again.
+/// told before the first line. In messages moments are dates and times from the world's start on. After want of memory the network isn't
+/// used again.
 pub fn carry_out(
     alloc: Global,
+    start: &Start,
     network: &mut World,
     is_consistent: bool,
     command: &Command,
@@ -171,6 +175,7 @@ pub fn carry_out(
         }
         Command::Refresh { id, push, total } => Ok(Some(refresh(
             alloc,
+            start,
             network,
             is_consistent,
             *id,

@@ -20,7 +20,7 @@ use crate::check::Told;
 use crate::lines::carry_out;
 use crate::top::Status;
 use std::alloc::Global;
-use x5_know::Described;
+use x5_know::{Described, Start};
 use x5_memory::NoMemory;
 use x5_port::{Failed, Sink, put_all};
 use x5_report::{Totals, summary};
@@ -44,7 +44,7 @@ pub fn print_summary<K: Sink>(
     ensures prints { Prints result }
     ensures sums { SumsRun result (file_view described.now) (map command_view commands.now) (K.octets out.old) (K.octets out.new) (K.fault_count out.old) (K.fault_count out.new) }
 {
-    match summary_of(alloc, network, told, commands) {
+    match summary_of(alloc, &described.start, network, told, commands) {
         Ok(text) => match put_all(out, text.as_bytes()) {
             Ok(()) => Status::Done,
             Err(Failed) => Status::WriteFault,
@@ -56,6 +56,7 @@ pub fn print_summary<K: Sink>(
 /// The line on knowledge, and the counts of the commands' blocks.
 fn summary_of(
     alloc: Global,
+    start: &Start,
     network: &mut World,
     told: &Told,
     commands: &[Command],
@@ -66,7 +67,7 @@ fn summary_of(
     requires begun { (f : File) × (StandsAt network.old (point f.world []) × (IsTrue told.now.is_consistent ↔ IsConsistent f.world)) }
     ensures { IfOk result (λ text. (f : File) → StandsAt network.old (point f.world []) → string_bytes told.now.line ≡ knowledge_text f.world → (IsTrue told.now.is_consistent ↔ IsConsistent f.world) → IsAskedSummary f (map command_view commands.now) (string_bytes text)) }
 {
-    let totals = totals_of(alloc, network, told.is_consistent, commands)?;
+    let totals = totals_of(alloc, start, network, told.is_consistent, commands)?;
     text_of(alloc, told.line.as_str(), &totals)
 }
 
@@ -83,6 +84,7 @@ fn text_of(alloc: Global, knowledge: &str, totals: &Totals) -> Result<String, No
 /// The counts of the commands' blocks.
 fn totals_of(
     alloc: Global,
+    start: &Start,
     network: &mut World,
     is_consistent: bool,
     commands: &[Command],
@@ -95,7 +97,7 @@ fn totals_of(
 {
     let mut totals = Totals::new();
     for command in commands {
-        count_command(alloc, network, is_consistent, command, &mut totals)?;
+        count_command(alloc, start, network, is_consistent, command, &mut totals)?;
     }
     Ok(totals)
 }
@@ -103,6 +105,7 @@ fn totals_of(
 /// Adds the counts of a command's block; a comment has none.
 fn count_command(
     alloc: Global,
+    start: &Start,
     network: &mut World,
     is_consistent: bool,
     command: &Command,
@@ -115,7 +118,7 @@ fn count_command(
     ensures room_after { IfOk result (λ _. (lines : ℕ) → HasRoom network.old lines → HasRoom network.new (lines + 1)) }
     ensures adds { OnOk result ((p : Point) → StandsAt network.old p → (IsTrue is_consistent ↔ IsConsistent p.described) → AddsBlock p (command_view command.now) network.new (totals_view totals.old) (totals_view totals.new)) }
 {
-    let carried = carry_out(alloc, network, is_consistent, command)?;
+    let carried = carry_out(alloc, start, network, is_consistent, command)?;
     match carried {
         Some(course) => {
             totals.count(&course.journal, &course.outcome);

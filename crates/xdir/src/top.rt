@@ -3,6 +3,7 @@ ghost use Rattle.std.specs.Prelude.{◌≡◌, ◌⊎◌, None, IfSome, true, ma
 ghost use Rattle.x5_know.specs.WorldView.{world_view};
 ghost use Rattle.x5_load.specs.Views.{IsNamed, file_view};
 ghost use Rattle.x5_model_limits.specs.Described.{world_is_utf8};
+ghost use Rattle.x5_model_shadowing.specs.Files.{nssrs_are_utf8};
 ghost use Rattle.x5_model_tree.specs.Described.{IsDescribed};
 ghost use Rattle.x5_words.specs.Forms.{form_in};
 ghost use Rattle.xdir.specs.Asked.{AsksBoth, AsksForm, AsksOne};
@@ -143,6 +144,7 @@ fn run_world<F: Files, K: Sink>(
 ) -> Status
     requires described { IsDescribed (world_view world) }
     requires utf8 { world_is_utf8 (world_view world) ≡ true }
+    requires references { nssrs_are_utf8 (world_view world) ≡ true }
     requires named { IsNamed world }
     ensures asks { AsksOne result script.now (F.names_asked files.old) (F.names_asked files.new) }
     ensures reads { ReadsFile result script.now (F.contents files.old) (F.fault_count files.old) (F.fault_count files.new) (F.last_failed files.new) }

@@ -3,7 +3,7 @@
 use Rattle.std.proofs.Common.{Some}
 use Rattle.x5_load.specs.Views.{file_view}
 use Rattle.xdir.specs.Generated.{made_files, made_names}
-use Rattle.xdir.proofs.Beginning.{in_utf8, loaded}
+use Rattle.xdir.proofs.Beginning.{in_utf8, loaded, references_in_utf8}
 use Rattle.xdir.proofs.Ends.{such_prints}
 use Rattle.xdir.proofs.Making.{world_made}
 use Rattle.xdir.proofs.Summaries.{sums_files, sums_refused_file}
@@ -11,6 +11,10 @@ use Rattle.xdir.proofs.generated.run_made_world.Goals as goal
 
 pub run_made_over-requires-clause-described : goal.run_made_over-requires-clause-described
 run_made_over-requires-clause-described g c = loaded c.in-Ok.world c.args.octets.now c.in-Ok.ensures.loads
+
+pub run_made_over-requires-clause-references : goal.run_made_over-requires-clause-references
+run_made_over-requires-clause-references g c =
+    references_in_utf8 c.in-Ok.world c.args.octets.now c.in-Ok.ensures.loads
 
 pub run_made_over-requires-clause-utf8 : goal.run_made_over-requires-clause-utf8
 run_made_over-requires-clause-utf8 g c = in_utf8 c.in-Ok.world c.args.octets.now c.in-Ok.ensures.loads

@@ -7,13 +7,17 @@ use Rattle.x5_words.specs.Forms.{FileNames}
 use Rattle.xdir.specs.Steps.{ReadsFile, WritesScriptFile}
 use Rattle.xdir.specs.Summed.{SumsScriptFile}
 use Rattle.xdir.proofs.Asking.{asks_both, asks_refused}
-use Rattle.xdir.proofs.Beginning.{in_utf8, loaded}
+use Rattle.xdir.proofs.Beginning.{in_utf8, loaded, references_in_utf8}
 use Rattle.xdir.proofs.Files.{of_files, reads_both, refuses_file, reads_first, readable, takes}
 use Rattle.xdir.proofs.Summaries.{sums_files, sums_refused_file}
 use Rattle.xdir.proofs.top.run_files.Goals as goal
 
 pub run_world-requires-clause-described : goal.run_world-requires-clause-described
 run_world-requires-clause-described g c = loaded c.in-Ok-load.world c.deref.result.now c.in-Ok-load.ensures.loads
+
+pub run_world-requires-clause-references : goal.run_world-requires-clause-references
+run_world-requires-clause-references g c =
+    references_in_utf8 c.in-Ok-load.world c.deref.result.now c.in-Ok-load.ensures.loads
 
 pub run_world-requires-clause-utf8 : goal.run_world-requires-clause-utf8
 run_world-requires-clause-utf8 g c = in_utf8 c.in-Ok-load.world c.deref.result.now c.in-Ok-load.ensures.loads

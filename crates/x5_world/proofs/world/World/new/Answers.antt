@@ -32,7 +32,7 @@ invariant_of-result-2 c =
 
 pub returns-clause-stands : goal.returns-clause-stands
 returns-clause-stands c =
-    stands_begun (world_view c.args.described.now) _ c.requires.described
+    stands_begun (world_view c.args.described.now) _ c.requires.described c.requires.utf8 c.requires.references
     (is_begun c.args.described.now c.names.inside.names.keys c.in_ok-agents.agents.items c.in_ok-links.links
     c.contexts-contexts.result c.pairs-pairs.result c.in_ok-clone.field-0 c.in_ok-none_of.field-0.items
     (c.names.view_is ∙ c.in_ok-names.ensures ∙ c.requires.named) c.in_ok-agents.ensures.count c.in_ok-agents.ensures.each

@@ -1,9 +1,14 @@
 -- A refresh is what the run says, and then it's the network of the next line.
-use Rattle.std.proofs.Common.{◌≡◌, ℕ, ◌+◌, inl, inr, length, ap, ◌∙◌}
+use Rattle.std.proofs.Common.{◌≡◌, ℕ, ◌+◌, inl, inr, length, ap, ◌∙◌, arith}
 use Rattle.x5_world.specs.State.{Net}
 use Rattle.x5_world.specs.declared.refreshment.Refreshment.{Refreshment}
 use Rattle.x5_world.proofs.Concluding.{is_done, is_invalid}
+use Rattle.x5_world.proofs.Worlds.{few_lines}
 use Rattle.x5_world.proofs.world.World.refresh.Goals as goal
+
+pub refreshed-requires-clause-few : goal.refreshed-requires-clause-few
+refreshed-requires-clause-few c =
+    let few = few_lines c.args.self.now c.requires.room in omega (arith, few)
 
 pub returns-clause-refreshed : goal.returns-clause-refreshed
 returns-clause-refreshed c =

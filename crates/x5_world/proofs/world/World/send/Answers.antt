@@ -60,7 +60,7 @@ returns-clause-answered c =
     (is_after old mid mid (request_view c.args.message.request) c.in_ok-told.told.accepted.items
     c.len-messages.result (length sent) c.in_ok-told.ensures.held refl count)
     (subst (λ (n : Net). c.args.first < length n.names) (sym was) c.requires.there)
-    c.requires.short
+    c.requires.short c.requires.sent.bounded.request
     (subst (λ (n : Net). StandsAt n p) (sym was) s)))
 
 pub returns-clause-named : goal.returns-clause-named

@@ -1,0 +1,3 @@
+mod Shadowed
+mod Same
+mod Telling
