@@ -35,12 +35,7 @@ fn octets_of(
 }
 
 /// The message of shadowing that octets spell.
-fn read(
-    alloc: Global,
-    start: &Start,
-    names: &AgentNames,
-    octets: &[u8],
-) -> Result<Shadow, NoMemory>
+fn read(alloc: Global, start: &Start, names: &AgentNames, octets: &[u8]) -> Result<Shadow, NoMemory>
     requires spelled { (id : ℕ) × (m : shadows.Shadow) × ShadowWithin (world start.now names.now) m × Spells (world_table start.now names.now) named.DispMessage octets.now (shadows.shadow_node id m) }
     ensures read { (id : ℕ) (m : shadows.Shadow) → ShadowWithin (world start.now names.now) m → Spells (world_table start.now names.now) named.DispMessage octets.now (shadows.shadow_node id m)
         → IfOk result (λ message. told_shadow names.now message ≡ m) }
