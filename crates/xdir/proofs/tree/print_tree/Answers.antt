@@ -6,7 +6,7 @@ use Rattle.x5_one.specs.One.{tree_in}
 use Rattle.x5_script.specs.Views.{command_view}
 use Rattle.xdir.specs.Tree.{plain_command}
 use Rattle.xdir.proofs.Mapped.{first_more, around, so_many}
-use Rattle.xdir.proofs.Trees.{IsPrinted, one_more, breaks, stops, numbered}
+use Rattle.xdir.proofs.Trees.{IsPrinted, begun, breaks_begun, one_more, breaks, stops, numbered}
 use Rattle.xdir.proofs.tree.print_tree.Goals as goal
 
 pub returns-in-Err-put_all-clause-writes : goal.returns-in-Err-put_all-clause-writes
@@ -62,3 +62,16 @@ loop-place-preserved g c =
           c.put_all-in-Ok-line_block.ensures.rising in
           omega arith;
     }
+
+pub returns-in-Err-clause-writes : goal.returns-in-Err-clause-writes
+returns-in-Err-clause-writes g c =
+    breaks_begun (file_view c.args.world.now) c.requires.consistent (map command_view c.args.commands.now) c.as_bytes.result.now
+    (g.K.Sink.octets c.args.out.now) (g.K.Sink.octets c.put_all.new.sink) (g.K.Sink.fault_count c.args.out.now)
+    (g.K.Sink.fault_count c.put_all.new.sink) c.as_bytes.ensures.value c.in-Err.ensures.failed c.in-Err.ensures.taken
+
+pub loop-place-init : goal.loop-place-init
+loop-place-init g c = record {
+  printed = begun (file_view c.args.world.now) c.requires.consistent c.as_bytes.result.now (tree_in c.args.tree)
+      (g.K.Sink.octets c.args.out.now) (g.K.Sink.octets c.put_all.new.sink) c.as_bytes.ensures.value c.requires.tree c.in-Ok.ensures.all;
+  rising = c.put_all.ensures.rising;
+}
