@@ -113,11 +113,12 @@ impl<'a> State<'a> {
     {
         let left = components_in(content);
         let slots = empty_slots(alloc, content)?;
+        let nodes = no_nodes(alloc, content)?;
         Ok(State {
             at,
             content,
             left,
-            nodes: Vec::new(alloc),
+            nodes,
             slots,
             last: at,
         })
@@ -232,6 +233,19 @@ fn push_defaults(
         nodes.push(node)?;
     }
     Ok(())
+}
+
+/// Room for the members that a content has as a rule.
+fn no_nodes<'a>(alloc: Global, content: Content) -> Result<Vec<Node<'a>>, NoMemory>
+    ensures { IfOk result (λ nodes. nodes.items ≡ []) }
+{
+    match content {
+        Content::Sequence(components) => Ok(Vec::with_capacity(alloc, components.len())?),
+        Content::Explicit(_) | Content::Members(Named::Pair | Named::Value) => Ok(
+            Vec::with_capacity(alloc, 1)?,
+        ),
+        _ => Ok(Vec::new(alloc)),
+    }
 }
 
 fn empty_slots<'a>(alloc: Global, content: Content) -> Result<Vec<Option<Node<'a>>>, NoMemory>
