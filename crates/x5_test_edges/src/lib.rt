@@ -1,4 +1,4 @@
-//! Tests of the edges through their public calls: elements of octets, and messages, answers to users, messages between agents and messages of shadowing among them; files and a sink, in memory and real. Nothing stands on it.
+//! Tests of the edges through their public calls: elements of octets, and messages, answers to users and messages between agents among them; files and a sink, in memory and real. Nothing stands on it.
 #![tactic(auto)]
 
 #[cfg(test)]
@@ -11,5 +11,3 @@ mod octets;
 mod ports;
 #[cfg(test)]
 mod replies;
-#[cfg(test)]
-mod shadows;
