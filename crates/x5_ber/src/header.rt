@@ -46,6 +46,7 @@ pub(crate) struct Around {
 }
 
 /// The octet at a place before the end, if there is one.
+#[inline(always)]
 fn octet(front: &[u8], piece: &[u8], end: usize, place: usize) -> Option<u8>
     requires { end ≤ length front.now + length piece.now }
     ensures { let octets = drop place (take end (front.now ++ piece.now)) in
@@ -100,6 +101,7 @@ fn read_number(front: &[u8], piece: &[u8], end: usize, start: usize) -> u64
 }
 
 /// The identifier that a first octet and a tag number give.
+#[inline(always)]
 fn made_identifier(first: u8, tag: u32) -> Identifier
     ensures { identifier_view result ≡ identifier_of first tag }
 {
@@ -111,6 +113,7 @@ fn made_identifier(first: u8, tag: u32) -> Identifier
 }
 
 /// Reads identifier octets: what they say, and the place after them.
+#[inline(always)]
 fn read_identifier(
     front: &[u8],
     piece: &[u8],
@@ -139,6 +142,7 @@ fn read_identifier(
 }
 
 /// Reads length octets: the length, or `None` for the indefinite form, and the place after them.
+#[inline(always)]
 fn read_length(
     front: &[u8],
     piece: &[u8],
@@ -176,6 +180,7 @@ fn read_length(
 
 /// Whether no octet is left, or within the indefinite form a single 00 that may begin
 /// end-of-contents octets.
+#[inline(always)]
 fn is_cut_off(front: &[u8], piece: &[u8], end: usize, at: usize, closes: bool) -> bool
     requires { end ≤ length front.now + length piece.now }
     ensures { result ≡ runs_out closes (drop at (take end (front.now ++ piece.now))) }
@@ -187,6 +192,7 @@ fn is_cut_off(front: &[u8], piece: &[u8], end: usize, at: usize, closes: bool) -
 }
 
 /// Whether end-of-contents octets stand at the place.
+#[inline(always)]
 pub(crate) fn stands_end(front: &[u8], piece: &[u8], end: usize, at: usize) -> bool
     requires { end ≤ length front.now + length piece.now }
     ensures { result ≡ begins_with_end (drop at (take end (front.now ++ piece.now))) }
@@ -206,6 +212,7 @@ impl Around {
     };
 
     /// How many of so many octets stand before the enclosing end.
+    #[inline(always)]
     pub(crate) fn end(&self, total: usize) -> usize
         ensures few { result ≤ total }
         ensures seen { (input : List ℕ) → length input ≡ total → seen self.now.limit input ≡ take result input }
@@ -227,6 +234,7 @@ impl Around {
     }
 
     /// Whether a header's length may stand here.
+    #[inline(always)]
     fn admits(&self, head: Head) -> bool
         ensures { result ≡ may_extend self.now.limit (head_view head) }
     {
@@ -239,6 +247,7 @@ impl Around {
 }
 
 /// Reads the header of the element that has to begin at the place, or finds its first fault.
+#[inline(always)]
 pub(crate) fn read_head(
     front: &[u8],
     piece: &[u8],

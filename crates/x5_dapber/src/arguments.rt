@@ -68,7 +68,7 @@ fn subset_number(subset: Subset) -> u32
 fn types_node<'a>(alloc: Global, kinds: &[TypeRef]) -> Result<Node<'a>, NoMemory>
     ensures { IfOk result (λ n. node_view n ≡ node_of (map type_node_of (map type_view kinds.now))) }
 {
-    let mut nodes = Vec::new(alloc);
+    let mut nodes = Vec::with_capacity(alloc, kinds.len())?;
     for kind in kinds {
         nodes.push(type_node(alloc, kind)?)?;
     }

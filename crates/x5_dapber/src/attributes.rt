@@ -31,7 +31,7 @@ pub(crate) fn attributes_node<'a>(
 ) -> Result<Node<'a>, NoMemory>
     ensures { IfOk result (λ n. node_view n ≡ terms.node_of (map terms.attribute_node (map attribute_view attributes.now))) }
 {
-    let mut nodes = Vec::new(alloc);
+    let mut nodes = Vec::with_capacity(alloc, attributes.len())?;
     for attribute in attributes {
         nodes.push(attribute_node(alloc, attribute)?)?;
     }
@@ -54,7 +54,7 @@ fn change_node<'a>(alloc: Global, change: &'a Change) -> Result<Node<'a>, NoMemo
 pub(crate) fn changes_node<'a>(alloc: Global, changes: &'a [Change]) -> Result<Node<'a>, NoMemory>
     ensures { IfOk result (λ n. node_view n ≡ terms.node_of (map terms.change_node (map change_view changes.now))) }
 {
-    let mut nodes = Vec::new(alloc);
+    let mut nodes = Vec::with_capacity(alloc, changes.len())?;
     for change in changes {
         nodes.push(change_node(alloc, change)?)?;
     }

@@ -36,7 +36,7 @@ fn piece_node<'a>(alloc: Global, piece: &'a Piece) -> Result<Node<'a>, NoMemory>
 fn pieces_node<'a>(alloc: Global, pieces: &'a [Piece]) -> Result<Node<'a>, NoMemory>
     ensures { IfOk result (λ n. node_view n ≡ node_of (map terms.piece_node pieces.now)) }
 {
-    let mut nodes = Vec::new(alloc);
+    let mut nodes = Vec::with_capacity(alloc, pieces.len())?;
     for piece in pieces {
         nodes.push(piece_node(alloc, piece)?)?;
     }
@@ -79,14 +79,14 @@ pub(crate) fn filter_node<'a>(alloc: Global, filter: &'a Filter) -> Result<Node<
     match filter {
         Filter::Item(item) => chosen(alloc, 0, item_node(alloc, item)?),
         Filter::And(members) => {
-            let mut nodes = Vec::new(alloc);
+            let mut nodes = Vec::with_capacity(alloc, members.len())?;
             for member in members {
                 nodes.push(filter_node(alloc, member)?)?;
             }
             chosen(alloc, 1, many(nodes))
         }
         Filter::Or(members) => {
-            let mut nodes = Vec::new(alloc);
+            let mut nodes = Vec::with_capacity(alloc, members.len())?;
             for member in members {
                 nodes.push(filter_node(alloc, member)?)?;
             }

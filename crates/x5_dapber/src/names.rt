@@ -39,7 +39,7 @@ fn written_pair_node<'a>(alloc: Global, pair: &'a (TypeId, Text)) -> Result<Node
 fn written_rdn_node<'a>(alloc: Global, rdn: &'a RdnValue) -> Result<Node<'a>, NoMemory>
     ensures { IfOk result (λ n. node_view n ≡ terms.pairs_node rdn.now) }
 {
-    let mut pairs = Vec::new(alloc);
+    let mut pairs = Vec::with_capacity(alloc, rdn.pairs().len())?;
     for pair in rdn.pairs() {
         pairs.push(written_pair_node(alloc, pair)?)?;
     }
@@ -50,7 +50,7 @@ fn written_rdn_node<'a>(alloc: Global, rdn: &'a RdnValue) -> Result<Node<'a>, No
 pub(crate) fn name_value_node<'a>(alloc: Global, name: &'a NameValue) -> Result<Node<'a>, NoMemory>
     ensures { IfOk result (λ n. node_view n ≡ terms.name_value_node name.now) }
 {
-    let mut rdns = Vec::new(alloc);
+    let mut rdns = Vec::with_capacity(alloc, name.rdns().len())?;
     for rdn in name.rdns() {
         rdns.push(written_rdn_node(alloc, rdn)?)?;
     }
@@ -68,7 +68,7 @@ fn pair_node<'a>(alloc: Global, pair: &'a Pair) -> Result<Node<'a>, NoMemory>
 pub fn rdn_node<'a>(alloc: Global, rdn: &'a Rdn) -> Result<Node<'a>, NoMemory>
     ensures { IfOk result (λ n. node_view n ≡ terms.rdn_node rdn.now) }
 {
-    let mut pairs = Vec::new(alloc);
+    let mut pairs = Vec::with_capacity(alloc, rdn.pairs().len())?;
     for pair in rdn.pairs() {
         pairs.push(pair_node(alloc, pair)?)?;
     }
@@ -79,7 +79,7 @@ pub fn rdn_node<'a>(alloc: Global, rdn: &'a Rdn) -> Result<Node<'a>, NoMemory>
 pub fn name_node<'a>(alloc: Global, name: &'a Name) -> Result<Node<'a>, NoMemory>
     ensures { IfOk result (λ n. node_view n ≡ terms.name_node name.now) }
 {
-    let mut rdns = Vec::new(alloc);
+    let mut rdns = Vec::with_capacity(alloc, name.rdns().len())?;
     for rdn in name.rdns() {
         rdns.push(rdn_node(alloc, rdn)?)?;
     }

@@ -20,7 +20,7 @@ pub fn many<'a>(parts: Vec<Node<'a>>) -> Node<'a>
 pub fn one<'a>(alloc: Global, a: Node<'a>) -> Result<Node<'a>, NoMemory>
     ensures { IfOk result (λ n. node_view n ≡ node_of (node_view a.entry ∷ [])) }
 {
-    let mut parts = Vec::new(alloc);
+    let mut parts = Vec::with_capacity(alloc, 1)?;
     parts.push(a)?;
     Ok(many(parts))
 }
@@ -29,7 +29,7 @@ pub fn one<'a>(alloc: Global, a: Node<'a>) -> Result<Node<'a>, NoMemory>
 pub fn two<'a>(alloc: Global, a: Node<'a>, b: Node<'a>) -> Result<Node<'a>, NoMemory>
     ensures { IfOk result (λ n. node_view n ≡ node_of (node_view a.entry ∷ node_view b.entry ∷ [])) }
 {
-    let mut parts = Vec::new(alloc);
+    let mut parts = Vec::with_capacity(alloc, 2)?;
     parts.push(a)?;
     parts.push(b)?;
     Ok(many(parts))
@@ -39,7 +39,7 @@ pub fn two<'a>(alloc: Global, a: Node<'a>, b: Node<'a>) -> Result<Node<'a>, NoMe
 pub fn three<'a>(alloc: Global, a: Node<'a>, b: Node<'a>, c: Node<'a>) -> Result<Node<'a>, NoMemory>
     ensures { IfOk result (λ n. node_view n ≡ node_of (node_view a.entry ∷ node_view b.entry ∷ node_view c.entry ∷ [])) }
 {
-    let mut parts = Vec::new(alloc);
+    let mut parts = Vec::with_capacity(alloc, 3)?;
     parts.push(a)?;
     parts.push(b)?;
     parts.push(c)?;
@@ -57,7 +57,7 @@ pub fn four<'a>(
     ensures { IfOk result (λ n. node_view n ≡ node_of (node_view a.entry ∷ node_view b.entry ∷ node_view c.entry
         ∷ node_view d.entry ∷ [])) }
 {
-    let mut parts = Vec::new(alloc);
+    let mut parts = Vec::with_capacity(alloc, 4)?;
     parts.push(a)?;
     parts.push(b)?;
     parts.push(c)?;
@@ -96,7 +96,7 @@ pub(crate) fn five<'a>(
     ensures { IfOk result (λ n. node_view n ≡ node_of (node_view a.entry ∷ node_view b.entry ∷ node_view c.entry
         ∷ node_view d.entry ∷ node_view e.entry ∷ [])) }
 {
-    let mut parts = Vec::new(alloc);
+    let mut parts = Vec::with_capacity(alloc, 5)?;
     parts.push(a)?;
     parts.push(b)?;
     parts.push(c)?;

@@ -32,11 +32,11 @@ pub(crate) fn attributes_in(alloc: Global, nodes: &[Node<'_>]) -> Result<Attribu
     requires { All (λ n. IsAttribute (node_view n)) nodes.now }
     ensures { IfOk result (λ l. map attribute_view l ≡ map terms.attribute_in (map node_view nodes.now)) }
 {
-    let mut attributes = AttributeList::new(alloc);
+    let mut attributes = Vec::with_capacity(alloc, nodes.len())?;
     for node in nodes {
         attributes.push(attribute_in(alloc, node)?)?;
     }
-    Ok(attributes)
+    Ok(AttributeList::from_vec(attributes))
 }
 
 fn change_in(alloc: Global, node: &Node<'_>) -> Result<Change, NoMemory>

@@ -59,7 +59,7 @@ pub fn values_in(alloc: Global, nodes: &[Node<'_>]) -> Result<Vec<Value>, NoMemo
     requires { All (λ n. IsValue (node_view n)) nodes.now }
     ensures { IfOk result (λ vs. map value_view vs.items ≡ map rules.value_in (map node_view nodes.now)) }
 {
-    let mut values = Vec::new(alloc);
+    let mut values = Vec::with_capacity(alloc, nodes.len())?;
     for node in nodes {
         values.push(value_in(alloc, node)?)?;
     }

@@ -29,7 +29,7 @@ pub fn value_node<'a>(alloc: Global, value: &'a Value) -> Result<Node<'a>, NoMem
 pub fn values_node<'a>(alloc: Global, values: &'a [Value]) -> Result<Node<'a>, NoMemory>
     ensures { IfOk result (λ n. node_view n ≡ terms.node_of (map (λ v. terms.value_node (value_view v)) values.now)) }
 {
-    let mut nodes = Vec::new(alloc);
+    let mut nodes = Vec::with_capacity(alloc, values.len())?;
     for value in values {
         nodes.push(value_node(alloc, value)?)?;
     }

@@ -43,11 +43,11 @@ fn all_shown_in(alloc: Global, nodes: &[Node<'_>]) -> Result<AttributeList, NoMe
     requires { All (λ n. IsAttribute (node_view n)) nodes.now }
     ensures { IfOk result (λ l. map shown_view l ≡ map replies.shown_in (map node_view nodes.now)) }
 {
-    let mut attributes = AttributeList::new(alloc);
+    let mut attributes = Vec::with_capacity(alloc, nodes.len())?;
     for node in nodes {
         attributes.push(shown_in(alloc, node)?)?;
     }
-    Ok(attributes)
+    Ok(AttributeList::from_vec(attributes))
 }
 
 /// What the node shows of an entry.
@@ -69,11 +69,11 @@ fn infos_in(alloc: Global, nodes: &[Node<'_>]) -> Result<EntryList, NoMemory>
     requires { All (λ n. sayable.IsInfo (node_view n)) nodes.now }
     ensures { IfOk result (λ l. map info_view l ≡ map replies.info_in (map node_view nodes.now)) }
 {
-    let mut entries = EntryList::new(alloc);
+    let mut entries = Vec::with_capacity(alloc, nodes.len())?;
     for node in nodes {
         entries.push(info_in(alloc, node)?)?;
     }
-    Ok(entries)
+    Ok(EntryList::from_vec(entries))
 }
 
 fn sub_in(alloc: Global, node: &Node<'_>) -> Result<Sub, NoMemory>
@@ -93,11 +93,11 @@ fn subs_in(alloc: Global, nodes: &[Node<'_>]) -> Result<SubList, NoMemory>
     requires { All (λ n. sayable.IsSub (node_view n)) nodes.now }
     ensures { IfOk result (λ l. map sub_view l ≡ map replies.sub_in (map node_view nodes.now)) }
 {
-    let mut subs = SubList::new(alloc);
+    let mut subs = Vec::with_capacity(alloc, nodes.len())?;
     for node in nodes {
         subs.push(sub_in(alloc, node)?)?;
     }
-    Ok(subs)
+    Ok(SubList::from_vec(subs))
 }
 
 /// The partial outcome of a list or search that the node says.

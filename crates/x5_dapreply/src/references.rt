@@ -41,7 +41,7 @@ fn access_node<'a>(alloc: Global, access: &'a AccessPoint) -> Result<Node<'a>, N
 fn accesses_node<'a>(alloc: Global, agents: &'a [AccessPoint]) -> Result<Node<'a>, NoMemory>
     ensures { IfOk result (λ n. node_view n ≡ node_of (map replies.access_node (map told_access agents.now))) }
 {
-    let mut nodes = Vec::new(alloc);
+    let mut nodes = Vec::with_capacity(alloc, agents.len())?;
     for access in agents {
         nodes.push(access_node(alloc, access)?)?;
     }
@@ -52,7 +52,7 @@ fn accesses_node<'a>(alloc: Global, agents: &'a [AccessPoint]) -> Result<Node<'a
 pub fn rdns_node<'a>(alloc: Global, rdns: &'a [Rdn]) -> Result<Node<'a>, NoMemory>
     ensures { IfOk result (λ n. node_view n ≡ node_of (map rdn_node_of rdns.now)) }
 {
-    let mut nodes = Vec::new(alloc);
+    let mut nodes = Vec::with_capacity(alloc, rdns.len())?;
     for rdn in rdns {
         nodes.push(rdn_node(alloc, rdn)?)?;
     }
@@ -83,7 +83,7 @@ pub(crate) fn references_node<'a>(
 ) -> Result<Node<'a>, NoMemory>
     ensures { IfOk result (λ n. node_view n ≡ node_of (map replies.reference_node (map told_reference references.now))) }
 {
-    let mut nodes = Vec::new(alloc);
+    let mut nodes = Vec::with_capacity(alloc, references.len())?;
     for reference in references {
         nodes.push(reference_node(alloc, reference)?)?;
     }
@@ -131,7 +131,7 @@ pub(crate) fn source_node<'a>(alloc: Global, source: &'a Source) -> Result<Node<
 pub(crate) fn sources_node<'a>(alloc: Global, sources: &'a [Source]) -> Result<Node<'a>, NoMemory>
     ensures { IfOk result (λ n. node_view n ≡ node_of (map replies.source_node (map told_source sources.now))) }
 {
-    let mut nodes = Vec::new(alloc);
+    let mut nodes = Vec::with_capacity(alloc, sources.len())?;
     for source in sources {
         nodes.push(source_node(alloc, source)?)?;
     }

@@ -27,7 +27,7 @@ fn shown_node<'a>(alloc: Global, attribute: &'a Attribute) -> Result<Node<'a>, N
 fn all_shown_node<'a>(alloc: Global, attributes: &'a [Attribute]) -> Result<Node<'a>, NoMemory>
     ensures { IfOk result (λ n. node_view n ≡ node_of (map replies.shown_node (map shown_view attributes.now))) }
 {
-    let mut nodes = Vec::new(alloc);
+    let mut nodes = Vec::with_capacity(alloc, attributes.len())?;
     for attribute in attributes {
         nodes.push(shown_node(alloc, attribute)?)?;
     }
@@ -46,7 +46,7 @@ fn info_node<'a>(alloc: Global, info: &'a EntryInfo) -> Result<Node<'a>, NoMemor
 fn infos_node<'a>(alloc: Global, infos: &'a [EntryInfo]) -> Result<Node<'a>, NoMemory>
     ensures { IfOk result (λ n. node_view n ≡ node_of (map replies.info_node (map info_view infos.now))) }
 {
-    let mut nodes = Vec::new(alloc);
+    let mut nodes = Vec::with_capacity(alloc, infos.len())?;
     for info in infos {
         nodes.push(info_node(alloc, info)?)?;
     }
@@ -62,7 +62,7 @@ fn sub_node<'a>(alloc: Global, sub: &'a Sub) -> Result<Node<'a>, NoMemory>
 fn subs_node<'a>(alloc: Global, subs: &'a [Sub]) -> Result<Node<'a>, NoMemory>
     ensures { IfOk result (λ n. node_view n ≡ node_of (map replies.sub_node (map sub_view subs.now))) }
 {
-    let mut nodes = Vec::new(alloc);
+    let mut nodes = Vec::with_capacity(alloc, subs.len())?;
     for sub in subs {
         nodes.push(sub_node(alloc, sub)?)?;
     }

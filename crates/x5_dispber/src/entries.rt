@@ -17,7 +17,7 @@ use x5_types::Node;
 fn values_node<'a>(alloc: Global, values: &'a [StoredValue]) -> Result<Node<'a>, NoMemory>
     ensures { IfOk result (λ n. node_view n ≡ node_of (map (λ v. value_node_of v.value) values.now)) }
 {
-    let mut nodes = Vec::new(alloc);
+    let mut nodes = Vec::with_capacity(alloc, values.len())?;
     for stored in values {
         nodes.push(value_node(alloc, &stored.value)?)?;
     }
@@ -35,7 +35,7 @@ fn stored_node<'a>(alloc: Global, attribute: &'a Stored) -> Result<Node<'a>, NoM
 fn attributes_node<'a>(alloc: Global, attributes: &'a [Stored]) -> Result<Node<'a>, NoMemory>
     ensures { IfOk result (λ n. node_view n ≡ node_of (map shadows.stored_node attributes.now)) }
 {
-    let mut nodes = Vec::new(alloc);
+    let mut nodes = Vec::with_capacity(alloc, attributes.len())?;
     for attribute in attributes {
         nodes.push(stored_node(alloc, attribute)?)?;
     }
@@ -55,7 +55,7 @@ pub(crate) fn entry_node<'a>(alloc: Global, named: &'a Named) -> Result<Node<'a>
 pub(crate) fn entries_node<'a>(alloc: Global, entries: &'a [Named]) -> Result<Node<'a>, NoMemory>
     ensures { IfOk result (λ n. node_view n ≡ node_of (map shadows.entry_node entries.now)) }
 {
-    let mut nodes = Vec::new(alloc);
+    let mut nodes = Vec::with_capacity(alloc, entries.len())?;
     for entry in entries {
         nodes.push(entry_node(alloc, entry)?)?;
     }

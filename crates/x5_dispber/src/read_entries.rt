@@ -34,11 +34,11 @@ fn stored_values_in(
     requires { All (λ n. IsStoredValue kind (node_view n)) nodes.now }
     ensures { IfOk result (λ l. l ≡ map (λ v. shadows.stored_value kind (rules.value_in v)) (map node_view nodes.now)) }
 {
-    let mut values = StoredValueList::new(alloc);
+    let mut values = Vec::with_capacity(alloc, nodes.len())?;
     for node in nodes {
         values.push(stored_value_in(alloc, kind, node)?)?;
     }
-    Ok(values)
+    Ok(StoredValueList::from_vec(values))
 }
 
 /// The attribute that the node says.
@@ -58,11 +58,11 @@ fn all_stored_in(alloc: Global, nodes: &[Node<'_>]) -> Result<StoredList, NoMemo
     requires { All (λ n. IsStored (node_view n)) nodes.now }
     ensures { IfOk result (λ l. l ≡ map shadows.stored_in (map node_view nodes.now)) }
 {
-    let mut attributes = StoredList::new(alloc);
+    let mut attributes = Vec::with_capacity(alloc, nodes.len())?;
     for node in nodes {
         attributes.push(stored_in(alloc, node)?)?;
     }
-    Ok(attributes)
+    Ok(StoredList::from_vec(attributes))
 }
 
 /// The entry that the node says, with its name.
@@ -86,9 +86,9 @@ pub(crate) fn entries_in(alloc: Global, nodes: &[Node<'_>]) -> Result<NamedList,
     requires { All (λ n. IsEntry (node_view n)) nodes.now }
     ensures { IfOk result (λ l. l ≡ map shadows.entry_in (map node_view nodes.now)) }
 {
-    let mut entries = NamedList::new(alloc);
+    let mut entries = Vec::with_capacity(alloc, nodes.len())?;
     for node in nodes {
         entries.push(entry_in(alloc, node)?)?;
     }
-    Ok(entries)
+    Ok(NamedList::from_vec(entries))
 }

@@ -82,7 +82,7 @@ fn all_known_node<'a>(
 ) -> Result<Node<'a>, NoMemory>
     ensures { IfOk result (λ n. node_view n ≡ node_of (map shadows.known_node (map (told_known names.now) known.now))) }
 {
-    let mut nodes = Vec::new(alloc);
+    let mut nodes = Vec::with_capacity(alloc, known.len())?;
     for one in known {
         nodes.push(known_node(alloc, names, one)?)?;
     }
@@ -109,7 +109,7 @@ fn others_node<'a>(
 ) -> Result<Node<'a>, NoMemory>
     ensures { IfOk result (λ n. node_view n ≡ node_of (map shadows.non_specific_node (map (told_other names.now) nssrs.now))) }
 {
-    let mut nodes = Vec::new(alloc);
+    let mut nodes = Vec::with_capacity(alloc, nssrs.len())?;
     for nssr in nssrs {
         nodes.push(other_node(alloc, names, nssr)?)?;
     }
@@ -135,7 +135,7 @@ fn step_node<'a>(alloc: Global, step: &'a Step) -> Result<Node<'a>, NoMemory>
 fn steps_node<'a>(alloc: Global, steps: &'a [Step]) -> Result<Node<'a>, NoMemory>
     ensures { IfOk result (λ n. node_view n ≡ node_of (map shadows.step_node (map told_step steps.now))) }
 {
-    let mut nodes = Vec::new(alloc);
+    let mut nodes = Vec::with_capacity(alloc, steps.len())?;
     for step in steps {
         nodes.push(step_node(alloc, step)?)?;
     }

@@ -20,7 +20,7 @@ use x5_types::Node;
 fn trace_node<'a>(alloc: Global, items: &'a [TraceItem]) -> Result<Node<'a>, NoMemory>
     ensures { IfOk result (λ n. node_view n ≡ node_of (map replies.item_node (map told_item items.now))) }
 {
-    let mut nodes = Vec::new(alloc);
+    let mut nodes = Vec::with_capacity(alloc, items.len())?;
     for item in items {
         nodes.push(item_node(alloc, item)?)?;
     }
@@ -31,7 +31,7 @@ fn trace_node<'a>(alloc: Global, items: &'a [TraceItem]) -> Result<Node<'a>, NoM
 fn chaining_node<'a>(alloc: Global, message: &'a Chained) -> Result<Node<'a>, NoMemory>
     ensures { IfOk result (λ n. node_view n ≡ chains.chaining_node (told_chained message.now)) }
 {
-    let mut parts = Vec::new(alloc);
+    let mut parts = Vec::with_capacity(alloc, 5)?;
     parts.push(name_node(alloc, &message.target)?)?;
     parts.push(progress_node(alloc, message.progress)?)?;
     parts.push(trace_node(alloc, message.trace.as_slice())?)?;

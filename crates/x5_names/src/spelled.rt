@@ -125,7 +125,7 @@ impl Rdn {
     pub fn from_value(alloc: Global, value: &RdnValue) -> Result<Rdn, NoMemory>
         ensures { IfOk result (λ rdn. rdn ≡ stored_rdn value.now) }
     {
-        let mut pairs = Vec::new(alloc);
+        let mut pairs = Vec::with_capacity(alloc, value.pairs().len())?;
         for pair in value.pairs() {
             pairs.push(Pair::new(alloc, pair.0, pair.1.as_str())?)?;
         }
@@ -151,7 +151,7 @@ impl Rdn {
     pub fn value(&self, alloc: Global) -> Result<RdnValue, NoMemory>
         ensures { IfOk result (λ value. value ≡ map written_pair self.now) }
     {
-        let mut pairs = Vec::new(alloc);
+        let mut pairs = Vec::with_capacity(alloc, self.pairs.len())?;
         for pair in &self.pairs {
             pairs.push((pair.kind, pair.text.clone()?))?;
         }
@@ -170,7 +170,7 @@ impl Rdn {
     pub fn key(&self, alloc: Global) -> Result<KeyRdn, NoMemory>
         ensures { IfOk result (λ key. key ≡ key_of_rdn self.now) }
     {
-        let mut pairs = Vec::new(alloc);
+        let mut pairs = Vec::with_capacity(alloc, self.pairs.len())?;
         for pair in &self.pairs {
             pairs.push(pair.key()?)?;
         }
@@ -192,7 +192,7 @@ impl Clone for Rdn {
 fn key_of_rdns(alloc: Global, rdns: &[Rdn]) -> Result<Key, NoMemory>
     ensures { IfOk result (λ key. key ≡ key_of rdns.now) }
 {
-    let mut keys = Vec::new(alloc);
+    let mut keys = Vec::with_capacity(alloc, rdns.len())?;
     for rdn in rdns {
         keys.push(rdn.key(alloc)?)?;
     }
@@ -203,7 +203,7 @@ fn key_of_rdns(alloc: Global, rdns: &[Rdn]) -> Result<Key, NoMemory>
 fn rdns_from(alloc: Global, values: &[RdnValue]) -> Result<Vec<Rdn>, NoMemory>
     ensures { IfOk result (λ rdns. rdns.items ≡ stored values.now) }
 {
-    let mut rdns = Vec::new(alloc);
+    let mut rdns = Vec::with_capacity(alloc, values.len())?;
     for value in values {
         rdns.push(Rdn::from_value(alloc, value)?)?;
     }
@@ -214,7 +214,7 @@ fn rdns_from(alloc: Global, values: &[RdnValue]) -> Result<Vec<Rdn>, NoMemory>
 fn values_of(alloc: Global, rdns: &[Rdn]) -> Result<Vec<RdnValue>, NoMemory>
     ensures { IfOk result (λ values. values.items ≡ written rdns.now) }
 {
-    let mut values = Vec::new(alloc);
+    let mut values = Vec::with_capacity(alloc, rdns.len())?;
     for rdn in rdns {
         values.push(rdn.value(alloc)?)?;
     }

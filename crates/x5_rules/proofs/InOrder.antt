@@ -15,6 +15,13 @@ insert_at : {A : Type 0} (below : A → A → Bool) (x y : A) (ys : List A) (b :
 insert_at below x y ys true h rest = rw (h, one-add) (ap (λ l. y ∷ l) rest)
 insert_at below x y ys false h rest = rw h refl
 
+-- One at most is in order.
+pub few_in_order : {A B : Type 0} (f : A → B) (below : B → B → Bool) (xs : List A) → length xs < 2
+    → map f xs ≡ sorted below (map f xs)
+few_in_order f below [] few = refl
+few_in_order f below (x ∷ []) few = refl
+few_in_order f below (x ∷ y ∷ ys) few = absurd (omega arith)
+
 pub inserted_is : {A : Type 0} (below : A → A → Bool) (x : A) (ys : List A)
     → insert_sorted below x ys ≡ insert ys (position_or_len (λ z. not (below z x)) ys) x
 inserted_is below x [] = refl

@@ -85,8 +85,8 @@ fn in_order<'a>(
     ensures { IfOk result (λ vs. option_map (λ v. map node_view v.items) vs
         ≡ where_so (list_all (rules.is_of_type kind) (map node_view values.entry.items) && distinct (rules.same_value kind) (map node_view values.entry.items)) (sorted (rules.value_below kind) (map node_view values.entry.items))) }
 {
-    let mut normals = Vec::new(alloc);
-    let mut done = Vec::new(alloc);
+    let mut normals = Vec::with_capacity(alloc, values.len())?;
+    let mut done = Vec::with_capacity(alloc, values.len())?;
     while let Some(value) = values.pop() {
         let put = put_value(alloc, kind, &mut normals, &mut done, value)?;
         if !put {
@@ -210,7 +210,7 @@ fn all_stored<'a>(
     ensures { IfOk result (λ vs. option_map (λ v. map node_view v.items) vs
         ≡ where_so (list_all rules.is_stored (map node_view attributes.entry.items) && distinct rules.same_attribute (map node_view attributes.entry.items)) (sorted rules.attribute_below (map rules.in_order (map node_view attributes.entry.items)))) }
 {
-    let mut done = Vec::new(alloc);
+    let mut done = Vec::with_capacity(alloc, attributes.len())?;
     while let Some(attribute) = attributes.pop() {
         let put = put_attribute(alloc, &mut done, attribute)?;
         if !put {

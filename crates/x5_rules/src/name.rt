@@ -45,8 +45,9 @@ fn pair_in(alloc: Global, node: &Node<'_>) -> Result<(TypeId, Text), NoMemory>
 pub fn rdn_in(alloc: Global, node: &Node<'_>) -> Result<RdnValue, NoMemory>
     ensures { IfOk result (λ rdn. rdn ≡ rules.rdn_in (node_view node.now)) }
 {
-    let mut pairs = Vec::new(alloc);
-    for part in node.parts() {
+    let parts = node.parts();
+    let mut pairs = Vec::with_capacity(alloc, parts.len())?;
+    for part in parts {
         pairs.push(pair_in(alloc, part)?)?;
     }
     Ok(RdnValue::new(pairs))
@@ -56,8 +57,9 @@ pub fn rdn_in(alloc: Global, node: &Node<'_>) -> Result<RdnValue, NoMemory>
 pub fn name_in(alloc: Global, node: &Node<'_>) -> Result<NameValue, NoMemory>
     ensures { IfOk result (λ name. name ≡ rules.name_in (node_view node.now)) }
 {
-    let mut rdns = Vec::new(alloc);
-    for part in node.parts() {
+    let parts = node.parts();
+    let mut rdns = Vec::with_capacity(alloc, parts.len())?;
+    for part in parts {
         rdns.push(rdn_in(alloc, part)?)?;
     }
     Ok(NameValue::new(rdns))

@@ -170,9 +170,13 @@ fn put_in_order<'a>(nodes: &mut Vec<Node<'a>>, node: Node<'a>) -> Result<(), NoM
 }
 
 /// The pairs in the order of type numbers.
+#[tactic(auto, using(crate::proofs::InOrder::few_in_order))]
 fn in_order<'a>(alloc: Global, mut nodes: Vec<Node<'a>>) -> Result<Vec<Node<'a>>, NoMemory>
     ensures { IfOk result (λ v. map node_view v.items ≡ sorted rules.pair_below (map node_view nodes.entry.items)) }
 {
+    if nodes.len() < 2 {
+        return Ok(nodes);
+    }
     let mut done = Vec::new(alloc);
     while let Some(node) = nodes.pop() {
         put_in_order(&mut done, node)?;

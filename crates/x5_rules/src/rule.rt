@@ -23,8 +23,18 @@ fn kept<'a>(right: bool, node: Node<'a>) -> Option<Node<'a>>
     if right { Some(node) } else { None }
 }
 
-/// The value as it is kept, by the rule; None where it breaks it.
+/// The value as it is kept, by the rule; None where it breaks it. Most types have no rule, so that is asked first.
+#[inline(always)]
 pub fn settle<'a>(alloc: Global, rule: Rule, node: Node<'a>) -> Result<Option<Node<'a>>, NoMemory>
+    ensures { IfOk result (λ n. option_view n ≡ rule_view rule (node_view node.entry)) }
+{
+    match rule {
+        Rule::Any => Ok(Some(node)),
+        _ => settle_by(alloc, rule, node),
+    }
+}
+
+fn settle_by<'a>(alloc: Global, rule: Rule, node: Node<'a>) -> Result<Option<Node<'a>>, NoMemory>
     ensures { IfOk result (λ n. option_view n ≡ rule_view rule (node_view node.entry)) }
 {
     match rule {

@@ -38,7 +38,7 @@ fn normal_of_octets(alloc: Global, kind: TypeId, octets: &[u8]) -> Result<Option
 fn octets_of_arcs(alloc: Global, arcs: &[u32]) -> Result<Vec<u8>, NoMemory>
     ensures { IfOk result (λ octets. octets.items ≡ normal.oid_normal arcs.now) }
 {
-    let mut octets = Vec::new(alloc);
+    let mut octets = Vec::with_capacity(alloc, arcs.len().saturating_mul(4))?;
     for arc in arcs {
         octets.extend_from_slice(&arc.to_be_bytes())?;
     }

@@ -98,7 +98,7 @@ fn drops_space_before(last: bool, text: &[u8]) -> bool
 fn single_spaced(alloc: Global, last: bool, text: &[u8]) -> Result<Vec<u8>, NoMemory>
     ensures { IfOk result (λ kept. kept.items ≡ model.single_spaced last text.now) }
 {
-    let mut kept = Vec::new(alloc);
+    let mut kept = Vec::with_capacity(alloc, text.len())?;
     for (i, octet) in text.iter().enumerate() {
         if *octet != b' ' || !drops_space_before(last, &text[i + 1..]) {
             kept.push(*octet)?;

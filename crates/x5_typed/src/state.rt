@@ -113,11 +113,12 @@ impl<'a> State<'a> {
     {
         let left = components_in(content);
         let slots = empty_slots(alloc, content)?;
+        let nodes = no_nodes(alloc, content)?;
         Ok(State {
             at,
             content,
             left,
-            nodes: Vec::new(alloc),
+            nodes,
             slots,
             last: at,
         })
@@ -234,6 +235,19 @@ fn push_defaults(
     Ok(())
 }
 
+/// Room for the members that a content has as a rule.
+fn no_nodes<'a>(alloc: Global, content: Content) -> Result<Vec<Node<'a>>, NoMemory>
+    ensures { IfOk result (λ nodes. nodes.items ≡ []) }
+{
+    match content {
+        Content::Sequence(components) => Ok(Vec::with_capacity(alloc, components.len())?),
+        Content::Explicit(_) | Content::Members(Named::Pair | Named::Value) => Ok(
+            Vec::with_capacity(alloc, 1)?,
+        ),
+        _ => Ok(Vec::new(alloc)),
+    }
+}
+
 fn empty_slots<'a>(alloc: Global, content: Content) -> Result<Vec<Option<Node<'a>>>, NoMemory>
     ensures { (w : layouts.Surroundings) → IfOk result (λ slots. map option_view slots.items ≡ judged.slots_in (content_view w content)) }
 {
@@ -246,7 +260,7 @@ fn empty_slots<'a>(alloc: Global, content: Content) -> Result<Vec<Option<Node<'a
 fn empty<'a>(alloc: Global, components: &[Component]) -> Result<Vec<Option<Node<'a>>>, NoMemory>
     ensures { IfOk result (λ slots. map option_view slots.items ≡ map no_node components.now) }
 {
-    let mut slots = Vec::new(alloc);
+    let mut slots = Vec::with_capacity(alloc, components.len())?;
     for _component in components {
         slots.push(None)?;
     }
@@ -346,7 +360,7 @@ fn with_slots<'a>(
     if !are_filled(&slots, left) {
         return Ok(None);
     }
-    let mut nodes = Vec::new(alloc);
+    let mut nodes = Vec::with_capacity(alloc, left.len())?;
     for i in 0..left.len() {
         let node = filled(alloc, &mut slots, left, i)?;
         nodes.push(node)?;

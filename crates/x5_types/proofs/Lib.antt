@@ -6,5 +6,6 @@ mod Cells
 mod Magnitudes
 pub mod Nodes
 mod Sameness
+mod Singles
 mod Times
 pub mod TwoParts

@@ -257,6 +257,7 @@ pub enum Choices {
 
 impl Choices {
     /// The alternative with the tag.
+    #[inline(always)]
     pub fn by_tag(self, class: u8, tag: u32) -> Option<Alternative>
         ensures { (w : layouts.Surroundings) → MatchOption result
             (forms.by_tag class tag (choices_view w self) ≡ None)
@@ -270,6 +271,7 @@ impl Choices {
     }
 }
 
+#[inline(always)]
 fn one_by_tag(alternative: Alternative, class: u8, tag: u32) -> Option<Alternative>
     ensures { (w : layouts.Surroundings) → MatchOption result
         (forms.by_tag class tag (alternative_view w alternative ∷ []) ≡ None)
@@ -282,6 +284,7 @@ fn one_by_tag(alternative: Alternative, class: u8, tag: u32) -> Option<Alternati
     }
 }
 
+#[inline(always)]
 fn listed_by_tag(types: &'static [Alternative], class: u8, tag: u32) -> Option<Alternative>
     ensures { (w : layouts.Surroundings) → MatchOption result
         (forms.by_tag class tag (types_view w types.now) ≡ None)

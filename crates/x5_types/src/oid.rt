@@ -87,10 +87,47 @@ fn arcs_of(alloc: Global, numbers: &[u64]) -> Result<Option<Vec<u32>>, NoMemory>
     with_others(arcs, others)
 }
 
+/// Whether each octet is the last one of a number, so a number itself.
+fn are_single(octets: &[u8]) -> bool
+    ensures { result ≡ list_all (λ o. nat_lt o 128) octets.now }
+{
+    octets.iter().all(|octet| *octet < 128)
+}
+
+/// Puts the octets behind the arcs. All of them are arcs.
+fn with_octets(mut arcs: Vec<u32>, others: &[u8]) -> Result<Vec<u32>, NoMemory>
+    ensures { IfOk result (λ v.
+        Some v.items ≡ leaves.where_so (list_all (λ n. nat_lt n (2 ^ 32)) others.now) (arcs.items ++ others.now)) }
+{
+    for octet in others {
+        arcs.push(u32::from(*octet))?;
+    }
+    Ok(arcs)
+}
+
+/// The arcs that the octets are as numbers, if they are an object identifier's.
+fn single_arcs(alloc: Global, octets: &[u8]) -> Result<Option<Vec<u32>>, NoMemory>
+    ensures { IfOk result (λ found.
+        option_map (λ v. v.items) found
+        ≡ leaves.where_so (normal.is_oid (leaves.arcs_of octets.now)) (leaves.arcs_of octets.now)) }
+{
+    let Some((head, others)) = octets.split_first() else {
+        return Ok(None);
+    };
+    let first = first_arc(u64::from(*head));
+    let mut arcs = Vec::with_capacity(alloc, octets.len() + 1)?;
+    arcs.push(first)?;
+    arcs.push(u32::from(*head) - 40 * first)?;
+    Ok(Some(with_octets(arcs, others)?))
+}
+
 /// The arcs of the object identifier that the content says.
 fn oid_of(alloc: Global, octets: &[u8]) -> Result<Option<Vec<u32>>, NoMemory>
     ensures { IfOk result (λ found. option_map (λ v. v.items) found ≡ leaves.oid_of octets.now) }
 {
+    if are_single(octets) {
+        return single_arcs(alloc, octets);
+    }
     match subidentifiers(alloc, octets)? {
         Some(numbers) => arcs_of(alloc, &numbers),
         None => Ok(None),

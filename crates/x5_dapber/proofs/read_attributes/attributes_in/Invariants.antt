@@ -7,5 +7,5 @@ use Rattle.x5_dapber.proofs.read_attributes.attributes_in.Given as goal
 
 abbrev pub invariant-loop-node : goal.invariant-loop-node
 invariant-loop-node l =
-    map attribute_view l.attributes ++ map terms.attribute_in (map node_view (drop l.node-index l.nodes))
+    map attribute_view l.attributes.items ++ map terms.attribute_in (map node_view (drop l.node-index l.nodes))
     ≡ map terms.attribute_in (map node_view l.nodes)

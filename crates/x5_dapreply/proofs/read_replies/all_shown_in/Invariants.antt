@@ -7,5 +7,5 @@ use Rattle.x5_dapreply.proofs.read_replies.all_shown_in.Given as goal
 
 abbrev pub invariant-loop-node : goal.invariant-loop-node
 invariant-loop-node l =
-    map shown_view l.attributes ++ map replies.shown_in (map node_view (drop l.node-index l.nodes))
+    map shown_view l.attributes.items ++ map replies.shown_in (map node_view (drop l.node-index l.nodes))
     ≡ map replies.shown_in (map node_view l.nodes)

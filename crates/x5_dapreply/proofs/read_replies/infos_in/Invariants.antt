@@ -7,5 +7,5 @@ use Rattle.x5_dapreply.proofs.read_replies.infos_in.Given as goal
 
 abbrev pub invariant-loop-node : goal.invariant-loop-node
 invariant-loop-node l =
-    map info_view l.entries ++ map replies.info_in (map node_view (drop l.node-index l.nodes))
+    map info_view l.entries.items ++ map replies.info_in (map node_view (drop l.node-index l.nodes))
     ≡ map replies.info_in (map node_view l.nodes)

@@ -7,5 +7,5 @@ use Rattle.x5_dapreply.proofs.read_replies.subs_in.Given as goal
 
 abbrev pub invariant-loop-node : goal.invariant-loop-node
 invariant-loop-node l =
-    map sub_view l.subs ++ map replies.sub_in (map node_view (drop l.node-index l.nodes))
+    map sub_view l.subs.items ++ map replies.sub_in (map node_view (drop l.node-index l.nodes))
     ≡ map replies.sub_in (map node_view l.nodes)

@@ -6,5 +6,5 @@ use Rattle.x5_dispber.proofs.read_entries.all_stored_in.Given as goal
 
 abbrev pub invariant-loop-node : goal.invariant-loop-node
 invariant-loop-node l =
-    l.attributes ++ map shadows.stored_in (map node_view (drop l.node-index l.nodes))
+    l.attributes.items ++ map shadows.stored_in (map node_view (drop l.node-index l.nodes))
     ≡ map shadows.stored_in (map node_view l.nodes)

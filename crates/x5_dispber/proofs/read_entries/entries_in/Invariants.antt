@@ -6,5 +6,5 @@ use Rattle.x5_dispber.proofs.read_entries.entries_in.Given as goal
 
 abbrev pub invariant-loop-node : goal.invariant-loop-node
 invariant-loop-node l =
-    l.entries ++ map shadows.entry_in (map node_view (drop l.node-index l.nodes))
+    l.entries.items ++ map shadows.entry_in (map node_view (drop l.node-index l.nodes))
     ≡ map shadows.entry_in (map node_view l.nodes)

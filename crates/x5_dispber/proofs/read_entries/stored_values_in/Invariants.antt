@@ -7,5 +7,5 @@ use Rattle.x5_dispber.proofs.read_entries.stored_values_in.Given as goal
 
 abbrev pub invariant-loop-node : goal.invariant-loop-node
 invariant-loop-node l =
-    l.values ++ map (λ v. shadows.stored_value l.kind (rules.value_in v)) (map node_view (drop l.node-index l.nodes))
+    l.values.items ++ map (λ v. shadows.stored_value l.kind (rules.value_in v)) (map node_view (drop l.node-index l.nodes))
     ≡ map (λ v. shadows.stored_value l.kind (rules.value_in v)) (map node_view l.nodes)
