@@ -9,7 +9,6 @@ ghost use Rattle.x5_types.specs.NodeView.{node_view};
 use std::alloc::Global;
 use x5_memory::NoMemory;
 use x5_names::Rdn;
-use x5_rules::rdn_in;
 use x5_types::Node;
 
 /// The number that the node says, if it says one that isn't negative.
@@ -52,6 +51,5 @@ pub fn is_vacant(node: &Node<'_>) -> bool
 pub fn rdn_of(alloc: Global, node: &Node<'_>) -> Result<Rdn, NoMemory>
     ensures { IfOk result (λ rdn. rdn ≡ terms.rdn_of (node_view node.now)) }
 {
-    let value = rdn_in(alloc, node)?;
-    Rdn::from_value(alloc, &value)
+    x5_rules::rdn_of(alloc, node)
 }

@@ -10,7 +10,7 @@ mod rule;
 mod trace;
 mod value;
 
-pub use crate::name::{name_in, name_of, rdn_in, text_in, type_in};
+pub use crate::name::{name_in, name_of, rdn_in, rdn_of, text_in, type_in};
 pub use crate::rule::settle;
 pub use crate::value::normal_in;
 pub use x5_memory::NoMemory;
