@@ -1,6 +1,5 @@
 //! Octets that are written from the last to the first, and the headers of elements (X.690, 8.1 and 10.1).
-ghost use Rattle.std.specs.Prelude.{◌≡◌, ◌+◌, ◌*◌, ◌<◌, ◌≤◌, [], ◌∷◌, ◌++◌, length, reverse, OnOk};
-ghost use Rattle.x5_model_octets.specs.Headers.{form_bit};
+ghost use Rattle.std.specs.Prelude.{◌≡◌, ◌+◌, ◌*◌, ◌<◌, ◌≤◌, [], ◌∷◌, ◌++◌, length, reverse, if◌then◌else◌, OnOk};
 ghost use Rattle.x5_model_octets.specs.Elements.{group_from, groups, identifier, identifier_octets, shortest_length, without_zeros};
 
 use std::alloc::Global;
@@ -48,11 +47,15 @@ impl Backwards {
     pub(crate) fn put_all(&mut self, octets: &[u8]) -> Result<(), NoMemory>
         ensures { OnOk result (self.new ≡ octets.now ++ self.old) }
     {
-        let mut i = octets.len();
-        while i > 0 {
-            i -= 1;
-            self.put(octets[i])?;
-        }
+        push_reversed(&mut self.octets, octets)
+    }
+
+    fn put_two(&mut self, first: u8, second: u8) -> Result<(), NoMemory>
+        ensures { OnOk result (self.new ≡ first ∷ second ∷ self.old) }
+    {
+        self.octets.reserve(2)?;
+        self.octets.push_reserved(second);
+        self.octets.push_reserved(first);
         Ok(())
     }
 
@@ -78,8 +81,7 @@ impl Backwards {
         ensures { OnOk result (self.new ≡ identifier_octets (identifier constructed class tag) ++ (shortest_length length ++ self.old)) }
     {
         if tag < 31 && length < 128 {
-            self.put(length as u8)?;
-            return self.put(leading(class, constructed) + tag as u8);
+            return self.put_two(leading(class, constructed) + tag as u8, length as u8);
         }
         self.put_length(length as u64)?;
         self.put_identifier(class, constructed, tag)
@@ -138,9 +140,22 @@ impl Backwards {
 #[inline(always)]
 fn leading(class: u8, constructed: bool) -> u8
     requires { class < 4 }
-    ensures { result ≡ 64 * class + form_bit constructed }
+    ensures { result ≡ 64 * class + (if constructed then 32 else 0) }
 {
     64 * class + if constructed { 32 } else { 0 }
+}
+
+/// Adds the octets, the last of them first.
+fn push_reversed(row: &mut Vec<u8>, octets: &[u8]) -> Result<(), NoMemory>
+    ensures { OnOk result (row.new.items ≡ row.old.items ++ reverse octets.now) }
+{
+    row.reserve(octets.len())?;
+    let mut i = octets.len();
+    while i > 0 {
+        i -= 1;
+        row.push_reserved(octets[i]);
+    }
+    Ok(())
 }
 
 /// The octets from the first that isn't zero.
