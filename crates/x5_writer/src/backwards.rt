@@ -1,5 +1,6 @@
 //! Octets that are written from the last to the first, and the headers of elements (X.690, 8.1 and 10.1).
-ghost use Rattle.std.specs.Prelude.{◌≡◌, ◌+◌, ◌*◌, ◌<◌, ◌≤◌, [], ◌∷◌, ◌++◌, length, reverse, if◌then◌else◌, OnOk};
+ghost use Rattle.std.specs.Prelude.{◌≡◌, ◌+◌, ◌*◌, ◌<◌, ◌≤◌, [], ◌∷◌, ◌++◌, length, reverse, OnOk};
+ghost use Rattle.x5_model_octets.specs.Headers.{form_bit};
 ghost use Rattle.x5_model_octets.specs.Elements.{group_from, groups, identifier, identifier_octets, shortest_length, without_zeros};
 
 use std::alloc::Global;
@@ -140,7 +141,7 @@ impl Backwards {
 #[inline(always)]
 fn leading(class: u8, constructed: bool) -> u8
     requires { class < 4 }
-    ensures { result ≡ 64 * class + (if constructed then 32 else 0) }
+    ensures { result ≡ 64 * class + form_bit constructed }
 {
     64 * class + if constructed { 32 } else { 0 }
 }
