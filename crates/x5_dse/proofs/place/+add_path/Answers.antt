@@ -1,10 +1,10 @@
 -- The path of the node above, and the node's own RDN.
-use Rattle.std.proofs.Common.{◌≡◌, ℕ, ◌++◌, [], ◌∷◌, inl, inr, sym, ap, ◌∙◌, ◌<◌, arith, append_assoc}
+use Rattle.std.proofs.Common.{◌≡◌, ℕ, ◌++◌, [], ◌∷◌, inl, inr, sym, ap, ◌∙◌, arith, append_assoc}
 use Rattle.x5_model.specs.Members.{In}
 use Rattle.x5_model.specs.Values.{Name}
 use Rattle.x5_model.proofs.Lists.{in_first}
 use Rattle.x5_dse.specs.Slot.{Slot}
-use Rattle.x5_dse.specs.Inside.{top, slot_at, held, depth_at, parent_at, rdn_at, path, path_of}
+use Rattle.x5_dse.specs.Inside.{top, depth_at, parent_at, rdn_at, path, path_of}
 use Rattle.x5_dse.proofs.place.+add_path.Goals as goal
 
 pub returns-in_ok-push : goal.returns-in_ok-push
