@@ -7,9 +7,9 @@ use std::alloc::Global;
 use std::marker::Model;
 use x5_memory::NoMemory;
 
-/// Octets, each put before those that are there.
+/// Octets, each put before those that are there: so the length of a content is known where its header is put.
 #[derive(Drop)]
-pub(crate) struct Backwards {
+pub struct Backwards {
     octets: Vec<u8>,
 }
 
@@ -22,7 +22,8 @@ impl Model for Backwards {
 }
 
 impl Backwards {
-    pub(crate) fn new(alloc: Global) -> Backwards
+    /// None yet. No memory.
+    pub fn new(alloc: Global) -> Backwards
         ensures { result ≡ [] }
     {
         Backwards {
@@ -30,22 +31,25 @@ impl Backwards {
         }
     }
 
+    /// How many there are. No memory.
     #[inline(always)]
-    pub(crate) fn len(&self) -> usize
+    pub fn len(&self) -> usize
         ensures { result ≡ length self.now }
     {
         self.octets.len()
     }
 
+    /// Puts one.
     #[inline(always)]
-    pub(crate) fn put(&mut self, octet: u8) -> Result<(), NoMemory>
+    pub fn put(&mut self, octet: u8) -> Result<(), NoMemory>
         ensures { OnOk result (self.new ≡ octet ∷ self.old) }
     {
         self.octets.push(octet)?;
         Ok(())
     }
 
-    pub(crate) fn put_all(&mut self, octets: &[u8]) -> Result<(), NoMemory>
+    /// Puts several, in the order that they have.
+    pub fn put_all(&mut self, octets: &[u8]) -> Result<(), NoMemory>
         ensures { OnOk result (self.new ≡ octets.now ++ self.old) }
     {
         push_reversed(&mut self.octets, octets)
@@ -61,7 +65,7 @@ impl Backwards {
     }
 
     /// The octets, from the first to the last.
-    pub(crate) fn into_octets(self) -> Vec<u8>
+    pub fn into_octets(self) -> Vec<u8>
         ensures { result.items ≡ self }
     {
         let Backwards { mut octets } = self;
@@ -71,7 +75,7 @@ impl Backwards {
 
     /// The header of an element whose content has that length: the fewest octets for the tag number and for a
     /// definite length.
-    pub(crate) fn put_header(
+    pub fn put_header(
         &mut self,
         class: u8,
         constructed: bool,
