@@ -1,1 +1,4 @@
 pub mod Spelling
+pub mod Heads
+pub mod Naming
+pub mod Valuing

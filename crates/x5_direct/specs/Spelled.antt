@@ -1,7 +1,10 @@
 -- Octets that begin with a spelling of a value of a type.
-use Rattle.std.specs.Prelude.{◌≡◌, ℕ, ◌+◌, ◌≤◌, ◌%◌, List, ◌∷◌, ◌++◌, length}
+use Rattle.std.specs.Prelude.{◌≡◌, ℕ, ◌+◌, ◌≤◌, ◌%◌, List, ◌∷◌, ◌++◌, length, map}
 use Rattle.std.specs.declared.option.Option.TheVariants.{Some}
-use Rattle.x5_model_octets.specs.Headers.{IsHeader, identifier_of}
+use Rattle.x5_model.specs.Values.{Pair}
+use Rattle.x5_model.specs.Normal.{stored_pair}
+use Rattle.x5_model_typed.specs.Rules.{pair_in}
+use Rattle.x5_model_octets.specs.Headers.{IsLength, IsHeader, identifier_of}
 use Rattle.x5_model_octets.specs.Elements.{deepest}
 use Rattle.x5_model_typed.specs.Trees.{Tree, Trees, Lies, LieAll}
 use Rattle.x5_model_typed.specs.Nodes.{Node, row}
@@ -9,6 +12,12 @@ use Rattle.x5_model_typed.specs.Named.{Named}
 use Rattle.x5_model_typed.specs.Forms.{Component, Content}
 use Rattle.x5_model_typed.specs.Layouts.{Surroundings, layout}
 use Rattle.x5_model_typed.specs.Typed.{IsOf, Holds, AllOf, InOrder}
+
+-- Length octets stand first that say a definite length; the others are the rest (X.690, 8.1.3).
+pub record HasLength (n : ℕ) (octets rest : List ℕ) : Type 0 where
+  pub front : List ℕ
+  pub is_length : IsLength (Some n) front
+  pub whole : octets ≡ front ++ rest
 
 -- An element's header stands first, with that identifier octet and a definite length, and then its content; the others
 -- are the rest (X.690, 8.1).
@@ -30,6 +39,10 @@ pub record Spelled (levels : ℕ) (form : Named) (n : Node) (octets rest : List 
   pub whole : octets ≡ part ++ rest
   pub is_element : (depth at : ℕ) → depth + levels ≤ deepest → IsElement form n part depth at
 
+-- They spell a value of the type of which that is said.
+abbrev pub Reads : {X : Type 0} → ℕ → Named → (Node → X) → X → List ℕ → List ℕ → Type 0
+Reads levels form says x octets rest = (n : Node) × Spelled levels form n octets rest × (x ≡ says n)
+
 -- The octets are members that hold the value of the content.
 pub record AreMembers (content : Content) (n : Node) (octets : List ℕ) (depth at : ℕ) : Type 0 where
   pub members : Trees
@@ -48,6 +61,10 @@ pub record AreEach (form : Named) (ns : List Node) (octets : List ℕ) (depth at
 abbrev pub SpelledEach : ℕ → Named → List Node → List ℕ → Type 0
 SpelledEach levels form ns octets = (depth at : ℕ) → depth + levels ≤ deepest → AreEach form ns octets depth at
 
+-- Of the values of the members that is said.
+abbrev pub ReadEach : {X : Type 0} → ℕ → Named → (Node → X) → List X → List ℕ → Type 0
+ReadEach levels form says xs octets = (ns : List Node) × SpelledEach levels form ns octets × (xs ≡ map says ns)
+
 -- They are members in the order of the components, with those values.
 pub record AreInOrder (cs : List Component) (ns : List Node) (octets : List ℕ) (depth at : ℕ) : Type 0 where
   pub members : Trees
@@ -56,3 +73,7 @@ pub record AreInOrder (cs : List Component) (ns : List Node) (octets : List ℕ)
 
 abbrev pub SpelledInOrder : ℕ → List Component → List Node → List ℕ → Type 0
 SpelledInOrder levels cs ns octets = (depth at : ℕ) → depth + levels ≤ deepest → AreInOrder cs ns octets depth at
+
+-- the pair that a node says, with its normal form
+abbrev pub pair_of : Node → Pair
+pair_of n = stored_pair (pair_in n)

@@ -3,10 +3,10 @@
 //! of types reads it.
 #![tactic(auto)]
 
-mod element;
-mod names;
+pub mod element;
+pub mod names;
 mod unread;
-
+pub mod values;
 
 pub use crate::unread::Unread;
 pub use x5_memory::NoMemory;
