@@ -1,5 +1,5 @@
 -- Length octets, and headers of one identifier octet and them.
-use Rattle.std.proofs.Common.{◌≡◌, ℕ, ◌+◌, ◌-◌, ◌*◌, ◌≤◌, ◌<◌, ◌%◌, ◌==◌, Bool, false, List, [], ◌∷◌, ◌++◌, length, take, drop}
+use Rattle.std.proofs.Common.{◌≡◌, ℕ, ◌+◌, ◌-◌, ◌*◌, ◌≤◌, ◌<◌, ◌%◌, ◌==◌, Bool, true, false, List, [], ◌∷◌, ◌++◌, length, take, drop}
 use Rattle.std.proofs.Common.{refl, ap, sym, ◌∙◌, subst, arith, append_assoc, length-take, length-drop, lit<, slice_index_or}
 use Rattle.std.proofs.Common.{length-append}
 use Rattle.std.proofs.Math.Seq.{drop-append_seam}
@@ -8,6 +8,7 @@ use Rattle.std.specs.declared.option.Option.TheVariants.{Some}
 use Rattle.std.specs.declared.result.Result.{Result}
 use Rattle.std.specs.declared.result.Result.TheVariants.{Ok}
 use Rattle.std.proofs.lemmas.Bool.{ne_eqb}
+use Rattle.std.proofs.lemmas.Bool.Decides.{Decides-eqb}
 use Rattle.std.proofs.lemmas.List.{append_cancel_right, take-append-drop, take_all}
 use Rattle.x5_model_octets.specs.Headers.{Identifier, IsIdentifier, IsLength, identifier_at, identifier_of, short, long}
 use Rattle.x5_model_octets.specs.Headers.{Stop}
@@ -87,6 +88,24 @@ three_here (high ∷ middle ∷ low ∷ octets) less =
     subst (λ (l : List ℕ). HasLength (high * 65536 + middle * 256 + low) (131 ∷ high ∷ middle ∷ low ∷ octets) l)
     (sym (rest_here (high ∷ middle ∷ low ∷ octets) 3))
     (three_length (high * 65536 + middle * 256 + low) high middle low octets refl)
+
+pub five_here : (octets : List ℕ) (a b d : ℕ) → 5 ≤ length octets → slice_index_or octets 0 0 ≡ a
+    → slice_index_or octets 1 0 ≡ b → slice_index_or octets 2 0 ≡ d
+    → octets ≡ a ∷ b ∷ d ∷ slice_index_or octets 3 0 ∷ slice_index_or octets 4 0 ∷ drop 5 octets
+five_here [] a b d less e f g = absurd (omega (arith, less))
+five_here (o ∷ []) a b d less e f g = absurd (omega (arith, less))
+five_here (o ∷ p ∷ []) a b d less e f g = absurd (omega (arith, less))
+five_here (o ∷ p ∷ q ∷ []) a b d less e f g = absurd (omega (arith, less))
+five_here (o ∷ p ∷ q ∷ r ∷ []) a b d less e f g = absurd (omega (arith, less))
+five_here (o ∷ p ∷ q ∷ r ∷ s ∷ octets) a b d less e f g =
+    let first : o ≡ a = e in
+    let second : p ≡ b = f in
+    let third : q ≡ d = g in
+    cc (first, second, third)
+
+pub nothing : (l : List ℕ) → (length l == 0) ≡ true → l ≡ []
+nothing [] e = refl
+nothing (o ∷ l) e = absurd (omega (arith, (Decides-eqb (length (o ∷ l)) 0).0 e))
 
 -- ---- headers
 

@@ -1,8 +1,8 @@
 -- Object identifiers of the table, texts, pairs, RDNs and names, each from what is found of its parts.
 use Rattle.std.proofs.Common.{◌≡◌, ℕ, ◌+◌, ◌*◌, ◌≤◌, ◌<◌, ◌==◌, ◌&&◌, nat_lt, nat_le, Bool, true, false, not, List, [], ◌∷◌}
-use Rattle.std.proofs.Common.{length, map, refl, ap, sym, ◌∙◌, subst, arith, lit<, drop, slice_index_or}
+use Rattle.std.proofs.Common.{length, map, refl, ap, sym, ◌∙◌, subst, arith, lit<, drop, if◌then◌else◌}
 use Rattle.std.specs.declared.option.Option.{Option}
-use Rattle.std.specs.declared.option.Option.TheVariants.{Some}
+use Rattle.std.specs.declared.option.Option.TheVariants.{None, Some}
 use Rattle.std.specs.List.{list_all}
 use Rattle.std.proofs.lemmas.Bool.{ne_eqb, lt-ltb, le-leb, and_parts}
 use Rattle.std.proofs.lemmas.Bool.Decides.{nat_tests}
@@ -83,19 +83,12 @@ printable_is_dialled t e = rw (all_there t e) (some_there t e)
 
 -- ---- pairs
 
-pub type_here : (octets : List ℕ) (k : ℕ) → 5 ≤ length octets → slice_index_or octets 0 0 ≡ 6
-    → slice_index_or octets 1 0 ≡ 3 → slice_index_or octets 2 0 ≡ 85 → slice_index_or octets 3 0 ≡ 4
-    → slice_index_or octets 4 0 ≡ k → k < 128
-    → Spelled 0 named.AnyOid (terms.type_node (values.Known k)) octets (drop 5 octets)
-type_here [] k less a b c d e small = absurd (omega (arith, less))
-type_here (o ∷ []) k less a b c d e small = absurd (omega (arith, less))
-type_here (o ∷ p ∷ []) k less a b c d e small = absurd (omega (arith, less))
-type_here (o ∷ p ∷ q ∷ []) k less a b c d e small = absurd (omega (arith, less))
-type_here (o ∷ p ∷ q ∷ r ∷ []) k less a b c d e small = absurd (omega (arith, less))
-type_here (o ∷ p ∷ q ∷ r ∷ s ∷ octets) k less a b c d e small =
-    let same : 6 ∷ 3 ∷ 85 ∷ 4 ∷ k ∷ octets ≡ o ∷ p ∷ q ∷ r ∷ s ∷ octets = cc (a, b, c, d, e) in
-    subst (λ (l : List ℕ). Spelled 0 named.AnyOid (terms.type_node (values.Known k)) l octets) same
-    (type_spelled k octets small)
+pub found_known : (n k : ℕ) → Some k ≡ (if is_known n then Some n else None) → (k ≡ n) × (is_known k ≡ true)
+found_known n k e = by (is_known n) refl e
+  where
+    by : (b : Bool) → is_known n ≡ b → Some k ≡ (if b then Some n else None) → (k ≡ n) × (is_known k ≡ true)
+    by true is h = let same : k ≡ n = cc h in (same, ap is_known same ∙ is)
+    by false is h = absurd (cc h)
 
 pair_spelled : (k : ℕ) (t content behind octets rest : List ℕ) → Opens 48 content octets rest
     → Spelled 0 named.AnyOid (terms.type_node (values.Known k)) content behind

@@ -1,6 +1,7 @@
 -- What is found of an element and its members makes a spelling of the whole.
 use Rattle.std.proofs.Common.{◌≡◌, ℕ, ◌+◌, ◌≤◌, ◌<◌, ◌%◌, Bool, true, false, List, [], ◌∷◌, ◌++◌, length, refl, ap}
-use Rattle.std.proofs.Common.{sym, ◌∙◌, subst, arith, append_assoc, append-nil, ◌-◌, drop}
+use Rattle.std.proofs.Common.{sym, ◌∙◌, subst, arith, append_assoc, append-nil, ◌-◌, take, drop, map}
+use Rattle.std.proofs.lemmas.List.{map-append}
 use Rattle.std.specs.declared.option.Option.{Option}
 use Rattle.std.specs.declared.option.Option.TheVariants.{None, Some}
 use Rattle.std.specs.Option.{is_some}
@@ -17,7 +18,7 @@ use Rattle.x5_model_typed.specs.Judged.{leaf_node, marked}
 use Rattle.x5_model_typed.specs.Layouts.{Surroundings, layout}
 use Rattle.x5_model_typed.specs.Typed as typed
 use Rattle.x5_model_typed.specs.Typed.{IsOf, Holds, AllOf, InOrder}
-use Rattle.x5_direct.proofs.Heads.{left_is}
+use Rattle.x5_direct.proofs.Heads.{left_is, rest_here}
 use Rattle.x5_direct.specs.Spelled.{Opens, IsElement, Spelled, AreMembers, SpelledIn, AreEach, SpelledEach}
 use Rattle.x5_direct.specs.Spelled.{AreInOrder, SpelledInOrder, Reads, ReadEach}
 
@@ -230,3 +231,17 @@ read_taken levels form says x octets rest taken e r =
     let same : rest ≡ drop taken octets = left_is r.1.part octets rest r.1.whole
     ∙ ap (λ (k : ℕ). drop k octets) (sym e) in
     (r.0, subst (λ (l : List ℕ). Spelled levels form r.0 octets l) same r.1, r.2)
+
+-- One more is read of what is left.
+pub one_more : {X : Type 0} (levels : ℕ) (form : Named) (says : Node → X) (octets left : List ℕ) (done : List X) (x : X)
+    (taken : ℕ) (now : List X) → now ≡ done ++ x ∷ [] → Goes levels form says octets done left
+    → Reads levels form says x left (drop taken left)
+    → Goes levels form says octets now (take (length left - taken) (drop taken left))
+one_more levels form says octets left done x taken now e g r =
+    subst (λ (l : List ℕ). Goes levels form says octets now l) (sym (rest_here left taken))
+    (subst (λ xs. Goes levels form says octets xs (drop taken left)) (sym e)
+    (one_done levels form says octets left (drop taken left) done x g r))
+
+pub mapped_end : {X Y : Type 0} (f : X → Y) (xs : List X) (x : X) (now : List X) → now ≡ xs ++ x ∷ []
+    → map f now ≡ map f xs ++ f x ∷ []
+mapped_end f xs x now e = ap (λ l. map f l) e ∙ map-append f xs (x ∷ [])

@@ -1,9 +1,10 @@
 -- Values, each from what is found of it.
 use Rattle.std.proofs.Common.{◌≡◌, ℕ, ◌+◌, ◌*◌, ◌≤◌, ◌<◌, ◌==◌, nat_le, Bool, true, false, List, [], ◌∷◌, length, refl, ap}
-use Rattle.std.proofs.Common.{sym, ◌∙◌, subst, arith, lit<, lit≤}
+use Rattle.std.proofs.Common.{sym, ◌∙◌, subst, arith, lit<, lit≤, if◌then◌else◌}
 use Rattle.std.specs.declared.option.Option.{Option}
-use Rattle.std.specs.declared.option.Option.TheVariants.{Some}
+use Rattle.std.specs.declared.option.Option.TheVariants.{None, Some}
 use Rattle.std.proofs.lemmas.Bool.{ne_eqb, lt-ltb, le-leb}
+use Rattle.x5_model.specs.Normal.{is_oid}
 use Rattle.x5_model.specs.Values.{TextValue, OctetsValue, OidValue}
 use Rattle.x5_model_typed.specs.Nodes as nodes
 use Rattle.x5_model_typed.specs.Nodes.{Node, Oid, Octets, Text}
@@ -43,6 +44,13 @@ oid_reads f k low small =
       lt-ltb f 128 low,
       lt-ltb k 128 small,
     ) refl)
+
+pub oid_found : (arcs o : List ℕ) → Some o ≡ (if is_oid arcs then Some arcs else None) → o ≡ arcs
+oid_found arcs o e = by (is_oid arcs) e
+  where
+    by : (b : Bool) → Some o ≡ (if b then Some arcs else None) → o ≡ arcs
+    by true h = cc h
+    by false h = absurd (cc h)
 
 pub oid_value : (f k : ℕ) (rest : List ℕ) → f < 128 → k < 128
     → Reads 3 named.Value rules.value_in (OidValue (2 ∷ 5 ∷ f ∷ k ∷ [])) (6 ∷ 3 ∷ 85 ∷ f ∷ k ∷ rest) rest

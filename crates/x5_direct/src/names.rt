@@ -1,5 +1,5 @@
 //! Names of entries (X.501, section 9).
-ghost use Rattle.std.specs.Prelude.{◌≡◌, ◌<◌, ◌≤◌, IfOk, [], drop, length, true};
+ghost use Rattle.std.specs.Prelude.{◌≡◌, ◌<◌, ◌≤◌, IfOk, IfSome, [], ◌∷◌, drop, length, true};
 ghost use Rattle.std.specs.List.{list_all};
 ghost use Rattle.x5_direct.specs.Spelled.{Spelled, Reads, ReadEach, pair_of};
 ghost use Rattle.x5_model.specs.Normal as normal;
@@ -17,22 +17,40 @@ use std::alloc::Global;
 use x5_names::{Name, Pair, Rdn};
 use x5_syntax::{Kind, MOST_RDNS, MOST_VALUE_OCTETS, TypeId};
 
-/// How many octets the object identifier of a type of the table takes: an identifier, a length, and 2.5.4 and the number.
-pub const TYPE_LENGTH: usize = 5;
+/// How many octets an object identifier takes that is 2.5 and two arcs, each of one octet: an identifier, a length, and three.
+pub const SHORT_OID: usize = 5;
+
+/// The two arcs behind 2.5 of the object identifier that the octets begin with.
+#[inline]
+pub(crate) fn arcs_at(octets: &[u8]) -> Option<(u8, u8)>
+    ensures { IfSome result (λ r. (octets.now ≡ 6 ∷ 3 ∷ 85 ∷ r.0 ∷ r.1 ∷ drop 5 octets.now) × (r.0 < 128) × (r.1 < 128)) }
+{
+    let [identifier, length, first, second, third, ..] = octets else {
+        return None;
+    };
+    if *identifier != 6 || *length != 3 || *first != 0x55 || *second >= 128 || *third >= 128 {
+        return None;
+    }
+    Some((*second, *third))
+}
 
 /// The type of the table that the octets begin with: the object identifier 2.5.4 and its number.
 #[inline]
 pub fn type_at(octets: &[u8]) -> Result<TypeId, Unread>
     ensures is { IfOk result (λ r. Spelled 0 named.AnyOid (terms.type_node (values.Known r)) octets.now (drop 5 octets.now)) }
+    ensures known { IfOk result (λ r. types.is_known r ≡ true) }
     ensures some { IfOk result (λ r. 5 ≤ length octets.now) }
 {
-    let [6, 3, 0x55, 4, number, ..] = octets else {
+    let Some((second, number)) = arcs_at(octets) else {
         return Err(Unread::Unusual);
     };
-    if *number >= 128 {
+    if second != 4 {
         return Err(Unread::Unusual);
     }
-    TypeId::new(*number).ok_or(Unread::Unusual)
+    let Some(kind) = TypeId::new(number) else {
+        return Err(Unread::Unusual);
+    };
+    Ok(kind)
 }
 
 /// Whether the octet is a character of PrintableString (X.680, section 41).
@@ -64,19 +82,27 @@ fn is_printable_text(text: &[u8]) -> bool
     all_printable(text) && is_length(text)
 }
 
+/// The octets as a text, if they may be a PrintableString.
+fn printable(octets: &[u8]) -> Option<&str>
+    ensures { IfSome result (λ t. (t.now ≡ octets.now) × (leaves.text_of normal.is_printable octets.now ≡ true)) }
+{
+    if !is_printable_text(octets) {
+        return None;
+    }
+    std::str::from_utf8(octets).ok()
+}
+
 /// The text that the octets begin with as a PrintableString, and the octets behind it.
 pub fn text_at(octets: &[u8]) -> Result<(&str, &[u8]), Unread>
     ensures is { IfOk result (λ r. Spelled 0 named.Value (nodes.Text r.0.now) octets.now r.1.now) }
     ensures printable { IfOk result (λ r. leaves.text_of normal.is_printable r.0.now ≡ true) }
+    ensures less { IfOk result (λ r. length r.1.now < length octets.now) }
 {
     let (content, rest) = opened(0x13, octets)?;
-    if !is_printable_text(content) {
+    let Some(text) = printable(content) else {
         return Err(Unread::Unusual);
-    }
-    match std::str::from_utf8(content) {
-        Ok(text) => Ok((text, rest)),
-        Err(_) => Err(Unread::Unusual),
-    }
+    };
+    Ok((text, rest))
 }
 
 fn all_letters(text: &[u8]) -> bool
@@ -117,7 +143,7 @@ fn pair_in(alloc: Global, octets: &[u8]) -> Result<Pair, Unread>
         return Err(Unread::Unusual);
     }
     let kind = type_at(content)?;
-    let (text, behind) = text_at(&content[TYPE_LENGTH..])?;
+    let (text, behind) = text_at(&content[SHORT_OID..])?;
     if !behind.is_empty() {
         return Err(Unread::Unusual);
     }

@@ -6,14 +6,14 @@ ghost use Rattle.x5_model_typed.specs.Rules as rules;
 ghost use Rattle.x5_syntax.specs.ValueView.{value_view};
 
 use crate::element::opened;
-use crate::names::{TYPE_LENGTH, text_at};
+use crate::names::{SHORT_OID, arcs_at, text_at};
 use crate::unread::Unread;
 use std::alloc::Global;
 use x5_syntax::{MOST_VALUE_OCTETS, Octets, Oid, Text, Value};
 
 /// A PrintableString.
 fn text_value_at(alloc: Global, octets: &[u8]) -> Result<(Value, usize), Unread>
-    ensures is { IfOk result (λ r. Reads 3 named.Value rules.value_in (value_view r.0) octets.now (drop r.1 octets.now)) }
+    ensures reads { IfOk result (λ r. Reads 3 named.Value rules.value_in (value_view r.0) octets.now (drop r.1 octets.now)) }
     ensures some { IfOk result (λ r. (0 < r.1) × (r.1 ≤ length octets.now)) }
 {
     let (text, rest) = text_at(octets)?;
@@ -23,25 +23,22 @@ fn text_value_at(alloc: Global, octets: &[u8]) -> Result<(Value, usize), Unread>
 
 /// An object identifier below 2.5 of two arcs more, each of one octet, as those of object classes are.
 fn oid_value_at(alloc: Global, octets: &[u8]) -> Result<(Value, usize), Unread>
-    ensures is { IfOk result (λ r. Reads 3 named.Value rules.value_in (value_view r.0) octets.now (drop r.1 octets.now)) }
+    ensures reads { IfOk result (λ r. Reads 3 named.Value rules.value_in (value_view r.0) octets.now (drop r.1 octets.now)) }
     ensures some { IfOk result (λ r. (0 < r.1) × (r.1 ≤ length octets.now)) }
 {
-    let [6, 3, 0x55, family, number, ..] = octets else {
+    let Some((second, third)) = arcs_at(octets) else {
         return Err(Unread::Unusual);
     };
-    if *family >= 128 || *number >= 128 {
-        return Err(Unread::Unusual);
-    }
-    let arcs = vec![in alloc; 2, 5, u32::from(*family), u32::from(*number)]?;
+    let arcs = vec![in alloc; 2, 5, u32::from(second), u32::from(third)]?;
     match Oid::new(arcs) {
-        Some(oid) => Ok((Value::Oid(oid), TYPE_LENGTH)),
+        Some(oid) => Ok((Value::Oid(oid), SHORT_OID)),
         None => Err(Unread::Unusual),
     }
 }
 
 /// An OCTET STRING.
 fn octets_value_at(alloc: Global, octets: &[u8]) -> Result<(Value, usize), Unread>
-    ensures is { IfOk result (λ r. Reads 3 named.Value rules.value_in (value_view r.0) octets.now (drop r.1 octets.now)) }
+    ensures reads { IfOk result (λ r. Reads 3 named.Value rules.value_in (value_view r.0) octets.now (drop r.1 octets.now)) }
     ensures some { IfOk result (λ r. (0 < r.1) × (r.1 ≤ length octets.now)) }
 {
     let (content, rest) = opened(0x04, octets)?;
@@ -55,7 +52,7 @@ fn octets_value_at(alloc: Global, octets: &[u8]) -> Result<(Value, usize), Unrea
 
 /// The value that the octets begin with, and how many octets it takes: a printable text, an object identifier below 2.5, or octets.
 pub fn value_at(alloc: Global, octets: &[u8]) -> Result<(Value, usize), Unread>
-    ensures is { IfOk result (λ r. Reads 3 named.Value rules.value_in (value_view r.0) octets.now (drop r.1 octets.now)) }
+    ensures reads { IfOk result (λ r. Reads 3 named.Value rules.value_in (value_view r.0) octets.now (drop r.1 octets.now)) }
     ensures some { IfOk result (λ r. (0 < r.1) × (r.1 ≤ length octets.now)) }
 {
     match octets {
