@@ -103,6 +103,19 @@ five_here (o ∷ p ∷ q ∷ r ∷ s ∷ octets) a b d less e f g =
     let third : q ≡ d = g in
     cc (first, second, third)
 
+pub mark_here : (octets : List ℕ) (a b d : ℕ) → 3 ≤ length octets → slice_index_or octets 0 0 ≡ a
+    → slice_index_or octets 1 0 ≡ b → slice_index_or octets 2 0 ≡ d
+    → octets ≡ a ∷ b ∷ d ∷ take (length octets - 3) (drop 3 octets)
+mark_here [] a b d less e f g = absurd (omega (arith, less))
+mark_here (o ∷ []) a b d less e f g = absurd (omega (arith, less))
+mark_here (o ∷ p ∷ []) a b d less e f g = absurd (omega (arith, less))
+mark_here (o ∷ p ∷ q ∷ octets) a b d less e f g =
+    let first : o ≡ a = e in
+    let second : p ≡ b = f in
+    let third : q ≡ d = g in
+    let rest : take (length (o ∷ p ∷ q ∷ octets) - 3) octets ≡ octets = rest_here (o ∷ p ∷ q ∷ octets) 3 in
+    cc (first, second, third, rest)
+
 pub nothing : (l : List ℕ) → (length l == 0) ≡ true → l ≡ []
 nothing [] e = refl
 nothing (o ∷ l) e = absurd (omega (arith, (Decides-eqb (length (o ∷ l)) 0).0 e))

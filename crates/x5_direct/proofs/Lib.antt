@@ -2,3 +2,4 @@ pub mod Spelling
 pub mod Heads
 pub mod Naming
 pub mod Valuing
+pub mod Showing
