@@ -1,17 +1,14 @@
 -- Length octets, and headers of one identifier octet and them.
-use Rattle.std.proofs.Common.{◌≡◌, ℕ, ◌+◌, ◌-◌, ◌*◌, ◌≤◌, ◌<◌, ◌%◌, ◌==◌, Bool, true, false, List, [], ◌∷◌, ◌++◌, length, take, drop}
-use Rattle.std.proofs.Common.{refl, ap, sym, ◌∙◌, subst, arith, append_assoc, length-take, length-drop, lit<, slice_index_or}
+use Rattle.std.proofs.Common.{◌≡◌, ℕ, ◌+◌, ◌-◌, ◌*◌, ◌≤◌, ◌<◌, ◌%◌, ◌==◌, true, false, List, [], ◌∷◌, ◌++◌, length, take, drop}
+use Rattle.std.proofs.Common.{refl, ap, sym, ◌∙◌, subst, arith, length-take, length-drop, lit<, slice_index_or}
 use Rattle.std.proofs.Common.{length-append}
 use Rattle.std.proofs.Math.Seq.{drop-append_seam}
 use Rattle.std.specs.declared.option.Option.{Option}
 use Rattle.std.specs.declared.option.Option.TheVariants.{Some}
-use Rattle.std.specs.declared.result.Result.{Result}
-use Rattle.std.specs.declared.result.Result.TheVariants.{Ok}
 use Rattle.std.proofs.lemmas.Bool.{ne_eqb}
 use Rattle.std.proofs.lemmas.Bool.Decides.{Decides-eqb}
 use Rattle.std.proofs.lemmas.List.{append_cancel_right, take-append-drop, take_all}
-use Rattle.x5_model_octets.specs.Headers.{Identifier, IsIdentifier, IsLength, identifier_at, identifier_of, short, long}
-use Rattle.x5_model_octets.specs.Headers.{Stop}
+use Rattle.x5_model_octets.specs.Headers.{IsIdentifier, IsLength, identifier_of, short, long}
 use Rattle.x5_model_octets.proofs.HeaderLaws.{identifier_front}
 use Rattle.x5_direct.specs.Spelled.{HasLength, Opens}
 

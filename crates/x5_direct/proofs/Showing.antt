@@ -1,18 +1,17 @@
 -- Attributes that are shown, and what is shown of entries, each from what is found of its parts.
-use Rattle.std.proofs.Common.{◌≡◌, ℕ, ◌+◌, ◌≤◌, ◌<◌, ◌==◌, ◌&&◌, Bool, true, false, not, List, [], ◌∷◌, length, map, drop}
+use Rattle.std.proofs.Common.{◌≡◌, ℕ, ◌<◌, ◌==◌, Bool, true, false, not, List, [], ◌∷◌, length, map, drop}
 use Rattle.std.proofs.Common.{refl, ap, sym, ◌∙◌, subst, arith, lit<, lit≤}
 use Rattle.std.proofs.lemmas.Bool.Decides.{Decides-eqb}
-use Rattle.x5_model.specs.Answers.{Shown, EntryInfo}
+use Rattle.x5_model.specs.Answers.{Shown}
 use Rattle.x5_model.specs.Types.{is_known}
 use Rattle.x5_model.specs.Values as values
 use Rattle.x5_model.specs.Values.{Known}
 use Rattle.x5_model.specs.Words.{is_empty}
-use Rattle.x5_model_typed.specs.Nodes as nodes
-use Rattle.x5_model_typed.specs.Nodes.{Node, Flag, Many, Oid, row, list, parts}
+use Rattle.x5_model_typed.specs.Nodes.{Node, Flag, Many, row, list}
 use Rattle.x5_model_typed.specs.Named as named
 use Rattle.x5_model_typed.specs.Forms.{may_be_tagged, plain, or, ruled, universal, Primitive}
 use Rattle.x5_model_typed.specs.Leaves.{boolean}
-use Rattle.x5_model_typed.specs.Layouts.{Surroundings, layout, sequence, set_of}
+use Rattle.x5_model_typed.specs.Layouts.{layout, sequence, set_of}
 use Rattle.x5_model_typed.specs.Rules as rules
 use Rattle.x5_model_typed.specs.Rules.{some_members}
 use Rattle.x5_model_typed.proofs.Laws.{list_row}

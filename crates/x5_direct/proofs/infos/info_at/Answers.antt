@@ -1,10 +1,9 @@
 -- A name, a mark or none, and a set of attributes are what is shown of the entry.
-use Rattle.std.proofs.Common.{◌≡◌, ◌-◌, List, ℕ, [], length, drop, map, refl, sym, subst, ◌∙◌}
+use Rattle.std.proofs.Common.{◌-◌, List, ℕ, length, drop, map, refl, sym, subst, ◌∙◌}
 use Rattle.x5_model_messages.specs.Replies as replies
 use Rattle.x5_model_typed.specs.Named as named
 use Rattle.x5_ops.specs.AnswerViews.{shown_view}
 use Rattle.x5_direct.specs.Marks.{IsMark}
-use Rattle.x5_direct.specs.Spelled.{Reads}
 use Rattle.x5_direct.proofs.Heads.{nothing, rest_here}
 use Rattle.x5_direct.proofs.Showing.{info_read}
 use Rattle.x5_direct.proofs.Spelling.{read_taken}

@@ -1,5 +1,5 @@
 -- What was read so far, and what is left of the octets.
-use Rattle.std.proofs.Common.{ℕ, length, map}
+use Rattle.std.proofs.Common.{length, map}
 use Rattle.x5_model_messages.specs.Replies as replies
 use Rattle.x5_model_typed.specs.Named as named
 use Rattle.x5_ops.specs.AnswerViews.{info_view}

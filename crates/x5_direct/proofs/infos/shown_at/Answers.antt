@@ -1,13 +1,11 @@
 -- A type and a set of values, and nothing else, are the attribute.
-use Rattle.std.proofs.Common.{◌≡◌, ◌-◌, List, ℕ, [], length, drop, map, refl, ap, sym, subst, ◌∙◌, arith}
+use Rattle.std.proofs.Common.{◌≡◌, ◌-◌, List, ℕ, length, drop, map, refl, ap, sym, subst, ◌∙◌, arith}
 use Rattle.std.specs.Vec.{vec_len}
-use Rattle.x5_model.specs.Answers.{Shown}
 use Rattle.x5_model.specs.Values as values
 use Rattle.x5_model_messages.specs.Replies as replies
 use Rattle.x5_model_typed.specs.Named as named
-use Rattle.x5_model_typed.specs.Rules as rules
 use Rattle.x5_syntax.specs.ValueView.{value_view}
-use Rattle.x5_direct.specs.Spelled.{Opens, ReadEach, Reads}
+use Rattle.x5_direct.specs.Spelled.{Opens, Reads}
 use Rattle.x5_direct.proofs.Heads.{nothing, rest_here}
 use Rattle.x5_direct.proofs.Showing.{shown_read, some_mapped_here}
 use Rattle.x5_direct.proofs.Spelling.{read_taken}
