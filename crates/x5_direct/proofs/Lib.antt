@@ -1,0 +1,5 @@
+pub mod Spelling
+pub mod Heads
+pub mod Naming
+pub mod Valuing
+pub mod Showing

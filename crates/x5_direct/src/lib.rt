@@ -1,0 +1,13 @@
+//! Parts of messages read straight from octets into what they say, where they're spelled as they usually are (X.690: definite
+//! lengths, strings in one piece, an RDN of one pair). Where anything else stands there nothing is said, and the reader over the table
+//! of types reads it.
+#![tactic(auto)]
+
+pub mod element;
+pub mod infos;
+pub mod names;
+mod unread;
+pub mod values;
+
+pub use crate::unread::Unread;
+pub use x5_memory::NoMemory;
