@@ -2,3 +2,6 @@ pub mod Spelling
 pub mod Heads
 pub mod Naming
 pub mod Valuing
+pub mod Moved
+pub mod Anywhere
+pub mod Carried

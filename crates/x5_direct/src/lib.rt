@@ -5,6 +5,7 @@
 
 pub mod element;
 pub mod names;
+pub mod part;
 mod unread;
 pub mod values;
 
