@@ -6,7 +6,7 @@ use Rattle.std.specs.declared.option.Option.{Option}
 use Rattle.std.specs.declared.option.Option.TheVariants.{None, Some}
 use Rattle.x5_model_octets.specs.Headers as headers
 use Rattle.x5_model_octets.specs.Headers.{Identifier, IsIdentifier, IsLength, IsHeader}
-use Rattle.x5_model_octets.specs.Elements.{deepest, identifier, SpellsPrimitive}
+use Rattle.x5_model_octets.specs.Elements.{deepest, identifier}
 use Rattle.x5_model_typed.specs.Trees as trees
 use Rattle.x5_model_typed.specs.Trees.{Tree, Trees, Leaf, Branch, Bare, Row, Frames, Lies, LieAll, class_of, tag_of}
 

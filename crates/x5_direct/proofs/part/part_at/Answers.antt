@@ -1,5 +1,5 @@
 -- The first octets are few, and spell the value.
-use Rattle.std.proofs.Common.{◌≡◌, ℕ, List, sym, subst}
+use Rattle.std.proofs.Common.{ℕ, List, sym, subst}
 use Rattle.x5_types.specs.FormView.{named_view}
 use Rattle.x5_types.specs.NodeView.{node_view}
 use Rattle.x5_direct.specs.Spelled.{Spelled}
