@@ -1,17 +1,14 @@
 -- Length octets, and headers of one identifier octet and them.
-use Rattle.std.proofs.Common.{◌≡◌, ℕ, ◌+◌, ◌-◌, ◌*◌, ◌≤◌, ◌<◌, ◌%◌, ◌==◌, Bool, true, false, List, [], ◌∷◌, ◌++◌, length, take, drop}
-use Rattle.std.proofs.Common.{refl, ap, sym, ◌∙◌, subst, arith, append_assoc, length-take, length-drop, lit<, slice_index_or}
+use Rattle.std.proofs.Common.{◌≡◌, ℕ, ◌+◌, ◌-◌, ◌*◌, ◌≤◌, ◌<◌, ◌%◌, ◌==◌, true, false, List, [], ◌∷◌, ◌++◌, length, take, drop}
+use Rattle.std.proofs.Common.{refl, ap, sym, ◌∙◌, subst, arith, length-take, length-drop, lit<, slice_index_or}
 use Rattle.std.proofs.Common.{length-append}
 use Rattle.std.proofs.Math.Seq.{drop-append_seam}
 use Rattle.std.specs.declared.option.Option.{Option}
 use Rattle.std.specs.declared.option.Option.TheVariants.{Some}
-use Rattle.std.specs.declared.result.Result.{Result}
-use Rattle.std.specs.declared.result.Result.TheVariants.{Ok}
 use Rattle.std.proofs.lemmas.Bool.{ne_eqb}
 use Rattle.std.proofs.lemmas.Bool.Decides.{Decides-eqb}
 use Rattle.std.proofs.lemmas.List.{append_cancel_right, take-append-drop, take_all}
-use Rattle.x5_model_octets.specs.Headers.{Identifier, IsIdentifier, IsLength, identifier_at, identifier_of, short, long}
-use Rattle.x5_model_octets.specs.Headers.{Stop}
+use Rattle.x5_model_octets.specs.Headers.{IsIdentifier, IsLength, identifier_of, short, long}
 use Rattle.x5_model_octets.proofs.HeaderLaws.{identifier_front}
 use Rattle.x5_direct.specs.Spelled.{HasLength, Opens}
 
@@ -102,6 +99,19 @@ five_here (o ∷ p ∷ q ∷ r ∷ s ∷ octets) a b d less e f g =
     let second : p ≡ b = f in
     let third : q ≡ d = g in
     cc (first, second, third)
+
+pub mark_here : (octets : List ℕ) (a b d : ℕ) → 3 ≤ length octets → slice_index_or octets 0 0 ≡ a
+    → slice_index_or octets 1 0 ≡ b → slice_index_or octets 2 0 ≡ d
+    → octets ≡ a ∷ b ∷ d ∷ take (length octets - 3) (drop 3 octets)
+mark_here [] a b d less e f g = absurd (omega (arith, less))
+mark_here (o ∷ []) a b d less e f g = absurd (omega (arith, less))
+mark_here (o ∷ p ∷ []) a b d less e f g = absurd (omega (arith, less))
+mark_here (o ∷ p ∷ q ∷ octets) a b d less e f g =
+    let first : o ≡ a = e in
+    let second : p ≡ b = f in
+    let third : q ≡ d = g in
+    let rest : take (length (o ∷ p ∷ q ∷ octets) - 3) octets ≡ octets = rest_here (o ∷ p ∷ q ∷ octets) 3 in
+    cc (first, second, third, rest)
 
 pub nothing : (l : List ℕ) → (length l == 0) ≡ true → l ≡ []
 nothing [] e = refl

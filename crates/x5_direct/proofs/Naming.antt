@@ -1,29 +1,26 @@
 -- Object identifiers of the table, texts, pairs, RDNs and names, each from what is found of its parts.
-use Rattle.std.proofs.Common.{◌≡◌, ℕ, ◌+◌, ◌*◌, ◌≤◌, ◌<◌, ◌==◌, ◌&&◌, nat_lt, nat_le, Bool, true, false, not, List, [], ◌∷◌}
+use Rattle.std.proofs.Common.{◌≡◌, ℕ, ◌+◌, ◌*◌, ◌≤◌, ◌<◌, nat_lt, nat_le, Bool, true, false, List, [], ◌∷◌}
 use Rattle.std.proofs.Common.{length, map, refl, ap, sym, ◌∙◌, subst, arith, lit<, drop, if◌then◌else◌}
-use Rattle.std.specs.declared.option.Option.{Option}
 use Rattle.std.specs.declared.option.Option.TheVariants.{None, Some}
 use Rattle.std.specs.List.{list_all}
 use Rattle.std.proofs.lemmas.Bool.{ne_eqb, lt-ltb, le-leb, and_parts}
 use Rattle.std.proofs.lemmas.Bool.Decides.{nat_tests}
-use Rattle.x5_model.specs.Types as types
-use Rattle.x5_model.specs.Types.{Kind, TextKind, PrintableKind, CountryKind, TelephoneKind, is_known, kind_of, may_name}
+use Rattle.x5_model.specs.Types.{TextKind, PrintableKind, TelephoneKind, is_known}
 use Rattle.x5_model.specs.Normal as normal
 use Rattle.x5_model.specs.Normal.{is_printable, is_text_of_kind, stored, stored_rdn}
 use Rattle.x5_model.specs.Values as values
-use Rattle.x5_model_typed.specs.Nodes as nodes
-use Rattle.x5_model_typed.specs.Nodes.{Node, Many, Oid, Text, row, list, parts}
+use Rattle.x5_model_typed.specs.Nodes.{Node, Many, Oid, Text, row, list}
 use Rattle.x5_model_typed.specs.Named as named
-use Rattle.x5_model_typed.specs.Forms.{Alternative, Members, Sequence, plain, ruled, universal, Primitive, Joined}
+use Rattle.x5_model_typed.specs.Forms.{plain, ruled, universal, Primitive}
 use Rattle.x5_model_typed.specs.Judged.{leaf_node}
-use Rattle.x5_model_typed.specs.Leaves.{any_oid, oid, text_of, text_where, where_so}
+use Rattle.x5_model_typed.specs.Leaves.{any_oid, oid, text_of, where_so}
 use Rattle.x5_model_typed.specs.Layouts.{printable, sequence, sequence_of, set_of}
 use Rattle.x5_model_typed.specs.Rules as rules
 use Rattle.x5_model_typed.specs.Rules.{name_rule, rdn_rule, pair_rule, rdn_in, name_in}
 use Rattle.x5_model_typed.proofs.Laws.{list_row}
 use Rattle.x5_model_messages.specs.Terms as terms
-use Rattle.x5_direct.specs.Spelled.{Opens, Spelled, SpelledEach, SpelledInOrder, Reads, ReadEach, pair_of}
-use Rattle.x5_direct.proofs.Spelling.{leaf_spelled, branch_spelled, spelled_higher, order_over, order_next, order_in, each_none}
+use Rattle.x5_direct.specs.Spelled.{Opens, Spelled, Reads, ReadEach, pair_of}
+use Rattle.x5_direct.proofs.Spelling.{leaf_spelled, branch_spelled, order_over, order_next, order_in, each_none}
 use Rattle.x5_direct.proofs.Spelling.{each_more, each_in}
 use Rattle.x5_direct.proofs.Heads.{three_octets}
 

@@ -1,26 +1,25 @@
 -- What is found of an element and its members makes a spelling of the whole.
-use Rattle.std.proofs.Common.{◌≡◌, ℕ, ◌+◌, ◌≤◌, ◌<◌, ◌%◌, Bool, true, false, List, [], ◌∷◌, ◌++◌, length, refl, ap}
+use Rattle.std.proofs.Common.{◌≡◌, ℕ, ◌+◌, ◌≤◌, ◌<◌, ◌%◌, true, false, List, [], ◌∷◌, ◌++◌, length, refl, ap}
 use Rattle.std.proofs.Common.{sym, ◌∙◌, subst, arith, append_assoc, append-nil, ◌-◌, take, drop, map}
 use Rattle.std.proofs.lemmas.List.{map-append}
 use Rattle.std.specs.declared.option.Option.{Option}
-use Rattle.std.specs.declared.option.Option.TheVariants.{None, Some}
+use Rattle.std.specs.declared.option.Option.TheVariants.{Some}
 use Rattle.std.specs.Option.{is_some}
 use Rattle.x5_model_octets.specs.Headers.{Identifier, IsHeader, identifier_of}
-use Rattle.x5_model_octets.specs.Elements.{deepest, identifier, SpellsPrimitive}
+use Rattle.x5_model_octets.specs.Elements.{identifier}
 use Rattle.x5_model_typed.specs.Trees as trees
 use Rattle.x5_model_typed.specs.Trees.{Tree, Trees, Leaf, Branch, Bare, Row, Lies, LieAll, class_of, tag_of}
-use Rattle.x5_model_typed.specs.Nodes as nodes
 use Rattle.x5_model_typed.specs.Nodes.{Node, Many, row}
 use Rattle.x5_model_typed.specs.Named.{Named}
-use Rattle.x5_model_typed.specs.Forms.{Presence, Default, Component, Content, Sequence, Members, Alternative, Layout, by_tag}
-use Rattle.x5_model_typed.specs.Forms.{may_be_tagged, is_component, plain, or}
+use Rattle.x5_model_typed.specs.Forms.{Component, Sequence, Members, Alternative, Layout, by_tag}
+use Rattle.x5_model_typed.specs.Forms.{may_be_tagged, plain, or}
 use Rattle.x5_model_typed.specs.Judged.{leaf_node, marked}
 use Rattle.x5_model_typed.specs.Layouts.{Surroundings, layout}
 use Rattle.x5_model_typed.specs.Typed as typed
 use Rattle.x5_model_typed.specs.Typed.{IsOf, Holds, AllOf, InOrder}
 use Rattle.x5_direct.proofs.Heads.{left_is, rest_here}
-use Rattle.x5_direct.specs.Spelled.{Opens, IsElement, Spelled, AreMembers, SpelledIn, AreEach, SpelledEach}
-use Rattle.x5_direct.specs.Spelled.{AreInOrder, SpelledInOrder, Reads, ReadEach}
+use Rattle.x5_direct.specs.Spelled.{Opens, Spelled, SpelledIn, SpelledEach}
+use Rattle.x5_direct.specs.Spelled.{SpelledInOrder, Reads, ReadEach}
 
 -- ---- one element
 

@@ -1,17 +1,15 @@
 -- Values, each from what is found of it.
-use Rattle.std.proofs.Common.{◌≡◌, ℕ, ◌+◌, ◌*◌, ◌≤◌, ◌<◌, ◌==◌, nat_le, Bool, true, false, List, [], ◌∷◌, length, refl, ap}
-use Rattle.std.proofs.Common.{sym, ◌∙◌, subst, arith, lit<, lit≤, if◌then◌else◌}
-use Rattle.std.specs.declared.option.Option.{Option}
+use Rattle.std.proofs.Common.{◌≡◌, ℕ, ◌+◌, ◌*◌, ◌≤◌, ◌<◌, nat_le, Bool, true, false, List, [], ◌∷◌, length, refl}
+use Rattle.std.proofs.Common.{arith, lit<, lit≤, if◌then◌else◌}
 use Rattle.std.specs.declared.option.Option.TheVariants.{None, Some}
 use Rattle.std.proofs.lemmas.Bool.{ne_eqb, lt-ltb, le-leb}
 use Rattle.x5_model.specs.Normal.{is_oid}
 use Rattle.x5_model.specs.Values.{TextValue, OctetsValue, OidValue}
-use Rattle.x5_model_typed.specs.Nodes as nodes
 use Rattle.x5_model_typed.specs.Nodes.{Node, Oid, Octets, Text}
 use Rattle.x5_model_typed.specs.Named as named
 use Rattle.x5_model_typed.specs.Forms.{universal, Primitive, Joined}
 use Rattle.x5_model_typed.specs.Judged.{leaf_node}
-use Rattle.x5_model_typed.specs.Leaves.{short_oid, oid, octet_string, where_so}
+use Rattle.x5_model_typed.specs.Leaves.{short_oid, oid, octet_string}
 use Rattle.x5_model_typed.specs.Rules as rules
 use Rattle.x5_direct.specs.Spelled.{Opens, Spelled, Reads}
 use Rattle.x5_direct.proofs.Spelling.{leaf_spelled, spelled_higher}

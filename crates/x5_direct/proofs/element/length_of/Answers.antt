@@ -1,7 +1,5 @@
 -- The first octet says how many octets of length follow.
-use Rattle.std.proofs.Common.{◌≡◌, ℕ, List, sym, subst, IfSome}
-use Rattle.x5_direct.specs.Spelled.{HasLength}
-use Rattle.x5_direct.proofs.Heads.{short_here, whole_here}
+use Rattle.x5_direct.proofs.Heads.{short_here}
 use Rattle.x5_direct.proofs.element.length_of.Goals as goal
 
 pub returns-then-first-lt128-clause-has : goal.returns-then-first-lt128-clause-has

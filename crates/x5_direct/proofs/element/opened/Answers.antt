@@ -1,5 +1,5 @@
 -- The content is as long as the length octets say.
-use Rattle.std.proofs.Common.{◌≡◌, ◌-◌, length, take, drop, refl, sym}
+use Rattle.std.proofs.Common.{◌-◌, length, take, drop, refl}
 use Rattle.x5_direct.proofs.Heads.{opens_so, whole_here, rest_here}
 use Rattle.x5_direct.proofs.element.opened.Goals as goal
 

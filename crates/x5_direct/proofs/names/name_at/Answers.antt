@@ -1,5 +1,5 @@
 -- The RDNs that are read are the name's.
-use Rattle.std.proofs.Common.{◌≡◌, ◌-◌, length, drop, refl, sym, subst, arith}
+use Rattle.std.proofs.Common.{◌-◌, length, drop, refl, sym, subst, arith}
 use Rattle.x5_model.specs.Values as values
 use Rattle.x5_model_messages.specs.Terms as terms
 use Rattle.x5_model_typed.specs.Named as named

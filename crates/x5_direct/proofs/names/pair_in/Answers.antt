@@ -1,6 +1,5 @@
 -- A type and a text, and nothing else, are the pair.
-use Rattle.std.proofs.Common.{◌≡◌, ◌-◌, List, ℕ, [], length, take, drop, sym, subst, ◌∙◌, refl, true}
-use Rattle.x5_model.specs.Normal as normal
+use Rattle.std.proofs.Common.{List, ℕ, [], drop, sym, subst, ◌∙◌, refl}
 use Rattle.x5_model.specs.Values as values
 use Rattle.x5_model_typed.specs.Named as named
 use Rattle.x5_model_typed.specs.Nodes as nodes

@@ -1,5 +1,5 @@
 -- The pair that is read is the RDN's only one.
-use Rattle.std.proofs.Common.{◌≡◌, ◌-◌, length, List, [], ◌∷◌, drop, refl, sym, ap, ◌++◌, ◌∙◌, subst}
+use Rattle.std.proofs.Common.{◌≡◌, ◌-◌, length, [], ◌∷◌, drop, refl, sym, ap, ◌++◌, ◌∙◌, subst}
 use Rattle.x5_model.specs.Values as values
 use Rattle.x5_model_messages.specs.Terms as terms
 use Rattle.x5_model_typed.specs.Named as named

@@ -1,6 +1,5 @@
 -- Each RDN that is read stands before those that are left.
-use Rattle.std.proofs.Common.{◌≡◌, ◌-◌, ◌++◌, ◌∷◌, [], List, length, take, drop, refl, sym, ◌∙◌, subst, arith, length-append}
-use Rattle.x5_model.specs.Values as values
+use Rattle.std.proofs.Common.{sym, ◌∙◌}
 use Rattle.x5_model_messages.specs.Terms as terms
 use Rattle.x5_model_typed.specs.Named as named
 use Rattle.x5_direct.proofs.Heads.{nothing}

@@ -1,5 +1,5 @@
 -- The RDNs so far, and what is left of the octets.
-use Rattle.std.proofs.Common.{ℕ, length}
+use Rattle.std.proofs.Common.{length}
 use Rattle.x5_model_messages.specs.Terms as terms
 use Rattle.x5_model_typed.specs.Named as named
 use Rattle.x5_direct.proofs.Spelling.{Goes}

@@ -1,5 +1,5 @@
 -- The content is the text.
-use Rattle.std.proofs.Common.{◌≡◌, List, ℕ, sym, subst}
+use Rattle.std.proofs.Common.{List, ℕ, sym, subst}
 use Rattle.x5_model_typed.specs.Named as named
 use Rattle.x5_model_typed.specs.Nodes as nodes
 use Rattle.x5_direct.specs.Spelled.{Spelled}

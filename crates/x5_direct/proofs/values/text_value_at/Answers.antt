@@ -1,6 +1,6 @@
 -- The text is the value.
-use Rattle.std.proofs.Common.{◌≡◌, ◌-◌, List, ℕ, length, drop, refl, sym, subst}
-use Rattle.x5_model.specs.Values.{Value, TextValue}
+use Rattle.std.proofs.Common.{◌-◌, List, ℕ, length, drop, refl, sym, subst}
+use Rattle.x5_model.specs.Values.{TextValue}
 use Rattle.x5_model_typed.specs.Named as named
 use Rattle.x5_model_typed.specs.Rules as rules
 use Rattle.x5_direct.specs.Spelled.{Reads}

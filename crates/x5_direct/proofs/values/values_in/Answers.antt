@@ -1,6 +1,5 @@
 -- Each value that is read stands before those that are left.
-use Rattle.std.proofs.Common.{◌≡◌, ◌-◌, ◌++◌, ◌∷◌, [], List, length, take, drop, refl, sym, ◌∙◌, subst, arith, map, length-append}
-use Rattle.x5_model.specs.Values as values
+use Rattle.std.proofs.Common.{sym, ◌∙◌, map}
 use Rattle.x5_model_typed.specs.Rules as rules
 use Rattle.x5_model_typed.specs.Named as named
 use Rattle.x5_syntax.specs.ValueView.{value_view}

@@ -1,5 +1,5 @@
 -- The values so far, and what is left of the octets.
-use Rattle.std.proofs.Common.{ℕ, length, map}
+use Rattle.std.proofs.Common.{length, map}
 use Rattle.x5_model_typed.specs.Rules as rules
 use Rattle.x5_model_typed.specs.Named as named
 use Rattle.x5_syntax.specs.ValueView.{value_view}
