@@ -3,3 +3,6 @@ pub mod Heads
 pub mod Naming
 pub mod Valuing
 pub mod Showing
+pub mod Moved
+pub mod Anywhere
+pub mod Carried

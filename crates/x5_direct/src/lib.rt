@@ -6,6 +6,7 @@
 pub mod element;
 pub mod infos;
 pub mod names;
+pub mod part;
 mod unread;
 pub mod values;
 
