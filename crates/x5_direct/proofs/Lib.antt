@@ -3,3 +3,7 @@ pub mod Heads
 pub mod Naming
 pub mod Valuing
 pub mod Showing
+pub mod KeptValues
+pub mod KeptEntries
+pub mod EntryParts
+pub mod Here
