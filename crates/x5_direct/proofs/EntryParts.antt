@@ -72,7 +72,7 @@ stored_read k v n octets rest e r = (
   r.0,
   r.1,
   ap₂ (λ (x : Value) (y : List ℕ). record { value = x; normal = y }) r.2
-  (sym (normal_so k v n e).1 ∙ ap (λ (x : Value). normal_form (kind_of k) x) r.2),
+      (sym (normal_so k v n e).1 ∙ ap (λ (x : Value). normal_form (kind_of k) x) r.2),
 )
 
 -- ---- attributes
@@ -131,8 +131,7 @@ entry_reads name as' content behind members end octets rest opens first inner ov
     let whole = branch_spelled 6 named.Entry 48 0 16 (ruled entry_rule (sequence components)) (entry_of first.0 ns)
     (entry_of first.0 (map in_order ns)) content octets rest opens refl (λ w. refl)
     (order_in 6 components (first.0 ∷ Flag true ∷ node_of ns ∷ []) content order)
-    (entry_settles first.0 as' ns r.2 ordered) in
-    (
+    (entry_settles first.0 as' ns r.2 ordered) in (
       entry_of first.0 (map in_order ns),
       whole,
       ap (λ (n : Name). record { name = n; entry = record { attributes = as' } }) first.2 ∙ sym (entry_said first.0 as' ns r.2),
@@ -145,6 +144,6 @@ pub entries_read : {X : Type 0} (says : Node → X) (xs : List X) (content octet
 entries_read says xs content octets rest opens r = (
   node_of r.0,
   branch_spelled 7 named.Entries 48 0 16 (sequence_of named.Entry) (node_of r.0) (node_of r.0) content octets rest opens refl
-  (λ w. refl) (each_in 7 named.Entry r.0 content r.1) refl,
+      (λ w. refl) (each_in 7 named.Entry r.0 content r.1) refl,
   r.2 ∙ sym (ap (map says) (list_row r.0)),
 )

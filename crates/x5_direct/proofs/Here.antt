@@ -30,6 +30,14 @@ apart : (first : ℕ) (content octets rest : List ℕ) (o : Opens first content 
     → octets ≡ ((first ∷ o.lengths) ++ content) ++ rest
 apart first content octets rest o = o.whole ∙ sym (append_assoc (first ∷ o.lengths) content rest)
 
+-- The rest is what is left.
+pub opens_taken : (first : ℕ) (content octets rest : List ℕ) (taken : ℕ) → taken ≡ length octets - length rest
+    → Opens first content octets rest → Opens first content octets (drop taken octets)
+opens_taken first content octets rest taken e o =
+    subst (λ (l : List ℕ). Opens first content octets l)
+    (left_is ((first ∷ o.lengths) ++ content) octets rest (apart first content octets rest o)
+    ∙ ap (λ (k : ℕ). drop k octets) (sym e)) o
+
 module _ (w : Surroundings) where
   -- What is spelled in all surroundings is here.
   pub here : (levels : ℕ) (form : Named) (n : Node) (octets rest : List ℕ) → Spelled levels form n octets rest
@@ -65,13 +73,16 @@ module _ (w : Surroundings) where
     whole = apart first content octets rest o;
     is_element = λ depth at room. record {
       tree = Leaf at class tag content;
-      lies = (refl, record {
-        deep = omega (arith, room);
-        header = first ∷ o.lengths;
-        is_header = header_is first (identifier false class tag) content octets rest o is;
-        whole = refl;
-        no_end = λ e. not_zero first (o.lengths ++ content) some e;
-      });
+      lies = (
+        refl,
+        record {
+          deep = omega (arith, room);
+          header = first ∷ o.lengths;
+          is_header = header_is first (identifier false class tag) content octets rest o is;
+          whole = refl;
+          no_end = λ e. not_zero first (o.lengths ++ content) some e;
+        },
+      );
       is_of = typed.primitive a m n tagged reads settles;
     };
   }
@@ -88,8 +99,14 @@ module _ (w : Surroundings) where
         let all = inner (depth + 1) (at + length (first ∷ o.lengths)) (omega (arith, room)) in
         record {
           tree = Branch at class tag all.members;
-          lies = (refl, omega (arith, room), first ∷ o.lengths, content, all.lie,
-            trees.definite (header_is first (identifier true class tag) content octets rest o is) refl);
+          lies = (
+            refl,
+            omega (arith, room),
+            first ∷ o.lengths,
+            content,
+            all.lie,
+            trees.definite (header_is first (identifier true class tag) content octets rest o is) refl,
+          );
           is_of = typed.constructed a m n tagged all.hold settles;
         };
   }
@@ -197,12 +214,12 @@ module _ (w : Surroundings) where
       subst (λ (l : List ℕ). GoesHere levels form says octets now l) (sym (rest_here left taken))
       (subst (λ xs. GoesHere levels form says octets xs (drop taken left)) (sym e)
       (λ more others.
-          subst (λ xs. ReadEachHere w levels form says xs octets) (sym (append_assoc done (x ∷ []) more))
-          (g (x ∷ more) (
-            r.0 ∷ others.0,
-            each_more_here levels form r.0 others.0 left (drop taken left) r.1 others.1,
-            ap (λ y. y ∷ more) r.2 ∙ ap (λ ys. says r.0 ∷ ys) others.2,
-          ))))
+      subst (λ xs. ReadEachHere w levels form says xs octets) (sym (append_assoc done (x ∷ []) more))
+      (g (x ∷ more) (
+        r.0 ∷ others.0,
+        each_more_here levels form r.0 others.0 left (drop taken left) r.1 others.1,
+        ap (λ y. y ∷ more) r.2 ∙ ap (λ ys. says r.0 ∷ ys) others.2,
+      ))))
 
   pub all_done_here : {X : Type 0} (levels : ℕ) (form : Named) (says : Node → X) (octets left : List ℕ) (done : List X)
       → GoesHere levels form says octets done left → left ≡ [] → ReadEachHere w levels form says done octets
@@ -212,10 +229,15 @@ module _ (w : Surroundings) where
 
   -- ---- how many octets are taken
 
+  pub spelled_taken_here : (levels : ℕ) (form : Named) (n : Node) (octets rest : List ℕ) (taken : ℕ)
+      → taken ≡ length octets - length rest → SpelledHere w levels form n octets rest
+      → SpelledHere w levels form n octets (drop taken octets)
+  spelled_taken_here levels form n octets rest taken e s =
+      subst (λ (l : List ℕ). SpelledHere w levels form n octets l)
+      (left_is s.part octets rest s.whole ∙ ap (λ (k : ℕ). drop k octets) (sym e)) s
+
   pub taken_here : {X : Type 0} (levels : ℕ) (form : Named) (says : Node → X) (x : X) (octets rest : List ℕ) (taken : ℕ)
       → taken ≡ length octets - length rest → ReadsHere w levels form says x octets rest
       → ReadsHere w levels form says x octets (drop taken octets)
   taken_here levels form says x octets rest taken e r =
-      let same : rest ≡ drop taken octets = left_is r.1.part octets rest r.1.whole
-      ∙ ap (λ (k : ℕ). drop k octets) (sym e) in
-      (r.0, subst (λ (l : List ℕ). SpelledHere w levels form r.0 octets l) same r.1, r.2)
+      (r.0, spelled_taken_here levels form r.0 octets rest taken e r.1, r.2)
