@@ -1,0 +1,4 @@
+pub mod Naming
+pub mod Putting
+pub mod Texts
+pub mod Types
