@@ -66,7 +66,7 @@ drop_at : {A : Type 0} (items : List A) (i : ℕ) (d : A) → i < length items
     → drop i items ≡ get_or items i d ∷ drop (i + 1) items
 drop_at items i d lt = rw (add-one, drop-cons items i d) refl
 
-nothing_before : (o : Option Element) → one_before o None ≡ None
+pub nothing_before : (o : Option Element) → one_before o None ≡ None
 nothing_before None = refl
 nothing_before (Some e) = refl
 
@@ -121,7 +121,7 @@ no_member form node (y ∷ items) zero x w lt h =
     ap (λ (o : Option Element). one_before o (written_members (layout w) (layout w form) (row (map node items)))) h
 no_member form node (y ∷ items) (suc i) x w lt h =
     ap (λ (os : Option Elements). one_before (written (layout w) (layout w form) (node y)) os)
-        (no_member form node items i x w (omega (arith, lt)) h)
+    (no_member form node items i x w (omega (arith, lt)) h)
     ∙ nothing_before (written (layout w) (layout w form) (node y))
 
 -- a fault of a member is one of all

@@ -146,11 +146,7 @@ fn put_rdns(alloc: Global, out: &mut Backwards, rdns: &[Rdn]) -> Result<(), Writ
     Ok(())
 }
 
-fn put_written_rdns(
-    alloc: Global,
-    out: &mut Backwards,
-    rdns: &[RdnValue],
-) -> Result<(), WriteFault>
+fn put_written_rdns(alloc: Global, out: &mut Backwards, rdns: &[RdnValue]) -> Result<(), WriteFault>
     ensures { PutsEach named.Rdn (map terms.pairs_node rdns.now) out.old out.new result }
 {
     let mut i = rdns.len();
