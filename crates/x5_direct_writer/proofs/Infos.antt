@@ -31,7 +31,7 @@ flagged false os = os
 abbrev pub HasInfo : Bool → Node → Node → Node → Type 0
 HasInfo copy name attributes n =
     (w : Surroundings) → written (layout w) (layout w named.EntryInfo) n
-    ≡ around 16 (one_before (written (layout w) (layout w named.Name) name)
+    ≡ around 0 16 (one_before (written (layout w) (layout w named.Name) name)
     (flagged copy (one_before (written (layout w) (layout w named.Attributes) attributes) (Some elements.Nil))))
 
 info_is : (copy : Bool) (name attributes : Node)
@@ -57,7 +57,7 @@ flagged_put true os old mid new put is =
 flagged_put false os old mid new put is = (put.0, put.1, is ∙ put.2)
 
 pub info_put : (k : ℕ) (copy : Bool) (name attributes n : Node) (old early mid late new : List ℕ)
-    → HasInfo copy name attributes n → k ≡ length old → Encloses 16 k late new
+    → HasInfo copy name attributes n → k ≡ length old → Encloses 0 16 k late new
     → PutsOf {Y = Unit {0}} named.Attributes attributes old early (Ok tt)
     → mid ≡ (if copy then 1 ∷ 1 ∷ 0 ∷ [] else []) ++ early
     → PutsOf {Y = Unit {0}} named.Name name mid late (Ok tt)
@@ -65,7 +65,7 @@ pub info_put : (k : ℕ) (copy : Bool) (name attributes n : Node) (old early mid
 info_put k copy name attributes n old early mid late new is before header behind origin front w =
     let x = written (layout w) (layout w named.Name) name in
     let y = one_before (written (layout w) (layout w named.Attributes) attributes) (Some elements.Nil) in
-    enclosed_put 16 k (written (layout w) (layout w named.EntryInfo) n) (one_before x (flagged copy y)) old late new
+    enclosed_put 0 16 k (written (layout w) (layout w named.EntryInfo) n) (one_before x (flagged copy y)) old late new
     (is w) before header
     (one_put x (flagged copy y) old mid late
     (flagged_put copy y old early mid
@@ -82,9 +82,9 @@ pub attributes_fail : (copy : Bool) (name attributes n : Node) (fault : WriteFau
 attributes_fail copy name attributes n Misfit old new late is put w =
     let x = written (layout w) (layout w named.Name) name in
     is w
-    ∙ ap (λ (o : Option Element). around 16 (one_before x (flagged copy (one_before o (Some elements.Nil))))) (put w)
-    ∙ ap (λ (os : Option Elements). around 16 (one_before x os)) (none_flagged copy)
-    ∙ ap (around 16) (nothing_before x)
+    ∙ ap (λ (o : Option Element). around 0 16 (one_before x (flagged copy (one_before o (Some elements.Nil))))) (put w)
+    ∙ ap (λ (os : Option Elements). around 0 16 (one_before x os)) (none_flagged copy)
+    ∙ ap (around 0 16) (nothing_before x)
 attributes_fail copy name attributes n NoMemory old new late is put w = tt
 
 pub name_fails : (copy : Bool) (name attributes n : Node) (fault : WriteFault) (mid new old late : List ℕ)
@@ -92,6 +92,6 @@ pub name_fails : (copy : Bool) (name attributes n : Node) (fault : WriteFault) (
     → PutsOf {Y = Unit {0}} named.EntryInfo n old late (Err fault)
 name_fails copy name attributes n Misfit mid new old late is put w =
     is w
-    ∙ ap (λ (o : Option Element). around 16 (one_before o
+    ∙ ap (λ (o : Option Element). around 0 16 (one_before o
     (flagged copy (one_before (written (layout w) (layout w named.Attributes) attributes) (Some elements.Nil))))) (put w)
 name_fails copy name attributes n NoMemory mid new old late is put w = tt

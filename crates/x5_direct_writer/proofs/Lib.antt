@@ -4,3 +4,4 @@ pub mod Parts
 pub mod Putting
 pub mod Texts
 pub mod Types
+pub mod Wholes

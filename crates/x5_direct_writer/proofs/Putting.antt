@@ -20,10 +20,10 @@ use Rattle.x5_direct_writer.specs.PutsOf.{PutsOf, PutsEach, Encloses}
 
 -- ---- an element around its members
 
--- a constructed element of the universal class
-abbrev pub around : ℕ → Option Elements → Option Element
-around tag None = None
-around tag (Some es) = Some (elements.Constructed 0 tag es)
+-- a constructed element
+abbrev pub around : ℕ → ℕ → Option Elements → Option Element
+around class tag None = None
+around class tag (Some es) = Some (elements.Constructed class tag es)
 
 three : (a b c d : List ℕ) → a ++ (b ++ (c ++ d)) ≡ (a ++ b ++ c) ++ d
 three a b c d = sym (append_assoc a b (c ++ d)) ∙ sym (append_assoc (a ++ b) c d)
@@ -51,13 +51,13 @@ primitive_put tag o content old mid new n is put count header = (
 )
 
 -- what was put, with its header
-pub enclosed_put : (tag k : ℕ) (o : Option Element) (os : Option Elements) (old mid new : List ℕ)
-    → o ≡ around tag os → k ≡ length old → Encloses tag k mid new
+pub enclosed_put : (class tag k : ℕ) (o : Option Element) (os : Option Elements) (old mid new : List ℕ)
+    → o ≡ around class tag os → k ≡ length old → Encloses class tag k mid new
     → Puts {Y = Unit {0}} canonical_all os old mid (Ok tt) → Puts {Y = Unit {0}} canonical o old new (Ok tt)
-enclosed_put tag k o os old mid new is before header put = (
-  elements.Constructed 0 tag put.0,
-  is ∙ ap (around tag) put.1,
-  headed (identifier true 0 tag) (canonical_all put.0) k old mid new put.2 before header,
+enclosed_put class tag k o os old mid new is before header put = (
+  elements.Constructed class tag put.0,
+  is ∙ ap (around class tag) put.1,
+  headed (identifier true class tag) (canonical_all put.0) k old mid new put.2 before header,
 )
 
 -- ---- members, from the last to the first
@@ -138,19 +138,19 @@ each_fails form node items i x NoMemory old mid new late inside some is put w = 
 -- the element has the members, in all surroundings
 abbrev pub HasMembers : ℕ → Named → Named → List Node → Node → Type 0
 HasMembers tag whole form ns n =
-    (w : Surroundings) → written (layout w) (layout w whole) n ≡ around tag (written_members (layout w) (layout w form) (row ns))
+    (w : Surroundings) → written (layout w) (layout w whole) n ≡ around 0 tag (written_members (layout w) (layout w form) (row ns))
 
 pub all_put : (tag k : ℕ) (whole form : Named) (ns : List Node) (n : Node) (old mid new : List ℕ)
-    → HasMembers tag whole form ns n → k ≡ length old → Encloses tag k mid new
+    → HasMembers tag whole form ns n → k ≡ length old → Encloses 0 tag k mid new
     → PutsEach {Y = Unit {0}} form ns old mid (Ok tt) → PutsOf {Y = Unit {0}} whole n old new (Ok tt)
 all_put tag k whole form ns n old mid new is before header put w =
-    enclosed_put tag k (written (layout w) (layout w whole) n) (written_members (layout w) (layout w form) (row ns)) old mid new
+    enclosed_put 0 tag k (written (layout w) (layout w whole) n) (written_members (layout w) (layout w form) (row ns)) old mid new
     (is w) before header (put w)
 
 pub all_fail : (tag : ℕ) (whole form : Named) (ns : List Node) (n : Node) (fault : WriteFault) (old new late : List ℕ)
     → HasMembers tag whole form ns n → PutsEach {Y = Unit {0}} form ns old new (Err fault)
     → PutsOf {Y = Unit {0}} whole n old late (Err fault)
-all_fail tag whole form ns n Misfit old new late is put w = is w ∙ ap (around tag) (put w)
+all_fail tag whole form ns n Misfit old new late is put w = is w ∙ ap (around 0 tag) (put w)
 all_fail tag whole form ns n NoMemory old new late is put w = tt
 
 -- ---- types with two components
@@ -159,17 +159,17 @@ all_fail tag whole form ns n NoMemory old new late is put w = tt
 abbrev pub HasTwo : Named → Named → Named → Node → Node → Node → Type 0
 HasTwo whole first second a b n =
     (w : Surroundings) → written (layout w) (layout w whole) n
-    ≡ around 16 (one_before (written (layout w) (layout w first) a)
+    ≡ around 0 16 (one_before (written (layout w) (layout w first) a)
     (one_before (written (layout w) (layout w second) b) (Some elements.Nil)))
 
 pub two_put : (k : ℕ) (whole first second : Named) (a b n : Node) (old early late new : List ℕ)
-    → HasTwo whole first second a b n → k ≡ length old → Encloses 16 k late new
+    → HasTwo whole first second a b n → k ≡ length old → Encloses 0 16 k late new
     → PutsOf {Y = Unit {0}} second b old early (Ok tt) → PutsOf {Y = Unit {0}} first a early late (Ok tt)
     → PutsOf {Y = Unit {0}} whole n old new (Ok tt)
 two_put k whole first second a b n old early late new is before header behind front w =
     let x = written (layout w) (layout w first) a in
     let y = written (layout w) (layout w second) b in
-    enclosed_put 16 k (written (layout w) (layout w whole) n) (one_before x (one_before y (Some elements.Nil))) old late new
+    enclosed_put 0 16 k (written (layout w) (layout w whole) n) (one_before x (one_before y (Some elements.Nil))) old late new
     (is w) before header
     (one_put x (one_before y (Some elements.Nil)) old early late
     (one_put y (Some elements.Nil) old old early (elements.Nil, refl, refl) (behind w)) (front w))
@@ -180,8 +180,8 @@ pub second_fails : (whole first second : Named) (a b n : Node) (fault : WriteFau
 second_fails whole first second a b n Misfit old new late is put w =
     let x = written (layout w) (layout w first) a in
     is w
-    ∙ ap (λ (o : Option Element). around 16 (one_before x (one_before o (Some elements.Nil)))) (put w)
-    ∙ ap (around 16) (nothing_before x)
+    ∙ ap (λ (o : Option Element). around 0 16 (one_before x (one_before o (Some elements.Nil)))) (put w)
+    ∙ ap (around 0 16) (nothing_before x)
 second_fails whole first second a b n NoMemory old new late is put w = tt
 
 pub first_fails : (whole first second : Named) (a b n : Node) (fault : WriteFault) (mid new old late : List ℕ)
@@ -189,13 +189,13 @@ pub first_fails : (whole first second : Named) (a b n : Node) (fault : WriteFaul
     → PutsOf {Y = Unit {0}} whole n old late (Err fault)
 first_fails whole first second a b n Misfit mid new old late is put w =
     is w
-    ∙ ap (λ (o : Option Element). around 16 (one_before o
+    ∙ ap (λ (o : Option Element). around 0 16 (one_before o
     (one_before (written (layout w) (layout w second) b) (Some elements.Nil)))) (put w)
 first_fails whole first second a b n NoMemory mid new old late is put w = tt
 
 -- ---- faults that are passed on
 
-err_is : {W : Type 0} (r : Result (Unit {0}) W) (x : W) → IsErrAnd r (λ y. y ≡ x) → r ≡ Err x
+pub err_is : {W : Type 0} (r : Result (Unit {0}) W) (x : W) → IsErrAnd r (λ y. y ≡ x) → r ≡ Err x
 err_is (Ok y) x h = elim h [ ]
 err_is {W = W} (Err y) x h = ap (λ (z : W). Err z) h
 

@@ -19,7 +19,7 @@ abbrev pub PutsEach : {Y : Type 0} → Named → List Node → List ℕ → List
 PutsEach form ns old new result =
     (w : Surroundings) → Puts canonical_all (written_members (layout w) (layout w form) (row ns)) old new result
 
--- The header of a constructed element of the universal class, around all octets but so many that were there before.
-abbrev pub Encloses : ℕ → ℕ → List ℕ → List ℕ → Type 0
-Encloses tag behind old new =
-    new ≡ identifier_octets (identifier true 0 tag) ++ (shortest_length (length old - behind) ++ old)
+-- The header of a constructed element stands before all octets, of which all but so many are its content.
+abbrev pub Encloses : ℕ → ℕ → ℕ → List ℕ → List ℕ → Type 0
+Encloses class tag behind old new =
+    new ≡ identifier_octets (identifier true class tag) ++ (shortest_length (length old - behind) ++ old)

@@ -33,7 +33,7 @@ fn put_info(alloc: Global, out: &mut Backwards, info: &EntryInfo) -> Result<(), 
     put_attribute_set(alloc, out, info.attributes.as_slice())?;
     put_origin(out, info.copy)?;
     put_name(alloc, out, &info.name)?;
-    enclose(out, 16, behind)?;
+    enclose(out, 0, 16, behind)?;
     Ok(())
 }
 
@@ -58,7 +58,7 @@ pub fn put_info_list(
 {
     let behind = out.len();
     put_infos(alloc, out, infos)?;
-    enclose(out, 16, behind)?;
+    enclose(out, 0, 16, behind)?;
     Ok(())
 }
 
@@ -69,7 +69,7 @@ pub fn put_entry(alloc: Global, out: &mut Backwards, entry: &Named) -> Result<()
     let behind = out.len();
     put_stored_set(alloc, out, entry.entry.attributes())?;
     put_name(alloc, out, &entry.name)?;
-    enclose(out, 16, behind)?;
+    enclose(out, 0, 16, behind)?;
     Ok(())
 }
 
@@ -94,6 +94,6 @@ pub fn put_entry_list(
 {
     let behind = out.len();
     put_entries(alloc, out, entries)?;
-    enclose(out, 16, behind)?;
+    enclose(out, 0, 16, behind)?;
     Ok(())
 }

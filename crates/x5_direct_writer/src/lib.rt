@@ -7,5 +7,6 @@ mod header;
 pub mod names;
 pub mod values;
 
+pub use crate::header::enclose;
 pub use x5_memory::NoMemory;
 pub use x5_writer::{Backwards, WriteFault};

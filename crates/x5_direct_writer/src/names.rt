@@ -70,7 +70,7 @@ fn put_pair_of(
     let behind = out.len();
     put_text(alloc, out, text)?;
     put_known_type(out, kind)?;
-    enclose(out, 16, behind)?;
+    enclose(out, 0, 16, behind)?;
     Ok(())
 }
 
@@ -122,7 +122,7 @@ pub fn put_rdn(alloc: Global, out: &mut Backwards, rdn: &Rdn) -> Result<(), Writ
 {
     let behind = out.len();
     put_pairs(alloc, out, rdn.pairs())?;
-    enclose(out, 17, behind)?;
+    enclose(out, 0, 17, behind)?;
     Ok(())
 }
 
@@ -131,7 +131,7 @@ fn put_written_rdn(alloc: Global, out: &mut Backwards, rdn: &RdnValue) -> Result
 {
     let behind = out.len();
     put_written_pairs(alloc, out, rdn.pairs())?;
-    enclose(out, 17, behind)?;
+    enclose(out, 0, 17, behind)?;
     Ok(())
 }
 
@@ -163,7 +163,7 @@ pub fn put_name(alloc: Global, out: &mut Backwards, name: &Name) -> Result<(), W
 {
     let behind = out.len();
     put_rdns(alloc, out, name.rdns())?;
-    enclose(out, 16, behind)?;
+    enclose(out, 0, 16, behind)?;
     Ok(())
 }
 
@@ -177,6 +177,6 @@ pub(crate) fn put_name_value(
 {
     let behind = out.len();
     put_written_rdns(alloc, out, name.rdns())?;
-    enclose(out, 16, behind)?;
+    enclose(out, 0, 16, behind)?;
     Ok(())
 }

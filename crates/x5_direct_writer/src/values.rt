@@ -78,7 +78,7 @@ fn put_value_set(alloc: Global, out: &mut Backwards, values: &[Value]) -> Result
 {
     let behind = out.len();
     put_values(alloc, out, values)?;
-    enclose(out, 17, behind)?;
+    enclose(out, 0, 17, behind)?;
     Ok(())
 }
 
@@ -91,7 +91,7 @@ fn put_stored_value_set(
 {
     let behind = out.len();
     put_stored_values(alloc, out, values)?;
-    enclose(out, 17, behind)?;
+    enclose(out, 0, 17, behind)?;
     Ok(())
 }
 
@@ -106,7 +106,7 @@ fn put_attribute(
     let behind = out.len();
     put_value_set(alloc, out, attribute.values.as_slice())?;
     put_type(alloc, out, &attribute.kind)?;
-    enclose(out, 16, behind)?;
+    enclose(out, 0, 16, behind)?;
     Ok(())
 }
 
@@ -116,7 +116,7 @@ fn put_stored(alloc: Global, out: &mut Backwards, attribute: &Stored) -> Result<
     let behind = out.len();
     put_stored_value_set(alloc, out, attribute.values.as_slice())?;
     put_known_type(out, attribute.kind)?;
-    enclose(out, 16, behind)?;
+    enclose(out, 0, 16, behind)?;
     Ok(())
 }
 
@@ -160,7 +160,7 @@ pub(crate) fn put_attribute_set(
 {
     let behind = out.len();
     put_attributes(alloc, out, attributes)?;
-    enclose(out, 17, behind)?;
+    enclose(out, 0, 17, behind)?;
     Ok(())
 }
 
@@ -174,6 +174,6 @@ pub(crate) fn put_stored_set(
 {
     let behind = out.len();
     put_all_stored(alloc, out, attributes)?;
-    enclose(out, 17, behind)?;
+    enclose(out, 0, 17, behind)?;
     Ok(())
 }
