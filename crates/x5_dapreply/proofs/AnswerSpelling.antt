@@ -1,17 +1,17 @@
 -- Answers and replies, from what is found of their parts.
-use Rattle.std.proofs.Common.{◌≡◌, ℕ, ◌+◌, ◌≤◌, ◌<◌, ◌%◌, Bool, true, false, List, [], ◌∷◌, map, refl, ap, ap₂, sym}
+use Rattle.std.proofs.Common.{◌≡◌, ℕ, ◌≤◌, ◌<◌, ◌%◌, Bool, true, false, List, [], ◌∷◌, refl, ap, ap₂, sym}
 use Rattle.std.proofs.Common.{◌∙◌, subst, arith, lit<, ◌⊎◌, inl, inr, pos, ◌==◌, get_or, length}
 use Rattle.std.proofs.lemmas.Bool.{eq-eqb}
 use Rattle.std.proofs.lemmas.Bool.Decides.{Decides-eqb}
 use Rattle.std.specs.declared.option.Option.{Option}
-use Rattle.std.specs.declared.option.Option.TheVariants.{None, Some}
+use Rattle.std.specs.declared.option.Option.TheVariants.{Some}
 use Rattle.x5_model.specs.Values.{Name}
 use Rattle.x5_model.specs.Answers as model
-use Rattle.x5_model_typed.specs.Nodes.{Node, Vacant, Chosen, Many, Nil, row, parts, whole}
+use Rattle.x5_model_typed.specs.Nodes.{Node, Vacant, Chosen, whole}
 use Rattle.x5_model_typed.specs.Named as named
 use Rattle.x5_model_typed.specs.Named.{Named, Operation}
-use Rattle.x5_model_typed.specs.Forms.{Component, Primitive, Sequence, Required, universal, plain, at, or, code}
-use Rattle.x5_model_typed.specs.Forms.{choice, by_tag}
+use Rattle.x5_model_typed.specs.Forms.{Component, Primitive, Required, universal, plain, at, or, code}
+use Rattle.x5_model_typed.specs.Forms.{by_tag}
 use Rattle.x5_model_typed.specs.Leaves.{null, from_to}
 use Rattle.x5_model_typed.specs.Layouts as layouts
 use Rattle.x5_model_typed.specs.Layouts.{Surroundings, layout, sequence, set, no_qualifier, named_by, operation_codes}
@@ -19,7 +19,7 @@ use Rattle.x5_model_typed.specs.Layouts.{result_inner, integer}
 use Rattle.x5_model_messages.specs.Terms.{node_of, name_of, number_in}
 use Rattle.x5_model_messages.specs.Replies as replies
 use Rattle.x5_model_messages.specs.Replies.{info_in, source_in, sub_in, outcome_in, answer_in, or_zero}
-use Rattle.x5_direct.specs.Spelled.{Opens, Spelled, SpelledInOrder, Reads}
+use Rattle.x5_direct.specs.Spelled.{Opens, Spelled, Reads}
 use Rattle.x5_direct.proofs.Heads.{opens_so, short_length, three_octets}
 use Rattle.x5_direct.proofs.Spelling.{leaf_spelled, branch_spelled, spelled_higher, order_over, order_next, order_in}
 use Rattle.x5_dapreply.specs.ReplyViews.{heard_in}

@@ -1,5 +1,5 @@
 -- Truth values, numbers, agents' names and phases, as they're usually spelled, are what is said of them.
-use Rattle.std.proofs.Common.{◌≡◌, ℕ, ◌+◌, ◌*◌, ◌≤◌, ◌<◌, ◌%◌, ◌==◌, ◌&&◌, nat_le, nat_lt, cond, if◌then◌else◌, Bool}
+use Rattle.std.proofs.Common.{◌≡◌, ℕ, ◌+◌, ◌*◌, ◌≤◌, ◌<◌, ◌%◌, ◌==◌, ◌&&◌, nat_le, if◌then◌else◌, Bool}
 use Rattle.std.proofs.Common.{true, false, not, ℤ, pos}
 use Rattle.std.proofs.Common.{List, [], ◌∷◌, ◌++◌, length, refl, ap, ap₂, sym, ◌∙◌, subst, arith, lit<, ◌⊎◌, inl, inr}
 use Rattle.std.proofs.Common.{take, drop, get_or, nat_eq, length-drop}
@@ -10,18 +10,18 @@ use Rattle.std.specs.declared.option.Option.TheVariants.{None, Some}
 use Rattle.std.proofs.lemmas.Bool.{lt-ltb, le-leb}
 use Rattle.std.proofs.lemmas.Bool.Decides.{Decides-eqb, nat_tests}
 use Rattle.x5_model.specs.Words.{in_option}
-use Rattle.x5_model.specs.References.{Progress, Start, Next, Done, RefType, Superior, Subordinate, Cross, NonSpecific}
+use Rattle.x5_model.specs.References.{Start, Next, Done, RefType, Superior, Subordinate, Cross, NonSpecific}
 use Rattle.x5_model.specs.References.{Supplier, Own}
 use Rattle.x5_model_octets.proofs.HeaderLaws.{chosen}
 use Rattle.x5_model_typed.specs.Nodes as nodes
 use Rattle.x5_model_typed.specs.Nodes.{Node, Vacant, Flag, Number, Many, row, whole}
 use Rattle.x5_model_typed.specs.Named as named
 use Rattle.x5_model_typed.specs.Named.{Named}
-use Rattle.x5_model_typed.specs.Forms.{Primitive, Joined, universal, plain, or, ruled, Component}
+use Rattle.x5_model_typed.specs.Forms.{Primitive, universal, plain, ruled, Component}
 use Rattle.x5_model_typed.specs.Judged.{leaf_node}
 use Rattle.x5_model_typed.specs.Leaves.{boolean, number, number_of, is_shortest, complement, from_to, one_of}
 use Rattle.x5_model_typed.specs.Leaves.{any_number, is_agent_name, where_so}
-use Rattle.x5_model_typed.specs.Layouts.{agent_name, any_agent, integer, sequence, optional, layout}
+use Rattle.x5_model_typed.specs.Layouts.{agent_name, any_agent, integer, sequence, optional}
 use Rattle.x5_model_typed.specs.Rules.{progress_rule, text_in}
 use Rattle.x5_model_messages.specs.Terms.{flag_in, number_in, node_of}
 use Rattle.x5_model_messages.specs.Replies.{progress_in, kind_in}

@@ -1,8 +1,8 @@
 -- Sources, agents of references, references, trace items and partial outcomes, from what is found of their parts.
 use Rattle.std.proofs.Common.{◌≡◌, ℕ, ◌+◌, ◌≤◌, Bool, true, false, List, [], ◌∷◌, map, refl, ap, sym, ◌∙◌, subst}
-use Rattle.std.proofs.Common.{arith, lit<, ◌⊎◌, inl, inr, ◌++◌, drop, if◌then◌else◌, not}
+use Rattle.std.proofs.Common.{arith, inl, inr, ◌++◌, drop, if◌then◌else◌, not}
 use Rattle.std.specs.declared.option.Option.{Option}
-use Rattle.std.specs.declared.option.Option.TheVariants.{None, Some}
+use Rattle.std.specs.declared.option.Option.TheVariants.{Some}
 use Rattle.std.proofs.lemmas.List.{map-append}
 use Rattle.x5_model.specs.Values.{Text, Name, Rdn}
 use Rattle.x5_model.specs.Answers as model
@@ -10,7 +10,7 @@ use Rattle.x5_model.specs.References.{Progress, RefType}
 use Rattle.x5_model_typed.specs.Nodes.{Node, Vacant, Flag, Many, Nil, row, parts}
 use Rattle.x5_model_typed.specs.Named as named
 use Rattle.x5_model_typed.specs.Named.{Named}
-use Rattle.x5_model_typed.specs.Forms.{Component, Alternative, Required, plain, at, or, by_tag}
+use Rattle.x5_model_typed.specs.Forms.{Component, Required, plain, at, or, by_tag}
 use Rattle.x5_model_typed.specs.Layouts.{Surroundings, layout, sequence, sequence_of, set, optional, or_nothing}
 use Rattle.x5_model_typed.specs.Layouts.{any_agent}
 use Rattle.x5_model_typed.specs.Leaves.{is_agent_name}

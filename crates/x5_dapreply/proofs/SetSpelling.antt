@@ -1,22 +1,22 @@
 -- Components of a SET, spelled in the order of their tags, are its value; so are those of a SEQUENCE that may be
 -- missing.
-use Rattle.std.proofs.Common.{◌≡◌, ℕ, ◌+◌, ◌≤◌, ◌<◌, ◌%◌, ◌==◌, ◌&&◌, cond, Bool, true, false, List, [], ◌∷◌, ◌++◌}
-use Rattle.std.proofs.Common.{length, refl, ap, ap₂}
-use Rattle.std.proofs.Common.{sym, ◌∙◌, subst, arith, append_assoc, ℤ, ◌⊎◌, inl, inr}
+use Rattle.std.proofs.Common.{◌≡◌, ℕ, ◌+◌, ◌≤◌, ◌<◌, ◌%◌, ◌==◌, cond, Bool, true, false, List, [], ◌∷◌, ◌++◌}
+use Rattle.std.proofs.Common.{length, refl, ap}
+use Rattle.std.proofs.Common.{sym, ◌∙◌, subst, arith, append_assoc, ℤ, inl, inr}
 use Rattle.std.proofs.lemmas.Bool.{eq-eqb}
 use Rattle.std.specs.declared.option.Option.{Option}
 use Rattle.std.specs.declared.option.Option.TheVariants.{None, Some}
 use Rattle.std.specs.Option.{is_some}
 use Rattle.x5_model_octets.specs.Headers.{Identifier, IsHeader, identifier_of}
-use Rattle.x5_model_octets.specs.Elements.{deepest, identifier}
+use Rattle.x5_model_octets.specs.Elements.{identifier}
 use Rattle.x5_model_typed.specs.Trees as trees
 use Rattle.x5_model_typed.specs.Trees.{Tree, Trees, Leaf, Branch, Bare, Row, Lies, LieAll, class_of, tag_of}
 use Rattle.x5_model_typed.specs.Nodes.{Node, Number, Many, row}
 use Rattle.x5_model_typed.specs.Named.{Named}
-use Rattle.x5_model_typed.specs.Forms.{Presence, Required, Default, Code, Component, Set, Explicit, Layout, by_tag}
+use Rattle.x5_model_typed.specs.Forms.{Presence, Default, Component, Set, Explicit, Layout, by_tag}
 use Rattle.x5_model_typed.specs.Forms.{plain, at, or, code}
 use Rattle.x5_model_typed.specs.Forms.{is_component, context}
-use Rattle.x5_model_typed.specs.Layouts.{Surroundings, layout}
+use Rattle.x5_model_typed.specs.Layouts.{layout}
 use Rattle.x5_model_typed.specs.Typed as typed
 use Rattle.x5_model_typed.specs.Typed.{IsMissing}
 use Rattle.x5_direct.specs.Spelled.{Opens, Spelled, SpelledIn, SpelledInOrder, Reads}

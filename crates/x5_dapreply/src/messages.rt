@@ -73,6 +73,7 @@ pub fn decode_answer(alloc: Global, octets: &[u8]) -> Result<(u32, Reply), WireF
 {
     match usual_reply(alloc, octets) {
         Ok(reply) => Ok(reply),
+        // Spelled otherwise than usual, or memory ran out: the reader over the table of types says what, and where.
         Err(_) => read_answer(alloc, octets),
     }
 }

@@ -1,5 +1,5 @@
 -- No octets stand behind what is shown of the entry.
-use Rattle.std.proofs.Common.{◌≡◌, List, ℕ, [], subst, drop}
+use Rattle.std.proofs.Common.{List, ℕ, subst}
 use Rattle.x5_model_typed.specs.Named as named
 use Rattle.x5_model_messages.specs.Replies as replies
 use Rattle.x5_ops.specs.AnswerViews.{info_view}

@@ -1,5 +1,5 @@
 -- Each that is read stands before those that are left.
-use Rattle.std.proofs.Common.{[], map, sym, subst}
+use Rattle.std.proofs.Common.{map, sym, subst}
 use Rattle.x5_model_typed.specs.Named as named
 use Rattle.x5_model_messages.specs.Replies as replies
 use Rattle.x5_dapreply.specs.ReplyViews.{told_reference}

@@ -1,5 +1,5 @@
 -- No octets are a component that is missing.
-use Rattle.std.proofs.Common.{◌≡◌, List, ℕ, refl, sym, subst, arith}
+use Rattle.std.proofs.Common.{List, ℕ, refl, sym, subst}
 use Rattle.x5_model_typed.specs.Forms.{plain, or}
 use Rattle.x5_model_typed.specs.Named as named
 use Rattle.x5_model_typed.specs.Nodes.{Flag}

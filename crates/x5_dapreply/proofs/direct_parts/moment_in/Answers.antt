@@ -1,5 +1,5 @@
 -- No octets are no moment, and others are its number.
-use Rattle.std.proofs.Common.{◌≡◌, List, [], ℕ, refl, sym, subst, arith}
+use Rattle.std.proofs.Common.{List, [], ℕ, refl, sym, subst, arith}
 use Rattle.std.specs.declared.option.Option.{Option}
 use Rattle.std.specs.declared.option.Option.TheVariants.{None, Some}
 use Rattle.x5_model_typed.specs.Forms.{plain}

@@ -1,5 +1,5 @@
 -- No octets stand behind the name.
-use Rattle.std.proofs.Common.{◌≡◌, List, ℕ, [], subst, drop}
+use Rattle.std.proofs.Common.{List, ℕ, subst}
 use Rattle.x5_model_typed.specs.Named as named
 use Rattle.x5_model_messages.specs.Terms.{name_of}
 use Rattle.x5_direct.specs.Spelled.{Reads}
