@@ -172,3 +172,12 @@ item_read agent target p wide content first second third octets rest o a b c d =
           refl,
       item_said agent target p wide b.0 c.0 b.2 c.2,
     )
+
+-- ---- what is left of octets
+
+pub all_taken : (k : ℕ) (octets : List ℕ) → k ≡ length octets → drop k octets ≡ []
+all_taken k octets e = ap (λ (j : ℕ). drop j octets) e ∙ by octets
+  where
+    by : (l : List ℕ) → drop (length l) l ≡ []
+    by [] = refl
+    by (o ∷ l) = by l

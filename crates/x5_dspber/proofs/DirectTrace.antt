@@ -9,6 +9,7 @@ use Rattle.x5_model.specs.References.{Progress, Start, Next, Done}
 use Rattle.x5_model.specs.Words.{has, distinct, same_octets}
 use Rattle.x5_model.proofs.Lists.{both_true, and_true, true_or_false}
 use Rattle.x5_model_fitting.specs.Chained.{same_item}
+use Rattle.x5_model_fitting.proofs.Chained.{distinct_kept}
 use Rattle.x5_model_fitting.proofs.Names.{name_key_of}
 use Rattle.x5_model.specs.Normal.{written_key}
 use Rattle.x5_model_messages.specs.Replies.{TraceItem, item_in, progress_in}
@@ -21,6 +22,10 @@ use Rattle.x5_model_typed.specs.Rules as rules
 use Rattle.x5_model_typed.specs.Rules.{text_in, name_in, trace_rule, most_items}
 use Rattle.x5_model_typed.proofs.Laws.{list_row}
 use Rattle.x5_model_typed_laws.proofs.Reading.{same_is}
+use Rattle.x5_ops.specs.ReferenceViews.{progress_view}
+use Rattle.x5_ops.specs.declared.references.TraceItem as items
+use Rattle.x5_dapreply.specs.ReplyViews.{told_item}
+use Rattle.x5_trace.specs.Items.{same_kind, same_named}
 
 -- ---- two items
 
@@ -134,3 +139,26 @@ pub so_ruled : (ns : List Node) → length ns ≤ most_items → distinct same_i
     → trace_rule (made ns) ≡ Some (made ns)
 so_ruled ns few once =
     rw (list_row ns, le-leb (length ns) most_items few, so_distinct ns once) refl
+
+-- ---- items of the code
+
+kinds_alike : (a b : Bool) → same_bit a b ≡ same_kind a b
+kinds_alike true b = refl
+kinds_alike false true = refl
+kinds_alike false false = refl
+
+bracketed : (a b c d e : Bool) → d ≡ e → (a && b && c && d) ≡ (a && (b && (c && e)))
+bracketed true true true d e is = is
+bracketed true true false d e is = refl
+bracketed true false c d e is = refl
+bracketed false b c d e is = refl
+
+told_alike : (x y : items.TraceItem) → same_item (told_item x) (told_item y) ≡ same_named x y
+told_alike x y =
+    bracketed (same_octets x.agent y.agent) (same_name x.target y.target)
+    (same_progress (progress_view x.progress) (progress_view y.progress)) (same_bit x.wide y.wide)
+    (same_kind x.wide y.wide) (kinds_alike x.wide y.wide)
+
+pub told_distinct : (xs : List items.TraceItem) → distinct same_named xs ≡ true
+    → distinct same_item (map told_item xs) ≡ true
+told_distinct xs once = distinct_kept told_item same_named same_item xs (λ x y i j. told_alike x y) ∙ once

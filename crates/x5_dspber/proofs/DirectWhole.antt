@@ -2,6 +2,7 @@
 use Rattle.std.proofs.Common.{◌≡◌, ℕ, ◌+◌, ◌≤◌, ◌<◌, ◌==◌, Bool, true, false, List, [], ◌∷◌, ◌++◌, length, map}
 use Rattle.std.proofs.Common.{refl, ap, sym, ◌∙◌, subst, arith, lit<, lit≤, append-nil, if◌then◌else◌, inl, inr, ◌⊎◌}
 use Rattle.std.specs.Prelude.{ℤ, pos}
+use Rattle.std.proofs.lemmas.Bool.Decides.{Decides-eqb}
 use Rattle.std.specs.declared.option.Option.{Option}
 use Rattle.std.specs.declared.option.Option.TheVariants.{None, Some}
 use Rattle.x5_model.specs.References.{Progress, RefType, Superior, Subordinate, Cross, NonSpecific, Supplier, Own}
@@ -28,8 +29,10 @@ use Rattle.x5_model_typed.specs.Typed as typed
 use Rattle.x5_model_typed.specs.Typed.{Spells}
 use Rattle.x5_model_typed.specs.Trees.{Tree, Row, Lies}
 use Rattle.x5_model_typed.proofs.Laws.{list_row}
+use Rattle.x5_ops.specs.ReferenceViews.{kind_of_number}
 use Rattle.x5_types.specs.FormView.{nowhere, table}
-use Rattle.x5_dspber.specs.Direct.{AreFour, ReadLast, ReadsChaining, chaining_parts, items_of, last_part, rdns_of}
+use Rattle.x5_dspber.specs.Direct.{AreFour, ReadLast, ReadsChaining, chaining_parts, code_of, items_of, last_part, rdns_of}
+use Rattle.x5_dspber.specs.Direct.{SpelledInSet}
 use Rattle.x5_direct.specs.Spelled.{Opens, Spelled, SpelledIn, SpelledInOrder, Reads, ReadEach}
 use Rattle.x5_dspber.proofs.DirectSet.{tagged, set_given, set_missing, set_over, set_in}
 use Rattle.x5_dspber.proofs.DirectTrace.{so_ruled}
@@ -89,7 +92,7 @@ kind_said NonSpecific = refl
 kind_said Supplier = refl
 kind_said Own = refl
 
-pub kind_read : (k : RefType) (rest : List ℕ)
+kind_read : (k : RefType) (rest : List ℕ)
     → Reads 0 named.RefType kind_in k (2 ∷ 1 ∷ kind_number k ∷ rest) rest
 kind_read k rest =
     let j = kind_number k in (
@@ -98,6 +101,43 @@ kind_read k rest =
           (2 ∷ 1 ∷ j ∷ rest) rest (one_octet 2 j rest (lit< tt) (lit< tt)) refl (lit< tt) (λ w. refl) (kind_reads k) refl,
       kind_said k,
     )
+
+-- one test of a row
+tested : (b : Bool) (n m : ℕ) (x k : RefType) (others : Option RefType) → (n == m) ≡ b
+    → (if b then Some x else others) ≡ Some k → ((n ≡ m) × (x ≡ k)) ⊎ (others ≡ Some k)
+tested true n m x k others e f = inl ((Decides-eqb n m).0 e, cc f)
+tested false n m x k others e f = inr f
+
+numbered : (n m : ℕ) (x k : RefType) → (n ≡ m) × (x ≡ k) → m ≡ kind_number x → n ≡ kind_number k
+numbered n m x k both e = both.0 ∙ e ∙ ap kind_number both.1
+
+kind_found : (n : ℕ) (k : RefType) → kind_of_number n ≡ Some k → n ≡ kind_number k
+kind_found n k e = elim (tested (n == 1) n 1 Superior k _ refl e) [
+  | inl h ↦ numbered n 1 Superior k h refl
+  | inr e2 ↦ elim (tested (n == 2) n 2 Subordinate k _ refl e2) [
+    | inl h ↦ numbered n 2 Subordinate k h refl
+    | inr e3 ↦ elim (tested (n == 3) n 3 Cross k _ refl e3) [
+      | inl h ↦ numbered n 3 Cross k h refl
+      | inr e4 ↦ elim (tested (n == 4) n 4 NonSpecific k _ refl e4) [
+        | inl h ↦ numbered n 4 NonSpecific k h refl
+        | inr e5 ↦ elim (tested (n == 5) n 5 Supplier k _ refl e5) [
+          | inl h ↦ numbered n 5 Supplier k h refl
+          | inr e8 ↦ elim (tested (n == 8) n 8 Own k _ refl e8) [
+            | inl h ↦ numbered n 8 Own k h refl
+            | inr none ↦ absurd (cc none)
+          ]
+        ]
+      ]
+    ]
+  ]
+]
+
+pub kind_here : (n : ℕ) (k : RefType) (octets rest : List ℕ) → octets ≡ 2 ∷ 1 ∷ n ∷ rest → rest ≡ []
+    → kind_of_number n ≡ Some k → Reads 0 named.RefType kind_in k octets []
+kind_here n k octets rest is over found =
+    let one : octets ≡ 2 ∷ 1 ∷ kind_number k ∷ [] =
+    is ∙ ap (λ (l : List ℕ). 2 ∷ 1 ∷ n ∷ l) over ∙ ap (λ (j : ℕ). 2 ∷ 1 ∷ j ∷ []) (kind_found n k found) in
+    subst (λ (l : List ℕ). Reads 0 named.RefType kind_in k l []) (sym one) (kind_read k [])
 
 -- ---- chaining arguments
 
@@ -180,6 +220,19 @@ carried_read o k m r chaining behind content octets rest outer inner c is a =
 
 abbrev codes : ℤ → Option named.Named
 codes = named_by (operation_codes named.Chained)
+
+by_code : (o : named.Operation) → codes (pos (code_of o)) ≡ Some (named.Chained o)
+by_code named.Read = refl
+by_code named.Compare = refl
+by_code named.ListBelow = refl
+by_code named.Search = refl
+by_code named.AddEntry = refl
+by_code named.RemoveEntry = refl
+by_code named.ModifyEntry = refl
+by_code named.ModifyDn = refl
+
+pub operation_codes_are : (o : named.Operation) (k : ℕ) → k ≡ code_of o → codes (pos k) ≡ Some (named.Chained o)
+operation_codes_are o k is = ap (λ (j : ℕ). codes (pos j)) is ∙ by_code o
 
 code_next : (levels k : ℕ) (form : named.Named) (n : Node) (octets behind : List ℕ) → codes (pos k) ≡ Some form
     → Spelled levels named.AnyNumber (whole k) octets behind → SpelledInOrder levels (plain form ∷ []) (n ∷ []) behind

@@ -53,12 +53,12 @@ fn four_in(octets: &[u8]) -> Result<(&[u8], &[u8], &[u8], &[u8], &[u8]), Unread>
 fn chaining_in(alloc: Global, octets: &[u8]) -> Result<Chaining, Unread>
     ensures { IfOk result (λ c. ReadsChaining c.target (progress_view c.progress) (kind_view c.kind) c.exclusions (map told_item c.trace) octets.now) }
 {
-    let (target, progress, trace, kind, rest) = four_in(octets)?;
-    let progress = progress_in(progress)?;
-    let kind = kind_in(kind)?;
-    let target = target_in(alloc, target)?;
+    let (target_part, progress_part, trace_part, kind_part, rest) = four_in(octets)?;
+    let progress = progress_in(progress_part)?;
+    let kind = kind_in(kind_part)?;
+    let target = target_in(alloc, target_part)?;
     let exclusions = exclusions_in(alloc, rest)?;
-    let trace = trace_in(alloc, trace)?;
+    let trace = trace_in(alloc, trace_part)?;
     Ok(Chaining {
         target,
         progress,

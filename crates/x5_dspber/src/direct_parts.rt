@@ -178,7 +178,8 @@ pub(crate) fn trace_in(alloc: Global, octets: &[u8]) -> Result<Trace, Unread>
     if !rest.is_empty() {
         return Err(Unread::Unusual);
     }
-    items_in(alloc, content)
+    let trace = items_in(alloc, content)?;
+    Ok(trace)
 }
 
 /// The kind of reference that all of the octets say.
@@ -230,5 +231,6 @@ pub(crate) fn exclusions_in(alloc: Global, octets: &[u8]) -> Result<RdnList, Unr
     if !rest.is_empty() {
         return Err(Unread::Unusual);
     }
-    rdn_list_in(alloc, content)
+    let rdns = rdn_list_in(alloc, content)?;
+    Ok(rdns)
 }
