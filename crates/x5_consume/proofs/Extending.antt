@@ -141,10 +141,11 @@ pub record SoFar (first : Kept) (all : List Named) (now : Kept) (left : List Nam
   pub begins : first_of (entries_in now) ≡ first_of (entries_in first)
   pub rest : OnlyEntries first now
 
-pub begun : (first : Kept) (all : List Named) (now : Kept) → now.nodes ≡ first.nodes → OnlyEntries first now → SoFar first all now all
+pub begun : (first : Kept) (all : List Named) (now : Kept) → now.nodes.nodes ≡ first.nodes.nodes → OnlyEntries first now
+    → SoFar first all now all
 begun first all now nodes others = record {
-  split = ap (λ (ns : Nodes). entries_of ns.nodes ++ all) nodes;
-  begins = ap (λ (ns : Nodes). first_of (entries_of ns.nodes)) nodes;
+  split = ap (λ (ns : List Node). entries_of ns ++ all) nodes;
+  begins = ap (λ (ns : List Node). first_of (entries_of ns)) nodes;
   rest = others;
 }
 

@@ -32,13 +32,14 @@ fn with_entry(alloc: Global, filling: Filling, named: Named) -> Result<Filling, 
     Ok(filling)
 }
 
-/// The context with these entries more. They are in the order of their keys, each behind the one above it. Its index is put into
-/// order once, when all are there.
+/// The context with these entries more. They are in the order of their keys, each behind the one above it. There is room for all
+/// of them from the start, and for a value of each; its index is put into order once, when all are there.
 fn with_entries(alloc: Global, held: Held, entries: Vec<Named>) -> Result<Held, NoMemory>
     requires { (pin : Key) × AreWhole pin (entries_of held.nodes.nodes ++ entries.items) × (option_map key_at (first_of (entries_of held.nodes.nodes)) ≡ Some pin) }
     ensures { IfOk result (λ after. IsExtended held entries.items after) }
 {
     let mut filling = held.filling();
+    filling.reserve(entries.len(), entries.len())?;
     for named in entries {
         filling = with_entry(alloc, filling, named)?;
     }

@@ -21,7 +21,8 @@ use Rattle.x5_direct.specs.Marks.{IsMark}
 use Rattle.x5_direct.specs.Spelled.{Opens, Spelled, SpelledInOrder, Reads, ReadEach}
 use Rattle.x5_direct.proofs.Heads.{opens_so, short_length}
 use Rattle.x5_direct.proofs.Naming.{so}
-use Rattle.x5_direct.proofs.Spelling.{AreApart, branch_spelled, each_in, leaf_spelled, order_given, order_in, order_next}
+use Rattle.x5_direct.proofs.Spelling.{AreApart, branch_spelled, each_in, leaf_spelled, order_given}
+use Rattle.x5_direct.proofs.Spelling.{order_in, order_next}
 use Rattle.x5_direct.proofs.Spelling.{order_over, order_passed, spelled_higher}
 
 -- ---- attributes

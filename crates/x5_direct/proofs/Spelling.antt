@@ -167,7 +167,8 @@ AreApart form other = (w : Surroundings) (class tag : ℕ) → may_be_tagged cla
 -- One that's missing before one that isn't.
 pub order_passed : (levels : ℕ) (form other : Named) (d : Node) (cs : List Component) (n : Node) (ns : List Node)
     (octets rest : List ℕ) → AreApart form other → Spelled levels form n octets rest
-    → SpelledInOrder levels cs ns rest → SpelledInOrder levels (or d (plain other) ∷ plain form ∷ cs) (d ∷ n ∷ ns) octets
+    → SpelledInOrder levels cs ns rest
+    → SpelledInOrder levels (or d (plain other) ∷ plain form ∷ cs) (d ∷ n ∷ ns) octets
 order_passed levels form other d cs n ns octets rest apart s others depth at room =
     let e = s.is_element depth at room in
     let more = others depth (at + length s.part) room in
@@ -180,7 +181,8 @@ order_passed levels form other d cs n ns octets rest apart s others depth at roo
           (typed.next tagged (e.is_of w) typed.required (more.in_order w));
     }
 
-pub order_in : (levels : ℕ) (cs : List Component) (ns : List Node) (octets : List ℕ) → SpelledInOrder levels cs ns octets
+pub order_in : (levels : ℕ) (cs : List Component) (ns : List Node) (octets : List ℕ)
+    → SpelledInOrder levels cs ns octets
     → SpelledIn levels (Sequence cs) (Many (row ns)) octets
 order_in levels cs ns octets all depth at room =
     let e = all depth at room in
@@ -192,7 +194,8 @@ pub read_none : {X : Type 0} (levels : ℕ) (form : Named) (says : Node → X) �
 read_none levels form says = ([], each_none levels form, refl)
 
 pub read_more : {X : Type 0} (levels : ℕ) (form : Named) (says : Node → X) (x : X) (xs : List X) (octets rest : List ℕ)
-    → Reads levels form says x octets rest → ReadEach levels form says xs rest → ReadEach levels form says (x ∷ xs) octets
+    → Reads levels form says x octets rest → ReadEach levels form says xs rest
+    → ReadEach levels form says (x ∷ xs) octets
 read_more levels form says x xs octets rest r others = (
   r.0 ∷ others.0,
   each_more levels form r.0 others.0 octets rest r.1 others.1,

@@ -1,2 +1,4 @@
 pub mod Spelled
 pub mod Marks
+pub mod Kept
+pub mod Here

@@ -4,6 +4,7 @@
 #![tactic(auto)]
 
 pub mod element;
+pub mod entries;
 pub mod infos;
 pub mod names;
 pub mod part;

@@ -3,6 +3,7 @@
 use std::alloc::{AllocError, AllocFailed};
 use thiserror::Error;
 use x5_memory::NoMemory;
+use x5_syntax::SyntaxFault;
 
 /// Why octets aren't read directly.
 #[derive(Clone, Copy, Debug, PartialEq, Eq, Error)]
@@ -30,5 +31,14 @@ impl<T: Drop> From<AllocFailed<T>> for Unread {
 impl From<NoMemory> for Unread {
     fn from(_: NoMemory) -> Self {
         Unread::NoMemory
+    }
+}
+
+impl From<SyntaxFault> for Unread {
+    fn from(fault: SyntaxFault) -> Self {
+        match fault {
+            SyntaxFault::NoMemory => Unread::NoMemory,
+            SyntaxFault::WrongSyntax | SyntaxFault::TooLong(_) => Unread::Unusual,
+        }
     }
 }

@@ -1,6 +1,6 @@
 //! The places of nodes: by halves among those in order, and from RDN to RDN down from the prefix.
 
-ghost use Rattle.std.specs.Prelude.{◌≡◌, ◌↔◌, ◌<◌, true, false, length, IsTrue, MatchOption, MatchResult, map, [], slice_index_or, slice_set, vec_len, None, Some, IfOk};
+ghost use Rattle.std.specs.Prelude.{◌≡◌, ◌↔◌, ◌<◌, true, false, length, IsTrue, MatchOption, MatchResult, map, [], slice_index_or, slice_set, vec_len, None, Some, IfOk, OnOk, ◌++◌, ◌≤◌};
 ghost use Rattle.std.specs.Bool.{MatchBool};
 ghost use Rattle.x5_model.specs.Members.{In};
 ghost use Rattle.x5_dse.specs.declared.node.NodeId.{NodeId};
@@ -8,7 +8,7 @@ ghost use Rattle.x5_model.specs.Keys.{is_prefix};
 ghost use Rattle.x5_model.specs.Values.{Name, key_of_pair, key_of};
 ghost use Rattle.x5_dse.specs.Step.{IsStep, IsUnder};
 ghost use Rattle.x5_dse.specs.Changes.{NotInserted};
-ghost use Rattle.x5_dse.specs.Inside.{slot_at, is_used, held, spot_at, spots_of, spot_cmp, spot_below, nodes_of, IsPlace, IsRow, IsDown, IsSite, IsChild, IsStart, IsMove, IsOther, name_at, parent_at, top};
+ghost use Rattle.x5_dse.specs.Inside.{slot_at, is_used, held, spot_at, spots_of, spot_cmp, spot_below, nodes_of, IsPlace, IsRow, IsDown, IsSite, IsChild, IsStart, IsMove, IsOther, name_at, parent_at, path_of, top};
 ghost use Rattle.std.specs.Option.{option_map};
 ghost use Rattle.x5_dse.specs.Linked.{IsLowest, id_of, length_in, node_at, node_with, prefix_of};
 
@@ -42,6 +42,20 @@ fn compare_at(slots: &[Option<Dse>], node: NodeId, above: NodeId, pairs: &[Pair]
         .then(compare_rdns(dse.pairs(), pairs))
 }
 
+/// Where a search among so many tries next between the two places: at first the last one, since entries are mostly added in the
+/// order of their keys, then the middle.
+fn next_try(low: usize, high: usize, count: usize) -> usize
+    requires { low < high }
+    ensures low { low ≤ result }
+    ensures high { result < high }
+{
+    if high == count {
+        high - 1
+    } else {
+        low + (high - low) / 2
+    }
+}
+
 /// The place of what has this node above and these pairs, or where it would go.
 pub(crate) fn place_of(
     slots: &[Option<Dse>],
@@ -55,7 +69,7 @@ pub(crate) fn place_of(
     let mut low = 0;
     let mut high = order.len();
     while low < high {
-        let middle = low + (high - low) / 2;
+        let middle = next_try(low, high, order.len());
         match compare_at(slots, order[middle], above, pairs) {
             Ordering::Less => low = middle + 1,
             Ordering::Greater => high = middle,
@@ -249,6 +263,26 @@ pub(crate) fn take_out(slots: &mut Vec<Option<Dse>>, node: NodeId) -> Dse
     }
 }
 
+/// Adds the RDNs from below the prefix down to the node.
+fn add_path(
+    alloc: Global,
+    slots: &[Option<Dse>],
+    order: &[NodeId],
+    node: NodeId,
+    rdns: &mut Vec<Rdn>,
+) -> Result<(), NoMemory>
+    requires row { IsRow slots.now order.now }
+    requires used { is_used slots.now node ≡ true }
+    ensures { OnOk result (rdns.new.items ≡ rdns.old.items ++ path_of slots.now node) }
+{
+    let dse = held_at(slots, node);
+    if dse.depth > 0 {
+        add_path(alloc, slots, order, dse.parent, rdns)?;
+        rdns.push(dse.rdn(alloc)?)?;
+    }
+    Ok(())
+}
+
 /// The node's name: the prefix's, and the RDNs from there down.
 pub(crate) fn name_of(
     alloc: Global,
@@ -261,13 +295,11 @@ pub(crate) fn name_of(
     requires used { is_used slots.now node ≡ true }
     ensures { IfOk result (λ name. name ≡ name_at prefix.now slots.now node) }
 {
-    let dse = held_at(slots, node);
-    if dse.depth == 0 {
-        return Ok(prefix.clone()?);
-    }
-    let mut name = name_of(alloc, prefix, slots, order, dse.parent)?;
-    name.push(alloc, dse.rdn(alloc)?)?;
-    Ok(name)
+    let count = prefix.len().saturating_add(held_at(slots, node).depth);
+    let mut rdns: Vec<Rdn> = Vec::with_capacity(alloc, count)?;
+    rdns.extend_from_slice(prefix.rdns())?;
+    add_path(alloc, slots, order, node, &mut rdns)?;
+    Name::new(alloc, rdns)
 }
 
 /// Where the node stands, and where it would go with these pairs once it's taken from there; none where another has them.

@@ -177,12 +177,25 @@ impl DseTree {
         Ok(())
     }
 
+    /// Widens the lists for so many nodes more at once, and not step by step. After want of memory the entries are as they were.
+    fn widen(&mut self, more: usize) -> Result<(), NoMemory>
+        ensures nodes { self.new.nodes ≡ self.old.nodes }
+        ensures spare { self.new.spare ≡ self.old.spare }
+    {
+        let wanted = more.saturating_add(1);
+        self.slots.reserve(more)?;
+        self.order.reserve(self.free.len().saturating_add(wanted))?;
+        self.free.reserve(self.order.len().saturating_add(wanted))?;
+        Ok(())
+    }
+
     /// Makes room for so many entries. After want of memory the entries are as they were.
     pub fn reserve(&mut self, count: usize) -> Result<(), NoMemory>
         ensures nodes { self.new.nodes ≡ self.old.nodes }
         ensures spare { self.old.spare ≤ self.new.spare }
         ensures ok { OnOk result (count ≤ self.new.spare) }
     {
+        self.widen(count.saturating_sub(self.spare()))?;
         while self.spare() < count {
             self.grow()?;
         }

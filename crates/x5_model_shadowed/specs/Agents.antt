@@ -21,7 +21,8 @@ pub record AreAgents (w : Surroundings) (names : List Text) : Type 0 where
 -- Then each of them is within the limits by its name,
 abbrev pub AgentIsWithin : Type 0
 AgentIsWithin =
-    (w : Surroundings) (names : List Text) (a : ℕ) → AreAgents w names → a < length names → AgentWithin w (name_at names a)
+    (w : Surroundings) (names : List Text) (a : ℕ)
+    → AreAgents w names → a < length names → AgentWithin w (name_at names a)
 
 -- and whoever has its name stands at its place.
 abbrev pub AgentIsItself : Type 0

@@ -1,5 +1,5 @@
--- Messages of shadowing within the limits of messages, in a world (X.525, sections 9 to 12: shadowing; X.501, section 8:
--- entries). Agents go by their names, agreements by their numbers and moments by their seconds. The numbers are this
+-- Messages of shadowing within the limits of messages, in a world (X.525, sections 9 to 12: shadowing; X.501, section
+-- 8: entries). Agents go by their names, agreements by their numbers and moments by their seconds. The numbers are this
 -- project's own.
 use Rattle.std.specs.Prelude.{◌≡◌, ℕ, true, false, List, [], ◌∷◌}
 use Rattle.std.specs.declared.option.Option.TheVariants.{Some}
@@ -13,7 +13,8 @@ use Rattle.x5_model.specs.Values.{Text, StoredValue}
 use Rattle.x5_model_typed.specs.Leaves.{is_agent_name}
 use Rattle.x5_model_typed.specs.Layouts.{Surroundings}
 use Rattle.x5_model_messages.specs.Shadows.{Known, NonSpecific, Step, Add, Remove, Modify, Rename, Refresh, Nothing}
-use Rattle.x5_model_messages.specs.Shadows.{Total, Steps, Shadow, Request, Coordinate, Update, Done, Failed, stored_value}
+use Rattle.x5_model_messages.specs.Shadows.{Total, Steps, Shadow, Request, Coordinate, Update, Done, Failed}
+use Rattle.x5_model_messages.specs.Shadows.{stored_value}
 use Rattle.x5_model_fitting.specs.Names.{Each, NameWithin}
 use Rattle.x5_model_fitting.specs.Terms.{ValueWithin}
 use Rattle.x5_model_fitting.specs.Requests.{CountWithin, IfThere}

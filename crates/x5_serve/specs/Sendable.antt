@@ -22,8 +22,8 @@ use Rattle.x5_trace.specs.Items.{same_named}
 use Rattle.x5_serve.specs.declared.network.Carried.{Carried}
 use Rattle.x5_serve.specs.declared.network.Carried.TheVariants as carried
 
--- A message may be sent that is within the limits, whose trace has no item twice, and names agents as they may be named.
--- They need not be agents of the network, since a user may hand over any message.
+-- A message may be sent that is within the limits, whose trace has no item twice, and names agents as they may be
+-- named. They need not be agents of the network, since a user may hand over any message.
 pub record MayBeSent (names : List (List ℕ)) (m : Chained) : Type 0 where
   pub bounded : BoundedMessage (chained_view names m)
   pub apart : distinct same_named m.trace ≡ true

@@ -1,5 +1,5 @@
--- What agents keep of changes within the limits of messages (X.525, sections 9 and 11: incremental refreshes bring these
--- changes).
+-- What agents keep of changes within the limits of messages (X.525, sections 9 and 11: incremental refreshes bring
+-- these changes).
 use Rattle.std.specs.Prelude.{ℕ}
 use Rattle.x5_model_refreshed.specs.Steps.{Step}
 use Rattle.x5_model_fitting.specs.Names.{Each}

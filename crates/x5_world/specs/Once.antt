@@ -1,5 +1,5 @@
--- That something is within the limits of messages, or under way, has one proof at most; so it may be kept beside what is
--- under way.
+-- That something is within the limits of messages, or under way, has one proof at most; so it may be kept beside what
+-- is under way.
 use Rattle.std.specs.Prelude.{◌≡◌, ℕ, ◌-◌, List}
 use Rattle.std.specs.Coded.{×_prop, Unit-prop, le_prop}
 use Rattle.std.specs.declared.option.Option.{Option}
@@ -9,8 +9,10 @@ use Rattle.x5_model.specs.Values.{Value, TextValue, OctetsValue, OidValue, NameO
 use Rattle.x5_model.specs.Entries.{Named}
 use Rattle.x5_model.specs.Filters.{Item, Equality, Substrings, GreaterOrEqual, LessOrEqual, Present, Approximate}
 use Rattle.x5_model.specs.Filters.{Filter, Filters, Is, And, Or, Not, Nil, More, Assertion, SubstringItem}
-use Rattle.x5_model.specs.Requests.{Selection, All, Only, Change, AddAttribute, RemoveAttribute, AddValues, RemoveValues}
-use Rattle.x5_model.specs.Requests.{Attribute, Body, Read, Compare, ListBelow, Search, AddEntry, RemoveEntry, ModifyEntry}
+use Rattle.x5_model.specs.Requests.{Selection, All, Only, Change, AddAttribute, RemoveAttribute, AddValues}
+use Rattle.x5_model.specs.Requests.{RemoveValues}
+use Rattle.x5_model.specs.Requests.{Attribute, Body, Read, Compare, ListBelow, Search, AddEntry, RemoveEntry}
+use Rattle.x5_model.specs.Requests.{ModifyEntry}
 use Rattle.x5_model.specs.Requests.{ModifyDn, Request}
 use Rattle.x5_model.specs.References.{Chained, Progress, Start, Next, Done}
 use Rattle.x5_model_run.specs.Holdings.{Holdings}
@@ -19,7 +21,8 @@ use Rattle.x5_model_refreshed.specs.Steps.{Step, Add, Remove, Modify, Rename}
 use Rattle.x5_model_fitting.specs.Names.{RdnWithin, NameWithin}
 use Rattle.x5_model_fitting.specs.Terms.{ValueWithin, PartWithin, AttributeWithin, AssertionWithin, SubstringsWithin}
 use Rattle.x5_model_fitting.specs.Filters.{ItemWithin, FilterWithin, FiltersWithin}
-use Rattle.x5_model_fitting.specs.Requests.{CountWithin, IfThere, SelectionWithin, ChangeWithin, BodyWithin, RequestWithin}
+use Rattle.x5_model_fitting.specs.Requests.{CountWithin, IfThere, SelectionWithin, ChangeWithin, BodyWithin}
+use Rattle.x5_model_fitting.specs.Requests.{RequestWithin}
 use Rattle.x5_model_fitting.specs.Chained.{ProgressWithin}
 use Rattle.x5_model_limits.specs.Holding.{BoundedEntry, BoundedHoldings}
 use Rattle.x5_model_limits.specs.Steps.{BoundedStep}

@@ -66,8 +66,8 @@ no_net = record {
 
 -- What is so of every network: no two agents have one name, and all are named as agents may be; each holds what is its
 -- own, names agents of the network and knows no name that is too long for an octet to count; what it holds, and what it
--- keeps of changes, is within the limits of messages; and there are no more contexts and agents of NSSRs than a file may
--- have.
+-- keeps of changes, is within the limits of messages; and there are no more contexts and agents of NSSRs than a file
+-- may have.
 pub record IsHolder (names : List (List ℕ)) (a : ℕ) (h : Holdings) : Type 0 where
   pub me : h.me ≡ a
   pub known : holdings_name (length names) h ≡ true

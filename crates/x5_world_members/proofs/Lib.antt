@@ -2,3 +2,4 @@ pub mod Items
 pub mod LastRdn
 pub mod Owned
 pub mod Placed
+pub mod Spelled

@@ -17,7 +17,7 @@ found_passes {A} p (y ∷ ys) x e = by (p y) refl (found_passes p ys x) e
     by true is more h = let same : y ≡ x = cc in ap p (sym same) ∙ is
     by false is more h = more h
 
-one_less : {A : Type 0} (x y : A) (xs : List A) → length (x ∷ y ∷ xs) - 1 ≡ suc (length (y ∷ xs) - 1)
+pub one_less : {A : Type 0} (x y : A) (xs : List A) → length (x ∷ y ∷ xs) - 1 ≡ suc (length (y ∷ xs) - 1)
 one_less x y xs = omega arith
 
 last_key : (n : Name) → is_empty n ≡ false → parent (key_of n) ++ key_of_rdn (last_rdn n) ∷ [] ≡ key_of n

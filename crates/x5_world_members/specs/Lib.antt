@@ -1,3 +1,4 @@
 pub mod Parts
 pub mod Paths
+pub mod Spelling
 pub mod Views

@@ -19,11 +19,12 @@ use crate::json::{list_at, members_at, only};
 use crate::key_set::KeySet;
 use crate::names::{entry_name_at, last_rdn};
 use crate::place::Place;
+use crate::spelling::moved_below;
 use serde_json::Value;
 use std::alloc::Global;
 use std::marker::Model;
 use x5_memory::NoMemory;
-use x5_names::Name;
+use x5_names::{Key, Name};
 use x5_ops::{Named, NamedList};
 
 /// Entries in the order of the file, no two of one key, each of which is found without a walk through the others.
@@ -46,14 +47,14 @@ impl Model for Entries {
 }
 
 impl Entries {
-    /// No entries yet. No memory.
-    fn new(alloc: Global) -> Entries
-        ensures { result ≡ [] }
+    /// No entries yet, and room for so many.
+    fn new(alloc: Global, count: usize) -> Result<Entries, NoMemory>
+        ensures { IfOk result (λ e. e ≡ []) }
     {
-        Entries {
-            entries: Vec::new(alloc),
+        Ok(Entries {
+            entries: Vec::with_capacity(alloc, count)?,
             keys: KeySet::new(alloc),
-        }
+        })
     }
 
     /// Whether there are no entries yet.
@@ -71,11 +72,11 @@ impl Entries {
         self.keys.has(name.key())
     }
 
-    /// The first entry that has the name's key.
-    fn at(&self, name: &Name) -> Option<&Named>
-        ensures { option_copied result ≡ find (λ e. same_key (key_of name.now) (key_at e)) self.now }
+    /// The first entry that has the key.
+    fn at(&self, key: &Key) -> Option<&Named>
+        ensures { option_copied result ≡ find (λ e. same_key key.now (key_at e)) self.now }
     {
-        match self.keys.place(name.key()) {
+        match self.keys.place(key) {
             Some(place) => self.entries.as_slice().get(place),
             None => None,
         }
@@ -106,14 +107,14 @@ impl Entries {
 }
 
 /// The name of an entry below its parent's, if its parent is one of these.
-fn below_parent(alloc: Global, before: &Entries, own: &Name) -> Result<Option<Name>, NoMemory>
-    ensures { IfOk result (λ o. o ≡ model.below_parent before.now own.now) }
+fn below_parent(alloc: Global, before: &Entries, own: Name) -> Result<Option<Name>, NoMemory>
+    ensures { IfOk result (λ o. o ≡ model.below_parent before.now own) }
 {
-    let above = own.parent(alloc)?;
+    let key = own.key();
+    let above = key.first(alloc, key.len().saturating_sub(1))?;
     match before.at(&above) {
         Some(parent) => {
-            let rdn = last_rdn(alloc, own)?;
-            let name = parent.name.below(alloc, &rdn)?;
+            let name = moved_below(alloc, &parent.name, own)?;
             Ok(Some(name))
         }
         None => Ok(None),
@@ -125,9 +126,9 @@ fn whole_name(
     alloc: Global,
     prefix: &Name,
     before: &Entries,
-    own: &Name,
+    own: Name,
 ) -> Result<Option<Name>, NoMemory>
-    ensures { IfOk result (λ o. o ≡ model.whole_name prefix.now before.now own.now) }
+    ensures { IfOk result (λ o. o ≡ model.whole_name prefix.now before.now own) }
 {
     if !before.is_empty() {
         return below_parent(alloc, before, own);
@@ -155,12 +156,12 @@ fn entry_behind(
     if before.has(&own) {
         return Err(Place::Member(place, "name").bad_shape(alloc));
     }
-    let Some(name) = whole_name(alloc, prefix, &before, &own)? else {
+    let rdn = last_rdn(alloc, &own)?;
+    let Some(name) = whole_name(alloc, prefix, &before, own)? else {
         return Err(Place::Member(place, "name").bad_shape(alloc));
     };
     let texts = list_at(alloc, place, "attrs", value)?;
     let given = given_behind(alloc, &Place::Member(place, "attrs"), texts)?;
-    let rdn = last_rdn(alloc, &own)?;
     let Some(entry) = entry_given(alloc, &rdn, given)? else {
         return Err(place.bad_shape(alloc));
     };
@@ -178,7 +179,7 @@ pub(crate) fn entries_behind(
 ) -> Result<Entries, LoadFault>
     ensures { ReadsPart (λ e. e) result (model.entries_behind (path_of place.now) 0 prefix.now [] (items_view items.now)) }
 {
-    let mut entries = Entries::new(alloc);
+    let mut entries = Entries::new(alloc, items.len())?;
     for (i, item) in items.iter().enumerate() {
         entries = entry_behind(alloc, &Place::Item(&*place, i), prefix, entries, item)?;
     }

@@ -14,6 +14,7 @@ mod mentions;
 mod names;
 mod nssrs;
 mod place;
+mod spelling;
 
 pub use contexts::{Contexts, contexts_behind};
 pub use counts::{Counts, with_these};

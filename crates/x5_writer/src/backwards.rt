@@ -1,14 +1,15 @@
 //! Octets that are written from the last to the first, and the headers of elements (X.690, 8.1 and 10.1).
-ghost use Rattle.std.specs.Prelude.{◌≡◌, ◌<◌, ◌≤◌, [], ◌∷◌, ◌++◌, length, reverse, OnOk};
+ghost use Rattle.std.specs.Prelude.{◌≡◌, ◌+◌, ◌*◌, ◌<◌, ◌≤◌, [], ◌∷◌, ◌++◌, length, reverse, OnOk};
+ghost use Rattle.x5_model_octets.specs.Headers.{form_bit};
 ghost use Rattle.x5_model_octets.specs.Elements.{group_from, groups, identifier, identifier_octets, shortest_length, without_zeros};
 
 use std::alloc::Global;
 use std::marker::Model;
 use x5_memory::NoMemory;
 
-/// Octets, each put before those that are there.
+/// Octets, each put before those that are there: so the length of a content is known where its header is put.
 #[derive(Drop)]
-pub(crate) struct Backwards {
+pub struct Backwards {
     octets: Vec<u8>,
 }
 
@@ -21,7 +22,8 @@ impl Model for Backwards {
 }
 
 impl Backwards {
-    pub(crate) fn new(alloc: Global) -> Backwards
+    /// None yet. No memory.
+    pub fn new(alloc: Global) -> Backwards
         ensures { result ≡ [] }
     {
         Backwards {
@@ -29,32 +31,41 @@ impl Backwards {
         }
     }
 
-    pub(crate) fn len(&self) -> usize
+    /// How many there are. No memory.
+    #[inline(always)]
+    pub fn len(&self) -> usize
         ensures { result ≡ length self.now }
     {
         self.octets.len()
     }
 
-    pub(crate) fn put(&mut self, octet: u8) -> Result<(), NoMemory>
+    /// Puts one.
+    #[inline(always)]
+    pub fn put(&mut self, octet: u8) -> Result<(), NoMemory>
         ensures { OnOk result (self.new ≡ octet ∷ self.old) }
     {
         self.octets.push(octet)?;
         Ok(())
     }
 
-    pub(crate) fn put_all(&mut self, octets: &[u8]) -> Result<(), NoMemory>
+    /// Puts several, in the order that they have.
+    pub fn put_all(&mut self, octets: &[u8]) -> Result<(), NoMemory>
         ensures { OnOk result (self.new ≡ octets.now ++ self.old) }
     {
-        let mut i = octets.len();
-        while i > 0 {
-            i -= 1;
-            self.put(octets[i])?;
-        }
+        push_reversed(&mut self.octets, octets)
+    }
+
+    fn put_two(&mut self, first: u8, second: u8) -> Result<(), NoMemory>
+        ensures { OnOk result (self.new ≡ first ∷ second ∷ self.old) }
+    {
+        self.octets.reserve(2)?;
+        self.octets.push_reserved(second);
+        self.octets.push_reserved(first);
         Ok(())
     }
 
     /// The octets, from the first to the last.
-    pub(crate) fn into_octets(self) -> Vec<u8>
+    pub fn into_octets(self) -> Vec<u8>
         ensures { result.items ≡ self }
     {
         let Backwards { mut octets } = self;
@@ -64,7 +75,7 @@ impl Backwards {
 
     /// The header of an element whose content has that length: the fewest octets for the tag number and for a
     /// definite length.
-    pub(crate) fn put_header(
+    pub fn put_header(
         &mut self,
         class: u8,
         constructed: bool,
@@ -74,6 +85,9 @@ impl Backwards {
         requires { class < 4 }
         ensures { OnOk result (self.new ≡ identifier_octets (identifier constructed class tag) ++ (shortest_length length ++ self.old)) }
     {
+        if tag < 31 && length < 128 {
+            return self.put_two(leading(class, constructed) + tag as u8, length as u8);
+        }
         self.put_length(length as u64)?;
         self.put_identifier(class, constructed, tag)
     }
@@ -94,19 +108,20 @@ impl Backwards {
         requires { class < 4 }
         ensures { OnOk result (self.new ≡ identifier_octets (identifier constructed class tag) ++ self.old) }
     {
-        let form = if constructed { 32 } else { 0 };
-        let leading = 64 * class + form;
         if tag < 31 {
-            return self.put(leading + tag as u8);
+            return self.put(leading(class, constructed) + tag as u8);
         }
         self.put_groups(u64::from(tag))?;
-        self.put(leading + 31)
+        self.put(leading(class, constructed) + 31)
     }
 
     /// A number in groups of seven bits, each but the last with bit 8 set (X.690, 8.1.2.4.2 and 8.19.2).
     pub(crate) fn put_groups(&mut self, number: u64) -> Result<(), NoMemory>
         ensures { OnOk result (self.new ≡ groups number ++ self.old) }
     {
+        if number < 128 {
+            return self.put(number as u8);
+        }
         self.put((number % 128) as u8)?;
         self.put_group(number, 1 << 7)?;
         self.put_group(number, 1 << 14)?;
@@ -124,6 +139,28 @@ impl Backwards {
         }
         Ok(())
     }
+}
+
+/// The class and form of an identifier's first octet, with nothing of the tag number (X.690, 8.1.2).
+#[inline(always)]
+fn leading(class: u8, constructed: bool) -> u8
+    requires { class < 4 }
+    ensures { result ≡ 64 * class + form_bit constructed }
+{
+    64 * class + if constructed { 32 } else { 0 }
+}
+
+/// Adds the octets, the last of them first.
+fn push_reversed(row: &mut Vec<u8>, octets: &[u8]) -> Result<(), NoMemory>
+    ensures { OnOk result (row.new.items ≡ row.old.items ++ reverse octets.now) }
+{
+    row.reserve(octets.len())?;
+    let mut i = octets.len();
+    while i > 0 {
+        i -= 1;
+        row.push_reserved(octets[i]);
+    }
+    Ok(())
 }
 
 /// The octets from the first that isn't zero.

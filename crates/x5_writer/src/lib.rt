@@ -12,7 +12,8 @@ mod number;
 mod string;
 mod writer;
 
+pub use crate::backwards::Backwards;
 pub use crate::fault::WriteFault;
-pub use crate::writer::{write, write_in};
+pub use crate::writer::{write, write_in, write_node};
 pub use x5_memory::NoMemory;
 pub use x5_types::Surroundings;

@@ -47,9 +47,12 @@ pub fn write(alloc: Global, form: Named, node: &Node<'_>) -> Result<Vec<u8>, Wri
     write_in(alloc, Surroundings::Nowhere, form, node)
 }
 
-/// The element of a value of the type.
+/// Writes the element of a value of the type before the octets that are there.
+///
+/// # Errors
+/// That it is no value of the type, or that memory ran out.
 #[cycle(writing)]
-fn write_node(
+pub fn write_node(
     alloc: Global,
     out: &mut Backwards,
     surroundings: Surroundings<'_>,

@@ -18,7 +18,8 @@ loop-left-preserved c =
 
 pub returns : goal.returns
 returns c =
-    subst (λ l. ReadEach 5 named.Attribute replies.shown_in (map shown_view l) c.args.octets.now) (sym c.from_vec.ensures)
+    subst (λ l. ReadEach 5 named.Attribute replies.shown_in (map shown_view l) c.args.octets.now)
+    (sym c.from_vec.ensures)
     (all_done 5 named.Attribute replies.shown_in c.args.octets.now c.loop-left.left.now
     (map shown_view c.loop-left.attributes.items) c.loop-left.invariant
     (nothing c.loop-left.left.now (sym c.is_empty.ensures ∙ c.loop-left-test.false)))

@@ -27,7 +27,8 @@ returns-clause-reads c =
     (sym same)
     (read_taken 5 named.Attribute replies.shown_in (record { kind = values.Known c.in_ok-kind.kind; values = vs })
     octets rest (length octets - length rest) refl
-    (shown_read c.in_ok-kind.kind vs content c.in_ok-members.behind.now members octets rest c.in_ok-content.ensures.opens
+    (shown_read c.in_ok-kind.kind vs content c.in_ok-members.behind.now members octets rest
+    c.in_ok-content.ensures.opens
     c.in_ok-kind.ensures.is inner
     (nothing c.in_ok-members.behind.now (sym c.is_empty.ensures ∙ c.if-not-is_empty.false)) c.in_ok-values.ensures
     (some_mapped_here value_view c.in_ok-values.values.items (vec_len c.in_ok-values.values) (omega arith)

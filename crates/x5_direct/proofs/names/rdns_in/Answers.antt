@@ -14,5 +14,6 @@ loop-left-preserved c =
     c.push.new.self.items c.in_ok-push.ensures.items c.loop-left.invariant c.in_ok-rdn.ensures.reads
 
 pub returns : goal.returns
-returns c = all_done 2 named.Rdn terms.rdn_of c.args.octets.now c.loop-left.left.now c.loop-left.rdns.items c.loop-left.invariant
+returns c = all_done 2 named.Rdn terms.rdn_of c.args.octets.now c.loop-left.left.now c.loop-left.rdns.items
+    c.loop-left.invariant
     (nothing c.loop-left.left.now (sym c.is_empty.ensures ∙ c.loop-left-test.false))

@@ -5,5 +5,5 @@ use Rattle.x5_types.specs.NodeView.{node_view}
 use Rattle.x5_rules.proofs.name.name_in.Given as goal
 
 abbrev pub invariant-loop-part : goal.invariant-loop-part
-invariant-loop-part l = l.rdns.items ++ map rules.rdn_in (map node_view (drop l.part-index l.part-items))
+invariant-loop-part l = l.rdns.items ++ map rules.rdn_in (map node_view (drop l.part-index l.parts))
     ≡ rules.name_in (node_view l.node)

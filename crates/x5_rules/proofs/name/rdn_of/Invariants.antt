@@ -6,5 +6,5 @@ use Rattle.x5_types.specs.NodeView.{node_view}
 use Rattle.x5_rules.proofs.name.rdn_of.Given as goal
 
 abbrev pub invariant-loop-part : goal.invariant-loop-part
-invariant-loop-part l = l.pairs.items ++ stored_rdn (map rules.pair_in (map node_view (drop l.part-index l.part-items)))
+invariant-loop-part l = l.pairs.items ++ stored_rdn (map rules.pair_in (map node_view (drop l.part-index l.parts)))
     ≡ stored_rdn (rules.rdn_in (node_view l.node))

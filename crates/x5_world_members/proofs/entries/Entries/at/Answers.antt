@@ -3,17 +3,15 @@ use Rattle.std.proofs.Common.{◌≡◌, List, map, slice_get, sym, ap, ◌∙�
 use Rattle.std.specs.List.{position}
 use Rattle.x5_model.specs.Entries.{Named}
 use Rattle.x5_model.specs.Keys.{Key, same_key}
-use Rattle.x5_model.specs.Values.{key_of}
 use Rattle.x5_model_tree.specs.Tree.{key_at}
 use Rattle.x5_world_members.proofs.Placed.{item_got, placed, unplaced}
 use Rattle.x5_world_members.proofs.entries.Entries.at.Goals as goal
 
 pub returns-in-Some : goal.returns-in-Some
 returns-in-Some c =
-    let key = key_of c.args.name.now in
+    let key = c.args.key.now in
     let there : position (same_key key) (map key_at c.args.self.now) ≡ Some c.in-Some.place =
     sym (ap (λ (ks : List Key). position (same_key key) ks) (c.self.invariant ∙ ap (map key_at) c.self.view_is))
-    ∙ sym (ap (λ (k : Key). position (same_key k) c.self.inside.keys) c.key.ensures)
     ∙ sym c.place.ensures
     ∙ c.in-Some.is in
     item_got c.as_slice.result.now c.in-Some.place c.get.result c.get.ensures.lookup
@@ -22,10 +20,9 @@ returns-in-Some c =
 
 pub returns-in-None : goal.returns-in-None
 returns-in-None c =
-    let key = key_of c.args.name.now in
+    let key = c.args.key.now in
     let there : position (same_key key) (map key_at c.args.self.now) ≡ None =
     sym (ap (λ (ks : List Key). position (same_key key) ks) (c.self.invariant ∙ ap (map key_at) c.self.view_is))
-    ∙ sym (ap (λ (k : Key). position (same_key k) c.self.inside.keys) c.key.ensures)
     ∙ sym c.place.ensures
     ∙ c.in-None.is in
     sym (unplaced (same_key key) key_at c.args.self.now there)

@@ -1,0 +1,34 @@
+-- The attributes are put from the last to the first.
+use Rattle.std.proofs.Common.{arith, map}
+use Rattle.x5_model_messages.specs.Shadows as shadows
+use Rattle.x5_model_typed.specs.Named as named
+use Rattle.x5_direct_writer.proofs.Putting.{each_error, each_fails, end_put, more_put, start_put}
+use Rattle.x5_direct_writer.proofs.values.put_all_stored.Goals as goal
+
+pub loop-i-init : goal.loop-i-init
+loop-i-init c = record {
+  inside = omega arith;
+  put = start_put named.Attribute (shadows.stored_node) c.args.attributes.now c.args.out.now;
+}
+
+pub loop-i-preserved : goal.loop-i-preserved
+loop-i-preserved c = record {
+  inside = omega (arith, c.loop-i.invariant.inside);
+  put =
+      more_put named.Attribute (shadows.stored_node) c.args.attributes.now c.loop-i.i c.index-attributes-i.result c.args.out.now c.loop-i.out
+      c.put_stored.new.out c.loop-i.invariant.inside c.loop-i-test.true c.index-attributes-i.is c.loop-i.invariant.put
+      c.in_ok-put_stored.ensures;
+}
+
+pub returns-in_err-put_stored : goal.returns-in_err-put_stored
+returns-in_err-put_stored c =
+    each_error named.Attribute (map (shadows.stored_node) c.args.attributes.now) c.args.out.now c.put_stored.new.out
+    c.in_err-put_stored.field-0.0 c.from_residual.result c.from_residual.ensures.1
+    (each_fails named.Attribute (shadows.stored_node) c.args.attributes.now c.loop-i.i c.index-attributes-i.result c.in_err-put_stored.field-0.0
+    c.args.out.now c.loop-i.out c.put_stored.new.out c.put_stored.new.out c.loop-i.invariant.inside c.loop-i-test.true
+    c.index-attributes-i.is c.in_err-put_stored.ensures)
+
+pub returns : goal.returns
+returns c =
+    end_put named.Attribute (shadows.stored_node) c.args.attributes.now c.loop-i.i c.args.out.now c.loop-i.out
+    (omega (arith, c.loop-i-test.false)) c.loop-i.invariant.put
