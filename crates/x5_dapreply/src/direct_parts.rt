@@ -18,8 +18,8 @@ ghost use Rattle.x5_dapreply.specs.Said.{accesses_in as accesses_said, limited_i
 use std::alloc::Global;
 use x5_direct::Unread;
 use x5_direct::element::opened;
-use x5_direct::names::{name_at, rdn_at};
-use x5_names::{Name, Rdn};
+use x5_direct::names::{name_at, rdns_in};
+use x5_names::Name;
 use x5_ops::{
     AccessList, AccessPoint, AgentName, Moment, Outcome, Progress, RdnList, RefType, Reference,
     ReferenceList, Source, SourceList, TraceItem,
@@ -332,25 +332,11 @@ pub fn item_of(alloc: Global, content: &[u8]) -> Result<TraceItem, Unread>
     })
 }
 
-/// The RDNs that the octets are.
-fn each_rdn(alloc: Global, octets: &[u8]) -> Result<Vec<Rdn>, Unread>
-    ensures { IfOk result (λ l. ReadEach 2 named.Rdn terms.rdn_of l.items octets.now) }
-{
-    let mut rdns = Vec::new(alloc);
-    let mut left = octets;
-    while !left.is_empty() {
-        let (rdn, taken) = rdn_at(alloc, left)?;
-        rdns.push(rdn)?;
-        left = &left[taken..];
-    }
-    Ok(rdns)
-}
-
 /// The RDNs that the content of their element says.
 fn rdns_of_content(alloc: Global, content: &[u8]) -> Result<RdnList, Unread>
     ensures { IfOk result (λ l. ReadsInside 3 named.Rdns 48 rdns_said l content.now) }
 {
-    let rdns = each_rdn(alloc, content)?;
+    let rdns = rdns_in(alloc, content)?;
     Ok(RdnList::from_vec(rdns))
 }
 

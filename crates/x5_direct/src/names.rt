@@ -167,7 +167,7 @@ pub fn rdn_at(alloc: Global, octets: &[u8]) -> Result<(Rdn, usize), Unread>
 }
 
 /// The RDNs that are all of the octets.
-fn rdns_in(alloc: Global, octets: &[u8]) -> Result<Vec<Rdn>, Unread>
+pub fn rdns_in(alloc: Global, octets: &[u8]) -> Result<Vec<Rdn>, Unread>
     ensures { IfOk result (λ rdns. ReadEach 2 named.Rdn terms.rdn_of rdns.items octets.now) }
 {
     let mut rdns = Vec::with_capacity(alloc, octets.len() / 16 + 1)?;

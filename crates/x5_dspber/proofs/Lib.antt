@@ -1,6 +1,12 @@
 mod Carried
 mod ChainedIsSayable
 mod ChainedSpelled
+mod ComesOnce
+mod DirectArgument
+mod DirectParts
+mod DirectSet
+mod DirectTrace
+mod DirectWhole
 mod Five
 mod MessagesShort
 mod ResultIsSayable

@@ -1,2 +1,3 @@
 pub mod ChainedViews
+pub mod Direct
 pub mod Sayable

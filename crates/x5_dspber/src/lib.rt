@@ -3,6 +3,8 @@
 #![tactic(auto)]
 
 mod chained;
+mod direct;
+mod direct_parts;
 mod messages;
 mod read_chained;
 

@@ -21,6 +21,7 @@ ghost use Rattle.x5_types.specs.FormView.{table};
 ghost use Rattle.x5_types.specs.NodeView.{node_view};
 
 use crate::chained::chained_node;
+use crate::direct::message_in;
 use crate::read_chained::chained_in;
 use std::alloc::Global;
 use x5_dapber::WireFault;
@@ -54,6 +55,18 @@ pub fn encode_chained(alloc: Global, id: u32, message: &Chained) -> Result<Octet
     Ok(Octets::new(write(alloc, Named::DspRequest, &node)?))
 }
 
+/// What an agent's message says, read by the table of types, in whatever spelling.
+fn chained_by_table(alloc: Global, octets: &[u8]) -> Result<(u32, Chained), WireFault>
+    ensures decodes { (e : Result nodes.Node judged.Breach) → ComesTo named.DspRequest octets.now e
+        → Decodes (λ p. (p.0, told_chained p.1)) chains.chained_in e result }
+    ensures comes { (e : Result nodes.Node judged.Breach) × ComesTo named.DspRequest octets.now e }
+    ensures spelled { IfOk result (λ p. (n : nodes.Node) × Spells table named.DspRequest octets.now n
+        × ((p.0, told_chained p.1) ≡ chains.chained_in n)) }
+{
+    let node = read(alloc, Named::DspRequest, octets)?;
+    Ok(chained_in(alloc, &node)?)
+}
+
 /// The id of an agent's message, and what it asks (X.519, section 7): of octets that are one spelling of it and nothing else.
 ///
 /// # Errors
@@ -75,8 +88,10 @@ pub fn decode_chained(alloc: Global, octets: &[u8]) -> Result<(u32, Chained), Wi
     // The names that its request leads agents to have no more RDNs than names may have.
     ensures short { IfOk result (λ p. HasShortNames (request_view p.1.request).body) }
 {
-    let node = read(alloc, Named::DspRequest, octets)?;
-    Ok(chained_in(alloc, &node)?)
+    let Ok(message) = message_in(alloc, octets) else {
+        return chained_by_table(alloc, octets);
+    };
+    Ok(message)
 }
 
 /// The canonical octets of what is answered to an agent: a result of this operation, an error or a referral, with

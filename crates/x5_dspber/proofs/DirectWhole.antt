@@ -1,0 +1,299 @@
+-- Messages between agents, each from what is found of its parts.
+use Rattle.std.proofs.Common.{◌≡◌, ℕ, ◌+◌, ◌≤◌, ◌<◌, ◌==◌, Bool, true, false, List, [], ◌∷◌, ◌++◌, length, map}
+use Rattle.std.proofs.Common.{refl, ap, sym, ◌∙◌, subst, arith, lit<, lit≤, append-nil, if◌then◌else◌, inl, inr, ◌⊎◌}
+use Rattle.std.specs.Prelude.{ℤ, pos}
+use Rattle.std.proofs.lemmas.Bool.Decides.{Decides-eqb}
+use Rattle.std.specs.declared.option.Option.{Option}
+use Rattle.std.specs.declared.option.Option.TheVariants.{None, Some}
+use Rattle.x5_model.specs.References.{Progress, RefType, Superior, Subordinate, Cross, NonSpecific, Supplier, Own}
+use Rattle.x5_model.specs.Requests.{Request}
+use Rattle.x5_model.specs.Values.{Name, Rdn}
+use Rattle.x5_model.specs.Words.{distinct}
+use Rattle.x5_model_fitting.specs.Chained.{same_item}
+use Rattle.x5_model_messages.specs.Chained as chains
+use Rattle.x5_model_messages.specs.Chained.{chaining_in, carried_in, chained_in}
+use Rattle.x5_model_messages.specs.Replies.{TraceItem, item_in, progress_in, kind_in}
+use Rattle.x5_model_messages.specs.Requests.{argument_in}
+use Rattle.x5_model_messages.specs.Terms.{name_of, rdn_of}
+use Rattle.x5_model_octets.specs.Elements.{deepest}
+use Rattle.x5_model_run.specs.Journal.{kind_number}
+use Rattle.x5_model_typed.specs.Named as named
+use Rattle.x5_model_typed.specs.Nodes.{Node, Many, Nil, Chosen, Number, row, list, parts, whole}
+use Rattle.x5_model_typed.specs.Forms.{Primitive, Component, Set, plain, at, or, code, ruled, may_be_tagged}
+use Rattle.x5_model_typed.specs.Judged.{leaf_node}
+use Rattle.x5_model_typed.specs.Leaves.{number, one_of, from_to, any_number}
+use Rattle.x5_model_typed.specs.Layouts.{layout, integer, sequence, sequence_of, set, or_nothing, invoke, named_by}
+use Rattle.x5_model_typed.specs.Layouts.{operation_codes, id}
+use Rattle.x5_model_typed.specs.Rules.{trace_rule}
+use Rattle.x5_model_typed.specs.Typed as typed
+use Rattle.x5_model_typed.specs.Typed.{Spells}
+use Rattle.x5_model_typed.specs.Trees.{Tree, Row, Lies}
+use Rattle.x5_model_typed.proofs.Laws.{list_row}
+use Rattle.x5_ops.specs.ReferenceViews.{kind_of_number}
+use Rattle.x5_types.specs.FormView.{nowhere, table}
+use Rattle.x5_dspber.specs.Direct.{AreFour, ReadLast, ReadsChaining, chaining_parts, code_of, items_of, last_part, rdns_of}
+use Rattle.x5_dspber.specs.Direct.{SpelledInSet}
+use Rattle.x5_direct.specs.Spelled.{Opens, Spelled, SpelledIn, SpelledInOrder, Reads, ReadEach}
+use Rattle.x5_dspber.proofs.DirectSet.{tagged, set_given, set_missing, set_over, set_in}
+use Rattle.x5_dspber.proofs.DirectTrace.{so_ruled}
+use Rattle.x5_direct.proofs.Spelling.{branch_spelled, leaf_spelled, each_in, order_in, order_next, order_over}
+use Rattle.x5_direct.proofs.Spelling.{has_tag, spelled_higher}
+use Rattle.x5_dspber.proofs.DirectParts.{one_octet, number_reads}
+
+-- ---- a trace, RDNs and kinds
+
+listed : {X : Type 0} (says : Node → X) (ns : List Node) → map says ns ≡ map says (list (row ns))
+listed says ns = ap (λ (l : List Node). map says l) (sym (list_row ns))
+
+same_length : {X : Type 0} (f : Node → X) (ns : List Node) → length (map f ns) ≡ length ns
+same_length f [] = refl
+same_length f (n ∷ ns) = let more = same_length f ns in omega (arith, more)
+
+pub trace_read : (items : List TraceItem) (content octets rest : List ℕ) → Opens 48 content octets rest
+    → ReadEach 4 named.TraceItem item_in items content → length items ≤ 128 → distinct same_item items ≡ true
+    → Reads 5 named.Trace items_of items octets rest
+trace_read items content octets rest o each few once =
+    let ns = each.0 in
+    let n : Node = Many (row ns) in
+    let size : length ns ≤ 128 = omega (arith, few, ap length each.2, same_length item_in ns) in
+    let apart : distinct same_item (map item_in ns) ≡ true =
+    subst (λ (l : List TraceItem). distinct same_item l ≡ true) each.2 once in (
+      n,
+      branch_spelled 4 named.Trace 48 0 16 (ruled trace_rule (sequence_of named.TraceItem)) n n content octets rest o
+          refl (λ w. refl) (each_in 4 named.TraceItem ns content each.1) (so_ruled ns size apart),
+      each.2 ∙ listed item_in ns,
+    )
+
+pub rdns_read : (rdns : List Rdn) (content octets rest : List ℕ) → Opens 48 content octets rest
+    → ReadEach 2 named.Rdn rdn_of rdns content → Reads 3 named.Rdns rdns_of rdns octets rest
+rdns_read rdns content octets rest o each =
+    let ns = each.0 in
+    let n : Node = Many (row ns) in (
+      n,
+      branch_spelled 2 named.Rdns 48 0 16 (sequence_of named.Rdn) n n content octets rest o refl (λ w. refl)
+          (each_in 2 named.Rdn ns content each.1) refl,
+      each.2 ∙ listed rdn_of ns,
+    )
+
+kind_reads : (k : RefType) → leaf_node (Primitive (number (one_of (1 ∷ 2 ∷ 3 ∷ 4 ∷ 5 ∷ 8 ∷ [])))) (kind_number k ∷ [])
+    ≡ Some (whole (kind_number k))
+kind_reads Superior = refl
+kind_reads Subordinate = refl
+kind_reads Cross = refl
+kind_reads NonSpecific = refl
+kind_reads Supplier = refl
+kind_reads Own = refl
+
+kind_said : (k : RefType) → k ≡ kind_in (whole (kind_number k))
+kind_said Superior = refl
+kind_said Subordinate = refl
+kind_said Cross = refl
+kind_said NonSpecific = refl
+kind_said Supplier = refl
+kind_said Own = refl
+
+kind_read : (k : RefType) (rest : List ℕ)
+    → Reads 0 named.RefType kind_in k (2 ∷ 1 ∷ kind_number k ∷ rest) rest
+kind_read k rest =
+    let j = kind_number k in (
+      whole j,
+      leaf_spelled named.RefType 2 0 2 (integer (one_of (1 ∷ 2 ∷ 3 ∷ 4 ∷ 5 ∷ 8 ∷ []))) (whole j) (whole j) (j ∷ [])
+          (2 ∷ 1 ∷ j ∷ rest) rest (one_octet 2 j rest (lit< tt) (lit< tt)) refl (lit< tt) (λ w. refl) (kind_reads k) refl,
+      kind_said k,
+    )
+
+-- one test of a row
+tested : (b : Bool) (n m : ℕ) (x k : RefType) (others : Option RefType) → (n == m) ≡ b
+    → (if b then Some x else others) ≡ Some k → ((n ≡ m) × (x ≡ k)) ⊎ (others ≡ Some k)
+tested true n m x k others e f = inl ((Decides-eqb n m).0 e, cc f)
+tested false n m x k others e f = inr f
+
+numbered : (n m : ℕ) (x k : RefType) → (n ≡ m) × (x ≡ k) → m ≡ kind_number x → n ≡ kind_number k
+numbered n m x k both e = both.0 ∙ e ∙ ap kind_number both.1
+
+kind_found : (n : ℕ) (k : RefType) → kind_of_number n ≡ Some k → n ≡ kind_number k
+kind_found n k e = elim (tested (n == 1) n 1 Superior k _ refl e) [
+  | inl h ↦ numbered n 1 Superior k h refl
+  | inr e2 ↦ elim (tested (n == 2) n 2 Subordinate k _ refl e2) [
+    | inl h ↦ numbered n 2 Subordinate k h refl
+    | inr e3 ↦ elim (tested (n == 3) n 3 Cross k _ refl e3) [
+      | inl h ↦ numbered n 3 Cross k h refl
+      | inr e4 ↦ elim (tested (n == 4) n 4 NonSpecific k _ refl e4) [
+        | inl h ↦ numbered n 4 NonSpecific k h refl
+        | inr e5 ↦ elim (tested (n == 5) n 5 Supplier k _ refl e5) [
+          | inl h ↦ numbered n 5 Supplier k h refl
+          | inr e8 ↦ elim (tested (n == 8) n 8 Own k _ refl e8) [
+            | inl h ↦ numbered n 8 Own k h refl
+            | inr none ↦ absurd (cc none)
+          ]
+        ]
+      ]
+    ]
+  ]
+]
+
+pub kind_here : (n : ℕ) (k : RefType) (octets rest : List ℕ) → octets ≡ 2 ∷ 1 ∷ n ∷ rest → rest ≡ []
+    → kind_of_number n ≡ Some k → Reads 0 named.RefType kind_in k octets []
+kind_here n k octets rest is over found =
+    let one : octets ≡ 2 ∷ 1 ∷ kind_number k ∷ [] =
+    is ∙ ap (λ (l : List ℕ). 2 ∷ 1 ∷ n ∷ l) over ∙ ap (λ (j : ℕ). 2 ∷ 1 ∷ j ∷ []) (kind_found n k found) in
+    subst (λ (l : List ℕ). Reads 0 named.RefType kind_in k l []) (sym one) (kind_read k [])
+
+-- ---- chaining arguments
+
+pub none_left_out : (octets : List ℕ) → octets ≡ [] → ReadLast [] octets
+none_left_out octets is = record {
+  node = Many Nil;
+  spelled = subst (λ (l : List ℕ). SpelledInSet 6 4 last_part (Many Nil ∷ []) l) (sym is)
+      (set_missing 6 4 5 named.Rdns (Many Nil) [] [] [] (lit< tt) (set_over 6 5));
+  says = refl;
+}
+
+pub some_left_out : (rdns : List Rdn) (content octets : List ℕ) → Opens 164 content octets []
+    → Reads 3 named.Rdns rdns_of rdns content [] → ReadLast rdns octets
+some_left_out rdns content octets o r = record {
+  node = r.0;
+  spelled = set_given 6 4 5 named.Rdns _ [] r.0 [] octets [] (lit< tt) refl
+      (tagged 5 4 named.Rdns 164 r.0 content octets [] o refl refl
+      (spelled_higher 3 5 named.Rdns r.0 content [] (lit≤ tt) r.1)) (set_over 6 5);
+  says = r.2;
+}
+
+said_of : (target : Name) (progress : Progress) (kind : RefType) (exclusions : List Rdn) (trace : List TraceItem)
+    (r : Request) (a b c d e : Node) → target ≡ name_of a → progress ≡ progress_in b → trace ≡ items_of c
+    → kind ≡ kind_in d → exclusions ≡ rdns_of e
+    → record { target = target; progress = progress; kind = kind; exclusions = exclusions; trace = trace; request = r }
+    ≡ chaining_in r (Many (row (a ∷ b ∷ c ∷ d ∷ e ∷ [])))
+said_of target progress kind exclusions trace r a b c d e f g h i j = cc (f, g, h, i, j)
+
+pub chaining_read : (target : Name) (progress : Progress) (kind : RefType) (exclusions : List Rdn)
+    (trace : List TraceItem) (targets progresses traces kinds octets rest : List ℕ)
+    → AreFour targets progresses traces kinds octets rest
+    → Reads 3 named.Name name_of target targets []
+    → Reads 1 named.Progress progress_in progress progresses []
+    → Reads 5 named.Trace items_of trace traces []
+    → Reads 0 named.RefType kind_in kind kinds [] → ReadLast exclusions rest
+    → ReadsChaining target progress kind exclusions trace octets
+chaining_read target progress kind exclusions trace targets progresses traces kinds octets rest f a b c d e =
+    let ns : List Node = a.0 ∷ b.0 ∷ c.0 ∷ d.0 ∷ e.node ∷ [] in (
+      Many (row ns),
+      set_in 6 0 chaining_parts ns octets
+          (set_given 6 0 1 named.Name _ _ a.0 (b.0 ∷ c.0 ∷ d.0 ∷ e.node ∷ []) octets f.first (lit< tt) refl
+          (tagged 5 0 named.Name 160 a.0 targets octets f.first f.opens_target refl refl
+          (spelled_higher 3 5 named.Name a.0 targets [] (lit≤ tt) a.1))
+          (set_given 6 1 2 named.Progress _ _ b.0 (c.0 ∷ d.0 ∷ e.node ∷ []) f.first f.second (lit< tt) refl
+          (tagged 5 1 named.Progress 161 b.0 progresses f.first f.second f.opens_progress refl refl
+          (spelled_higher 1 5 named.Progress b.0 progresses [] (lit≤ tt) b.1))
+          (set_given 6 2 3 named.Trace _ _ c.0 (d.0 ∷ e.node ∷ []) f.second f.third (lit< tt) refl
+          (tagged 5 2 named.Trace 162 c.0 traces f.second f.third f.opens_trace refl refl c.1)
+          (set_given 6 3 4 named.RefType _ _ d.0 (e.node ∷ []) f.third rest (lit< tt) refl
+          (tagged 5 3 named.RefType 163 d.0 kinds f.third rest f.opens_kind refl refl
+          (spelled_higher 0 5 named.RefType d.0 kinds [] (lit≤ tt) d.1)) e.spelled)))),
+      λ r. said_of target progress kind exclusions trace r a.0 b.0 c.0 d.0 e.node a.2 b.2 c.2 d.2 e.says,
+    )
+
+-- ---- with the argument of the operation
+
+pub carried_read : (o : named.Operation) (k : ℕ) (m : chains.Chained) (r : Request)
+    (chaining behind content octets rest : List ℕ) → Opens 48 content octets rest → Opens 49 chaining content behind
+    → ReadsChaining m.target m.progress m.kind m.exclusions m.trace chaining → m.request ≡ r
+    → Reads 48 (named.Argument o) (argument_in k) r behind []
+    → Reads 49 (named.Chained o) (carried_in k) m octets rest
+carried_read o k m r chaining behind content octets rest outer inner c is a =
+    let ns : List Node = c.0 ∷ a.0 ∷ [] in
+    let n : Node = Many (row ns) in
+    let same : m.request ≡ argument_in k a.0 = is ∙ a.2 in (
+      n,
+      branch_spelled 48 (named.Chained o) 48 0 16 (sequence (plain named.Chaining ∷ plain (named.Argument o) ∷ [])) n n
+          content octets rest outer refl (λ w. refl)
+          (order_in 48 (plain named.Chaining ∷ plain (named.Argument o) ∷ []) ns content
+          (order_next 48 named.Chaining (plain (named.Argument o) ∷ []) c.0 (a.0 ∷ []) content behind
+          (spelled_higher 7 48 named.Chaining c.0 content behind (lit≤ tt)
+          (branch_spelled 6 named.Chaining 49 0 17 (set chaining_parts) c.0 c.0 chaining content behind inner refl
+          (λ w. refl) c.1 refl))
+          (order_next 48 (named.Argument o) [] a.0 [] behind [] a.1 (order_over 48))))
+          refl,
+      c.2 m.request ∙ ap (λ (q : Request). chaining_in q c.0) same,
+    )
+
+-- ---- messages
+
+abbrev codes : ℤ → Option named.Named
+codes = named_by (operation_codes named.Chained)
+
+by_code : (o : named.Operation) → codes (pos (code_of o)) ≡ Some (named.Chained o)
+by_code named.Read = refl
+by_code named.Compare = refl
+by_code named.ListBelow = refl
+by_code named.Search = refl
+by_code named.AddEntry = refl
+by_code named.RemoveEntry = refl
+by_code named.ModifyEntry = refl
+by_code named.ModifyDn = refl
+
+pub operation_codes_are : (o : named.Operation) (k : ℕ) → k ≡ code_of o → codes (pos k) ≡ Some (named.Chained o)
+operation_codes_are o k is = ap (λ (j : ℕ). codes (pos j)) is ∙ by_code o
+
+code_next : (levels k : ℕ) (form : named.Named) (n : Node) (octets behind : List ℕ) → codes (pos k) ≡ Some form
+    → Spelled levels named.AnyNumber (whole k) octets behind → SpelledInOrder levels (plain form ∷ []) (n ∷ []) behind
+    → SpelledInOrder levels (code named.AnyNumber codes ∷ []) (whole k ∷ n ∷ []) octets
+code_next levels k form n octets behind names s others depth at room =
+    let e = s.is_element depth at room in
+    let more = others depth (at + length s.part) room in
+    record {
+      members = Row e.tree more.members;
+      lie = (s.part, behind, e.lies, more.lie, s.whole);
+      in_order = λ w.
+          typed.next (has_tag (layout w) (layout w named.AnyNumber) e.tree (whole k) (e.is_of w)) (e.is_of w)
+          (typed.named (pos k) form refl names) (more.in_order w);
+    }
+
+pub id_spelled : (k : ℕ) (content octets rest : List ℕ) → Opens 2 content octets rest
+    → leaf_node (Primitive (number (from_to 0 4294967295))) content ≡ Some (whole k)
+    → Spelled 0 (named.NumberBelow 0 4294967295) (whole k) octets rest
+id_spelled k content octets rest o reads =
+    leaf_spelled (named.NumberBelow 0 4294967295) 2 0 2 (integer (from_to 0 4294967295)) (whole k) (whole k) content
+    octets rest o refl (lit< tt) (λ w. refl) reads refl
+
+code_spelled : (k : ℕ) (rest : List ℕ) → k < 128 → Spelled 0 named.AnyNumber (whole k) (2 ∷ 1 ∷ k ∷ rest) rest
+code_spelled k rest small =
+    leaf_spelled named.AnyNumber 2 0 2 (integer any_number) (whole k) (whole k) (k ∷ []) (2 ∷ 1 ∷ k ∷ rest) rest
+    (one_octet 2 k rest (lit< tt) (lit< tt)) refl (lit< tt) (λ w. refl) (number_reads any_number k small refl) refl
+
+abbrev pair : ℕ → chains.Chained → ℕ × chains.Chained
+pair i m = (i, m)
+
+pub message_read : (o : named.Operation) (i k : ℕ) (m : chains.Chained) (content after behind octets : List ℕ)
+    → Opens 161 content octets [] → codes (pos k) ≡ Some (named.Chained o) → k < 128
+    → Spelled 0 (named.NumberBelow 0 4294967295) (whole i) content after → after ≡ 2 ∷ 1 ∷ k ∷ behind
+    → Reads 49 (named.Chained o) (carried_in k) m behind []
+    → Reads 50 named.DspRequest chained_in (pair i m) octets []
+message_read o i k m content after behind octets outer names small first is c =
+    let ns : List Node = whole i ∷ whole k ∷ c.0 ∷ [] in
+    let n : Node = Many (row ns) in
+    let second : Spelled 0 named.AnyNumber (whole k) after behind =
+    subst (λ (l : List ℕ). Spelled 0 named.AnyNumber (whole k) l behind) (sym is) (code_spelled k behind small) in (
+      Chosen 1 n,
+      branch_spelled 49 named.DspRequest 161 2 1 (invoke (operation_codes named.Chained)) n n content octets [] outer refl
+          (λ w. refl)
+          (order_in 49 (id ∷ code named.AnyNumber codes ∷ []) ns content
+          (order_next 49 (named.NumberBelow 0 4294967295) (code named.AnyNumber codes ∷ []) (whole i)
+          (whole k ∷ c.0 ∷ []) content after
+          (spelled_higher 0 49 (named.NumberBelow 0 4294967295) (whole i) content after (lit≤ tt) first)
+          (code_next 49 k (named.Chained o) c.0 after behind names
+          (spelled_higher 0 49 named.AnyNumber (whole k) after behind (lit≤ tt) second)
+          (order_next 49 (named.Chained o) [] c.0 [] behind [] c.1 (order_over 49)))))
+          refl,
+      ap (pair i) c.2,
+    )
+
+-- Octets that spell a value as a part spell it as a whole.
+pub whole_spelled : (levels : ℕ) (form : named.Named) (n : Node) (octets : List ℕ) → 1 + levels ≤ deepest
+    → Spelled levels form n octets [] → Spells table form octets n
+whole_spelled levels form n octets room s =
+    let e = s.is_element 1 0 room in
+    record {
+      tree = e.tree;
+      lies = subst (λ (l : List ℕ). Lies 1 0 e.tree l) (sym (s.whole ∙ append-nil s.part)) e.lies;
+      is_of = e.is_of nowhere;
+    }

@@ -1,0 +1,103 @@
+-- What octets in their usual spelling hold of a message between agents.
+use Rattle.std.specs.Prelude.{◌≡◌, ℕ, ◌+◌, ◌≤◌, Bool, true, false, List, [], ◌∷◌, map}
+use Rattle.x5_model.specs.References.{Progress, Start, Next, Done, RefType}
+use Rattle.x5_model.specs.Requests.{Request}
+use Rattle.x5_model.specs.Values.{Name, Rdn}
+use Rattle.x5_model_messages.specs.Chained.{chaining_in}
+use Rattle.x5_model_messages.specs.Replies.{TraceItem, item_in}
+use Rattle.x5_model_messages.specs.Terms.{rdn_of}
+use Rattle.x5_model_octets.specs.Elements.{deepest}
+use Rattle.x5_model_typed.specs.Forms.{Component, Set, at}
+use Rattle.x5_model_typed.specs.Layouts.{Surroundings, layout, or_nothing}
+use Rattle.x5_model_typed.specs.Named as named
+use Rattle.x5_model_typed.specs.Nodes.{Node, parts, row}
+use Rattle.x5_model_typed.specs.Trees.{Trees, Bare, Row, LieAll, class_of, tag_of}
+use Rattle.x5_model_typed.specs.Typed.{InAnyOrder}
+use Rattle.x5_direct.specs.Spelled.{Opens, SpelledIn}
+
+-- ---- what the members of nodes say
+
+abbrev pub items_of : Node → List TraceItem
+items_of n = map item_in (parts n)
+
+abbrev pub rdns_of : Node → List Rdn
+rdns_of n = map rdn_of (parts n)
+
+-- the code of the operation (X.519, section 7)
+abbrev pub code_of : named.Operation → ℕ
+code_of named.Read = 1
+code_of named.Compare = 2
+code_of named.ListBelow = 4
+code_of named.Search = 5
+code_of named.AddEntry = 6
+code_of named.RemoveEntry = 7
+code_of named.ModifyEntry = 8
+code_of named.ModifyDn = 9
+
+-- ---- short contents
+
+-- How far a name is resolved (X.518, section 10.5): a phase, and in the second the next RDN.
+abbrev pub IsResolved : Progress → List ℕ → Type 0
+IsResolved Start octets = octets ≡ 10 ∷ 1 ∷ 1 ∷ []
+IsResolved (Next k) octets = (octets ≡ 10 ∷ 1 ∷ 2 ∷ 2 ∷ 1 ∷ k ∷ []) × (1 ≤ k) × (k ≤ 16)
+IsResolved Done octets = octets ≡ 10 ∷ 1 ∷ 3 ∷ []
+
+-- The mark of an item that a message of the type nonSpecific was received: it's true, or it's missing and so false
+-- (X.518, section 10.6).
+abbrev pub IsWide : Bool → List ℕ → Type 0
+IsWide true octets = octets ≡ 1 ∷ 1 ∷ 255 ∷ []
+IsWide false octets = octets ≡ []
+
+-- ---- components of a SET in the order of their context tags
+
+-- Each has a context tag of that number at least.
+abbrev pub AreFrom : ℕ → Trees → Type 0
+AreFrom low Bare = Unit {0}
+AreFrom low (Row t ts) = (class_of t ≡ 2) × (low ≤ tag_of t) × AreFrom low ts
+
+-- The octets are members in the order of the components and of tags from that number on, with those values.
+pub record AreInSet (low : ℕ) (cs : List Component) (ns : List Node) (octets : List ℕ) (depth at : ℕ) : Type 0 where
+  pub members : Trees
+  pub lie : LieAll depth at members octets
+  pub any_order : (w : Surroundings) → InAnyOrder (layout w) cs members (row ns)
+  pub are_from : AreFrom low members
+
+abbrev pub SpelledInSet : ℕ → ℕ → List Component → List Node → List ℕ → Type 0
+SpelledInSet levels low cs ns octets = (depth at : ℕ) → depth + levels ≤ deepest → AreInSet low cs ns octets depth at
+
+-- ---- chaining arguments (X.518, section 10.3)
+
+-- Behind the context tags 0 to 3 stand these contents; the others are the rest.
+pub record AreFour (target progress trace kind octets rest : List ℕ) : Type 0 where
+  pub first : List ℕ
+  pub second : List ℕ
+  pub third : List ℕ
+  pub opens_target : Opens 160 target octets first
+  pub opens_progress : Opens 161 progress first second
+  pub opens_trace : Opens 162 trace second third
+  pub opens_kind : Opens 163 kind third rest
+
+abbrev pub last_part : List Component
+last_part = or_nothing (at 4 named.Rdns) ∷ []
+
+abbrev pub chaining_parts : List Component
+chaining_parts = at 0 named.Name ∷ at 1 named.Progress ∷ at 2 named.Trace ∷ at 3 named.RefType ∷ last_part
+
+-- The RDNs that are left out, which may be missing where there are none.
+pub record ReadLast (rdns : List Rdn) (octets : List ℕ) : Type 0 where
+  pub node : Node
+  pub spelled : SpelledInSet 6 4 last_part (node ∷ []) octets
+  pub says : rdns ≡ rdns_of node
+
+-- What chaining arguments say, whatever the request beside them.
+abbrev pub ReadsChaining : Name → Progress → RefType → List Rdn → List TraceItem → List ℕ → Type 0
+ReadsChaining target progress kind exclusions trace octets =
+    (n : Node) × SpelledIn 6 (Set chaining_parts) n octets
+    × ((r : Request) → record {
+      target = target;
+      progress = progress;
+      kind = kind;
+      exclusions = exclusions;
+      trace = trace;
+      request = r;
+    } ≡ chaining_in r n)
