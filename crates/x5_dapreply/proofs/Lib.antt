@@ -1,3 +1,4 @@
+mod Founding
 mod ReferenceParts
 pub mod ReplyRooms
 pub mod RepliesBack

@@ -1,4 +1,5 @@
 pub mod Components
+pub mod Found
 pub mod ReplyViews
 pub mod Results
 pub mod Said

@@ -4,6 +4,7 @@
 
 pub mod direct;
 pub mod direct_parts;
+mod found;
 mod messages;
 pub mod read_references;
 pub mod read_replies;

@@ -16,8 +16,8 @@ ghost use Rattle.x5_types.specs.FormView.{table};
 ghost use Rattle.x5_types.specs.NodeView.{node_view};
 
 use crate::direct::usual_reply;
+use crate::found::write_answer;
 use crate::read_replies::reply_in;
-use crate::replies::reply_node;
 use std::alloc::Global;
 use x5_dapber::WireFault;
 use x5_memory::NoMemory;
@@ -25,10 +25,7 @@ use x5_ops::{Operation, Reply};
 use x5_syntax::Octets;
 use x5_typed::read;
 use x5_types::Named;
-use x5_writer::{WriteFault, write};
-
-/// The code of a referral to a user (X.511, section 12.6).
-const REFERRAL: u32 = 4;
+use x5_writer::WriteFault;
 
 /// The canonical octets of what is answered to a user: a result of this operation, an error or a referral, with
 /// the id of the request (X.519, section 7; X.690, section 10).
@@ -47,8 +44,7 @@ pub fn encode_answer(
     ensures spelled { Fits table (table named.DapAnswer) (replies.reply_node replies.to_user id (told_reply (code_view operation) reply.now))
         → IfOk result (λ octets. Spells table named.DapAnswer octets (replies.reply_node replies.to_user id (told_reply (code_view operation) reply.now))) }
 {
-    let node = reply_node(alloc, REFERRAL, id, operation.code(), reply)?;
-    Ok(Octets::new(write(alloc, Named::DapAnswer, &node)?))
+    Ok(Octets::new(write_answer(alloc, id, operation, reply)?))
 }
 
 /// The id and the reply of an answer to a user (X.519, section 7): of octets that are one spelling of it and nothing else. The code of

@@ -76,7 +76,7 @@ fn limit_node<'a>(limited: bool) -> Node<'a>
 }
 
 /// The partial outcome of a list or search (X.511, section 10.1.3).
-fn outcome_node<'a>(alloc: Global, outcome: &'a Outcome) -> Result<Node<'a>, NoMemory>
+pub(crate) fn outcome_node<'a>(alloc: Global, outcome: &'a Outcome) -> Result<Node<'a>, NoMemory>
     ensures { IfOk result (λ n. node_view n ≡ replies.outcome_node (told_outcome outcome.now)) }
 {
     let unexplored = references_node(alloc, outcome.unexplored.as_slice())?;

@@ -1,11 +1,8 @@
 -- The octets that are written are those of the answer, and they spell it.
-use Rattle.std.proofs.Common.{◌≡◌, ℕ, ◌<◌, ◌^◌, List, length, sym, subst, arith}
-use Rattle.std.specs.declared.option.Option.TheVariants.{Some}
+use Rattle.std.proofs.Common.{ℕ, ◌<◌, ◌^◌, List, length, sym, subst, arith}
 use Rattle.x5_model_messages.specs.Replies.{reply_node, to_user}
 use Rattle.x5_model_typed.specs.Named as named
-use Rattle.x5_model_typed.specs.Nodes as nodes
 use Rattle.x5_model_typed.specs.Typed.{Spells}
-use Rattle.x5_model_typed.specs.Written.{canonical_octets}
 use Rattle.x5_ops.specs.JournalViews.{code_view}
 use Rattle.x5_types.specs.FormView.{table}
 use Rattle.x5_dapreply.specs.ReplyViews.{told_reply}
@@ -16,12 +13,8 @@ pub returns-clause-spelled : goal.returns-clause-spelled
 returns-clause-spelled c = λ fit.
     let r = told_reply (code_view c.args.operation) c.args.reply.now in
     let n = reply_node to_user c.args.id r in
-    let items = c.in_ok-write.field-0.items in
-    let short : length items < 2 ^ 64 = omega (arith, c.in_ok-write.field-0.ok.0, c.in_ok-write.field-0.small) in
-    let written : canonical_octets table named.DapAnswer n ≡ Some items =
-    subst (λ (k : ℕ). canonical_octets table named.DapAnswer (reply_node to_user c.args.id (told_reply k c.args.reply.now))
-    ≡ Some items) c.code.ensures
-    (subst (λ (x : nodes.Node). canonical_octets table named.DapAnswer x ≡ Some items) c.in_ok-node.ensures
-    c.in_ok-write.ensures) in
+    let items = c.in_ok-write_answer.field-0.items in
+    let short : length items < 2 ^ 64 =
+    omega (arith, c.in_ok-write_answer.field-0.ok.0, c.in_ok-write_answer.field-0.small) in
     subst (λ (os : List ℕ). Spells table named.DapAnswer os n) (sym c.new.ensures)
-    (answer_spelled c.args.id r items fit written short)
+    (answer_spelled c.args.id r items fit c.in_ok-write_answer.ensures short)
