@@ -226,22 +226,18 @@ module _ (w : Surroundings) where
 
   -- ---- a total refresh
 
-  abbrev in_total : List Node → List Node → List Node → Node
-  in_total es ks os = node_of (node_of es ∷ node_of ks ∷ node_of os ∷ [])
-
   total_same : (xs ys : List entries.Named) (ks ls : List Known) (os ps : List NonSpecific) → xs ≡ ys → ks ≡ ls → os ≡ ps
       → shadows.Total xs ks os ≡ shadows.Total ys ls ps
   total_same xs ys ks ls os ps e f g = cc (e, f, g)
 
-  total_said : (xs : List entries.Named) (known : List Known) (others : List NonSpecific) (es ks os : List Node)
-      → xs ≡ map entry_in es → known ≡ map known_in ks → others ≡ map non_specific_in os
-      → shadows.Total xs known others ≡ shadows.total_in (in_total es ks os)
+  total_said : (xs : List entries.Named) (known : List Known) (others : List NonSpecific) (es : Node) (ks os : List Node)
+      → xs ≡ map entry_in (parts es) → known ≡ map known_in ks → others ≡ map non_specific_in os
+      → shadows.Total xs known others ≡ shadows.total_in (node_of (es ∷ node_of ks ∷ node_of os ∷ []))
   total_said xs known others es ks os e f g =
-      let a : xs ≡ map entry_in (list (row es)) = e ∙ sym (ap (map entry_in) (list_row es)) in
-      let b : known ≡ map known_in (list (row ks)) = f ∙ sym (ap (map known_in) (list_row ks)) in
-      let c : others ≡ map non_specific_in (list (row os)) = g ∙ sym (ap (map non_specific_in) (list_row os)) in
-      total_same xs (map entry_in (list (row es))) known (map known_in (list (row ks))) others
-      (map non_specific_in (list (row os))) a b c
+      let a : known ≡ map known_in (list (row ks)) = f ∙ sym (ap (map known_in) (list_row ks)) in
+      let b : others ≡ map non_specific_in (list (row os)) = g ∙ sym (ap (map non_specific_in) (list_row os)) in
+      total_same xs (map entry_in (parts es)) known (map known_in (list (row ks))) others
+      (map non_specific_in (list (row os))) e a b
 
   pub total_read : (xs : List entries.Named) (known : List Known) (others : List NonSpecific)
       (octets content rest first second third behind last end : List ℕ) → Opens 48 content octets rest → rest ≡ []
@@ -270,7 +266,7 @@ module _ (w : Surroundings) where
             (higher w 5 8 named.Knowns k behind last (lit≤ tt) knowns)
             (next_here w 8 named.NonSpecifics [] m [] last [] (higher w 5 8 named.NonSpecifics m last [] (lit≤ tt) rest_of)
             (over_here w 8))))) refl,
-        total_said xs known others r.0 s.0 t.0 r.2 s.2 t.2,
+        total_said xs known others e.0 s.0 t.0 e.2 s.2 t.2,
       )
 
   -- ---- the message

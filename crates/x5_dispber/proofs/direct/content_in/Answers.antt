@@ -8,7 +8,7 @@ use Rattle.x5_dispber.proofs.direct.content_in.Goals as goal
 pub returns : goal.returns
 returns c =
     let names = c.args.names.now in
-    let none = nothing_behind c.in_ok-content.rest.now c.in_ok-third.end.now ? in
+    let none = nothing_behind c.in_ok-content.rest.now c.in_ok-third.end.now (omega (arith, c.if-rest-end-gt0.false)) in
     total_read (world c.args.start.now names) c.in_ok-entries.entries (map (told_known names) c.in_ok-specific.specific)
     (map (told_other names) c.in_ok-nssr.nssr) c.args.octets.now c.in_ok-content.content.now c.in_ok-content.rest.now
     c.in_ok-first.first.now c.in_ok-second.second.now c.in_ok-third.third.now c.in_ok-first.behind.now c.in_ok-second.last.now

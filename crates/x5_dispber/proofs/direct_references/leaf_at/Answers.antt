@@ -1,5 +1,6 @@
 -- What the content says is found, and the rest is what is left.
-use Rattle.std.proofs.Common.{◌-◌, length, refl, sym}
+use Rattle.std.proofs.Common.{◌-◌, length, refl, ap, sym, ◌∙◌}
+use Rattle.x5_types.specs.NodeView.{option_view}
 use Rattle.x5_direct.proofs.Here.{opens_taken}
 use Rattle.x5_dispber.proofs.direct_references.leaf_at.Goals as goal
 
@@ -11,5 +12,5 @@ returns-in-Some-clause-says c =
       content = c.in_ok-content.content.now;
       opens = opens_taken c.args.first c.in_ok-content.content.now octets rest (length octets - length rest) refl
           c.in_ok-content.ensures.opens;
-      reads = ?;
+      reads = sym c.in_ok-node.ensures ∙ ap option_view c.in-Some.is;
     }
