@@ -1,7 +1,8 @@
 -- What is read straight of the parts of a total refresh is read of the whole.
 use Rattle.std.proofs.Common.{◌≡◌, ℕ, ◌+◌, ◌≤◌, ◌<◌, ◌%◌, Bool, true, false, not, ◌&&◌, List, [], ◌∷◌, ◌++◌, length, map, refl, ap, ap₂, sym}
 use Rattle.std.proofs.Common.{◌∙◌, subst, arith, lit<, lit≤, append-nil}
-use Rattle.std.specs.Prelude.{pos}
+use Rattle.std.proofs.lemmas.List.{map-append}
+use Rattle.std.specs.Prelude.{pos, if◌then◌else◌}
 use Rattle.std.specs.List.{list_all}
 use Rattle.std.specs.declared.option.Option.{Option}
 use Rattle.std.specs.declared.option.Option.TheVariants.{None, Some}
@@ -15,17 +16,17 @@ use Rattle.x5_model_messages.specs.Shadows as shadows
 use Rattle.x5_model_messages.specs.Shadows.{Known, NonSpecific, agent_in, agent_node, entry_in, known_in, known_of, non_specific_in}
 use Rattle.x5_model_messages.specs.Terms.{name_of, node_of, number_in}
 use Rattle.x5_model_typed.specs.Forms.{Alternative, Explicit, Joined, Primitive, by_tag, choice, or, plain, ruled, universal}
-use Rattle.x5_model_typed.specs.Layouts.{Surroundings, agent_name, integer, invoke, layout, named_by, sequence, sequence_of}
+use Rattle.x5_model_typed.specs.Layouts.{Surroundings, integer, invoke, layout, named_by, sequence, sequence_of}
 use Rattle.x5_model_typed.specs.Layouts.{shadow_operations, time_leaf}
-use Rattle.x5_model_typed.specs.Leaves.{any_number, boolean, from_to, number}
+use Rattle.x5_model_typed.specs.Leaves.{any_number, boolean, from_to, is_agent_name, number}
 use Rattle.x5_model_typed.specs.Named as named
 use Rattle.x5_model_typed.specs.Named.{Named}
 use Rattle.x5_model_typed.specs.Nodes as nodes
 use Rattle.x5_model_typed.specs.Nodes.{Node, Chosen, Flag, list, parts, row, whole}
-use Rattle.x5_model_typed.specs.Rules.{agents_of, is_copy, known_rule, master_first, masters_rule}
+use Rattle.x5_model_typed.specs.Rules.{agents_of, is_copy, known_rule, master_first, masters_rule, text_in}
 use Rattle.x5_model_typed.specs.Typed.{Spells}
 use Rattle.x5_model_typed.proofs.Laws.{list_row}
-use Rattle.x5_model_typed_laws.proofs.Leaves.{let_through}
+use Rattle.x5_model_typed_laws.proofs.Leaves.{let_through, so}
 use Rattle.x5_direct.specs.Here.{EachHere, OrderHere, ReadEachHere, ReadsHere, SpelledHere}
 use Rattle.x5_direct.specs.Spelled.{Opens, ReadEach, Reads}
 use Rattle.x5_direct.proofs.Heads.{opens_so, short_length}
@@ -33,6 +34,47 @@ use Rattle.x5_direct.proofs.Here.{branch_here, code_here, each_in_here, given_he
 use Rattle.x5_direct.proofs.Here.{leaf_here, next_here, one_here, order_in_here, over_here}
 use Rattle.x5_direct.proofs.EntryParts.{entries_read}
 use Rattle.x5_dispber.specs.Direct.{IsMark, LeafAt, world_agent}
+use Rattle.x5_dispber.specs.ShadowViews.{agent_name}
+
+-- ---- the name of an agent of the world
+
+named_so : (a b : Bool) → (if a then b else false) ≡ true → b ≡ true
+named_so true b h = h
+named_so false b h = absurd (cc h)
+
+pub record IsNamed (w : Surroundings) (n : Node) : Type 0 where
+  pub text : n ≡ nodes.Text (text_in n)
+  pub agent : w.is_agent (text_in n) ≡ true
+
+pub agent_is_named : (w : Surroundings) (n : Node) (octets rest : List ℕ) → LeafAt (world_agent w) 19 n octets rest
+    → IsNamed w n
+agent_is_named w n octets rest l =
+    let is = so (if is_agent_name l.content then w.is_agent l.content else false) (nodes.Text l.content) n l.reads in
+    let named = named_so (is_agent_name l.content) (w.is_agent l.content) is.0 in
+    subst (λ (m : Node). IsNamed w m) is.1 (record { text = refl; agent = named })
+
+-- ---- the end
+
+pub nothing_behind : (a b : List ℕ) → length a + length b ≤ 0 → (a ≡ []) × (b ≡ [])
+nothing_behind [] [] h = (refl, refl)
+nothing_behind [] (o ∷ b) h = absurd (omega (arith, h))
+nothing_behind (o ∷ a) b h = absurd (omega (arith, h))
+
+-- ---- lists of agents
+
+abbrev pub agent_nodes : List Text → Bool → List ℕ → List Node
+agent_nodes names copy agents = map (agent_node copy) (map (agent_name names) agents)
+
+pub one_agent_more : (names : List Text) (copy : Bool) (before now : List ℕ) (agent : ℕ) → now ≡ before ++ (agent ∷ [])
+    → agent_nodes names copy now ≡ agent_nodes names copy before ++ (agent_node copy (agent_name names agent) ∷ [])
+one_agent_more names copy before now agent e =
+    ap (λ (l : List ℕ). agent_nodes names copy l) e
+    ∙ ap (map (agent_node copy)) (map-append (agent_name names) before (agent ∷ []))
+    ∙ map-append (agent_node copy) (map (agent_name names) before) (agent_name names agent ∷ [])
+
+pub itself : (ns : List Node) → map (λ n. n) ns ≡ ns
+itself [] = refl
+itself (n ∷ ns) = ap (λ (l : List Node). n ∷ l) (itself ns)
 
 module _ (w : Surroundings) where
   -- ---- primitive elements
@@ -53,7 +95,7 @@ module _ (w : Surroundings) where
   agent_name_here : (t : Text) (octets rest : List ℕ) → LeafAt (world_agent w) 19 (nodes.Text t) octets rest
       → SpelledHere w 0 named.WorldAgentName (nodes.Text t) octets rest
   agent_name_here t octets rest l =
-      leaf_here w named.WorldAgentName 19 0 19 (agent_name w.is_agent) (nodes.Text t) (nodes.Text t) l.content octets rest
+      leaf_here w named.WorldAgentName 19 0 19 (Rattle.x5_model_typed.specs.Layouts.agent_name w.is_agent) (nodes.Text t) (nodes.Text t) l.content octets rest
       l.opens refl (lit< tt) refl l.reads refl
 
   -- a content of one octet
@@ -184,17 +226,18 @@ module _ (w : Surroundings) where
 
   -- ---- a total refresh
 
-  abbrev in_total : List Node → List Node → List Node → Node
-  in_total es ks os = node_of (node_of es ∷ node_of ks ∷ node_of os ∷ [])
+  total_same : (xs ys : List entries.Named) (ks ls : List Known) (os ps : List NonSpecific) → xs ≡ ys → ks ≡ ls → os ≡ ps
+      → shadows.Total xs ks os ≡ shadows.Total ys ls ps
+  total_same xs ys ks ls os ps e f g = cc (e, f, g)
 
-  total_said : (xs : List entries.Named) (known : List Known) (others : List NonSpecific) (es ks os : List Node)
-      → xs ≡ map entry_in es → known ≡ map known_in ks → others ≡ map non_specific_in os
-      → shadows.Total xs known others ≡ shadows.total_in (in_total es ks os)
+  total_said : (xs : List entries.Named) (known : List Known) (others : List NonSpecific) (es : Node) (ks os : List Node)
+      → xs ≡ map entry_in (parts es) → known ≡ map known_in ks → others ≡ map non_specific_in os
+      → shadows.Total xs known others ≡ shadows.total_in (node_of (es ∷ node_of ks ∷ node_of os ∷ []))
   total_said xs known others es ks os e f g =
-      let a : xs ≡ map entry_in (list (row es)) = e ∙ sym (ap (map entry_in) (list_row es)) in
-      let b : known ≡ map known_in (list (row ks)) = f ∙ sym (ap (map known_in) (list_row ks)) in
-      let c : others ≡ map non_specific_in (list (row os)) = g ∙ sym (ap (map non_specific_in) (list_row os)) in
-      cc (a, b, c)
+      let a : known ≡ map known_in (list (row ks)) = f ∙ sym (ap (map known_in) (list_row ks)) in
+      let b : others ≡ map non_specific_in (list (row os)) = g ∙ sym (ap (map non_specific_in) (list_row os)) in
+      total_same xs (map entry_in (parts es)) known (map known_in (list (row ks))) others
+      (map non_specific_in (list (row os))) e a b
 
   pub total_read : (xs : List entries.Named) (known : List Known) (others : List NonSpecific)
       (octets content rest first second third behind last end : List ℕ) → Opens 48 content octets rest → rest ≡ []
@@ -223,7 +266,7 @@ module _ (w : Surroundings) where
             (higher w 5 8 named.Knowns k behind last (lit≤ tt) knowns)
             (next_here w 8 named.NonSpecifics [] m [] last [] (higher w 5 8 named.NonSpecifics m last [] (lit≤ tt) rest_of)
             (over_here w 8))))) refl,
-        total_said xs known others r.0 s.0 t.0 r.2 s.2 t.2,
+        total_said xs known others e.0 s.0 t.0 e.2 s.2 t.2,
       )
 
   -- ---- the message

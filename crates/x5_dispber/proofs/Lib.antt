@@ -4,3 +4,5 @@ mod InOrder
 mod Parts
 mod ShadowIsSayable
 mod ShadowSpelled
+mod DirectParts
+mod Once

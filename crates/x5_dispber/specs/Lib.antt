@@ -1,2 +1,3 @@
 pub mod ShadowViews
 pub mod Sayable
+pub mod Direct

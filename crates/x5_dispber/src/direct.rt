@@ -1,6 +1,6 @@
 //! A total refresh (X.525, section 10) read straight from octets, where it's spelled as usual: definite lengths, strings in one piece,
 //! and entries, attributes and values in their order.
-ghost use Rattle.std.specs.Prelude.{◌≡◌, ◌<◌, ◌≤◌, IfOk, IfSome, [], drop, length, map};
+ghost use Rattle.std.specs.Prelude.{◌≡◌, ◌<◌, ◌≤◌, ◌∷◌, IfOk, IfSome, [], drop, length, map};
 ghost use Rattle.x5_direct.specs.Here.{ReadsHere};
 ghost use Rattle.x5_dispber.specs.Direct.{LeafAt};
 ghost use Rattle.x5_dispber.specs.ShadowViews.{told_known, told_other, told_shadow};
@@ -12,7 +12,7 @@ ghost use Rattle.x5_model_typed.specs.Nodes as nodes;
 ghost use Rattle.x5_types.specs.FormView.{world};
 ghost use Rattle.x5_types.specs.NodeView.{node_view};
 
-use crate::direct_references::{all_known_in, leaf_at, others_in};
+use crate::direct_references::{all_known_at, all_others_at, leaf_at};
 use crate::shadow::{Refresh, Shadow};
 use std::alloc::Global;
 use x5_direct::Unread;
@@ -64,7 +64,7 @@ fn moment_at(
 }
 
 /// The whole content of a context that all of the octets say.
-fn total_in(
+fn content_in(
     alloc: Global,
     start: &Start,
     names: &AgentNames,
@@ -74,15 +74,15 @@ fn total_in(
         (shadows.Total c.entries (map (told_known names.now) c.specific) (map (told_other names.now) c.nssr)) octets.now []) }
 {
     let (content, rest) = opened(0x30, octets)?;
-    let (entries, behind) = opened(0x30, content)?;
-    let (known, last) = opened(0x30, behind)?;
-    let (others, end) = opened(0x30, last)?;
-    if !rest.is_empty() || !end.is_empty() {
+    let (first, behind) = opened(0x30, content)?;
+    let (second, last) = opened(0x30, behind)?;
+    let (third, end) = opened(0x30, last)?;
+    if rest.len() + end.len() > 0 {
         return Err(Unread::Unusual);
     }
-    let entries = entries_in(alloc, entries)?;
-    let specific = all_known_in(alloc, start, names, known)?;
-    let nssr = others_in(alloc, start, names, others)?;
+    let entries = entries_in(alloc, first)?;
+    let specific = all_known_at(alloc, start, names, second)?;
+    let nssr = all_others_at(alloc, start, names, third)?;
     Ok(Content {
         entries,
         specific,
@@ -102,17 +102,31 @@ fn sent_in(
     let (content, rest) = opened(0x30, octets)?;
     let (agreement, size) = number_at(alloc, content)?;
     let behind = &content[size..];
-    let (stamp, size) = moment_at(alloc, start, names, behind)?;
-    let (total, end) = opened(0xa0, &behind[size..])?;
-    if !rest.is_empty() || !end.is_empty() {
+    let (stamp, taken) = moment_at(alloc, start, names, behind)?;
+    let (chosen, end) = opened(0xa0, &behind[taken..])?;
+    if rest.len() + end.len() > 0 {
         return Err(Unread::Unusual);
     }
-    let refresh = Refresh::Total(total_in(alloc, start, names, total)?);
+    let total = content_in(alloc, start, names, chosen)?;
+    let refresh = Refresh::Total(total);
     Ok(Shadow::Update {
         agreement,
         stamp,
         refresh,
     })
+}
+
+/// What's sent, behind the code of the operation that sends it.
+fn sent_behind(octets: &[u8]) -> Option<&[u8]>
+    ensures { IfSome result (λ r. octets.now ≡ 2 ∷ 1 ∷ 2 ∷ r.now) }
+{
+    let [identifier, length, code, sent @ ..] = octets else {
+        return None;
+    };
+    if *identifier != 2 || *length != 1 || *code != 2 {
+        return None;
+    }
+    Some(sent)
 }
 
 /// The id of a message of shadowing that is a total refresh, and what it says.
@@ -126,11 +140,12 @@ pub(crate) fn update_in(
 {
     let (content, rest) = opened(0xa1, octets)?;
     let (id, size) = number_at(alloc, content)?;
-    let [2, 1, 2, sent @ ..] = &content[size..] else {
+    let Some(sent) = sent_behind(&content[size..]) else {
         return Err(Unread::Unusual);
     };
     if !rest.is_empty() {
         return Err(Unread::Unusual);
     }
-    Ok((id, sent_in(alloc, start, names, sent)?))
+    let message = sent_in(alloc, start, names, sent)?;
+    Ok((id, message))
 }

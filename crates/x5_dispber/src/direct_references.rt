@@ -1,6 +1,6 @@
 //! References to agents of the world (X.525, section 10), read straight from octets where they're spelled as usual: each agent of a
 //! Known with its mark where it has a copy, and without where it's the master.
-ghost use Rattle.std.specs.Prelude.{◌≡◌, ◌<◌, ◌≤◌, ◌%◌, ◌∷◌, ℕ, IfOk, IfSome, drop, length, map, true};
+ghost use Rattle.std.specs.Prelude.{◌≡◌, ◌<◌, ◌≤◌, ◌%◌, ◌∷◌, IfOk, drop, false, length, map, true};
 ghost use Rattle.x5_direct.specs.Here.{EachHere, ReadEachHere, ReadsHere, SpelledHere};
 ghost use Rattle.x5_dispber.specs.Direct.{IsMark, LeafAt, world_agent};
 ghost use Rattle.x5_dispber.specs.ShadowViews.{agent_name, told_known, told_other};
@@ -66,10 +66,10 @@ fn agent_name_at(
 fn is_mark(copy: bool, octets: &[u8]) -> bool
     ensures { result ≡ true → IsMark copy octets.now }
 {
-    match octets {
-        [] => !copy,
-        [1, 1, 0xff] => copy,
-        _ => false,
+    if copy {
+        octets == [1u8, 1, 0xff].as_slice()
+    } else {
+        octets.is_empty()
     }
 }
 
@@ -94,7 +94,7 @@ fn agent_at(
 }
 
 /// The agents that are all of the octets, each with a copy or each a master.
-fn agents_in(
+fn all_agents_at(
     alloc: Global,
     start: &Start,
     names: &AgentNames,
@@ -114,7 +114,7 @@ fn agents_in(
 }
 
 /// The master, and then the agents that have copies, that are all of the octets.
-fn access_in(
+fn access_at(
     alloc: Global,
     start: &Start,
     names: &AgentNames,
@@ -124,7 +124,7 @@ fn access_in(
         (shadows.agent_node false (agent_name names.now a.master) ∷ map (shadows.agent_node true) (map (agent_name names.now) a.shadows)) octets.now) }
 {
     let (master, size) = agent_at(alloc, start, names, false, octets)?;
-    let shadows = agents_in(alloc, start, names, true, &octets[size..])?;
+    let shadows = all_agents_at(alloc, start, names, true, &octets[size..])?;
     Ok(Access { master, shadows })
 }
 
@@ -145,7 +145,7 @@ fn known_at(
     if !end.is_empty() {
         return Err(Unread::Unusual);
     }
-    let access = access_in(alloc, start, names, members)?;
+    let access = access_at(alloc, start, names, members)?;
     let known = Specific {
         context: Name::root(alloc),
         pin,
@@ -155,7 +155,7 @@ fn known_at(
 }
 
 /// The subordinate references that are all of the octets.
-pub(crate) fn all_known_in(
+pub(crate) fn all_known_at(
     alloc: Global,
     start: &Start,
     names: &AgentNames,
@@ -190,7 +190,7 @@ fn other_at(
     if !end.is_empty() {
         return Err(Unread::Unusual);
     }
-    let agents = agents_in(alloc, start, names, false, members)?;
+    let agents = all_agents_at(alloc, start, names, false, members)?;
     let other = Nssr {
         context: Name::root(alloc),
         at,
@@ -200,7 +200,7 @@ fn other_at(
 }
 
 /// The non-specific subordinate references that are all of the octets.
-pub(crate) fn others_in(
+pub(crate) fn all_others_at(
     alloc: Global,
     start: &Start,
     names: &AgentNames,

@@ -2,6 +2,8 @@
 //! writer and the one reader over the table of types (X.690), with the start and the agents that both ends share.
 #![tactic(auto)]
 
+mod direct;
+mod direct_references;
 mod entries;
 mod messages;
 mod read_entries;

@@ -15,6 +15,7 @@ ghost use Rattle.x5_typed.specs.Comes.{Comes};
 ghost use Rattle.x5_types.specs.FormView.{world_table};
 ghost use Rattle.x5_types.specs.NodeView.{node_view};
 
+use crate::direct::update_in;
 use crate::read_shadows::shadow_in;
 use crate::refreshes::refresh_node;
 use crate::shadow::{Refresh, Shadow};
@@ -177,6 +178,24 @@ pub fn encode_shadow(
     Ok(Octets::new(write_in(alloc, surroundings, Named::DispMessage, &node)?))
 }
 
+/// What the octets say, which are read by the table of types.
+fn decode_by_table(
+    alloc: Global,
+    start: &Start,
+    names: &AgentNames,
+    octets: &[u8],
+) -> Result<(u32, Shadow), WireFault>
+    ensures decodes { (e : Result nodes.Node judged.Breach) → Comes (world_table start.now names.now) named.DispMessage octets.now e
+        → Decodes (λ p. (p.0, told_shadow names.now p.1)) shadows.shadow_in e result }
+    ensures comes { (e : Result nodes.Node judged.Breach) × Comes (world_table start.now names.now) named.DispMessage octets.now e }
+    ensures spelled { IfOk result (λ p. (n : nodes.Node) × Spells (world_table start.now names.now) named.DispMessage octets.now n
+        × ((p.0, told_shadow names.now p.1) ≡ shadows.shadow_in n)) }
+{
+    let surroundings = Surroundings::World(start, names);
+    let node = read_in(alloc, surroundings, Named::DispMessage, octets)?;
+    Ok(shadow_in(alloc, names, &node)?)
+}
+
 /// The id of a message of shadowing, and what it says, in a world with that start and these agents (X.519, section 7): of octets that are
 /// one spelling of it and nothing else.
 ///
@@ -202,7 +221,10 @@ pub fn decode_shadow(
     ensures back { (id : ℕ) (m : shadows.Shadow) → IsShadow m → Spells (world_table start.now names.now) named.DispMessage octets.now (shadows.shadow_node id m)
         → IsRead {Y = ℕ × shadows.Shadow} (λ p. (p.0, told_shadow names.now p.1)) (id, m) result }
 {
-    let surroundings = Surroundings::World(start, names);
-    let node = read_in(alloc, surroundings, Named::DispMessage, octets)?;
-    Ok(shadow_in(alloc, names, &node)?)
+    // Total refreshes are most of what is read, and mostly spelled in the one usual way. Whatever else it is, and where memory ran out,
+    // the table says it.
+    match update_in(alloc, start, names, octets) {
+        Ok(read) => Ok(read),
+        Err(_) => decode_by_table(alloc, start, names, octets),
+    }
 }

@@ -22,7 +22,7 @@ use x5_rules::name_of;
 use x5_types::Node;
 
 /// The text that the node says, or none.
-fn text_of<'n>(node: &'n Node<'_>) -> &'n str
+pub(crate) fn text_of<'n>(node: &'n Node<'_>) -> &'n str
     ensures { result.now ≡ rules.text_in (node_view node.now) }
 {
     match node {
@@ -32,7 +32,7 @@ fn text_of<'n>(node: &'n Node<'_>) -> &'n str
 }
 
 /// The agent of the world whose name that is.
-fn agent_named(names: &AgentNames, text: &str) -> AgentId
+pub(crate) fn agent_named(names: &AgentNames, text: &str) -> AgentId
     requires { has_name names.now text.now ≡ true }
     ensures { agent_name names.now result ≡ text.now }
 {
