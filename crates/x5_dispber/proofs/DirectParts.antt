@@ -1,21 +1,20 @@
 -- What is read straight of the parts of a total refresh is read of the whole.
-use Rattle.std.proofs.Common.{◌≡◌, ℕ, ◌+◌, ◌≤◌, ◌<◌, ◌%◌, Bool, true, false, not, ◌&&◌, List, [], ◌∷◌, ◌++◌, length, map, refl, ap, ap₂, sym}
+use Rattle.std.proofs.Common.{◌≡◌, ℕ, ◌+◌, ◌≤◌, ◌<◌, ◌%◌, Bool, true, false, not, List, [], ◌∷◌, ◌++◌, length, map}
+use Rattle.std.proofs.Common.{refl, ap, sym}
 use Rattle.std.proofs.Common.{◌∙◌, subst, arith, lit<, lit≤, append-nil}
 use Rattle.std.proofs.lemmas.List.{map-append}
 use Rattle.std.specs.Prelude.{pos, if◌then◌else◌}
 use Rattle.std.specs.List.{list_all}
 use Rattle.std.specs.declared.option.Option.{Option}
-use Rattle.std.specs.declared.option.Option.TheVariants.{None, Some}
+use Rattle.std.specs.declared.option.Option.TheVariants.{Some}
 use Rattle.x5_model.specs.Entries as entries
 use Rattle.x5_model.specs.Values.{Text, Name}
 use Rattle.x5_model.proofs.Lists.{and_true}
-use Rattle.x5_model_octets.specs.Elements.{identifier}
-use Rattle.x5_model_octets.specs.Headers.{identifier_of}
-use Rattle.x5_model_messages.specs.Replies.{or_zero}
 use Rattle.x5_model_messages.specs.Shadows as shadows
-use Rattle.x5_model_messages.specs.Shadows.{Known, NonSpecific, agent_in, agent_node, entry_in, known_in, known_of, non_specific_in}
-use Rattle.x5_model_messages.specs.Terms.{name_of, node_of, number_in}
-use Rattle.x5_model_typed.specs.Forms.{Alternative, Explicit, Joined, Primitive, by_tag, choice, or, plain, ruled, universal}
+use Rattle.x5_model_messages.specs.Shadows.{Known, NonSpecific, agent_in, agent_node, entry_in, known_in, known_of}
+use Rattle.x5_model_messages.specs.Shadows.{non_specific_in}
+use Rattle.x5_model_messages.specs.Terms.{name_of, node_of}
+use Rattle.x5_model_typed.specs.Forms.{Explicit, Joined, Primitive, by_tag, choice, or, plain, ruled, universal}
 use Rattle.x5_model_typed.specs.Layouts.{Surroundings, integer, invoke, layout, named_by, sequence, sequence_of}
 use Rattle.x5_model_typed.specs.Layouts.{shadow_operations, time_leaf}
 use Rattle.x5_model_typed.specs.Leaves.{any_number, boolean, from_to, is_agent_name, number}
@@ -89,13 +88,15 @@ module _ (w : Surroundings) where
   moment_here : (m : ℕ) (octets rest : List ℕ) → LeafAt (time_leaf w) 24 (whole m) octets rest
       → SpelledHere w 0 named.Time (whole m) octets rest
   moment_here m octets rest l =
-      leaf_here w named.Time 24 0 24 (universal 24 (Joined (time_leaf w))) (whole m) (whole m) l.content octets rest l.opens
+      leaf_here w named.Time 24 0 24 (universal 24 (Joined (time_leaf w))) (whole m) (whole m) l.content octets rest
+      l.opens
       refl (lit< tt) refl l.reads refl
 
   agent_name_here : (t : Text) (octets rest : List ℕ) → LeafAt (world_agent w) 19 (nodes.Text t) octets rest
       → SpelledHere w 0 named.WorldAgentName (nodes.Text t) octets rest
   agent_name_here t octets rest l =
-      leaf_here w named.WorldAgentName 19 0 19 (Rattle.x5_model_typed.specs.Layouts.agent_name w.is_agent) (nodes.Text t) (nodes.Text t) l.content octets rest
+      leaf_here w named.WorldAgentName 19 0 19 (Rattle.x5_model_typed.specs.Layouts.agent_name w.is_agent)
+      (nodes.Text t) (nodes.Text t) l.content octets rest
       l.opens refl (lit< tt) refl l.reads refl
 
   -- a content of one octet
@@ -126,7 +127,8 @@ module _ (w : Surroundings) where
       → SpelledHere w 1 named.WorldAgent (agent_node copy t) octets rest
   agent_spelled copy t content behind octets rest opens l mark =
       let cs = plain named.WorldAgentName ∷ or (Flag false) (plain named.Boolean) ∷ [] in
-      branch_here w 0 named.WorldAgent 48 0 16 (sequence cs) (agent_node copy t) (agent_node copy t) content octets rest opens
+      branch_here w 0 named.WorldAgent 48 0 16 (sequence cs) (agent_node copy t) (agent_node copy t) content octets
+      rest opens
       refl refl
       (order_in_here w 0 cs (nodes.Text t ∷ Flag copy ∷ []) content
       (next_here w 0 named.WorldAgentName (or (Flag false) (plain named.Boolean) ∷ []) (nodes.Text t) (Flag copy ∷ [])
@@ -144,7 +146,8 @@ module _ (w : Surroundings) where
   reference_spelled form rule name ns content behind members end octets rest tagged kept opens first inner over all =
       let cs = plain named.Name ∷ plain named.WorldAgents ∷ [] in
       let last = subst (λ (l : List ℕ). Opens 48 members behind l) over inner in
-      let agents = branch_here w 1 named.WorldAgents 48 0 16 (sequence_of named.WorldAgent) (node_of ns) (node_of ns) members
+      let agents = branch_here w 1 named.WorldAgents 48 0 16 (sequence_of named.WorldAgent) (node_of ns) (node_of ns)
+      members
       behind [] last refl refl (each_in_here w 1 named.WorldAgent ns members all) refl in
       let n = node_of (name ∷ node_of ns ∷ []) in
       branch_here w 3 form 48 0 16 (ruled rule (sequence cs)) n n content octets rest opens refl tagged
@@ -190,7 +193,8 @@ module _ (w : Surroundings) where
       → ReadsHere w 4 named.Known known_in (record { pin = pin; master = master; shadows = copies }) octets rest
   known_read pin master copies content behind members end octets rest opens first inner over all = (
     node_of (first.0 ∷ node_of (accessible master copies) ∷ []),
-    reference_spelled named.Known known_rule first.0 (accessible master copies) content behind members end octets rest refl
+    reference_spelled named.Known known_rule first.0 (accessible master copies) content behind members end octets rest
+        refl
         (known_kept first.0 master copies) opens (here w 3 named.Name first.0 content behind first.1) inner over all,
     ap (λ (n : Name). record { pin = n; master = master; shadows = copies }) first.2 ∙ known_said first.0 master copies,
   )
@@ -226,11 +230,13 @@ module _ (w : Surroundings) where
 
   -- ---- a total refresh
 
-  total_same : (xs ys : List entries.Named) (ks ls : List Known) (os ps : List NonSpecific) → xs ≡ ys → ks ≡ ls → os ≡ ps
+  total_same : (xs ys : List entries.Named) (ks ls : List Known) (os ps : List NonSpecific) → xs ≡ ys → ks ≡ ls
+      → os ≡ ps
       → shadows.Total xs ks os ≡ shadows.Total ys ls ps
   total_same xs ys ks ls os ps e f g = cc (e, f, g)
 
-  total_said : (xs : List entries.Named) (known : List Known) (others : List NonSpecific) (es : Node) (ks os : List Node)
+  total_said : (xs : List entries.Named) (known : List Known) (others : List NonSpecific) (es : Node)
+      (ks os : List Node)
       → xs ≡ map entry_in (parts es) → known ≡ map known_in ks → others ≡ map non_specific_in os
       → shadows.Total xs known others ≡ shadows.total_in (node_of (es ∷ node_of ks ∷ node_of os ∷ []))
   total_said xs known others es ks os e f g =
@@ -254,17 +260,20 @@ module _ (w : Surroundings) where
       let ended = subst (λ (l : List ℕ). Opens 48 third last l) done q in
       let knowns = branch_here w 4 named.Knowns 48 0 16 (sequence_of named.Known) k k second behind last p refl refl
       (each_in_here w 4 named.Known s.0 second s.1) refl in
-      let rest_of = branch_here w 4 named.NonSpecifics 48 0 16 (sequence_of named.NonSpecific) m m third last [] ended refl refl
+      let rest_of = branch_here w 4 named.NonSpecifics 48 0 16 (sequence_of named.NonSpecific) m m third last [] ended
+      refl refl
       (each_in_here w 4 named.NonSpecific t.0 third t.1) refl in
       let whole' = subst (λ (l : List ℕ). Opens 48 content octets l) over opens in (
         n,
         branch_here w 8 named.Total 48 0 16 (sequence cs) n n content octets [] whole' refl refl
             (order_in_here w 8 cs (e.0 ∷ k ∷ m ∷ []) content
-            (next_here w 8 named.Entries (plain named.Knowns ∷ plain named.NonSpecifics ∷ []) e.0 (k ∷ m ∷ []) content behind
+            (next_here w 8 named.Entries (plain named.Knowns ∷ plain named.NonSpecifics ∷ []) e.0 (k ∷ m ∷ []) content
+            behind
             (here w 8 named.Entries e.0 content behind e.1)
             (next_here w 8 named.Knowns (plain named.NonSpecifics ∷ []) k (m ∷ []) behind last
             (higher w 5 8 named.Knowns k behind last (lit≤ tt) knowns)
-            (next_here w 8 named.NonSpecifics [] m [] last [] (higher w 5 8 named.NonSpecifics m last [] (lit≤ tt) rest_of)
+            (next_here w 8 named.NonSpecifics [] m [] last []
+            (higher w 5 8 named.NonSpecifics m last [] (lit≤ tt) rest_of)
             (over_here w 8))))) refl,
         total_said xs known others e.0 s.0 t.0 e.2 s.2 t.2,
       )
@@ -287,7 +296,8 @@ module _ (w : Surroundings) where
       let chosen = Chosen 0 r.0 in
       let n = node_of (whole agreement ∷ whole stamp ∷ chosen ∷ []) in
       let ended = subst (λ (l : List ℕ). Opens 160 inner last l) done o in
-      let refreshed = branch_here w 9 named.Refresh 160 2 0 (choice 0 (Explicit named.Total)) r.0 r.0 inner last [] ended refl
+      let refreshed = branch_here w 9 named.Refresh 160 2 0 (choice 0 (Explicit named.Total)) r.0 r.0 inner last []
+      ended refl
       refl (one_here w 9 named.Total r.0 inner [] refl r.1) refl in
       let whole' = subst (λ (l : List ℕ). Opens 48 content octets l) over opens in (
         n,
@@ -324,11 +334,13 @@ module _ (w : Surroundings) where
       let code' = subst (λ (l : List ℕ). SpelledHere w 11 named.AnyNumber (whole 2) l last) (sym is)
       (higher w 0 11 named.AnyNumber (whole 2) (2 ∷ 1 ∷ 2 ∷ last) last (lit≤ tt) (code_two last)) in (
         Chosen 1 inner,
-        branch_here w 11 named.DispMessage 161 2 1 (invoke shadow_operations) inner inner content octets [] whole' refl refl
+        branch_here w 11 named.DispMessage 161 2 1 (invoke shadow_operations) inner inner content octets [] whole'
+            refl refl
             (order_in_here w 11 (plain ids ∷ coded ∷ []) (whole id ∷ whole 2 ∷ r.0 ∷ []) content
             (next_here w 11 ids (coded ∷ []) (whole id) (whole 2 ∷ r.0 ∷ []) content behind
             (higher w 0 11 ids (whole id) content behind (lit≤ tt) (number_here ids id content behind refl a))
-            (code_here w 11 named.AnyNumber (named_by shadow_operations) (pos 2) named.UpdateArgument r.0 behind last [] refl
+            (code_here w 11 named.AnyNumber (named_by shadow_operations) (pos 2) named.UpdateArgument r.0 behind last
+            [] refl
             code' refl r.1))) refl,
         message_said id m r.0 r.2,
       )

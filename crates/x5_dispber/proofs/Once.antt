@@ -1,5 +1,5 @@
 -- Reading octets that spell a value of the type comes to that value and to nothing else.
-use Rattle.std.proofs.Common.{◌≡◌, ℕ, List, [], ◌∷◌, ◌++◌, drop, ap, sym, ◌∙◌, append-nil}
+use Rattle.std.proofs.Common.{◌≡◌, ℕ, List, [], ◌∷◌, ap, sym, ◌∙◌, append-nil}
 use Rattle.std.specs.declared.result.Result.{Result}
 use Rattle.std.specs.declared.result.Result.TheVariants.{Ok}
 use Rattle.x5_model_octets.specs.Faults.{outermost}
@@ -29,7 +29,8 @@ pub comes_once : (layout : Layout) (form : Named) (octets : List ℕ) (n : Node)
 comes_once layout form octets n e s (faulty fault f) =
     absurd (spelled_no_fault octets outermost 0 fault f (begins s.tree octets s.lies))
 comes_once layout form octets n e s (more tree first rest o l w) =
-    let same = spelled_once 1 (plain s.tree) (plain tree) octets first [] (o ∷ rest) (lies_spells 1 0 s.tree octets s.lies)
+    let same = spelled_once 1 (plain s.tree) (plain tree) octets first [] (o ∷ rest)
+    (lies_spells 1 0 s.tree octets s.lies)
     (lies_spells 1 0 tree first l) (append-nil octets ∙ w) in
     let no : [] ≡ o ∷ rest = same.rests in
     absurd (cc no)

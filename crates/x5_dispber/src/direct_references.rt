@@ -5,7 +5,6 @@ ghost use Rattle.x5_direct.specs.Here.{EachHere, ReadEachHere, ReadsHere, Spelle
 ghost use Rattle.x5_dispber.specs.Direct.{IsMark, LeafAt, world_agent};
 ghost use Rattle.x5_dispber.specs.ShadowViews.{agent_name, told_known, told_other};
 ghost use Rattle.x5_model_messages.specs.Shadows as shadows;
-ghost use Rattle.x5_model_typed.specs.Leaves as leaves;
 ghost use Rattle.x5_model_typed.specs.Named as named;
 ghost use Rattle.x5_model_typed.specs.Nodes as nodes;
 ghost use Rattle.x5_types.specs.FormView.{around, leaf_view, world};

@@ -1,5 +1,5 @@
 -- The number that the content says.
-use Rattle.std.proofs.Common.{ℕ, drop, subst}
+use Rattle.std.proofs.Common.{drop, subst}
 use Rattle.x5_model_typed.specs.Leaves.{from_to, number}
 use Rattle.x5_model_typed.specs.Nodes.{Node}
 use Rattle.x5_dispber.specs.Direct.{LeafAt}

@@ -1,5 +1,5 @@
 -- An agreement, a moment and a total refresh, and nothing else, are what is sent.
-use Rattle.std.proofs.Common.{◌≡◌, ◌+◌, ◌≤◌, ℕ, List, [], drop, length, subst, arith}
+use Rattle.std.proofs.Common.{ℕ, List, drop, subst, arith}
 use Rattle.x5_model_typed.specs.Layouts.{time_leaf}
 use Rattle.x5_model_typed.specs.Nodes.{whole}
 use Rattle.x5_types.specs.FormView.{world}
@@ -29,6 +29,7 @@ returns c =
     subst (λ (l : List ℕ). Opens 160 chosen (drop taken l) end) here
     (subst (λ (l : List ℕ). Opens 160 chosen l end) (rest_here _ taken) c.in_ok-chosen.ensures.opens) in
     let none = nothing_behind c.in_ok-content.rest.now end (omega (arith, c.if-rest-end-gt0.false)) in
-    sent_read w c.in_ok-agreement.agreement stamp (told_refresh names (Total c.in_ok-total.total)) c.args.octets.now content
+    sent_read w c.in_ok-agreement.agreement stamp (told_refresh names (Total c.in_ok-total.total)) c.args.octets.now
+    content
     c.in_ok-content.rest.now behind (drop taken behind) chosen end c.in_ok-content.ensures.opens none.0
     c.in_ok-agreement.ensures.says moment last none.1 c.in_ok-total.ensures

@@ -1,5 +1,5 @@
 -- The master stands before the others.
-use Rattle.std.proofs.Common.{◌≡◌, ℕ, true, false, List, drop, subst}
+use Rattle.std.proofs.Common.{ℕ, true, false, List, drop, subst}
 use Rattle.x5_model_messages.specs.Shadows.{agent_node}
 use Rattle.x5_model_typed.specs.Named as named
 use Rattle.x5_types.specs.FormView.{world}

@@ -1,5 +1,5 @@
 -- A name and the mark of a copy, and nothing else, are the agent.
-use Rattle.std.proofs.Common.{◌≡◌, ◌-◌, ℕ, List, length, drop, refl, sym, subst}
+use Rattle.std.proofs.Common.{◌-◌, ℕ, List, length, drop, refl, subst}
 use Rattle.x5_model_messages.specs.Shadows.{agent_node}
 use Rattle.x5_model_typed.specs.Named as named
 use Rattle.x5_types.specs.FormView.{world}
@@ -21,5 +21,6 @@ returns-clause-reads c =
     subst (λ (l : List ℕ). IsMark c.args.copy l) (rest_here content c.in_ok-agent.size)
     (c.is_mark.ensures c.if-not-is_mark.false) in
     spelled_taken_here w 1 named.WorldAgent (agent_node c.args.copy name) octets rest (length octets - length rest) refl
-    (agent_spelled w c.args.copy name content (drop c.in_ok-agent.size content) octets rest c.in_ok-content.ensures.opens
+    (agent_spelled w c.args.copy name content (drop c.in_ok-agent.size content) octets rest
+    c.in_ok-content.ensures.opens
     c.in_ok-agent.ensures.says mark)

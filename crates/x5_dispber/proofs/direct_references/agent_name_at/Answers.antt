@@ -3,7 +3,6 @@ use Rattle.std.proofs.Common.{◌≡◌, ℕ, true, List, drop, ap, sym, subst, 
 use Rattle.x5_know.specs.Names.{has_name}
 use Rattle.x5_model_typed.specs.Nodes as nodes
 use Rattle.x5_model_typed.specs.Nodes.{Node}
-use Rattle.x5_model_typed.specs.Rules.{text_in}
 use Rattle.x5_types.specs.FormView.{world}
 use Rattle.x5_types.specs.NodeView.{node_view}
 use Rattle.x5_dispber.specs.Direct.{LeafAt, world_agent}
@@ -26,4 +25,5 @@ returns-clause-says c =
     let n = node_view c.in_ok-node.node in
     let is = agent_is_named w n octets rest c.in_ok-node.ensures.says in
     subst (λ (m : Node). LeafAt (world_agent w) 19 m octets rest)
-    (is.text ∙ ap (λ (t : List ℕ). nodes.Text t) (sym (c.agent_named.ensures ∙ c.text_of.ensures))) c.in_ok-node.ensures.says
+    (is.text ∙ ap (λ (t : List ℕ). nodes.Text t) (sym (c.agent_named.ensures ∙ c.text_of.ensures)))
+    c.in_ok-node.ensures.says

@@ -1,5 +1,5 @@
 -- Each agent that is read stands before those that are left.
-use Rattle.std.proofs.Common.{◌≡◌, ℕ, List, refl, sym, subst, ◌∙◌}
+use Rattle.std.proofs.Common.{ℕ, List, refl, sym, subst, ◌∙◌}
 use Rattle.x5_model_messages.specs.Shadows.{agent_node}
 use Rattle.x5_model_typed.specs.Named as named
 use Rattle.x5_model_typed.specs.Nodes.{Node}
@@ -19,7 +19,8 @@ loop-left-preserved c =
     let before = c.loop-left.agents.items in
     let now = c.push.new.self.items in
     let one = agent_node copy (agent_name names c.in_ok-agent.agent) in
-    one_more_here w 1 named.WorldAgent (λ (n : Node). n) c.args.octets.now c.loop-left.left.now (agent_nodes names copy before)
+    one_more_here w 1 named.WorldAgent (λ (n : Node). n) c.args.octets.now c.loop-left.left.now
+    (agent_nodes names copy before)
     one c.in_ok-agent.taken (agent_nodes names copy now)
     (one_agent_more names copy before now c.in_ok-agent.agent c.in_ok-push.ensures.items) c.loop-left.invariant
     (one, c.in_ok-agent.ensures.reads, refl)

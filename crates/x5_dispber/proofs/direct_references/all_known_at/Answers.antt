@@ -1,5 +1,5 @@
 -- Each reference that is read stands before those that are left.
-use Rattle.std.proofs.Common.{◌≡◌, ◌∷◌, [], List, map, ap, sym, subst, ◌∙◌}
+use Rattle.std.proofs.Common.{◌∷◌, [], List, map, ap, sym, subst, ◌∙◌}
 use Rattle.std.proofs.lemmas.List.{map-append}
 use Rattle.x5_model_messages.specs.Shadows.{known_in}
 use Rattle.x5_model_typed.specs.Named as named

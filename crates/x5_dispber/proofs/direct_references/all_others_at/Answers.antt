@@ -1,5 +1,5 @@
 -- Each reference that is read stands before those that are left.
-use Rattle.std.proofs.Common.{◌≡◌, ◌∷◌, [], List, map, ap, sym, subst, ◌∙◌}
+use Rattle.std.proofs.Common.{◌∷◌, [], List, map, ap, sym, subst, ◌∙◌}
 use Rattle.std.proofs.lemmas.List.{map-append}
 use Rattle.x5_model_messages.specs.Shadows.{non_specific_in}
 use Rattle.x5_model_typed.specs.Named as named
@@ -18,7 +18,8 @@ loop-left-preserved c =
     let before = c.loop-left.others.items in
     let now = c.push.new.self.items in
     let one = c.in_ok-other.other in
-    one_more_here w 4 named.NonSpecific non_specific_in c.args.octets.now c.loop-left.left.now (map (told_other names) before)
+    one_more_here w 4 named.NonSpecific non_specific_in c.args.octets.now c.loop-left.left.now
+    (map (told_other names) before)
     (told_other names one) c.in_ok-other.taken (map (told_other names) now)
     (ap (map (told_other names)) c.in_ok-push.ensures.items ∙ map-append (told_other names) before (one ∷ []))
     c.loop-left.invariant c.in_ok-other.ensures.reads
@@ -27,7 +28,8 @@ pub returns : goal.returns
 returns c =
     let names = c.args.names.now in
     let w = world c.args.start.now names in
-    subst (λ (l : List Nssr). ReadEachHere w 4 named.NonSpecific non_specific_in (map (told_other names) l) c.args.octets.now)
+    subst (λ (l : List Nssr). ReadEachHere w 4 named.NonSpecific non_specific_in (map (told_other names) l)
+    c.args.octets.now)
     (sym c.from_vec.ensures)
     (all_done_here w 4 named.NonSpecific non_specific_in c.args.octets.now c.loop-left.left.now
     (map (told_other names) c.loop-left.others.items) c.loop-left.invariant

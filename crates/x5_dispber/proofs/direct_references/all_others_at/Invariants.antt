@@ -9,7 +9,8 @@ use Rattle.x5_dispber.proofs.direct_references.all_others_at.Given as goal
 
 abbrev pub invariant-loop-left : goal.invariant-loop-left
 invariant-loop-left l =
-    GoesHere (world l.start l.names) 4 named.NonSpecific non_specific_in l.octets (map (told_other l.names) l.others.items) l.left
+    GoesHere (world l.start l.names) 4 named.NonSpecific non_specific_in l.octets
+    (map (told_other l.names) l.others.items) l.left
 
 abbrev pub decreases-loop-left : goal.decreases-loop-left
 decreases-loop-left l = length l.left

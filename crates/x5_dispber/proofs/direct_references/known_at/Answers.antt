@@ -1,5 +1,5 @@
 -- A name and its agents, and nothing else, are the reference.
-use Rattle.std.proofs.Common.{◌≡◌, ◌-◌, ℕ, List, length, drop, map, refl, sym, subst, ◌∙◌}
+use Rattle.std.proofs.Common.{◌-◌, ℕ, List, length, drop, map, refl, sym, subst, ◌∙◌}
 use Rattle.x5_model_messages.specs.Shadows.{known_in}
 use Rattle.x5_model_typed.specs.Named as named
 use Rattle.x5_types.specs.FormView.{world}
@@ -28,6 +28,8 @@ returns-clause-reads c =
       master = agent_name names c.in_ok-access.access.master;
       shadows = map (agent_name names) c.in_ok-access.access.shadows;
     }) octets rest (length octets - length rest) refl
-    (known_read w name (agent_name names c.in_ok-access.access.master) (map (agent_name names) c.in_ok-access.access.shadows) content behind members end octets rest c.in_ok-content.ensures.opens
+    (known_read w name (agent_name names c.in_ok-access.access.master)
+    (map (agent_name names) c.in_ok-access.access.shadows) content behind members end octets rest
+    c.in_ok-content.ensures.opens
     c.in_ok-pin.ensures.reads inner (nothing end (sym c.is_empty.ensures ∙ c.if-not-is_empty.false))
     c.in_ok-access.ensures)

@@ -2,10 +2,8 @@
 use Rattle.std.proofs.Common.{◌≡◌, ℕ, true, List, arith}
 use Rattle.std.specs.List.{list_all}
 use Rattle.std.proofs.lemmas.Result.{err_from_is_err_and}
-use Rattle.std.specs.declared.result.Result.TheVariants.{Ok}
 use Rattle.x5_model_messages.specs.Shadows as shadows
-use Rattle.x5_model_messages.specs.Shadows.{shadow_in, shadow_node}
-use Rattle.x5_model_messages.proofs.Shadows.{shadow_back}
+use Rattle.x5_model_messages.specs.Shadows.{shadow_in}
 use Rattle.x5_model_typed.specs.Named as named
 use Rattle.x5_model_typed.specs.Nodes.{Node}
 use Rattle.x5_model_typed.specs.Typed.{Spells}
@@ -15,8 +13,8 @@ use Rattle.x5_know.specs.Moments.{Start}
 use Rattle.x5_know.specs.Names.{has_name}
 use Rattle.x5_types.specs.FormView.{world, world_table}
 use Rattle.x5_types.specs.NodeView.{node_view}
-use Rattle.x5_dapber.proofs.Decoding.{value_decodes, fault_decodes, memory_decodes, known_read}
-use Rattle.x5_dapber.proofs.Octets.{are_octets, spelled_in}
+use Rattle.x5_dapber.proofs.Decoding.{value_decodes, fault_decodes, memory_decodes}
+use Rattle.x5_dapber.proofs.Octets.{are_octets}
 use Rattle.x5_dispber.specs.Sayable.{IsMessage}
 use Rattle.x5_dispber.specs.ShadowViews.{told_shadow}
 use Rattle.x5_dispber.specs.declared.shadow.Shadow.{Shadow}
@@ -42,7 +40,8 @@ shadow_in-requires c =
 pub returns-in_err-node-clause-decodes : goal.returns-in_err-node-clause-decodes
 returns-in_err-node-clause-decodes c = λ e comes.
     let p = err_from_is_err_and c.from_residual.result c.from_residual.ensures.1 in
-    fault_decodes (seen c.args.names.now) shadow_in e _ c.from_residual.result p.0 p.1 p.2 (c.in_err-node.ensures.reads e comes)
+    fault_decodes (seen c.args.names.now) shadow_in e _ c.from_residual.result p.0 p.1 p.2
+    (c.in_err-node.ensures.reads e comes)
 
 -- want of memory while the message is made
 pub returns-in_err-shadow_in-clause-decodes : goal.returns-in_err-shadow_in-clause-decodes
@@ -52,7 +51,8 @@ returns-in_err-shadow_in-clause-decodes c = λ e comes.
 
 pub returns-clause-decodes : goal.returns-clause-decodes
 returns-clause-decodes c = λ e comes.
-    value_decodes (seen c.args.names.now) shadow_in e c.in_ok-node.node c.in_ok-shadow_in.field-0 c.in_ok-shadow_in.ensures
+    value_decodes (seen c.args.names.now) shadow_in e c.in_ok-node.node c.in_ok-shadow_in.field-0
+    c.in_ok-shadow_in.ensures
     (c.in_ok-node.ensures.reads e comes)
 
 pub returns-clause-spelled : goal.returns-clause-spelled

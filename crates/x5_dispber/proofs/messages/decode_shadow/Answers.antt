@@ -1,7 +1,7 @@
 -- What was read straight is what reading comes to; and what is known of what that says holds of every decoding.
 use Rattle.std.proofs.Common.{◌≡◌, ℕ, List, [], subst, sym}
 use Rattle.std.specs.declared.result.Result.{Result}
-use Rattle.std.specs.declared.result.Result.TheVariants.{Ok, Err}
+use Rattle.std.specs.declared.result.Result.TheVariants.{Ok}
 use Rattle.x5_model_messages.specs.ShadowLaws.{IsShadow}
 use Rattle.x5_model_messages.specs.Shadows as shadows
 use Rattle.x5_model_messages.specs.Shadows.{shadow_in, shadow_node}
@@ -30,7 +30,8 @@ seen names p = (p.0, told_shadow names p.1)
 -- what every decoding promises
 abbrev DecodesAll : Start → List (List ℕ) → List ℕ → Result (ℕ × Shadow) WireFault → Type 0
 DecodesAll start names octets r =
-    (e : Result Node Breach) → Comes (world_table start names) named.DispMessage octets e → Decodes (seen names) shadow_in e r
+    (e : Result Node Breach) → Comes (world_table start names) named.DispMessage octets e
+    → Decodes (seen names) shadow_in e r
 
 exact : (start : Start) (names : List (List ℕ)) (octets : List ℕ) (r : Result (ℕ × Shadow) WireFault)
     → DecodesAll start names octets r → (n : Node) → Spells (world_table start names) named.DispMessage octets n
@@ -59,7 +60,8 @@ straight start names octets p r e comes =
     (sym (comes_once (world_table start names) named.DispMessage octets s.0 e s.1 comes)) s.2
 
 pub returns-in-Ok-clause-decodes : goal.returns-in-Ok-clause-decodes
-returns-in-Ok-clause-decodes c = straight c.args.start.now c.args.names.now c.args.octets.now c.in-Ok.read c.in-Ok.ensures
+returns-in-Ok-clause-decodes c =
+    straight c.args.start.now c.args.names.now c.args.octets.now c.in-Ok.read c.in-Ok.ensures
 
 pub returns-in-Ok-clause-comes : goal.returns-in-Ok-clause-comes
 returns-in-Ok-clause-comes c =
@@ -77,7 +79,8 @@ returns-in-Ok-clause-back c =
     (straight c.args.start.now c.args.names.now c.args.octets.now c.in-Ok.read c.in-Ok.ensures)
 
 pub returns-in-Ok-clause-spelled : goal.returns-in-Ok-clause-spelled
-returns-in-Ok-clause-spelled c = spelled c.args.start.now c.args.names.now c.args.octets.now c.in-Ok.read c.in-Ok.ensures
+returns-in-Ok-clause-spelled c =
+    spelled c.args.start.now c.args.names.now c.args.octets.now c.in-Ok.read c.in-Ok.ensures
 
 pub returns-in-Err-clause-exact : goal.returns-in-Err-clause-exact
 returns-in-Err-clause-exact c =
