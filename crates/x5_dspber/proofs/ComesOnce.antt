@@ -1,7 +1,7 @@
 -- Octets that spell a value of a type come to that value and to nothing else.
-use Rattle.std.proofs.Common.{◌≡◌, ℕ, List, [], ◌∷◌, ◌++◌, refl, ap, sym, ◌∙◌, subst, append-nil, drop}
+use Rattle.std.proofs.Common.{◌≡◌, ℕ, List, [], ◌∷◌, ap, sym, ◌∙◌, append-nil}
 use Rattle.std.specs.declared.result.Result.{Result}
-use Rattle.std.specs.declared.result.Result.TheVariants.{Ok, Err}
+use Rattle.std.specs.declared.result.Result.TheVariants.{Ok}
 use Rattle.x5_model_octets.specs.Faults.{outermost}
 use Rattle.x5_model_octets.proofs.ElementLaws.{Begins, spelled_once}
 use Rattle.x5_model_octets.proofs.FaultLaws.{spelled_no_fault}

@@ -1,17 +1,17 @@
 -- Components of a SET that stand in the order of their context tags make a spelling of it: behind each no other has its
 -- tag.
-use Rattle.std.proofs.Common.{◌≡◌, ℕ, ◌+◌, ◌≤◌, ◌<◌, ◌%◌, ◌==◌, ◌&&◌, Bool, true, false, List, [], ◌∷◌, ◌++◌, length}
+use Rattle.std.proofs.Common.{◌≡◌, ℕ, ◌+◌, ◌≤◌, ◌<◌, ◌%◌, ◌==◌, true, false, List, [], ◌∷◌, ◌++◌, length}
 use Rattle.std.proofs.Common.{refl, ap, sym, ◌∙◌, subst, arith, append_assoc, append-nil}
 use Rattle.std.proofs.lemmas.Bool.{ne_eqb}
 use Rattle.std.specs.declared.option.Option.{Option}
-use Rattle.std.specs.declared.option.Option.TheVariants.{None, Some}
+use Rattle.std.specs.declared.option.Option.TheVariants.{Some}
 use Rattle.x5_model_octets.specs.Headers.{Identifier, IsHeader, identifier_of}
 use Rattle.x5_model_octets.specs.Elements.{deepest, identifier}
 use Rattle.x5_model_typed.specs.Trees as trees
 use Rattle.x5_model_typed.specs.Trees.{Tree, Trees, Branch, Bare, Row, Lies, class_of, tag_of}
 use Rattle.x5_model_typed.specs.Nodes.{Node, Many, row}
 use Rattle.x5_model_typed.specs.Named.{Named}
-use Rattle.x5_model_typed.specs.Forms.{Presence, Default, Component, Set, Explicit, Alternative, Layout, by_tag, context}
+use Rattle.x5_model_typed.specs.Forms.{Presence, Default, Component, Set, Explicit, Alternative, by_tag, context}
 use Rattle.x5_model_typed.specs.Forms.{is_component}
 use Rattle.x5_model_typed.specs.Layouts.{Surroundings, layout}
 use Rattle.x5_model_typed.specs.Typed as typed

@@ -1,5 +1,5 @@
 -- An id, a code and what the code says, and nothing else, are the message.
-use Rattle.std.proofs.Common.{List, ℕ, [], arith, refl, sym, subst, ◌∙◌}
+use Rattle.std.proofs.Common.{List, ℕ, [], arith, sym, subst, ◌∙◌}
 use Rattle.x5_model_typed.specs.Named as named
 use Rattle.x5_types.specs.FormView.{operation_view}
 use Rattle.x5_direct.specs.Spelled.{Opens}

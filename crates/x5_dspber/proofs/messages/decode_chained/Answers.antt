@@ -19,7 +19,6 @@ use Rattle.x5_typed.specs.Comes.{ComesTo}
 use Rattle.x5_types.specs.FormView.{nowhere, table}
 use Rattle.x5_dapber.specs.Results.{Decodes}
 use Rattle.x5_dapber.specs.ShortNames.{HasShortNames}
-use Rattle.x5_dapber.specs.declared.fault.WireFault.{WireFault}
 use Rattle.x5_dapber.proofs.Decoding.{known_read}
 use Rattle.x5_dapber.proofs.Octets.{are_octets, spelled_comes}
 use Rattle.x5_dspber.specs.ChainedViews.{told_chained}
