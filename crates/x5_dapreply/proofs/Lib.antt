@@ -5,3 +5,9 @@ pub mod ReplyIsSayable
 pub mod Sequences
 mod ShownParts
 pub mod Six
+pub mod SaidReplies
+pub mod SetSpelling
+pub mod LeafSpelling
+pub mod PartSpelling
+pub mod AnswerSpelling
+pub mod WholeSpelling

@@ -2,6 +2,8 @@
 //! and the one reader over the table of types (X.690). The parts that messages between agents have, too, are public.
 #![tactic(auto)]
 
+pub mod direct;
+pub mod direct_parts;
 mod messages;
 pub mod read_references;
 pub mod read_replies;

@@ -15,6 +15,7 @@ ghost use Rattle.x5_ops.specs.JournalViews.{code_view};
 ghost use Rattle.x5_types.specs.FormView.{table};
 ghost use Rattle.x5_types.specs.NodeView.{node_view};
 
+use crate::direct::usual_reply;
 use crate::read_replies::reply_in;
 use crate::replies::reply_node;
 use std::alloc::Global;
@@ -57,6 +58,28 @@ pub fn encode_answer(
 /// The first breach in the order of reading, with its place: the whole first reading, whatever the type, before the
 /// second. `Unrecognised` exactly where that is the code of an operation or error that users don't have. Or that memory ran out.
 pub fn decode_answer(alloc: Global, octets: &[u8]) -> Result<(u32, Reply), WireFault>
+    // What the value says, or the breach, that reading comes to; and it comes to exactly one.
+    ensures decodes { (e : Result nodes.Node judged.Breach) → ComesTo named.DapAnswer octets.now e
+        → Decodes (λ p. (p.0, heard p.1)) heard_in e result }
+    ensures comes { (e : Result nodes.Node judged.Breach) × ComesTo named.DapAnswer octets.now e }
+    // Of octets that spell a value of the type it's what that says, and no other octets give a reply.
+    ensures exact { (n : nodes.Node) → Spells table named.DapAnswer octets.now n
+        → Decodes (λ p. (p.0, heard p.1)) heard_in (Ok n) result }
+    ensures spelled { IfOk result (λ p. (n : nodes.Node) × Spells table named.DapAnswer octets.now n
+        × ((p.0, heard p.1) ≡ heard_in n)) }
+    // Octets that spell what is written of a reply whose parts are as they are spelled give it back, with the id of its request.
+    ensures back { (id : ℕ) (r : replies.Reply) → IsTold r → Spells table named.DapAnswer octets.now (replies.reply_node replies.to_user id r)
+        → IsRead {Y = ℕ × replies.Reply} (λ p. (p.0, heard p.1)) (id, unnumbered r) result }
+{
+    match usual_reply(alloc, octets) {
+        Ok(reply) => Ok(reply),
+        // Spelled otherwise than usual, or memory ran out: the reader over the table of types says what, and where.
+        Err(_) => read_answer(alloc, octets),
+    }
+}
+
+/// The same, by the reader over the table of types.
+fn read_answer(alloc: Global, octets: &[u8]) -> Result<(u32, Reply), WireFault>
     // What the value says, or the breach, that reading comes to; and it comes to exactly one.
     ensures decodes { (e : Result nodes.Node judged.Breach) → ComesTo named.DapAnswer octets.now e
         → Decodes (λ p. (p.0, heard p.1)) heard_in e result }

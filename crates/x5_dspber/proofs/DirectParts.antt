@@ -55,7 +55,8 @@ next_spelled k rest some few =
     (number_reads (from_to 1 16) k (omega (arith, few)) is) refl
 
 -- A last component that is missing.
-pub order_missing : (levels : ℕ) (form : named.Named) (d : Node) → SpelledInOrder levels (or d (plain form) ∷ []) (d ∷ []) []
+pub order_missing : (levels : ℕ) (form : named.Named) (d : Node)
+    → SpelledInOrder levels (or d (plain form) ∷ []) (d ∷ []) []
 order_missing levels form d depth at room =
     record { members = Bare; lie = refl; in_order = λ w. typed.passed d refl tt typed.over }
 

@@ -92,8 +92,10 @@ own_tag w k form p class tag e f found =
 all_missing : (w : Surroundings) (k low : ℕ) (form : Named) (p : Presence) (ts : Trees) → k < low → AreFrom low ts
     → IsMissing (layout w) (tagged_as k form p) ts
 all_missing w k low form p Bare less h = tt
-all_missing w k low form p (Row t ts) less h =
-    (other_tag w k form p (class_of t) (tag_of t) h.0 (omega (arith, less, h.1)), all_missing w k low form p ts less h.2)
+all_missing w k low form p (Row t ts) less h = (
+  other_tag w k form p (class_of t) (tag_of t) h.0 (omega (arith, less, h.1)),
+  all_missing w k low form p ts less h.2,
+)
 
 pub set_over : (levels low : ℕ) → SpelledInSet levels low [] [] []
 set_over levels low depth at room =
@@ -129,7 +131,8 @@ set_missing levels k low form d cs ns octets less others depth at room =
       members = more.members;
       lie = more.lie;
       any_order = λ w.
-          typed.missing d refl (all_missing w k low form (Default d) more.members less more.are_from) (more.any_order w);
+          typed.missing d refl (all_missing w k low form (Default d) more.members less more.are_from)
+          (more.any_order w);
       are_from = are_from_less low k more.members (omega (arith, less)) more.are_from;
     }
 

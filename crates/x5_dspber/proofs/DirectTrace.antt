@@ -112,7 +112,8 @@ so_among : (n : Node) (ns : List Node) → has rules.same_item ns n ≡ true
 so_among n [] e = absurd (cc e)
 so_among n (m ∷ ns) e = elim (true_or_false (rules.same_item m n)) [
   | inl h ↦ rw (items_alike m n h) refl
-  | inr h ↦ (let rest : has rules.same_item ns n ≡ true = subst (λ (b : Bool). (b || has rules.same_item ns n) ≡ true) h e in
+  | inr h ↦ (let rest : has rules.same_item ns n ≡ true =
+      subst (λ (b : Bool). (b || has rules.same_item ns n) ≡ true) h e in
       or_later (same_item (item_in m) (item_in n)) (has same_item (map item_in ns) (item_in n)) (so_among n ns rest))
 ]
   where

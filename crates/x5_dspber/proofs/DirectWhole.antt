@@ -31,7 +31,8 @@ use Rattle.x5_model_typed.specs.Trees.{Row, Lies}
 use Rattle.x5_model_typed.proofs.Laws.{list_row}
 use Rattle.x5_ops.specs.ReferenceViews.{kind_of_number}
 use Rattle.x5_types.specs.FormView.{nowhere, table}
-use Rattle.x5_dspber.specs.Direct.{AreFour, ReadLast, ReadsChaining, chaining_parts, code_of, items_of, last_part, rdns_of}
+use Rattle.x5_dspber.specs.Direct.{AreFour, ReadLast, ReadsChaining, chaining_parts, code_of, items_of, last_part}
+use Rattle.x5_dspber.specs.Direct.{rdns_of}
 use Rattle.x5_dspber.specs.Direct.{SpelledInSet}
 use Rattle.x5_direct.specs.Spelled.{Opens, Spelled, SpelledInOrder, Reads, ReadEach}
 use Rattle.x5_dspber.proofs.DirectSet.{tagged, set_given, set_missing, set_over, set_in}
@@ -98,7 +99,8 @@ kind_read k rest =
     let j = kind_number k in (
       whole j,
       leaf_spelled named.RefType 2 0 2 (integer (one_of (1 ∷ 2 ∷ 3 ∷ 4 ∷ 5 ∷ 8 ∷ []))) (whole j) (whole j) (j ∷ [])
-          (2 ∷ 1 ∷ j ∷ rest) rest (one_octet 2 j rest (lit< tt) (lit< tt)) refl (lit< tt) (λ w. refl) (kind_reads k) refl,
+          (2 ∷ 1 ∷ j ∷ rest) rest (one_octet 2 j rest (lit< tt) (lit< tt)) refl (lit< tt) (λ w. refl) (kind_reads k)
+          refl,
       kind_said k,
     )
 
@@ -274,8 +276,8 @@ message_read o i k m content after behind octets outer names small first is c =
     let second : Spelled 0 named.AnyNumber (whole k) after behind =
     subst (λ (l : List ℕ). Spelled 0 named.AnyNumber (whole k) l behind) (sym is) (code_spelled k behind small) in (
       Chosen 1 n,
-      branch_spelled 49 named.DspRequest 161 2 1 (invoke (operation_codes named.Chained)) n n content octets [] outer refl
-          (λ w. refl)
+      branch_spelled 49 named.DspRequest 161 2 1 (invoke (operation_codes named.Chained)) n n content octets [] outer
+          refl (λ w. refl)
           (order_in 49 (id ∷ code named.AnyNumber codes ∷ []) ns content
           (order_next 49 (named.NumberBelow 0 4294967295) (code named.AnyNumber codes ∷ []) (whole i)
           (whole k ∷ c.0 ∷ []) content after

@@ -1,87 +1,35 @@
--- What the octets spell is a value for whose parts the code has types, so what it says is decoded.
-use Rattle.std.proofs.Common.{◌≡◌, ℕ, ap, arith}
-use Rattle.std.proofs.lemmas.Result.{err_from_is_err_and}
+-- What is read straight is what the octets spell, and they come to nothing else; otherwise the reader over the table says it.
 use Rattle.std.specs.declared.result.Result.TheVariants.{Ok}
 use Rattle.x5_model_messages.specs.Replies as replies
 use Rattle.x5_model_typed.specs.Named as named
-use Rattle.x5_model_typed_laws.proofs.Closed.{messages_spelled_fit}
-use Rattle.x5_ops.specs.declared.answers.Reply.{Reply}
-use Rattle.x5_types.specs.FormView.{nowhere}
-use Rattle.x5_types.specs.NodeView.{node_view}
-use Rattle.x5_dapber.proofs.Decoding.{value_decodes, fault_decodes, memory_decodes, known_read}
-use Rattle.x5_dapber.proofs.Octets.{are_octets, spelled_comes}
-use Rattle.x5_dapreply.specs.ReplyViews.{heard, heard_in, unnumbered}
-use Rattle.x5_dapreply.specs.Told.{IsTold}
-use Rattle.x5_dapreply.proofs.RepliesBack.{replies_back}
-use Rattle.x5_dspber.proofs.ResultIsSayable.{result_fits}
+use Rattle.x5_dapber.proofs.Decoding.{known_read}
+use Rattle.x5_dapber.proofs.Octets.{spelled_comes}
+use Rattle.x5_dapreply.specs.ReplyViews.{heard_in, unnumbered}
+use Rattle.x5_dapreply.proofs.SaidReplies.{heard_back, said_decodes, seen}
+use Rattle.x5_dapreply.proofs.WholeSpelling.{spelled_whole}
 use Rattle.x5_dspber.proofs.messages.decode_result.Goals as goal
 
-abbrev seen : ℕ × Reply → ℕ × replies.Reply
-seen p = (p.0, heard p.1)
+pub returns-in-Ok-clause-decodes : goal.returns-in-Ok-clause-decodes
+returns-in-Ok-clause-decodes c = λ e comes.
+    said_decodes named.DspAnswer c.args.octets.now c.in-Ok.reply c.in-Ok.ensures.1 e comes
 
-heard_back : (id : ℕ) (r : replies.Reply) → IsTold r → heard_in (replies.reply_node replies.to_agent id r) ≡ (id, unnumbered r)
-heard_back id r h = ap (λ (p : ℕ × replies.Reply). (p.0, unnumbered p.1)) (replies_back replies.to_agent id r h)
+pub returns-in-Ok-clause-comes : goal.returns-in-Ok-clause-comes
+returns-in-Ok-clause-comes c =
+    let w = spelled_whole named.DspAnswer heard_in (seen c.in-Ok.reply) c.args.octets.now c.in-Ok.ensures.1 in
+    (Ok w.0, spelled_comes named.DspAnswer c.args.octets.now w.0 w.1)
 
-pub reply_in-requires : goal.reply_in-requires
-reply_in-requires c =
-    result_fits (node_view c.in_ok-node.node)
-    (messages_spelled_fit nowhere named.DspAnswer c.args.octets.now (node_view c.in_ok-node.node)
-    (are_octets c.args.octets.now (λ k. omega (arith, c.type_inv.octets k))) c.in_ok-node.ensures.spelled)
+pub returns-in-Ok-clause-exact : goal.returns-in-Ok-clause-exact
+returns-in-Ok-clause-exact c = λ n spells.
+    said_decodes named.DspAnswer c.args.octets.now c.in-Ok.reply c.in-Ok.ensures.1 (Ok n)
+    (spelled_comes named.DspAnswer c.args.octets.now n spells)
 
--- a breach, or want of memory while octets are read
-pub returns-in_err-node-clause-decodes : goal.returns-in_err-node-clause-decodes
-returns-in_err-node-clause-decodes c = λ e comes.
-    let p = err_from_is_err_and c.from_residual.result c.from_residual.ensures.1 in
-    fault_decodes seen heard_in e _ c.from_residual.result p.0 p.1 p.2 (c.in_err-node.ensures.reads e comes)
+pub returns-in-Ok-clause-spelled : goal.returns-in-Ok-clause-spelled
+returns-in-Ok-clause-spelled c =
+    spelled_whole named.DspAnswer heard_in (seen c.in-Ok.reply) c.args.octets.now c.in-Ok.ensures.1
 
-pub returns-in_err-node-clause-exact : goal.returns-in_err-node-clause-exact
-returns-in_err-node-clause-exact c = λ n spells.
-    let p = err_from_is_err_and c.from_residual.result c.from_residual.ensures.1 in
-    let comes = spelled_comes named.DspAnswer c.args.octets.now n spells in
-    fault_decodes seen heard_in (Ok n) _ c.from_residual.result p.0 p.1 p.2 (c.in_err-node.ensures.reads (Ok n) comes)
-
-pub returns-in_err-node-clause-back : goal.returns-in_err-node-clause-back
-returns-in_err-node-clause-back c = λ id r is_told spells.
-    let p = err_from_is_err_and c.from_residual.result c.from_residual.ensures.1 in
+pub returns-in-Ok-clause-back : goal.returns-in-Ok-clause-back
+returns-in-Ok-clause-back c = λ id r is_told spells.
     let n = replies.reply_node replies.to_agent id r in
-    let comes = spelled_comes named.DspAnswer c.args.octets.now n spells in
-    known_read seen heard_in n (id, unnumbered r) c.from_residual.result (heard_back id r is_told)
-    (fault_decodes seen heard_in (Ok n) _ c.from_residual.result p.0 p.1 p.2 (c.in_err-node.ensures.reads (Ok n) comes))
-
--- want of memory while the reply is made
-pub returns-in_err-reply_in-clause-decodes : goal.returns-in_err-reply_in-clause-decodes
-returns-in_err-reply_in-clause-decodes c = λ e comes.
-    let p = err_from_is_err_and c.from_residual-in_err-reply_in.result c.from_residual-in_err-reply_in.ensures.1 in
-    memory_decodes seen heard_in e c.from_residual-in_err-reply_in.result p.0 p.1 p.2
-
-pub returns-in_err-reply_in-clause-exact : goal.returns-in_err-reply_in-clause-exact
-returns-in_err-reply_in-clause-exact c = λ n spells.
-    let p = err_from_is_err_and c.from_residual-in_err-reply_in.result c.from_residual-in_err-reply_in.ensures.1 in
-    memory_decodes seen heard_in (Ok n) c.from_residual-in_err-reply_in.result p.0 p.1 p.2
-
-pub returns-in_err-reply_in-clause-back : goal.returns-in_err-reply_in-clause-back
-returns-in_err-reply_in-clause-back c = λ id r is_told spells.
-    let p = err_from_is_err_and c.from_residual-in_err-reply_in.result c.from_residual-in_err-reply_in.ensures.1 in
-    let n = replies.reply_node replies.to_agent id r in
-    known_read seen heard_in n (id, unnumbered r) c.from_residual-in_err-reply_in.result (heard_back id r is_told)
-    (memory_decodes seen heard_in (Ok n) c.from_residual-in_err-reply_in.result p.0 p.1 p.2)
-
-pub returns-clause-decodes : goal.returns-clause-decodes
-returns-clause-decodes c = λ e comes.
-    value_decodes seen heard_in e c.in_ok-node.node c.in_ok-reply_in.field-0 c.in_ok-reply_in.ensures
-    (c.in_ok-node.ensures.reads e comes)
-
-pub returns-clause-exact : goal.returns-clause-exact
-returns-clause-exact c = λ n spells.
-    value_decodes seen heard_in (Ok n) c.in_ok-node.node c.in_ok-reply_in.field-0 c.in_ok-reply_in.ensures
-    (c.in_ok-node.ensures.reads (Ok n) (spelled_comes named.DspAnswer c.args.octets.now n spells))
-
-pub returns-clause-back : goal.returns-clause-back
-returns-clause-back c = λ id r is_told spells.
-    let n = replies.reply_node replies.to_agent id r in
-    known_read seen heard_in n (id, unnumbered r) (Ok c.in_ok-reply_in.field-0) (heard_back id r is_told)
-    (value_decodes seen heard_in (Ok n) c.in_ok-node.node c.in_ok-reply_in.field-0 c.in_ok-reply_in.ensures
-    (c.in_ok-node.ensures.reads (Ok n) (spelled_comes named.DspAnswer c.args.octets.now n spells)))
-
-pub returns-clause-spelled : goal.returns-clause-spelled
-returns-clause-spelled c = (node_view c.in_ok-node.node, c.in_ok-node.ensures.spelled, c.in_ok-reply_in.ensures)
+    known_read seen heard_in n (id, unnumbered r) (Ok c.in-Ok.reply) (heard_back replies.to_agent id r is_told)
+    (said_decodes named.DspAnswer c.args.octets.now c.in-Ok.reply c.in-Ok.ensures.1 (Ok n)
+    (spelled_comes named.DspAnswer c.args.octets.now n spells))

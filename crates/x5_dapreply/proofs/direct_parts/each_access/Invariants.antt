@@ -1,0 +1,13 @@
+-- Those so far, and what is left of the octets.
+use Rattle.std.proofs.Common.{map, length}
+use Rattle.x5_model_typed.specs.Named as named
+use Rattle.x5_model_messages.specs.Replies as replies
+use Rattle.x5_dapreply.specs.ReplyViews.{told_access}
+use Rattle.x5_direct.proofs.Spelling.{Goes}
+use Rattle.x5_dapreply.proofs.direct_parts.each_access.Given as goal
+
+abbrev pub invariant-loop-left : goal.invariant-loop-left
+invariant-loop-left l = Goes 1 named.Agent replies.access_in l.octets (map told_access l.agents.items) l.left
+
+abbrev pub decreases-loop-left : goal.decreases-loop-left
+decreases-loop-left l = length l.left
