@@ -1,8 +1,7 @@
 -- The argument of an operation that is spelled is one for whose parts the code has types.
-use Rattle.std.proofs.Common.{◌≡◌, ℕ, ◌+◌, ◌≤◌, Bool, true, ◌&&◌, List, [], ◌∷◌, ◌++◌, refl, sym, ap, subst, ◌∙◌, arith}
+use Rattle.std.proofs.Common.{◌≡◌, ℕ, ◌+◌, true, List, [], ◌∷◌, ◌++◌, refl, sym, ap, subst, ◌∙◌, arith}
 use Rattle.std.specs.List.{list_all}
 use Rattle.x5_model.proofs.Lists.{both_true}
-use Rattle.x5_model_octets.specs.Elements.{deepest}
 use Rattle.x5_model_typed.specs.Named as named
 use Rattle.x5_model_typed.specs.Nodes.{Node}
 use Rattle.x5_model_typed_laws.specs.Fits.{Fits}

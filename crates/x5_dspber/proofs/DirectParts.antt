@@ -1,19 +1,19 @@
 -- How far a name is resolved, kinds of references and items of a trace, each from what is found of its parts.
-use Rattle.std.proofs.Common.{◌≡◌, ℕ, ◌+◌, ◌*◌, ◌≤◌, ◌<◌, ◌%◌, ◌==◌, ◌&&◌, nat_le, nat_lt, Bool, true, false, not, List, [], ◌∷◌}
-use Rattle.std.proofs.Common.{length, map, refl, ap, sym, ◌∙◌, subst, arith, lit<, lit≤, drop, if◌then◌else◌}
+use Rattle.std.proofs.Common.{◌≡◌, ℕ, ◌+◌, ◌*◌, ◌≤◌, ◌<◌, ◌%◌, Bool, true, false, List, [], ◌∷◌}
+use Rattle.std.proofs.Common.{length, refl, ap, sym, ◌∙◌, subst, arith, lit<, lit≤, drop, if◌then◌else◌}
 use Rattle.std.specs.Prelude.{ℤ, pos}
 use Rattle.std.proofs.lemmas.Bool.{lt-ltb, le-leb}
 use Rattle.std.specs.declared.option.Option.TheVariants.{Some}
-use Rattle.x5_model.specs.References.{Progress, Start, Next, Done, RefType}
+use Rattle.x5_model.specs.References.{Progress, Start, Next, Done}
 use Rattle.x5_model.specs.Values as values
-use Rattle.x5_model_messages.specs.Replies.{TraceItem, item_in, progress_in, progress_node, kind_in}
+use Rattle.x5_model_messages.specs.Replies.{TraceItem, item_in, progress_in, progress_node}
 use Rattle.x5_model_messages.specs.Terms as terms
 use Rattle.x5_model_typed.specs.Named as named
 use Rattle.x5_model_typed.specs.Nodes as nodes
-use Rattle.x5_model_typed.specs.Nodes.{Node, Vacant, Flag, Number, Many, row, whole}
-use Rattle.x5_model_typed.specs.Forms.{Primitive, Joined, Component, plain, or, ruled, universal}
+use Rattle.x5_model_typed.specs.Nodes.{Node, Vacant, Flag, Many, row, whole}
+use Rattle.x5_model_typed.specs.Forms.{Primitive, Component, plain, or, ruled, universal}
 use Rattle.x5_model_typed.specs.Judged.{leaf_node}
-use Rattle.x5_model_typed.specs.Leaves.{boolean, number, from_to, text_where, is_agent_name, where_so}
+use Rattle.x5_model_typed.specs.Leaves.{boolean, number, from_to, is_agent_name}
 use Rattle.x5_model_typed.specs.Layouts.{integer, sequence, optional, agent_name, any_agent}
 use Rattle.x5_model_typed.specs.Rules.{progress_rule}
 use Rattle.x5_model_typed.specs.Typed as typed
@@ -55,7 +55,8 @@ next_spelled k rest some few =
     (number_reads (from_to 1 16) k (omega (arith, few)) is) refl
 
 -- A last component that is missing.
-pub order_missing : (levels : ℕ) (form : named.Named) (d : Node) → SpelledInOrder levels (or d (plain form) ∷ []) (d ∷ []) []
+pub order_missing : (levels : ℕ) (form : named.Named) (d : Node)
+    → SpelledInOrder levels (or d (plain form) ∷ []) (d ∷ []) []
 order_missing levels form d depth at room =
     record { members = Bare; lie = refl; in_order = λ w. typed.passed d refl tt typed.over }
 

@@ -1,17 +1,17 @@
 -- Components of a SET that stand in the order of their context tags make a spelling of it: behind each no other has its
 -- tag.
-use Rattle.std.proofs.Common.{◌≡◌, ℕ, ◌+◌, ◌≤◌, ◌<◌, ◌%◌, ◌==◌, ◌&&◌, Bool, true, false, List, [], ◌∷◌, ◌++◌, length}
+use Rattle.std.proofs.Common.{◌≡◌, ℕ, ◌+◌, ◌≤◌, ◌<◌, ◌%◌, ◌==◌, true, false, List, [], ◌∷◌, ◌++◌, length}
 use Rattle.std.proofs.Common.{refl, ap, sym, ◌∙◌, subst, arith, append_assoc, append-nil}
 use Rattle.std.proofs.lemmas.Bool.{ne_eqb}
 use Rattle.std.specs.declared.option.Option.{Option}
-use Rattle.std.specs.declared.option.Option.TheVariants.{None, Some}
+use Rattle.std.specs.declared.option.Option.TheVariants.{Some}
 use Rattle.x5_model_octets.specs.Headers.{Identifier, IsHeader, identifier_of}
 use Rattle.x5_model_octets.specs.Elements.{deepest, identifier}
 use Rattle.x5_model_typed.specs.Trees as trees
 use Rattle.x5_model_typed.specs.Trees.{Tree, Trees, Branch, Bare, Row, Lies, class_of, tag_of}
 use Rattle.x5_model_typed.specs.Nodes.{Node, Many, row}
 use Rattle.x5_model_typed.specs.Named.{Named}
-use Rattle.x5_model_typed.specs.Forms.{Presence, Default, Component, Set, Explicit, Alternative, Layout, by_tag, context}
+use Rattle.x5_model_typed.specs.Forms.{Presence, Default, Component, Set, Explicit, Alternative, by_tag, context}
 use Rattle.x5_model_typed.specs.Forms.{is_component}
 use Rattle.x5_model_typed.specs.Layouts.{Surroundings, layout}
 use Rattle.x5_model_typed.specs.Typed as typed
@@ -92,8 +92,10 @@ own_tag w k form p class tag e f found =
 all_missing : (w : Surroundings) (k low : ℕ) (form : Named) (p : Presence) (ts : Trees) → k < low → AreFrom low ts
     → IsMissing (layout w) (tagged_as k form p) ts
 all_missing w k low form p Bare less h = tt
-all_missing w k low form p (Row t ts) less h =
-    (other_tag w k form p (class_of t) (tag_of t) h.0 (omega (arith, less, h.1)), all_missing w k low form p ts less h.2)
+all_missing w k low form p (Row t ts) less h = (
+  other_tag w k form p (class_of t) (tag_of t) h.0 (omega (arith, less, h.1)),
+  all_missing w k low form p ts less h.2,
+)
 
 pub set_over : (levels low : ℕ) → SpelledInSet levels low [] [] []
 set_over levels low depth at room =
@@ -129,7 +131,8 @@ set_missing levels k low form d cs ns octets less others depth at room =
       members = more.members;
       lie = more.lie;
       any_order = λ w.
-          typed.missing d refl (all_missing w k low form (Default d) more.members less more.are_from) (more.any_order w);
+          typed.missing d refl (all_missing w k low form (Default d) more.members less more.are_from)
+          (more.any_order w);
       are_from = are_from_less low k more.members (omega (arith, less)) more.are_from;
     }
 

@@ -1,6 +1,6 @@
 -- Items of a trace that differ in what is said of them are different as messages have them.
-use Rattle.std.proofs.Common.{◌≡◌, ℕ, ◌≤◌, Bool, true, false, not, ◌&&◌, ◌||◌, ◌==◌, nat_le, List, [], ◌∷◌, length, map}
-use Rattle.std.proofs.Common.{refl, ap, ap₂, sym, ◌∙◌, subst, inl, inr, ◌⊎◌}
+use Rattle.std.proofs.Common.{◌≡◌, ◌≤◌, Bool, true, false, not, ◌&&◌, ◌||◌, List, [], ◌∷◌, length, map}
+use Rattle.std.proofs.Common.{refl, ap₂, sym, ◌∙◌, subst, inl, inr}
 use Rattle.std.specs.Cmp.Lexicographic.{bytes_decides}
 use Rattle.std.proofs.lemmas.Bool.{le-leb, eq-eqb}
 use Rattle.std.specs.declared.option.Option.TheVariants.{Some}
@@ -15,9 +15,8 @@ use Rattle.x5_model.specs.Normal.{written_key}
 use Rattle.x5_model_messages.specs.Replies.{TraceItem, item_in, progress_in}
 use Rattle.x5_model_messages.specs.Terms.{name_of, flag_in}
 use Rattle.x5_model_run.specs.Journal.{same_name, same_progress}
-use Rattle.x5_model_typed.specs.Leaves.{where_so}
 use Rattle.x5_model_typed.specs.Nodes as nodes
-use Rattle.x5_model_typed.specs.Nodes.{Node, Many, parts, row, list, same_bit}
+use Rattle.x5_model_typed.specs.Nodes.{Node, Many, parts, row, same_bit}
 use Rattle.x5_model_typed.specs.Rules as rules
 use Rattle.x5_model_typed.specs.Rules.{text_in, name_in, trace_rule, most_items}
 use Rattle.x5_model_typed.proofs.Laws.{list_row}
@@ -113,7 +112,8 @@ so_among : (n : Node) (ns : List Node) → has rules.same_item ns n ≡ true
 so_among n [] e = absurd (cc e)
 so_among n (m ∷ ns) e = elim (true_or_false (rules.same_item m n)) [
   | inl h ↦ rw (items_alike m n h) refl
-  | inr h ↦ (let rest : has rules.same_item ns n ≡ true = subst (λ (b : Bool). (b || has rules.same_item ns n) ≡ true) h e in
+  | inr h ↦ (let rest : has rules.same_item ns n ≡ true =
+      subst (λ (b : Bool). (b || has rules.same_item ns n) ≡ true) h e in
       or_later (same_item (item_in m) (item_in n)) (has same_item (map item_in ns) (item_in n)) (so_among n ns rest))
 ]
   where

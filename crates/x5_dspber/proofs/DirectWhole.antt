@@ -1,10 +1,10 @@
 -- Messages between agents, each from what is found of its parts.
-use Rattle.std.proofs.Common.{◌≡◌, ℕ, ◌+◌, ◌≤◌, ◌<◌, ◌==◌, Bool, true, false, List, [], ◌∷◌, ◌++◌, length, map}
+use Rattle.std.proofs.Common.{◌≡◌, ℕ, ◌+◌, ◌≤◌, ◌<◌, ◌==◌, Bool, true, false, List, [], ◌∷◌, length, map}
 use Rattle.std.proofs.Common.{refl, ap, sym, ◌∙◌, subst, arith, lit<, lit≤, append-nil, if◌then◌else◌, inl, inr, ◌⊎◌}
 use Rattle.std.specs.Prelude.{ℤ, pos}
 use Rattle.std.proofs.lemmas.Bool.Decides.{Decides-eqb}
 use Rattle.std.specs.declared.option.Option.{Option}
-use Rattle.std.specs.declared.option.Option.TheVariants.{None, Some}
+use Rattle.std.specs.declared.option.Option.TheVariants.{Some}
 use Rattle.x5_model.specs.References.{Progress, RefType, Superior, Subordinate, Cross, NonSpecific, Supplier, Own}
 use Rattle.x5_model.specs.Requests.{Request}
 use Rattle.x5_model.specs.Values.{Name, Rdn}
@@ -18,22 +18,23 @@ use Rattle.x5_model_messages.specs.Terms.{name_of, rdn_of}
 use Rattle.x5_model_octets.specs.Elements.{deepest}
 use Rattle.x5_model_run.specs.Journal.{kind_number}
 use Rattle.x5_model_typed.specs.Named as named
-use Rattle.x5_model_typed.specs.Nodes.{Node, Many, Nil, Chosen, Number, row, list, parts, whole}
-use Rattle.x5_model_typed.specs.Forms.{Primitive, Component, Set, plain, at, or, code, ruled, may_be_tagged}
+use Rattle.x5_model_typed.specs.Nodes.{Node, Many, Nil, Chosen, row, list, parts, whole}
+use Rattle.x5_model_typed.specs.Forms.{Primitive, plain, at, code, ruled}
 use Rattle.x5_model_typed.specs.Judged.{leaf_node}
 use Rattle.x5_model_typed.specs.Leaves.{number, one_of, from_to, any_number}
-use Rattle.x5_model_typed.specs.Layouts.{layout, integer, sequence, sequence_of, set, or_nothing, invoke, named_by}
+use Rattle.x5_model_typed.specs.Layouts.{layout, integer, sequence, sequence_of, set, invoke, named_by}
 use Rattle.x5_model_typed.specs.Layouts.{operation_codes, id}
 use Rattle.x5_model_typed.specs.Rules.{trace_rule}
 use Rattle.x5_model_typed.specs.Typed as typed
 use Rattle.x5_model_typed.specs.Typed.{Spells}
-use Rattle.x5_model_typed.specs.Trees.{Tree, Row, Lies}
+use Rattle.x5_model_typed.specs.Trees.{Row, Lies}
 use Rattle.x5_model_typed.proofs.Laws.{list_row}
 use Rattle.x5_ops.specs.ReferenceViews.{kind_of_number}
 use Rattle.x5_types.specs.FormView.{nowhere, table}
-use Rattle.x5_dspber.specs.Direct.{AreFour, ReadLast, ReadsChaining, chaining_parts, code_of, items_of, last_part, rdns_of}
+use Rattle.x5_dspber.specs.Direct.{AreFour, ReadLast, ReadsChaining, chaining_parts, code_of, items_of, last_part}
+use Rattle.x5_dspber.specs.Direct.{rdns_of}
 use Rattle.x5_dspber.specs.Direct.{SpelledInSet}
-use Rattle.x5_direct.specs.Spelled.{Opens, Spelled, SpelledIn, SpelledInOrder, Reads, ReadEach}
+use Rattle.x5_direct.specs.Spelled.{Opens, Spelled, SpelledInOrder, Reads, ReadEach}
 use Rattle.x5_dspber.proofs.DirectSet.{tagged, set_given, set_missing, set_over, set_in}
 use Rattle.x5_dspber.proofs.DirectTrace.{so_ruled}
 use Rattle.x5_direct.proofs.Spelling.{branch_spelled, leaf_spelled, each_in, order_in, order_next, order_over}
@@ -98,7 +99,8 @@ kind_read k rest =
     let j = kind_number k in (
       whole j,
       leaf_spelled named.RefType 2 0 2 (integer (one_of (1 ∷ 2 ∷ 3 ∷ 4 ∷ 5 ∷ 8 ∷ []))) (whole j) (whole j) (j ∷ [])
-          (2 ∷ 1 ∷ j ∷ rest) rest (one_octet 2 j rest (lit< tt) (lit< tt)) refl (lit< tt) (λ w. refl) (kind_reads k) refl,
+          (2 ∷ 1 ∷ j ∷ rest) rest (one_octet 2 j rest (lit< tt) (lit< tt)) refl (lit< tt) (λ w. refl) (kind_reads k)
+          refl,
       kind_said k,
     )
 
@@ -274,8 +276,8 @@ message_read o i k m content after behind octets outer names small first is c =
     let second : Spelled 0 named.AnyNumber (whole k) after behind =
     subst (λ (l : List ℕ). Spelled 0 named.AnyNumber (whole k) l behind) (sym is) (code_spelled k behind small) in (
       Chosen 1 n,
-      branch_spelled 49 named.DspRequest 161 2 1 (invoke (operation_codes named.Chained)) n n content octets [] outer refl
-          (λ w. refl)
+      branch_spelled 49 named.DspRequest 161 2 1 (invoke (operation_codes named.Chained)) n n content octets [] outer
+          refl (λ w. refl)
           (order_in 49 (id ∷ code named.AnyNumber codes ∷ []) ns content
           (order_next 49 (named.NumberBelow 0 4294967295) (code named.AnyNumber codes ∷ []) (whole i)
           (whole k ∷ c.0 ∷ []) content after

@@ -1,7 +1,6 @@
 mod Carried
 mod ChainedIsSayable
 mod ChainedSpelled
-mod ComesOnce
 mod DirectArgument
 mod DirectParts
 mod DirectSet

@@ -2,10 +2,8 @@
 use Rattle.std.proofs.Common.{ℕ, List, ap, arith, sym, subst, ◌∙◌}
 use Rattle.x5_model_messages.specs.Requests as requests
 use Rattle.x5_model_typed.specs.Named as named
-use Rattle.x5_ops.specs.RequestViews.{request_view}
 use Rattle.x5_types.specs.FormView.{operation_view}
 use Rattle.x5_types.specs.NodeView.{node_view}
-use Rattle.x5_dapber.specs.Sayable.{IsArgument}
 use Rattle.x5_dapber.proofs.Octets.{are_octets}
 use Rattle.x5_direct.specs.Spelled.{Spelled}
 use Rattle.x5_direct.proofs.Heads.{nothing}

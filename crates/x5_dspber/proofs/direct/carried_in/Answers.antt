@@ -1,7 +1,5 @@
 -- Chaining arguments and the argument of the operation, and nothing else, are the message.
 use Rattle.std.proofs.Common.{List, ℕ, [], refl, sym, subst, ◌∙◌}
-use Rattle.x5_model_messages.specs.Chained as chains
-use Rattle.x5_model_typed.specs.Named as named
 use Rattle.x5_ops.specs.RequestViews.{request_view}
 use Rattle.x5_types.specs.FormView.{operation_view}
 use Rattle.x5_direct.specs.Spelled.{Opens}

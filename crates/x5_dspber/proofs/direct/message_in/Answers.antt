@@ -1,5 +1,5 @@
 -- An id, a code and what the code says, and nothing else, are the message.
-use Rattle.std.proofs.Common.{List, ℕ, [], arith, refl, sym, subst, ◌∙◌}
+use Rattle.std.proofs.Common.{List, ℕ, [], arith, sym, subst, ◌∙◌}
 use Rattle.x5_model_typed.specs.Named as named
 use Rattle.x5_types.specs.FormView.{operation_view}
 use Rattle.x5_direct.specs.Spelled.{Opens}
@@ -19,6 +19,6 @@ returns c =
     (nothing c.in_ok-content.rest.now (sym c.is_empty.ensures ∙ c.if-not-is_empty.false))
     c.in_ok-content.ensures.opens in
     let r = message_read o c.in_ok-id.id code (told_chained c.in_ok-carried_in.field-0) content c.in_ok-id.after.now
-    c.in-Some.behind.now octets opens (operation_codes_are o code c.in-Some-operation_of.ensures) c.in-Some.ensures.small
-    c.in_ok-id.ensures.is c.in-Some.ensures.is c.in_ok-carried_in.ensures in
+    c.in-Some.behind.now octets opens (operation_codes_are o code c.in-Some-operation_of.ensures)
+    c.in-Some.ensures.small c.in_ok-id.ensures.is c.in-Some.ensures.is c.in_ok-carried_in.ensures in
     (r.0, whole_spelled 50 named.DspRequest r.0 octets (omega arith) r.1, r.2)

@@ -11,4 +11,5 @@ pub returns : goal.returns
 returns c =
     subst (λ (l : List ℕ). Reads 1 named.Progress replies.progress_in (progress_view c.in_ok-progress.progress)
     c.args.octets.now l)
-    (nothing c.in_ok-progress.rest.now (sym c.is_empty.ensures ∙ c.if-not-is_empty.false)) c.in_ok-progress.ensures.reads
+    (nothing c.in_ok-progress.rest.now (sym c.is_empty.ensures ∙ c.if-not-is_empty.false))
+    c.in_ok-progress.ensures.reads

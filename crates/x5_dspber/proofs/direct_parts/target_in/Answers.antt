@@ -1,5 +1,5 @@
 -- The name takes all of the octets.
-use Rattle.std.proofs.Common.{List, ℕ, sym, subst, ◌∙◌}
+use Rattle.std.proofs.Common.{List, ℕ, subst}
 use Rattle.x5_model_messages.specs.Terms as terms
 use Rattle.x5_model_typed.specs.Named as named
 use Rattle.x5_direct.specs.Spelled.{Reads}

@@ -19,12 +19,11 @@ use Rattle.x5_typed.specs.Comes.{ComesTo}
 use Rattle.x5_types.specs.FormView.{nowhere, table}
 use Rattle.x5_dapber.specs.Results.{Decodes}
 use Rattle.x5_dapber.specs.ShortNames.{HasShortNames}
-use Rattle.x5_dapber.specs.declared.fault.WireFault.{WireFault}
 use Rattle.x5_dapber.proofs.Decoding.{known_read}
 use Rattle.x5_dapber.proofs.Octets.{are_octets, spelled_comes}
+use Rattle.x5_dapreply.proofs.WholeSpelling.{comes_only}
 use Rattle.x5_dspber.specs.ChainedViews.{told_chained}
 use Rattle.x5_dspber.proofs.ChainedIsSayable.{chained_fits}
-use Rattle.x5_dspber.proofs.ComesOnce.{comes_once}
 use Rattle.x5_dspber.proofs.MessagesShort.{message_short}
 use Rattle.x5_dspber.proofs.messages.decode_chained.Goals as goal
 
@@ -39,7 +38,7 @@ said_decodes : (octets : List ℕ) (p : ℕ × Chained) → Says octets p → (e
     → ComesTo named.DspRequest octets e → Decodes seen chained_in e (Ok p)
 said_decodes octets p s e comes =
     subst (λ (r : Result Node judged.Breach). Decodes seen chained_in r (Ok p))
-    (sym (comes_once named.DspRequest octets s.0 e s.1 comes)) s.2
+    (sym (comes_only named.DspRequest octets s.0 s.1 e comes)) s.2
 
 said_short : (octets : List ℕ) → list_all is_octet octets ≡ true → (p : ℕ × Chained) → Says octets p
     → HasShortNames (request_view p.1.request).body
@@ -73,8 +72,8 @@ returns-clause-back c = λ id m is_chained spells.
 
 pub returns-clause-short : goal.returns-clause-short
 returns-clause-short c =
-    said_short c.args.octets.now (are_octets c.args.octets.now (λ k. omega (arith, c.type_inv.octets k))) c.in-Ok.message
-    c.in-Ok.ensures
+    said_short c.args.octets.now (are_octets c.args.octets.now (λ k. omega (arith, c.type_inv.octets k)))
+    c.in-Ok.message c.in-Ok.ensures
 
 -- ---- by the table of types
 
