@@ -6,3 +6,4 @@ mod ShadowIsSayable
 mod ShadowSpelled
 mod DirectParts
 mod Once
+mod Totals

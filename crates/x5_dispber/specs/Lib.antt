@@ -1,3 +1,4 @@
 pub mod ShadowViews
 pub mod Sayable
 pub mod Direct
+pub mod Totals

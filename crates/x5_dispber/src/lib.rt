@@ -11,6 +11,7 @@ mod read_refreshes;
 mod read_shadows;
 mod refreshes;
 mod shadow;
+mod total;
 
 pub use crate::messages::{decode_shadow, encode_shadow};
 pub use crate::shadow::{Refresh, Shadow};

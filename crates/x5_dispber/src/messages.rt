@@ -19,6 +19,7 @@ use crate::direct::update_in;
 use crate::read_shadows::shadow_in;
 use crate::refreshes::refresh_node;
 use crate::shadow::{Refresh, Shadow};
+use crate::total::write_shadow;
 use std::alloc::Global;
 use x5_dapber::WireFault;
 use x5_dapber::parts::{chosen, number, three, two};
@@ -28,7 +29,7 @@ use x5_ops::Moment;
 use x5_syntax::Octets;
 use x5_typed::read_in;
 use x5_types::{Named, Node, Surroundings};
-use x5_writer::{WriteFault, write_in};
+use x5_writer::WriteFault;
 
 fn moment_node<'a>(moment: Option<Moment>) -> Node<'a>
     ensures { node_view result ≡ number_or_vacant moment }
@@ -115,7 +116,7 @@ fn failed_node<'a>(
     chosen(alloc, 3, error)
 }
 
-fn shadow_node<'a>(
+pub(crate) fn shadow_node<'a>(
     alloc: Global,
     names: &'a AgentNames,
     id: u32,
@@ -173,9 +174,7 @@ pub fn encode_shadow(
         → IfOk result (λ octets. Spells (world_table start.now names.now) named.DispMessage octets (shadows.shadow_node id (told_shadow names.now message.now))) }
 {
     start.reads_back();
-    let node = shadow_node(alloc, names, id, message)?;
-    let surroundings = Surroundings::World(start, names);
-    Ok(Octets::new(write_in(alloc, surroundings, Named::DispMessage, &node)?))
+    Ok(Octets::new(write_shadow(alloc, start, names, id, message)?))
 }
 
 /// What the octets say, which are read by the table of types.

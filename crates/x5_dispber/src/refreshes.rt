@@ -75,7 +75,7 @@ fn known_node<'a>(
     two(alloc, name_node(alloc, &known.pin)?, many(agents))
 }
 
-fn all_known_node<'a>(
+pub(crate) fn all_known_node<'a>(
     alloc: Global,
     names: &'a AgentNames,
     known: &'a [Specific],
@@ -102,7 +102,7 @@ fn other_node<'a>(
     two(alloc, name_node(alloc, &nssr.at)?, many(agents))
 }
 
-fn others_node<'a>(
+pub(crate) fn others_node<'a>(
     alloc: Global,
     names: &'a AgentNames,
     nssrs: &'a [Nssr],

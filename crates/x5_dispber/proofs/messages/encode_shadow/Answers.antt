@@ -19,9 +19,8 @@ returns-clause-spelled c = λ fit.
     let m = told_shadow names c.args.message.now in
     let n = shadow_node c.args.id m in
     let table = world_table start names in
-    let items = c.in_ok-write_in.field-0.items in
-    let short : length items < 2 ^ 64 = omega (arith, c.in_ok-write_in.field-0.ok.0, c.in_ok-write_in.field-0.small) in
-    let written : canonical_octets table named.DispMessage n ≡ Some items =
-    subst (λ (x : nodes.Node). canonical_octets table named.DispMessage x ≡ Some items) c.in_ok-node.ensures c.in_ok-write_in.ensures in
+    let items = c.in_ok-write_shadow.field-0.items in
+    let short : length items < 2 ^ 64 = omega (arith, c.in_ok-write_shadow.field-0.ok.0, c.in_ok-write_shadow.field-0.small) in
     subst (λ (os : List ℕ). Spells table named.DispMessage os n) (sym c.new.ensures)
-    (shadow_spelled (world start names) (clock start names c.reads_back.ensures) c.args.id m items fit written short)
+    (shadow_spelled (world start names) (clock start names c.reads_back.ensures) c.args.id m items fit
+    c.in_ok-write_shadow.ensures short)
