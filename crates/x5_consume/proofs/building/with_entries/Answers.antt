@@ -12,8 +12,8 @@ loop-named-init c =
     subst (λ (left : List Named). SoFar c.args.held c.args.entries.items c.reserve.new.self left)
     (sym c.into_iter-named-iterator.ensures.into_iter_gives.0)
     (begun c.args.held c.args.entries.items c.reserve.new.self
-        (c.in_ok-reserve.ensures.nodes ∙ ap (λ (n : Nodes). n.nodes) c.filling-filling.ensures.nodes)
-        (still_only c.args.held c.filling-filling.result c.reserve.new.self c.filling-filling.ensures.others c.in_ok-reserve.ensures.others))
+    (c.in_ok-reserve.ensures.nodes ∙ ap (λ (n : Nodes). n.nodes) c.filling-filling.ensures.nodes)
+    (still_only c.args.held c.filling-filling.result c.reserve.new.self c.filling-filling.ensures.others c.in_ok-reserve.ensures.others))
 
 pub with_entry-requires : goal.with_entry-requires
 with_entry-requires c =
