@@ -9,9 +9,11 @@ ghost use Rattle.x5_names.specs.Reading.{stored_name_of_text, stored_rdn_of_text
 ghost use Rattle.x5_syntax.specs.Reading.{ReadsName};
 
 use crate::keys::{Key, KeyPair, KeyRdn};
+use crate::shared::Rdns;
 use std::alloc::{AllocError, Global};
 use std::cmp::Ordering;
 use std::marker::Model;
+use std::rc::Rc;
 use x5_syntax::{NameFault, NameValue, NoMemory, Normal, RdnValue, Text, TypeId, text_normal};
 
 /// A pair of an RDN: a type, the text of a value as it's spelled, and its normal form.
@@ -30,10 +32,10 @@ impl Model for Pair {
     ghost view = { λ p. record { kind = p.kind; text = p.text; normal = p.normal } };
 }
 
-/// An RDN: its pairs in the order of type numbers.
+/// An RDN: its pairs in the order of type numbers, which its copies share.
 #[derive(Debug, Drop)]
 pub struct Rdn {
-    pairs: Vec<Pair>,
+    pairs: Rc<Vec<Pair>>,
 }
 
 impl Model for Rdn {
@@ -41,13 +43,13 @@ impl Model for Rdn {
 
     ghost Value = { values.Rdn };
 
-    ghost view = { λ r. r.pairs.items };
+    ghost view = { λ r. r.pairs.value.items };
 }
 
 /// A name from the root, with its key.
 #[derive(Debug, Drop)]
 pub struct Name {
-    rdns: Vec<Rdn>,
+    rdns: Rdns,
     key: Key,
 }
 
@@ -57,9 +59,9 @@ impl Model for Name {
 
     ghost Value = { values.Name };
 
-    ghost view = { λ n. n.rdns.items };
+    ghost view = { λ n. n.rdns };
 
-    ghost invariant = { λ n. n.key ≡ values.key_of n.rdns.items };
+    ghost invariant = { λ n. n.key ≡ values.key_of n.rdns };
 }
 
 impl Pair {
@@ -114,11 +116,12 @@ impl Clone for Pair {
 }
 
 impl Rdn {
-    /// An RDN of these pairs. No memory.
-    pub fn new(pairs: Vec<Pair>) -> Rdn
-        ensures { result ≡ pairs.items }
+    /// An RDN of these pairs.
+    pub fn new(alloc: Global, pairs: Vec<Pair>) -> Result<Rdn, NoMemory>
+        ensures { IfOk result (λ rdn. rdn ≡ pairs.items) }
     {
-        Rdn { pairs }
+        let pairs = Rc::new(alloc, pairs)?;
+        Ok(Rdn { pairs })
     }
 
     /// The RDN that is written so.
@@ -129,7 +132,7 @@ impl Rdn {
         for pair in value.pairs() {
             pairs.push(Pair::new(alloc, pair.0, pair.1.as_str())?)?;
         }
-        Ok(Rdn { pairs })
+        Rdn::new(alloc, pairs)
     }
 
     /// The RDN that a text spells, within the limits.
@@ -152,7 +155,7 @@ impl Rdn {
         ensures { IfOk result (λ value. value ≡ map written_pair self.now) }
     {
         let mut pairs = Vec::with_capacity(alloc, self.pairs.len())?;
-        for pair in &self.pairs {
+        for pair in self.pairs() {
             pairs.push((pair.kind, pair.text.clone()?))?;
         }
         Ok(RdnValue::new(pairs))
@@ -171,7 +174,7 @@ impl Rdn {
         ensures { IfOk result (λ key. key ≡ key_of_rdn self.now) }
     {
         let mut pairs = Vec::with_capacity(alloc, self.pairs.len())?;
-        for pair in &self.pairs {
+        for pair in self.pairs() {
             pairs.push(pair.key()?)?;
         }
         Ok(KeyRdn::new(pairs))
@@ -186,17 +189,6 @@ impl Clone for Rdn {
             pairs: self.pairs.clone()?,
         })
     }
-}
-
-/// What a name of these RDNs is compared by.
-fn key_of_rdns(alloc: Global, rdns: &[Rdn]) -> Result<Key, NoMemory>
-    ensures { IfOk result (λ key. key ≡ key_of rdns.now) }
-{
-    let mut keys = Vec::with_capacity(alloc, rdns.len())?;
-    for rdn in rdns {
-        keys.push(rdn.key(alloc)?)?;
-    }
-    Ok(Key::new(keys))
 }
 
 /// The RDNs of a name that is written so.
@@ -223,12 +215,12 @@ fn values_of(alloc: Global, rdns: &[Rdn]) -> Result<Vec<RdnValue>, NoMemory>
 
 impl Name {
     /// The root, which is no entry. No memory.
-    pub fn root(alloc: Global) -> Name
+    pub fn root(_alloc: Global) -> Name
         ensures { result ≡ [] }
     {
         Name {
-            rdns: Vec::new(alloc),
-            key: Key::new(Vec::new(alloc)),
+            rdns: Rdns::none(),
+            key: Key::new(Rdns::none()),
         }
     }
 
@@ -236,7 +228,14 @@ impl Name {
     pub fn new(alloc: Global, rdns: Vec<Rdn>) -> Result<Name, NoMemory>
         ensures { IfOk result (λ name. name ≡ rdns.items) }
     {
-        let key = key_of_rdns(alloc, &rdns)?;
+        Name::of(Rdns::new(alloc, rdns)?)
+    }
+
+    /// The name of these RDNs, which it shares with its key.
+    fn of(rdns: Rdns) -> Result<Name, NoMemory>
+        ensures { IfOk result (λ name. name ≡ rdns) }
+    {
+        let key = Key::new(rdns.clone()?);
         Ok(Name { rdns, key })
     }
 
@@ -260,7 +259,7 @@ impl Name {
     pub fn value(&self, alloc: Global) -> Result<NameValue, NoMemory>
         ensures { IfOk result (λ value. value ≡ written self.now) }
     {
-        let rdns = values_of(alloc, &self.rdns)?;
+        let rdns = values_of(alloc, self.rdns())?;
         Ok(NameValue::new(rdns))
     }
 
@@ -283,7 +282,7 @@ impl Name {
     pub fn len(&self) -> usize
         ensures { result ≡ length self.now }
     {
-        self.rdns.len()
+        self.rdns().len()
     }
 
     /// Whether it's the root. No memory.
@@ -304,7 +303,7 @@ impl Name {
     pub fn last(&self) -> Option<&Rdn>
         ensures { option_copied result ≡ slice_get self.now (length self.now - 1) }
     {
-        self.rdns.last()
+        self.rdns().last()
     }
 
     /// Whether the two are the same but for spelling. No memory.
@@ -333,22 +332,23 @@ impl Name {
         requires { count ≤ length self.now }
         ensures { IfOk result (λ name. name ≡ take count self.now) }
     {
-        let rdns = Vec::from_clones(alloc, &self.rdns[..count])?;
-        Name::new(alloc, rdns)
+        let rdns = self.rdns.first(alloc, count)?;
+        Name::of(rdns)
     }
 
     /// The name of what stands just above; the root's is the root.
     pub fn parent(&self, alloc: Global) -> Result<Name, NoMemory>
         ensures { IfOk result (λ name. name ≡ name_above self.now) }
     {
-        self.first(alloc, self.rdns.len().saturating_sub(1))
+        self.first(alloc, self.len().saturating_sub(1))
     }
 
     /// The name of what stands below by the RDN.
     pub fn below(&self, alloc: Global, rdn: &Rdn) -> Result<Name, NoMemory>
         ensures { IfOk result (λ name. name ≡ self.now ++ rdn.now ∷ []) }
     {
-        let mut rdns = self.rdns.clone()?;
+        let mut rdns: Vec<Rdn> = Vec::with_capacity(alloc, self.len().saturating_add(1))?;
+        rdns.extend_from_slice(self.rdns())?;
         rdns.push(rdn.clone()?)?;
         Name::new(alloc, rdns)
     }
