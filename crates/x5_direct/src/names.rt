@@ -163,7 +163,7 @@ pub fn rdn_at(alloc: Global, octets: &[u8]) -> Result<(Rdn, usize), Unread>
     let pair = pair_in(alloc, content)?;
     let mut pairs = Vec::with_capacity(alloc, 1)?;
     pairs.push(pair)?;
-    Ok((Rdn::new(pairs), taken))
+    Ok((Rdn::new(alloc, pairs)?, taken))
 }
 
 /// The RDNs that are all of the octets.
