@@ -72,6 +72,6 @@ pub(crate) fn last_rdn(alloc: Global, name: &Name) -> Result<Rdn, NoMemory>
 {
     match name.last() {
         Some(rdn) => Ok(rdn.clone()?),
-        None => Rdn::new(alloc, Vec::new(alloc)),
+        None => Ok(Rdn::new(alloc, Vec::new(alloc))?),
     }
 }

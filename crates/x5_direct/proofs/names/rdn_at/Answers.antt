@@ -13,8 +13,8 @@ returns-clause-reads c =
     let octets = c.args.octets.now in
     let rest = c.in_ok-content.rest.now in
     let taken = length octets - length rest in
-    let is : c.new.result ≡ c.in_ok-pair.pair ∷ [] =
-    c.new.ensures ∙ c.in_ok-push.ensures.items ∙ ap (λ (l : values.Rdn). l ++ c.in_ok-pair.pair ∷ [])
+    let is : c.in_ok-new.field-0 ≡ c.in_ok-pair.pair ∷ [] =
+    c.in_ok-new.ensures ∙ c.in_ok-push.ensures.items ∙ ap (λ (l : values.Rdn). l ++ c.in_ok-pair.pair ∷ [])
     c.in_ok-pairs.ensures.items in
     subst (λ (r : values.Rdn). Reads 2 named.Rdn terms.rdn_of r octets (drop taken octets)) (sym is)
     (read_taken 2 named.Rdn terms.rdn_of (c.in_ok-pair.pair ∷ []) octets rest taken refl
