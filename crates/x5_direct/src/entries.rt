@@ -132,7 +132,7 @@ fn entry_at(alloc: Global, octets: &[u8]) -> Result<(Named, usize), Unread>
         return Err(Unread::Unusual);
     }
     let attributes = all_stored_in(alloc, members)?;
-    let entry = Entry::from_list(attributes);
+    let entry = Entry::from_list(attributes).shared(alloc)?;
     Ok((Named { name, entry }, taken))
 }
 
