@@ -143,12 +143,7 @@ fn dialled(alloc: Global, text: &[u8]) -> Result<Vec<u8>, NoMemory>
 }
 
 /// A folded text of ASCII with its spaces in their normal form: folding is lowering its letters, which are no spaces.
-fn lower_and_spaced(
-    alloc: Global,
-    first: bool,
-    last: bool,
-    text: &str,
-) -> Result<Vec<u8>, NoMemory>
+fn lower_and_spaced(alloc: Global, first: bool, last: bool, text: &str) -> Result<Vec<u8>, NoMemory>
     requires { IsAscii text.now }
     ensures { IfOk result (λ kept. kept.items ≡ model.spaced first last (model.folded text.now)) }
 {
