@@ -85,7 +85,7 @@ cut_same limited p q before t cut v h =
     (λ number. text_at limited number (p + cut + 1) behind >>= λ value. Ok (number, value)) (λ number. text_at limited number (q + cut + 1) behind >>= λ value. Ok (number, value)) v
     (λ x e. e)
     (λ number. bind_same (text_at limited number (p + cut + 1) behind) (text_at limited number (q + cut + 1) behind) (λ value. Ok (number, value)) (λ value. Ok (number, value)) v
-      (text_same limited number (p + cut + 1) (q + cut + 1) behind) (λ x e. e)) h
+    (text_same limited number (p + cut + 1) (q + cut + 1) behind) (λ x e. e)) h
 
 pair_same : (limited : Bool) (p q : ℕ) (before : Pairs) (t : Text) (v : ℕ × Text) → pair_at limited p before t ≡ Ok v → pair_at limited q before t ≡ Ok v
 pair_same limited p q before t v h =
@@ -100,8 +100,8 @@ pairs_same p q before (t ∷ ts) v h =
     (pair_at true p before t >>= λ pair. pairs_at true (p + length t + 1) (before ++ pair ∷ []) ts) (pair_at true q before t >>= λ pair. pairs_at true (q + length t + 1) (before ++ pair ∷ []) ts)
     TooManyPairs TooManyPairs v v
     (bind_same (pair_at true p before t) (pair_at true q before t)
-      (λ pair. pairs_at true (p + length t + 1) (before ++ pair ∷ []) ts) (λ pair. pairs_at true (q + length t + 1) (before ++ pair ∷ []) ts) v
-      (pair_same true p q before t) (λ pair. pairs_same (p + length t + 1) (q + length t + 1) (before ++ pair ∷ []) ts v)) h
+    (λ pair. pairs_at true (p + length t + 1) (before ++ pair ∷ []) ts) (λ pair. pairs_at true (q + length t + 1) (before ++ pair ∷ []) ts) v
+    (pair_same true p q before t) (λ pair. pairs_same (p + length t + 1) (q + length t + 1) (before ++ pair ∷ []) ts v)) h
 
 pub rdn_same : (p q : ℕ) (t : Text) (v : Pairs) → rdn_at true p t ≡ Ok v → rdn_at true q t ≡ Ok v
 rdn_same p q t v h = pairs_same p q [] (slice_split (λ b. b == plus) t) v h

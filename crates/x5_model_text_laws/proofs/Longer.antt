@@ -48,8 +48,8 @@ rdns_more at before m (u ∷ ts) t r few read h =
     let next : Pairs → List Text → Result NameValue NameFault = λ rdn us. rdns_at true (at + length u + 1) (before ++ rdn ∷ []) us in
     else_same (nat_le 16 (length before)) (rdn_at true at u >>= λ rdn. next rdn ts) (rdn_at true at u >>= λ rdn. next rdn (ts ++ t ∷ [])) TooManyRdns TooManyRdns m (m ++ r ∷ [])
     (λ e. let step = bound (rdn_at true at u) (λ rdn. next rdn ts) m e in
-      ap (λ (o : Result Pairs NameFault). o >>= λ rdn. next rdn (ts ++ t ∷ [])) step.1
-      ∙ rdns_more (at + length u + 1) (before ++ step.0 ∷ []) m ts t r few read step.2) h
+    ap (λ (o : Result Pairs NameFault). o >>= λ rdn. next rdn (ts ++ t ∷ [])) step.1
+    ∙ rdns_more (at + length u + 1) (before ++ step.0 ∷ []) m ts t r few read step.2) h
 
 -- ---- names as they are written
 

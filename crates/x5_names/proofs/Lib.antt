@@ -1,1 +1,3 @@
 pub mod Fronts
+mod Below
+mod Slash

@@ -2,8 +2,10 @@
 #![tactic(auto)]
 
 mod keys;
+mod known;
 mod spelled;
 
 pub use keys::{Key, KeyPair, KeyRdn};
+pub use known::KnownName;
 pub use spelled::{Name, Pair, Rdn};
 pub use x5_syntax::{NameFault, NoMemory};
