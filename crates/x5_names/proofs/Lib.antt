@@ -1,2 +1,4 @@
 pub mod ByKeys
 pub mod Fronts
+mod Below
+mod Slash

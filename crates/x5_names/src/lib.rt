@@ -3,9 +3,11 @@
 
 mod compared;
 mod keys;
+mod known;
 mod shared;
 mod spelled;
 
 pub use keys::{Key, KeyPair, KeyRdn};
+pub use known::KnownName;
 pub use spelled::{Name, Pair, Rdn};
 pub use x5_syntax::{NameFault, NoMemory};
