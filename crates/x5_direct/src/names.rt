@@ -161,9 +161,7 @@ pub fn rdn_at(alloc: Global, octets: &[u8]) -> Result<(Rdn, usize), Unread>
     let (content, rest) = opened(0x31, octets)?;
     let taken = octets.len() - rest.len();
     let pair = pair_in(alloc, content)?;
-    let mut pairs = Vec::with_capacity(alloc, 1)?;
-    pairs.push(pair)?;
-    Ok((Rdn::new(alloc, pairs)?, taken))
+    Ok((Rdn::one(alloc, pair)?, taken))
 }
 
 /// The RDNs that are all of the octets.

@@ -6,6 +6,7 @@ ghost use Rattle.x5_model.specs.Normal.{stored_pair, stored_rdn, stored};
 ghost use Rattle.x5_model.specs.Values.{key_of_pair, key_of_rdn, key_of, name_above, written, written_pair};
 ghost use Rattle.x5_model_text.specs.NameText.{text_of_name, text_of_rdn};
 ghost use Rattle.x5_names.specs.Reading.{stored_name_of_text, stored_rdn_of_text};
+ghost use Rattle.x5_names.specs.Sharing.{shared_pairs};
 ghost use Rattle.x5_syntax.specs.Reading.{ReadsName};
 
 use crate::keys::{Key, KeyPair, KeyRdn};
@@ -14,6 +15,7 @@ use std::alloc::{AllocError, Global};
 use std::cmp::Ordering;
 use std::marker::Model;
 use std::rc::Rc;
+use std::slice::from_ref;
 use x5_syntax::{NameFault, NameValue, NoMemory, Normal, RdnValue, Text, TypeId, text_normal};
 
 /// A pair of an RDN: a type, the text of a value as it's spelled, and its normal form.
@@ -32,18 +34,26 @@ impl Model for Pair {
     ghost view = { λ p. record { kind = p.kind; text = p.text; normal = p.normal } };
 }
 
+/// The pairs of an RDN: nearly all have one, which then needs no list.
+#[derive(Debug, Drop)]
+enum Pairs {
+    One(Rc<Pair>),
+    Many(Rc<Vec<Pair>>),
+}
+
 /// An RDN: its pairs in the order of type numbers, which its copies share.
 #[derive(Debug, Drop)]
 pub struct Rdn {
-    pairs: Rc<Vec<Pair>>,
+    pairs: Pairs,
 }
 
 impl Model for Rdn {
+    ghost use Rattle.x5_names.specs.Sharing.{shared_pairs};
     ghost use Rattle.x5_model.specs.Values as values;
 
     ghost Value = { values.Rdn };
 
-    ghost view = { λ r. r.pairs.value.items };
+    ghost view = { λ r. shared_pairs r.pairs };
 }
 
 /// A name from the root, with its key.
@@ -115,12 +125,42 @@ impl Clone for Pair {
     }
 }
 
+/// The pairs that are written so.
+fn pairs_from(alloc: Global, values: &[(TypeId, Text)]) -> Result<Vec<Pair>, NoMemory>
+    ensures { IfOk result (λ pairs. pairs.items ≡ stored_rdn values.now) }
+{
+    let mut pairs = Vec::with_capacity(alloc, values.len())?;
+    for pair in values {
+        pairs.push(Pair::new(alloc, pair.0, pair.1.as_str())?)?;
+    }
+    Ok(pairs)
+}
+
+impl Clone for Pairs {
+    ghost is_clone = { λ a b. shared_pairs b ≡ shared_pairs a };
+
+    fn clone(&self) -> Result<Pairs, AllocError> {
+        match self {
+            Pairs::One(pair) => Ok(Pairs::One(pair.clone()?)),
+            Pairs::Many(pairs) => Ok(Pairs::Many(pairs.clone()?)),
+        }
+    }
+}
+
 impl Rdn {
     /// An RDN of these pairs.
     pub fn new(alloc: Global, pairs: Vec<Pair>) -> Result<Rdn, NoMemory>
         ensures { IfOk result (λ rdn. rdn ≡ pairs.items) }
     {
-        let pairs = Rc::new(alloc, pairs)?;
+        let pairs = Pairs::Many(Rc::new(alloc, pairs)?);
+        Ok(Rdn { pairs })
+    }
+
+    /// An RDN of the one pair.
+    pub fn one(alloc: Global, pair: Pair) -> Result<Rdn, NoMemory>
+        ensures { IfOk result (λ rdn. rdn ≡ pair ∷ []) }
+    {
+        let pairs = Pairs::One(Rc::new(alloc, pair)?);
         Ok(Rdn { pairs })
     }
 
@@ -128,11 +168,10 @@ impl Rdn {
     pub fn from_value(alloc: Global, value: &RdnValue) -> Result<Rdn, NoMemory>
         ensures { IfOk result (λ rdn. rdn ≡ stored_rdn value.now) }
     {
-        let mut pairs = Vec::with_capacity(alloc, value.pairs().len())?;
-        for pair in value.pairs() {
-            pairs.push(Pair::new(alloc, pair.0, pair.1.as_str())?)?;
+        match value.pairs() {
+            [pair] => Rdn::one(alloc, Pair::new(alloc, pair.0, pair.1.as_str())?),
+            pairs => Rdn::new(alloc, pairs_from(alloc, pairs)?),
         }
-        Rdn::new(alloc, pairs)
     }
 
     /// The RDN that a text spells, within the limits.
@@ -147,14 +186,17 @@ impl Rdn {
     pub fn pairs(&self) -> &[Pair]
         ensures { result.now ≡ self.now }
     {
-        self.pairs.as_slice()
+        match &self.pairs {
+            Pairs::One(pair) => from_ref(pair.as_ref()),
+            Pairs::Many(pairs) => pairs.as_slice(),
+        }
     }
 
     /// What is written of it.
     pub fn value(&self, alloc: Global) -> Result<RdnValue, NoMemory>
         ensures { IfOk result (λ value. value ≡ map written_pair self.now) }
     {
-        let mut pairs = Vec::with_capacity(alloc, self.pairs.len())?;
+        let mut pairs = Vec::with_capacity(alloc, self.pairs().len())?;
         for pair in self.pairs() {
             pairs.push((pair.kind, pair.text.clone()?))?;
         }
@@ -173,7 +215,7 @@ impl Rdn {
     pub fn key(&self, alloc: Global) -> Result<KeyRdn, NoMemory>
         ensures { IfOk result (λ key. key ≡ key_of_rdn self.now) }
     {
-        let mut pairs = Vec::with_capacity(alloc, self.pairs.len())?;
+        let mut pairs = Vec::with_capacity(alloc, self.pairs().len())?;
         for pair in self.pairs() {
             pairs.push(pair.key()?)?;
         }
