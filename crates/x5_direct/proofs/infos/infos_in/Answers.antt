@@ -8,17 +8,17 @@ use Rattle.x5_direct.proofs.Heads.{nothing}
 use Rattle.x5_direct.proofs.Spelling.{all_done, mapped_end, one_more}
 use Rattle.x5_direct.proofs.infos.infos_in.Goals as goal
 
-pub loop-left-preserved : goal.loop-left-preserved
-loop-left-preserved c =
-    one_more 7 named.EntryInfo replies.info_in c.args.octets.now c.loop-left.left.now
-    (map info_view c.loop-left.infos.items) (info_view c.in_ok-info.info) c.in_ok-info.taken
+pub loop-above-preserved : goal.loop-above-preserved
+loop-above-preserved c =
+    one_more 7 named.EntryInfo replies.info_in c.args.octets.now c.loop-above.left.now
+    (map info_view c.loop-above.infos.items) (info_view c.in_ok-info.info) c.in_ok-info.taken
     (map info_view c.push.new.self.items)
-    (mapped_end info_view c.loop-left.infos.items c.in_ok-info.info c.push.new.self.items
-    c.in_ok-push.ensures.items) c.loop-left.invariant c.in_ok-info.ensures.reads
+    (mapped_end info_view c.loop-above.infos.items c.in_ok-info.info c.push.new.self.items
+    c.in_ok-push.ensures.items) c.loop-above.invariant.0 c.in_ok-info.ensures.reads
 
 pub returns : goal.returns
 returns c =
     subst (λ l. ReadEach 7 named.EntryInfo replies.info_in (map info_view l) c.args.octets.now) (sym c.from_vec.ensures)
-    (all_done 7 named.EntryInfo replies.info_in c.args.octets.now c.loop-left.left.now
-    (map info_view c.loop-left.infos.items) c.loop-left.invariant
-    (nothing c.loop-left.left.now (sym c.is_empty.ensures ∙ c.loop-left-test.false)))
+    (all_done 7 named.EntryInfo replies.info_in c.args.octets.now c.loop-above.left.now
+    (map info_view c.loop-above.infos.items) c.loop-above.invariant.0
+    (nothing c.loop-above.left.now (sym c.is_empty.ensures ∙ c.loop-above-test.false)))

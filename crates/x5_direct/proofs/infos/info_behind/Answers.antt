@@ -7,7 +7,7 @@ use Rattle.x5_direct.specs.Marks.{IsMark}
 use Rattle.x5_direct.proofs.Heads.{nothing, rest_here}
 use Rattle.x5_direct.proofs.Showing.{info_read}
 use Rattle.x5_direct.proofs.Spelling.{read_taken}
-use Rattle.x5_direct.proofs.infos.info_at.Goals as goal
+use Rattle.x5_direct.proofs.infos.info_behind.Goals as goal
 
 pub returns-clause-reads : goal.returns-clause-reads
 returns-clause-reads c =

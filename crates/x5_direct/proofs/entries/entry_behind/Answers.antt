@@ -7,7 +7,7 @@ use Rattle.x5_direct.specs.Spelled.{Opens, Reads}
 use Rattle.x5_direct.proofs.EntryParts.{entry_reads}
 use Rattle.x5_direct.proofs.Heads.{nothing, rest_here}
 use Rattle.x5_direct.proofs.Spelling.{read_taken}
-use Rattle.x5_direct.proofs.entries.entry_at.Goals as goal
+use Rattle.x5_direct.proofs.entries.entry_behind.Goals as goal
 
 pub returns-clause-reads : goal.returns-clause-reads
 returns-clause-reads c =
