@@ -5,3 +5,4 @@ pub mod Escapes
 pub mod TypeView
 pub mod Reading
 pub mod ValueView
+pub mod Kept
