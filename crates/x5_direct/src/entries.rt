@@ -13,7 +13,7 @@ ghost use Rattle.x5_model_messages.specs.Terms as terms;
 ghost use Rattle.x5_model_typed.specs.Named as named;
 
 use crate::element::opened;
-use crate::names::{SHORT_OID, above_of, name_behind, type_at};
+use crate::names::{SHORT_OID, known_above, name_behind, type_at};
 use crate::unread::Unread;
 use crate::values::value_at;
 use std::alloc::Global;
@@ -157,10 +157,9 @@ pub fn entries_in(alloc: Global, octets: &[u8]) -> Result<NamedList, Unread>
     let mut rest = octets;
     while !rest.is_empty() {
         let (entry, taken, front) = entry_behind(alloc, above_octets, &above, rest)?;
-        if let Some(front) = front {
-            above = above_of(alloc, &entry.name)?;
-            above_octets = front;
-        }
+        let (known, octets) = known_above(alloc, &entry.name, front, above_octets, above)?;
+        above = known;
+        above_octets = octets;
         entries.push(entry)?;
         rest = &rest[taken..];
     }

@@ -8,7 +8,7 @@ ghost use Rattle.x5_model_typed.specs.Named as named;
 ghost use Rattle.x5_ops.specs.AnswerViews.{info_view, shown_view};
 
 use crate::element::opened;
-use crate::names::{SHORT_OID, above_of, name_behind, type_at};
+use crate::names::{SHORT_OID, known_above, name_behind, type_at};
 use crate::unread::Unread;
 use crate::values::values_in;
 use std::alloc::Global;
@@ -116,10 +116,9 @@ pub fn infos_in(alloc: Global, octets: &[u8]) -> Result<EntryList, Unread>
     let mut left = octets;
     while !left.is_empty() {
         let (info, taken, front) = info_behind(alloc, above_octets, &above, left)?;
-        if let Some(front) = front {
-            above = above_of(alloc, &info.name)?;
-            above_octets = front;
-        }
+        let (known, octets) = known_above(alloc, &info.name, front, above_octets, above)?;
+        above = known;
+        above_octets = octets;
         infos.push(info)?;
         left = &left[taken..];
     }

@@ -260,9 +260,30 @@ pub fn name_at(alloc: Global, octets: &[u8]) -> Result<(Name, usize), Unread>
 }
 
 /// The RDNs of the name but the last.
-pub(crate) fn above_of(alloc: Global, name: &Name) -> Result<Vec<Rdn>, Unread>
+fn rdns_above(alloc: Global, name: &Name) -> Result<Vec<Rdn>, Unread>
     ensures { IfOk result (λ rdns. rdns.items ≡ take (length name.now - 1) name.now) }
 {
     let rdns = name.rdns();
     Ok(Vec::from_clones(alloc, &rdns[..rdns.len().saturating_sub(1)])?)
+}
+
+/// What names may begin with from now on: what stands above this one, if its octets are at hand, and else as before.
+pub(crate) fn known_above<'a>(
+    alloc: Global,
+    name: &Name,
+    front: Option<&'a [u8]>,
+    above_octets: &'a [u8],
+    above: Vec<Rdn>,
+) -> Result<(Vec<Rdn>, &'a [u8]), Unread>
+    requires front { IfSome front (λ front. BeginEach 2 named.Rdn terms.rdn_of (take (length name.now - 1) name.now) front.now) }
+    requires above { BeginEach 2 named.Rdn terms.rdn_of above.items above_octets.now }
+    ensures { IfOk result (λ r. BeginEach 2 named.Rdn terms.rdn_of r.0.items r.1.now) }
+{
+    match front {
+        Some(front) => {
+            let rdns = rdns_above(alloc, name)?;
+            Ok((rdns, front))
+        }
+        None => Ok((above, above_octets)),
+    }
 }

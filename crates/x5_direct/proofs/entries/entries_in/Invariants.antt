@@ -7,9 +7,9 @@ use Rattle.x5_direct.specs.Spelled.{BeginEach}
 use Rattle.x5_direct.proofs.Spelling.{Goes}
 use Rattle.x5_direct.proofs.entries.entries_in.Given as goal
 
-abbrev pub invariant-loop-above : goal.invariant-loop-above
-invariant-loop-above l = Goes 7 named.Entry entry_in l.octets l.entries.items l.rest
+abbrev pub invariant-loop-above_octets : goal.invariant-loop-above_octets
+invariant-loop-above_octets l = Goes 7 named.Entry entry_in l.octets l.entries.items l.rest
     × BeginEach 2 named.Rdn rdn_of l.above.items l.above_octets
 
-abbrev pub decreases-loop-above : goal.decreases-loop-above
-decreases-loop-above l = length l.rest
+abbrev pub decreases-loop-above_octets : goal.decreases-loop-above_octets
+decreases-loop-above_octets l = length l.rest

@@ -8,9 +8,9 @@ use Rattle.x5_direct.specs.Spelled.{BeginEach}
 use Rattle.x5_direct.proofs.Spelling.{Goes}
 use Rattle.x5_direct.proofs.infos.infos_in.Given as goal
 
-abbrev pub invariant-loop-above : goal.invariant-loop-above
-invariant-loop-above l = Goes 7 named.EntryInfo replies.info_in l.octets (map info_view l.infos.items) l.left
+abbrev pub invariant-loop-above_octets : goal.invariant-loop-above_octets
+invariant-loop-above_octets l = Goes 7 named.EntryInfo replies.info_in l.octets (map info_view l.infos.items) l.left
     × BeginEach 2 named.Rdn rdn_of l.above.items l.above_octets
 
-abbrev pub decreases-loop-above : goal.decreases-loop-above
-decreases-loop-above l = length l.left
+abbrev pub decreases-loop-above_octets : goal.decreases-loop-above_octets
+decreases-loop-above_octets l = length l.left
