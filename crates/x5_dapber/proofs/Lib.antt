@@ -1,5 +1,7 @@
+pub mod Asked
 pub mod AttributeParts
 pub mod Clock
+pub mod Components
 pub mod Decoding
 pub mod FilterLevels
 mod FilterMembers
