@@ -1,5 +1,5 @@
 -- Components of types stand before those behind them, and a fault of one is a fault of the whole.
-use Rattle.std.proofs.Common.{◌≡◌, ℕ, Bool, true, false, List, [], ◌∷◌, ◌++◌, length, refl, ap, sym, subst, ◌∙◌, if◌then◌else◌}
+use Rattle.std.proofs.Common.{◌≡◌, ℕ, Bool, true, false, List, [], ◌∷◌, ◌++◌, length, refl, ap, sym, subst, ◌∙◌, if◌then◌else◌, append-nil}
 use Rattle.std.specs.Result.{IsErrAnd}
 use Rattle.std.specs.declared.option.Option.{Option}
 use Rattle.std.specs.declared.option.Option.TheVariants.{None, Some}
@@ -58,11 +58,7 @@ optional_put false o os old mid new others put =
     let a = alone o put.0 put.1 in
     one_put o os old mid new others
     (a.0, a.1, put.2 ∙ ap (λ (e : Elements). canonical_all e ++ mid) a.2
-    ∙ ap (λ (l : List ℕ). l ++ mid) (append_nil (canonical a.0)))
-  where
-    append_nil : (l : List ℕ) → l ++ [] ≡ l
-    append_nil [] = refl
-    append_nil (x ∷ l) = ap (λ (m : List ℕ). x ∷ m) (append_nil l)
+    ∙ ap (λ (l : List ℕ). l ++ mid) (append-nil (canonical a.0)))
 
 optional_lost : (b : Bool) (o : Option Element) (os : Option Elements) (fault : WriteFault) (mid new old late : List ℕ)
     → AreLost (optional b o (Some elements.Nil)) mid new fault → AreLost (optional b o os) old late fault

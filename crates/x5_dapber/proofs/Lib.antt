@@ -1,3 +1,4 @@
+mod ArgumentsWritten
 pub mod Asked
 pub mod AttributeParts
 pub mod Clock
