@@ -68,19 +68,25 @@ none_put old = (elements.Nil, refl, refl)
 
 -- ---- service controls
 
-pub unlimited : (a b : Bool)
-    → (not a && not b) ≡ same layouts.no_controls (requests.controls_node (record { nocopy = a; nochain = b; size = None }))
-unlimited true true = refl
-unlimited true false = refl
-unlimited false true = refl
-unlimited false false = refl
+-- those of a request, as the code has them
+abbrev pub controls : Bool → Bool → Option ℕ → Node
+controls nocopy nochain size = requests.controls_node (record { nocopy = nocopy; nochain = nochain; size = size })
 
-pub limited : (a b : Bool) (k : ℕ)
-    → false ≡ same layouts.no_controls (requests.controls_node (record { nocopy = a; nochain = b; size = Some k }))
-limited true true k = refl
-limited true false k = refl
-limited false true k = refl
-limited false false k = refl
+pub unlimited : (a b : Bool) (s : Option ℕ) → s ≡ None → a ≡ false → not b ≡ same layouts.no_controls (controls a b s)
+unlimited true b s is h = absurd (cc h)
+unlimited false b (Some k) is h = absurd (cc is)
+unlimited false true None is h = refl
+unlimited false false None is h = refl
+
+pub masters_only : (a b : Bool) (s : Option ℕ) → a ≡ true → false ≡ same layouts.no_controls (controls a b s)
+masters_only true b s h = refl
+masters_only false b s h = absurd (cc h)
+
+pub limited : (a b : Bool) (s : Option ℕ) (k : ℕ) → s ≡ Some k → false ≡ same layouts.no_controls (controls a b s)
+limited true b s k is = refl
+limited false true s k is = refl
+limited false false None k is = absurd (cc is)
+limited false false (Some l) k is = refl
 
 -- ---- selections
 

@@ -1,6 +1,7 @@
 -- What is written of a message between agents is what is written of its parts, one in another.
 use Rattle.std.proofs.Common.{◌≡◌, ℕ, Bool, true, false, List, [], ◌∷◌, ◌++◌, length, map, refl, ap, sym, subst, ◌∙◌}
-use Rattle.std.specs.Prelude.{if◌then◌else◌}
+use Rattle.std.proofs.Math.Dec.{eqb-suc-zero}
+use Rattle.std.specs.Prelude.{◌==◌}
 use Rattle.std.specs.Result.{IsErrAnd}
 use Rattle.std.specs.declared.option.Option.{Option}
 use Rattle.std.specs.declared.option.Option.TheVariants.{Some}
@@ -35,7 +36,7 @@ use Rattle.x5_dapber.proofs.Components.{AreLost, ArePut, IsLost, IsPut, in_tag_l
 -- ---- members of one type, in their tag
 
 -- a SEQUENCE OF them
-abbrev of_members : named.Named → List Node → Option Element
+abbrev pub of_members : named.Named → List Node → Option Element
 of_members form ns = around 0 16 (written_members table (table form) (row ns))
 
 pub members_put : (tag k : ℕ) (whole form : named.Named) (ns : List Node) (n : Node) (old mid late new : List ℕ)
@@ -80,42 +81,42 @@ kind_put k n old new same e =
 
 -- ---- the RDNs that are left out
 
-abbrev excluded : List Rdn → Option Elements
+abbrev pub excluded : List Rdn → Option Elements
 excluded rdns = part table (or_nothing (at 4 named.Rdns)) (node_of (map rdn_node rdns)) (Some elements.Nil)
 
-abbrev there : List Rdn → Option Elements
+abbrev pub there : List Rdn → Option Elements
 there rdns = part table (at 4 named.Rdns) (node_of (map rdn_node rdns)) (Some elements.Nil)
 
-pub none_excluded : (rdns : List Rdn) (old : List ℕ) → length rdns ≡ 0 → ArePut (excluded rdns) old old
+pub none_excluded : (rdns : List Rdn) (old : List ℕ) → true ≡ (length rdns == 0) → ArePut (excluded rdns) old old
 none_excluded [] old h = (elements.Nil, refl, refl)
-none_excluded (r ∷ rdns) old h = absurd (cc h)
+none_excluded (r ∷ rdns) old h = absurd (cc (h ∙ eqb-suc-zero (length rdns)))
 
-pub some_excluded : (rdns : List Rdn) (old new : List ℕ) (r : Result (Unit {0}) WriteFault) → (length rdns ≡ 0 → ⊥)
+pub some_excluded : (rdns : List Rdn) (old new : List ℕ) (r : Result (Unit {0}) WriteFault) → false ≡ (length rdns == 0)
     → Puts canonical_all (there rdns) old new r → Puts canonical_all (excluded rdns) old new r
-some_excluded [] old new r h put = absurd (h refl)
+some_excluded [] old new r h put = absurd (cc h)
 some_excluded (x ∷ rdns) old new r h put = put
 
 -- ---- chaining arguments
 
-abbrev last : Chained → Option Elements
+abbrev pub last : Chained → Option Elements
 last m = excluded m.exclusions
 
-abbrev from_kind : Chained → Option Elements
+abbrev pub from_kind : Chained → Option Elements
 from_kind m = part table (at 3 named.RefType) (whole (kind_number m.kind)) (last m)
 
-abbrev trace : Chained → Node
+abbrev pub trace : Chained → Node
 trace m = node_of (map replies.item_node m.trace)
 
-abbrev from_trace : Chained → Option Elements
+abbrev pub from_trace : Chained → Option Elements
 from_trace m = part table (at 2 named.Trace) (trace m) (from_kind m)
 
-abbrev from_progress : Chained → Option Elements
+abbrev pub from_progress : Chained → Option Elements
 from_progress m = part table (at 1 named.Progress) (replies.progress_node m.progress) (from_trace m)
 
-abbrev all : Chained → Option Elements
+abbrev pub all : Chained → Option Elements
 all m = part table (at 0 named.Name) (name_node m.target) (from_progress m)
 
-abbrev alone : Component → Node → Option Elements
+abbrev pub alone : Component → Node → Option Elements
 alone c n = part table c n (Some elements.Nil)
 
 chaining_is : (m : Chained) → of named.Chaining (chaining_node m) ≡ around 0 17 (all m)
@@ -221,7 +222,7 @@ argument m = of (named.Argument (asked_by m.request.body)) (argument_node m.requ
 abbrev pub carried : Chained → Option Element
 carried m = of (named.Chained (asked_by m.request.body)) (carried_node m)
 
-abbrev two : Option Element → Option Element → Option Elements
+abbrev pub two : Option Element → Option Element → Option Elements
 two a b = one_before a (one_before b (Some elements.Nil))
 
 carried_is : (m : Chained) → carried m ≡ around 0 16 (two (chaining m) (argument m))
@@ -249,7 +250,7 @@ chaining_lost m fault mid new old late r passed put =
 
 -- ---- the message
 
-abbrev with : Chained → Controls → Body → Chained
+abbrev pub with : Chained → Controls → Body → Chained
 with m c b = record {
   target = m.target;
   progress = m.progress;

@@ -45,13 +45,13 @@ pub done_put : (old new : List ℕ) → new ≡ (48 ∷ 3 ∷ 10 ∷ 1 ∷ 3 ∷
 done_put old new e w = phase_put w 3 (of w named.Progress (replies.progress_node Done)) old new refl e
 
 -- the second phase
-abbrev second : Option Element
+abbrev pub second : Option Element
 second = Some (elements.Primitive 0 10 (2 ∷ []))
 
-abbrev next : Surroundings → ℕ → Option Element
+abbrev pub next : Surroundings → ℕ → Option Element
 next w k = of w (named.NumberBelow 1 16) (nodes.whole k)
 
-abbrev proceeding : ℕ → nodes.Node
+abbrev pub proceeding : ℕ → nodes.Node
 proceeding k = node_of (nodes.whole 2 ∷ nodes.whole k ∷ [])
 
 proceeding_is : (w : Surroundings) (k : ℕ)
@@ -77,7 +77,7 @@ next_lost w k fault mid new old late r passed put =
 
 -- ---- items
 
-abbrev marked : Surroundings → Bool → Option Elements
+abbrev pub marked : Surroundings → Bool → Option Elements
 marked w wide = part (layout w) (or (nodes.Flag false) (plain named.Boolean)) (nodes.Flag wide) (Some elements.Nil)
 
 wide_put : (w : Surroundings) (wide : Bool) (old new : List ℕ)
@@ -85,19 +85,19 @@ wide_put : (w : Surroundings) (wide : Bool) (old new : List ℕ)
 wide_put w true old new e = (elements.More (elements.Primitive 0 1 (255 ∷ [])) elements.Nil, refl, e)
 wide_put w false old new e = (elements.Nil, refl, e)
 
-abbrev agent : Surroundings → replies.TraceItem → Option Element
+abbrev pub agent : Surroundings → replies.TraceItem → Option Element
 agent w i = of w named.AgentName (nodes.Text i.agent)
 
-abbrev target : Surroundings → replies.TraceItem → Option Element
+abbrev pub target : Surroundings → replies.TraceItem → Option Element
 target w i = of w named.Name (name_node i.target)
 
-abbrev progress : Surroundings → replies.TraceItem → Option Element
+abbrev pub progress : Surroundings → replies.TraceItem → Option Element
 progress w i = of w named.Progress (replies.progress_node i.progress)
 
-abbrev item : Surroundings → replies.TraceItem → Option Element
+abbrev pub item : Surroundings → replies.TraceItem → Option Element
 item w i = of w named.TraceItem (replies.item_node i)
 
-abbrev parts : Surroundings → replies.TraceItem → Option Elements
+abbrev pub parts : Surroundings → replies.TraceItem → Option Elements
 parts w i = one_before (agent w i) (one_before (target w i) (one_before (progress w i) (marked w i.wide)))
 
 item_is : (w : Surroundings) (i : replies.TraceItem) → item w i ≡ around 0 16 (parts w i)
