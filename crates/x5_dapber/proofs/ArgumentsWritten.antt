@@ -72,13 +72,13 @@ none_put old = (elements.Nil, refl, refl)
 abbrev pub controls : Bool → Bool → Option ℕ → Node
 controls nocopy nochain size = requests.controls_node (record { nocopy = nocopy; nochain = nochain; size = size })
 
-pub unlimited : (a b : Bool) (s : Option ℕ) → s ≡ None → a ≡ false → not b ≡ same layouts.no_controls (controls a b s)
+pub unlimited : (a b : Bool) (s : Option ℕ) → s ≡ None → not a ≡ true → not b ≡ same layouts.no_controls (controls a b s)
 unlimited true b s is h = absurd (cc h)
 unlimited false b (Some k) is h = absurd (cc is)
 unlimited false true None is h = refl
 unlimited false false None is h = refl
 
-pub masters_only : (a b : Bool) (s : Option ℕ) → a ≡ true → false ≡ same layouts.no_controls (controls a b s)
+pub masters_only : (a b : Bool) (s : Option ℕ) → not a ≡ false → false ≡ same layouts.no_controls (controls a b s)
 masters_only true b s h = refl
 masters_only false b s h = absurd (cc h)
 

@@ -15,8 +15,8 @@ returns-in-Base c =
 
 pub returns-in_ok-put_all-in-One : goal.returns-in_ok-put_all-in-One
 returns-in_ok-put_all-in-One c =
-    subst (λ (s : Subset). Puts {Y = Unit {0}} canonical_all (alone (subset (subset_view s))) c.args.out.now c.put_all-in-One.new.self (Ok tt))
-    (sym c.in-One.is) (one_level_put c.args.out.now c.put_all-in-One.new.self c.in_ok-put_all-in-One.ensures)
+    subst (λ (s : Subset). Puts {Y = Unit {0}} canonical_all (alone (subset (subset_view s))) c.args.out.now c.put_all.new.self (Ok tt))
+    (sym c.in-One.is) (one_level_put c.args.out.now c.put_all.new.self c.in_ok-put_all-in-One.ensures)
 
 pub returns-in_ok-put_all-in-Tree : goal.returns-in_ok-put_all-in-Tree
 returns-in_ok-put_all-in-Tree c =

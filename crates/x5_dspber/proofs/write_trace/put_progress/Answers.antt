@@ -11,8 +11,13 @@ use Rattle.x5_dspber.proofs.write_trace.put_progress.Goals as goal
 
 pub returns-in_ok-put_all-in-NotStarted : goal.returns-in_ok-put_all-in-NotStarted
 returns-in_ok-put_all-in-NotStarted c =
-    subst (λ (p : Progress). PutsOf {Y = Unit {0}} named.Progress (progress_node (progress_view p)) c.args.out.now c.put_all-in-NotStarted.new.self (Ok tt))
-    (sym c.in-NotStarted.is) (start_put c.args.out.now c.put_all-in-NotStarted.new.self c.in_ok-put_all-in-NotStarted.ensures)
+    subst (λ (p : Progress). PutsOf {Y = Unit {0}} named.Progress (progress_node (progress_view p)) c.args.out.now c.put_all.new.self (Ok tt))
+    (sym c.in-NotStarted.is) (start_put c.args.out.now c.put_all.new.self c.in_ok-put_all-in-NotStarted.ensures)
+
+pub returns-in-Proceeding : goal.returns-in-Proceeding
+returns-in-Proceeding c =
+    subst (λ (p : Progress). PutsOf named.Progress (progress_node (progress_view p)) c.args.out.now c.put_proceeding.new.out c.put_proceeding.result)
+    (sym c.in-Proceeding.is) c.put_proceeding.ensures
 
 pub returns-in_ok-put_all-in-Completed : goal.returns-in_ok-put_all-in-Completed
 returns-in_ok-put_all-in-Completed c =
