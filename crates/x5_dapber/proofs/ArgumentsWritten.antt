@@ -78,7 +78,7 @@ unlimited false b (Some k) is h = absurd (cc is)
 unlimited false true None is h = refl
 unlimited false false None is h = refl
 
-pub masters_only : (a b : Bool) (s : Option ℕ) → not a ≡ false → false ≡ same layouts.no_controls (controls a b s)
+pub masters_only : (a b : Bool) (s : Option ℕ) → not a ≡ false → not a ≡ same layouts.no_controls (controls a b s)
 masters_only true b s h = refl
 masters_only false b s h = absurd (cc h)
 

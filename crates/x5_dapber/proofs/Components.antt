@@ -56,9 +56,12 @@ optional_put true o os old mid new others put =
     (others.0, others.1, put.2 ∙ ap (λ (e : Elements). canonical_all e ++ mid) same ∙ others.2)
 optional_put false o os old mid new others put =
     let a = alone o put.0 put.1 in
-    one_put o os old mid new others
-    (a.0, a.1, put.2 ∙ ap (λ (e : Elements). canonical_all e ++ mid) a.2
-    ∙ ap (λ (l : List ℕ). l ++ mid) (append-nil (canonical a.0)))
+    one_put o os old mid new others (
+      a.0,
+      a.1,
+      put.2 ∙ ap (λ (e : Elements). canonical_all e ++ mid) a.2
+          ∙ ap (λ (l : List ℕ). l ++ mid) (append-nil (canonical a.0)),
+    )
 
 optional_lost : (b : Bool) (o : Option Element) (os : Option Elements) (fault : WriteFault) (mid new old late : List ℕ)
     → AreLost (optional b o (Some elements.Nil)) mid new fault → AreLost (optional b o os) old late fault

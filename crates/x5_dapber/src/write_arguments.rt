@@ -277,11 +277,7 @@ fn put_other(alloc: Global, out: &mut Backwards, request: &Request) -> Result<()
 }
 
 /// The argument of an operation, with its controls.
-pub fn put_argument(
-    alloc: Global,
-    out: &mut Backwards,
-    request: &Request,
-) -> Result<(), WriteFault>
+pub fn put_argument(alloc: Global, out: &mut Backwards, request: &Request) -> Result<(), WriteFault>
     ensures { PutsValue (named.Argument (asked_by (body_view request.now.body))) (requests.argument_node (request_view request.now)) out.old out.new result }
 {
     let controls = request.controls;
