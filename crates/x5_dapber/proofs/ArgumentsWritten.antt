@@ -1,17 +1,16 @@
 -- What is written of an argument is what is written of its components, those that have their defaults left out.
-use Rattle.std.proofs.Common.{◌≡◌, ℕ, Bool, true, false, List, [], ◌∷◌, ◌++◌, length, map, refl, ap, sym, subst, ◌∙◌}
-use Rattle.std.specs.Prelude.{not, ◌&&◌}
+use Rattle.std.proofs.Common.{◌≡◌, ℕ, Bool, true, false, List, [], ◌∷◌, ◌++◌, length, map, refl}
+use Rattle.std.specs.Prelude.{not}
 use Rattle.std.specs.Result.{IsErrAnd}
 use Rattle.std.specs.declared.option.Option.{Option}
 use Rattle.std.specs.declared.option.Option.TheVariants.{None, Some}
 use Rattle.std.specs.declared.result.Result.{Result}
-use Rattle.std.specs.declared.result.Result.TheVariants.{Ok, Err}
 use Rattle.x5_model.specs.Requests as model
 use Rattle.x5_model.specs.Values.{TypeRef}
 use Rattle.x5_model_messages.specs.Requests as requests
 use Rattle.x5_model_messages.specs.Terms.{node_of, type_node}
 use Rattle.x5_model_octets.specs.Elements as elements
-use Rattle.x5_model_octets.specs.Elements.{Element, Elements, canonical, canonical_all}
+use Rattle.x5_model_octets.specs.Elements.{Element, Elements, canonical}
 use Rattle.x5_model_typed.specs.Forms.{Component, at, or}
 use Rattle.x5_model_typed.specs.Layouts as layouts
 use Rattle.x5_model_typed.specs.Named as named
@@ -22,10 +21,10 @@ use Rattle.x5_writer.specs.Puts.{Puts}
 use Rattle.x5_writer.specs.declared.fault.WriteFault.{WriteFault}
 use Rattle.x5_direct_writer.specs.PutsOf.{Encloses}
 use Rattle.x5_direct_writer.proofs.Putting.{around, enclosed_put}
-use Rattle.x5_direct_writer.proofs.Wholes.{first_fault, inner_fault, last_put, passed_on, tagged_fault, tagged_put}
+use Rattle.x5_direct_writer.proofs.Wholes.{first_fault, inner_fault, last_put, tagged_fault, tagged_put}
 use Rattle.x5_dapber.specs.PutsPart.{part}
 use Rattle.x5_dapber.proofs.Asked.{of}
-use Rattle.x5_dapber.proofs.Components.{AreLost, ArePut, IsLost, IsPut, others_lost, part_lost, part_put, whole_lost}
+use Rattle.x5_dapber.proofs.Components.{AreLost, ArePut, IsPut, others_lost, part_lost, part_put, whole_lost}
 
 -- ---- components one after the other
 

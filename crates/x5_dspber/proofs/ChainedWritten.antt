@@ -1,12 +1,11 @@
 -- What is written of a message between agents is what is written of its parts, one in another.
-use Rattle.std.proofs.Common.{◌≡◌, ℕ, Bool, true, false, List, [], ◌∷◌, ◌++◌, length, map, refl, ap, sym, subst, ◌∙◌}
+use Rattle.std.proofs.Common.{◌≡◌, ℕ, true, false, List, [], ◌∷◌, ◌++◌, length, map, refl, ap, ◌∙◌}
 use Rattle.std.proofs.Math.Dec.{eqb-suc-zero}
 use Rattle.std.specs.Prelude.{◌==◌}
 use Rattle.std.specs.Result.{IsErrAnd}
 use Rattle.std.specs.declared.option.Option.{Option}
 use Rattle.std.specs.declared.option.Option.TheVariants.{Some}
 use Rattle.std.specs.declared.result.Result.{Result}
-use Rattle.std.specs.declared.result.Result.TheVariants.{Ok, Err}
 use Rattle.x5_model.specs.References.{RefType, Superior, Subordinate, Cross, NonSpecific, Supplier, Own}
 use Rattle.x5_model.specs.Requests.{Controls, Body, Read, Compare, ListBelow, Search, AddEntry, RemoveEntry, ModifyEntry, ModifyDn}
 use Rattle.x5_model.specs.Values.{Rdn}
@@ -25,7 +24,6 @@ use Rattle.x5_model_typed.specs.Written.{one_before, written_members}
 use Rattle.x5_types.specs.FormView.{table}
 use Rattle.x5_writer.specs.Puts.{Puts}
 use Rattle.x5_writer.specs.declared.fault.WriteFault.{WriteFault}
-use Rattle.x5_writer.specs.declared.fault.WriteFault.TheVariants.{Misfit, NoMemory}
 use Rattle.x5_direct_writer.specs.PutsOf.{Encloses}
 use Rattle.x5_direct_writer.proofs.Putting.{around, enclosed_put, one_put}
 use Rattle.x5_direct_writer.proofs.Wholes.{first_fault, inner_fault, last_put, later_fault}

@@ -1,5 +1,5 @@
 -- What is written of progress and of trace items is what is written of their parts, one in another.
-use Rattle.std.proofs.Common.{◌≡◌, ℕ, Bool, true, false, List, [], ◌∷◌, ◌++◌, length, refl, ap, ◌∙◌}
+use Rattle.std.proofs.Common.{◌≡◌, ℕ, Bool, true, false, List, [], ◌∷◌, ◌++◌, length, refl}
 use Rattle.std.specs.Prelude.{if◌then◌else◌}
 use Rattle.std.specs.Result.{IsErrAnd}
 use Rattle.std.specs.declared.option.Option.{Option}
@@ -22,7 +22,7 @@ use Rattle.x5_direct_writer.specs.PutsOf.{Encloses, PutsOf}
 use Rattle.x5_direct_writer.proofs.Putting.{around, enclosed_put, one_put}
 use Rattle.x5_direct_writer.proofs.Wholes.{first_fault, last_put, later_fault}
 use Rattle.x5_dapber.specs.PutsPart.{part}
-use Rattle.x5_dapber.proofs.Components.{ArePut, AreLost, IsLost, IsPut, whole_lost}
+use Rattle.x5_dapber.proofs.Components.{ArePut, IsLost, IsPut, whole_lost}
 
 -- what is written of a value of the type
 abbrev pub of : Surroundings → named.Named → nodes.Node → Option Element

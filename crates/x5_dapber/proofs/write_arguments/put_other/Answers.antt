@@ -6,7 +6,6 @@ use Rattle.x5_model_typed.specs.Named as named
 use Rattle.x5_model_typed.specs.Nodes.{Node}
 use Rattle.x5_ops.specs.RequestViews.{request_view}
 use Rattle.x5_types.specs.FormView.{operation_view}
-use Rattle.x5_types.specs.NodeView.{node_view}
 use Rattle.x5_writer.specs.Puts.{Puts}
 use Rattle.x5_dapber.proofs.Asked.{of}
 use Rattle.x5_dapber.proofs.write_arguments.put_other.Goals as goal

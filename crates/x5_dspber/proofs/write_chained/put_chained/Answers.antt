@@ -4,7 +4,6 @@ use Rattle.x5_model_messages.specs.Chained.{chained_node}
 use Rattle.x5_model_run.specs.Journal.{operation_of}
 use Rattle.x5_model_typed.specs.Named as named
 use Rattle.x5_model_typed.specs.Nodes.{whole}
-use Rattle.x5_ops.specs.JournalViews.{code_view}
 use Rattle.x5_dapber.proofs.Asked.{id_form, of}
 use Rattle.x5_dapber.proofs.Components.{IsLost, IsPut, first_lost, second_lost, third_lost, three_put}
 use Rattle.x5_dspber.specs.ChainedViews.{told_chained}
