@@ -1,14 +1,13 @@
 -- What is written of an argument is what is written of its components, those that have their defaults left out.
-use Rattle.std.proofs.Common.{◌≡◌, ℕ, Bool, true, false, List, [], ◌∷◌, ◌++◌, length, map, refl}
+use Rattle.std.proofs.Common.{◌≡◌, ℕ, Bool, true, false, List, [], ◌∷◌, ◌++◌, length, refl}
 use Rattle.std.specs.Prelude.{not}
 use Rattle.std.specs.Result.{IsErrAnd}
 use Rattle.std.specs.declared.option.Option.{Option}
 use Rattle.std.specs.declared.option.Option.TheVariants.{None, Some}
 use Rattle.std.specs.declared.result.Result.{Result}
 use Rattle.x5_model.specs.Requests as model
-use Rattle.x5_model.specs.Values.{TypeRef}
 use Rattle.x5_model_messages.specs.Requests as requests
-use Rattle.x5_model_messages.specs.Terms.{node_of, type_node}
+use Rattle.x5_model_messages.specs.Terms.{node_of}
 use Rattle.x5_model_octets.specs.Elements as elements
 use Rattle.x5_model_octets.specs.Elements.{Element, Elements, canonical}
 use Rattle.x5_model_typed.specs.Forms.{Component, at, or}
@@ -88,9 +87,6 @@ limited false false None k is = absurd (cc is)
 limited false false (Some l) k is = refl
 
 -- ---- selections
-
-abbrev types : List TypeRef → Node
-types kinds = node_of (map type_node kinds)
 
 abbrev members : List Node → Option Elements
 members ns = written_members table (table named.AnyOid) (row ns)
