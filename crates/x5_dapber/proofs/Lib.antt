@@ -1,5 +1,8 @@
+mod ArgumentsWritten
+pub mod Asked
 pub mod AttributeParts
 pub mod Clock
+pub mod Components
 pub mod Decoding
 pub mod FilterLevels
 mod FilterMembers

@@ -15,6 +15,8 @@ mod read_filters;
 pub mod read_parts;
 pub mod read_values;
 pub mod values;
+pub mod write_arguments;
+pub mod write_parts;
 
 pub use crate::fault::WireFault;
 pub use crate::messages::{decode_request, encode_request};

@@ -1,6 +1,7 @@
 mod Carried
 mod ChainedIsSayable
 mod ChainedSpelled
+mod ChainedWritten
 mod DirectArgument
 mod DirectParts
 mod DirectSet
@@ -9,3 +10,4 @@ mod DirectWhole
 mod Five
 mod MessagesShort
 mod ResultIsSayable
+mod TraceWritten

@@ -20,9 +20,9 @@ ghost use Rattle.x5_typed.specs.Comes.{ComesTo};
 ghost use Rattle.x5_types.specs.FormView.{table};
 ghost use Rattle.x5_types.specs.NodeView.{node_view};
 
-use crate::chained::chained_node;
 use crate::direct::message_in;
 use crate::read_chained::chained_in;
+use crate::write_chained::write_chained;
 use std::alloc::Global;
 use x5_dapber::WireFault;
 use x5_dapreply::direct::usual_reply;
@@ -51,8 +51,7 @@ pub fn encode_chained(alloc: Global, id: u32, message: &Chained) -> Result<Octet
     ensures spelled { Fits table (table named.DspRequest) (chains.chained_node id (told_chained message.now))
         → IfOk result (λ octets. Spells table named.DspRequest octets (chains.chained_node id (told_chained message.now))) }
 {
-    let node = chained_node(alloc, id, message)?;
-    Ok(Octets::new(write(alloc, Named::DspRequest, &node)?))
+    Ok(Octets::new(write_chained(alloc, id, message)?))
 }
 
 /// What an agent's message says, read by the table of types, in whatever spelling.
