@@ -1,11 +1,15 @@
+mod ArgumentsSpelled
 pub mod AttributeParts
 pub mod Clock
+pub mod Coming
 pub mod Decoding
+pub mod DirectArgument
 pub mod FilterLevels
 mod FilterMembers
 mod FilterRows
 pub mod Fitting
 mod Invokes
+pub mod Invoking
 pub mod Levels
 pub mod Members
 pub mod NamesShort
@@ -15,4 +19,5 @@ pub mod RequestRooms
 mod RequestsSpelled
 pub mod Rooms
 mod Selections
+pub mod Sets
 pub mod Tags

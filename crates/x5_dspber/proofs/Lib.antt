@@ -1,9 +1,7 @@
 mod Carried
 mod ChainedIsSayable
 mod ChainedSpelled
-mod DirectArgument
 mod DirectParts
-mod DirectSet
 mod DirectTrace
 mod DirectWhole
 mod Five
