@@ -14,7 +14,7 @@ use Rattle.x5_dapber.proofs.Sets.{next_given, next_missing}
 use Rattle.x5_dapber.proofs.direct.filter_at.Goals as goal
 
 pub filter_in-requires : goal.filter_in-requires
-filter_in-requires c = filter_fits (node_view c.in_ok-node.node) c.in_ok-node.ensures.fits
+filter_in-requires c = record { said = filter_fits (node_view c.in_ok-node.node) c.in_ok-node.ensures.fits }
 
 pub returns-in_default : goal.returns-in_default
 returns-in_default c =
