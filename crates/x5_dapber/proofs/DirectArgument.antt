@@ -1,6 +1,6 @@
 -- What octets begin with a spelling of fits its type, and the argument of an operation is one for whose parts the code
 -- has types.
-use Rattle.std.proofs.Common.{◌≡◌, ℕ, ◌+◌, true, List, [], ◌∷◌, ◌++◌, refl, sym, ap, subst, ◌∙◌, arith}
+use Rattle.std.proofs.Common.{◌≡◌, ℕ, true, List, [], ◌∷◌, ◌++◌, refl, sym, ap, subst, ◌∙◌, arith}
 use Rattle.std.specs.List.{list_all}
 use Rattle.x5_model.proofs.Lists.{both_true}
 use Rattle.x5_model_typed.specs.Named as named

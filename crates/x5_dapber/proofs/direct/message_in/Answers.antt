@@ -1,5 +1,5 @@
 -- An id, a code and the argument of its operation are the message.
-use Rattle.std.proofs.Common.{ℕ, arith, ap, refl}
+use Rattle.std.proofs.Common.{arith, ap, refl}
 use Rattle.x5_model.specs.Requests as model
 use Rattle.x5_model_typed.specs.Named as named
 use Rattle.x5_types.specs.FormView.{operation_view}
