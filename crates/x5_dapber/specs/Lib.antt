@@ -1,3 +1,4 @@
+pub mod Direct
 pub mod PutsPart
 pub mod Results
 pub mod Sayable

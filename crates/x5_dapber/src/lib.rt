@@ -4,6 +4,7 @@
 
 pub mod arguments;
 mod attributes;
+pub mod direct;
 mod fault;
 mod filters;
 mod messages;

@@ -17,6 +17,7 @@ ghost use Rattle.x5_typed.specs.Comes.{ComesTo};
 ghost use Rattle.x5_types.specs.FormView.{table};
 ghost use Rattle.x5_writer.specs.Puts.{Writes};
 
+use crate::direct::message_in;
 use crate::fault::WireFault;
 use crate::read_arguments::request_in;
 use crate::write_arguments::put_argument;
@@ -69,6 +70,18 @@ pub fn encode_request(alloc: Global, id: u32, request: &Request) -> Result<Octet
     Ok(Octets::new(write_request(alloc, id, request)?))
 }
 
+/// What a user's message says, read by the table of types, in whatever spelling.
+fn request_by_table(alloc: Global, octets: &[u8]) -> Result<(u32, Request), WireFault>
+    ensures decodes { (e : Result nodes.Node judged.Breach) → ComesTo named.DapRequest octets.now e
+        → Decodes (λ p. (p.0, request_view p.1)) requests.request_in e result }
+    ensures comes { (e : Result nodes.Node judged.Breach) × ComesTo named.DapRequest octets.now e }
+    ensures spelled { IfOk result (λ p. (n : nodes.Node) × Spells table named.DapRequest octets.now n
+        × ((p.0, request_view p.1) ≡ requests.request_in n)) }
+{
+    let node = read(alloc, Named::DapRequest, octets)?;
+    Ok(request_in(alloc, &node)?)
+}
+
 /// The id and the request of a user's message (X.519, section 7): of octets that are one spelling of it and nothing else.
 ///
 /// # Errors
@@ -90,6 +103,8 @@ pub fn decode_request(alloc: Global, octets: &[u8]) -> Result<(u32, Request), Wi
     ensures back { (id : ℕ) (r : model.Request) → IsBody r.body → Spells table named.DapRequest octets.now (requests.request_node id r)
         → IsRead {Y = ℕ × model.Request} (λ p. (p.0, request_view p.1)) (id, r) result }
 {
-    let node = read(alloc, Named::DapRequest, octets)?;
-    Ok(request_in(alloc, &node)?)
+    let Ok(request) = message_in(alloc, octets) else {
+        return request_by_table(alloc, octets);
+    };
+    Ok(request)
 }

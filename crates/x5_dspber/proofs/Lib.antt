@@ -2,9 +2,7 @@ mod Carried
 mod ChainedIsSayable
 mod ChainedSpelled
 mod ChainedWritten
-mod DirectArgument
 mod DirectParts
-mod DirectSet
 mod DirectTrace
 mod DirectWhole
 mod Five

@@ -14,6 +14,7 @@ ghost use Rattle.x5_ops.specs.ReferenceViews.{kind_view, progress_view};
 ghost use Rattle.x5_trace.specs.Items.{same_named};
 
 use std::alloc::Global;
+use x5_dapber::direct::small_at;
 use x5_direct::Unread;
 use x5_direct::element::opened;
 use x5_direct::names::{name_at, rdns_in};
@@ -22,21 +23,6 @@ use x5_ops::{AgentName, Progress, RdnList, RefType, Trace, TraceItem};
 use x5_syntax::Text;
 use x5_trace::{MOST_ITEMS, push, repeats};
 use x5_types::{Letters, Surroundings, is_text};
-
-/// The number below 128 in an element of that identifier and of one octet, which the octets begin with, and the octets behind it.
-#[inline]
-pub(crate) fn small_at(first: u8, octets: &[u8]) -> Option<(u8, &[u8])>
-    ensures is { IfSome result (λ r. octets.now ≡ first ∷ 1 ∷ r.0 ∷ r.1.now) }
-    ensures small { IfSome result (λ r. r.0 < 128) }
-{
-    let [identifier, length, number, rest @ ..] = octets else {
-        return None;
-    };
-    if *identifier != first || *length != 1 || *number >= 128 {
-        return None;
-    }
-    Some((*number, rest))
-}
 
 /// How far a name is resolved, as the content says.
 fn progress_of(content: &[u8]) -> Option<Progress>

@@ -1,10 +1,10 @@
 -- Components of a SET that stand in the order of their context tags make a spelling of it: behind each no other has its
 -- tag.
-use Rattle.std.proofs.Common.{◌≡◌, ℕ, ◌+◌, ◌≤◌, ◌<◌, ◌%◌, ◌==◌, true, false, List, [], ◌∷◌, ◌++◌, length}
+use Rattle.std.proofs.Common.{◌≡◌, ℕ, ◌+◌, ◌-◌, ◌/◌, ◌≤◌, ◌<◌, ◌%◌, ◌==◌, Bool, cond, true, false, List, [], ◌∷◌, ◌++◌, length}
 use Rattle.std.proofs.Common.{refl, ap, sym, ◌∙◌, subst, arith, append_assoc, append-nil}
-use Rattle.std.proofs.lemmas.Bool.{ne_eqb}
+use Rattle.std.proofs.lemmas.Bool.{ne_eqb, eq-eqb}
 use Rattle.std.specs.declared.option.Option.{Option}
-use Rattle.std.specs.declared.option.Option.TheVariants.{Some}
+use Rattle.std.specs.declared.option.Option.TheVariants.{None, Some}
 use Rattle.x5_model_octets.specs.Headers.{Identifier, IsHeader, identifier_of}
 use Rattle.x5_model_octets.specs.Elements.{deepest, identifier}
 use Rattle.x5_model_typed.specs.Trees as trees
@@ -16,8 +16,9 @@ use Rattle.x5_model_typed.specs.Forms.{is_component}
 use Rattle.x5_model_typed.specs.Layouts.{Surroundings, layout}
 use Rattle.x5_model_typed.specs.Typed as typed
 use Rattle.x5_model_typed.specs.Typed.{IsOf, IsMissing}
-use Rattle.x5_direct.specs.Spelled.{Opens, Spelled, SpelledIn}
-use Rattle.x5_dspber.specs.Direct.{AreFrom, SpelledInSet}
+use Rattle.x5_direct.specs.Spelled.{Opens, Spelled, SpelledIn, Reads}
+use Rattle.x5_direct.proofs.Spelling.{spelled_higher}
+use Rattle.x5_dapber.specs.Direct.{AreFrom, SpelledInSet, ReadsNext}
 
 abbrev behind_tag : ℕ → Named → Alternative
 behind_tag k form = context k (Explicit form)
@@ -141,3 +142,42 @@ pub set_in : (levels low : ℕ) (cs : List Component) (ns : List Node) (octets :
 set_in levels low cs ns octets all depth at room =
     let e = all depth at room in
     record { members = e.members; lie = e.lie; hold = λ w. typed.in_any_order (e.any_order w) }
+
+-- ---- what is said of components
+
+-- the identifier octet of a constructed element with a context tag
+tag_octet : (first : ℕ) → 160 ≤ first → first < 191
+    → identifier_of first (first % 32) ≡ identifier true 2 (first - 160)
+tag_octet first low high =
+    let class : first / 64 ≡ 2 = omega (arith, low, high) in
+    let constructed : first / 32 % 2 ≡ 1 = omega (arith, low, high) in
+    let tag : first % 32 ≡ first - 160 = omega (arith, low, high) in
+    rw (class, constructed, tag) refl
+
+found_tag : (k : ℕ) (form : Named) → by_tag 2 k (behind_tag k form ∷ []) ≡ Some (behind_tag k form)
+found_tag k form = ap (λ (b : Bool). cond b (Some (behind_tag k form)) None) (eq-eqb k k refl)
+
+-- A component that stands there.
+pub next_given : {X : Type 0} (levels first : ℕ) (form : Named) (p : Presence) (says : Node → X) (x : X)
+    (content octets rest : List ℕ) → 160 ≤ first → first < 191 → Opens first content octets rest
+    → Reads levels form says x content []
+    → ReadsNext (levels + 1) (first - 160) (tagged_as (first - 160) form p) says x octets rest
+next_given levels first form p says x content octets rest low high o r = (
+  r.0,
+  λ least cs ns less others.
+      set_given (levels + 1) (first - 160) least form p cs r.0 ns octets rest less (found_tag (first - 160) form)
+      (tagged levels (first - 160) form first r.0 content octets rest o (tag_octet first low high)
+      (found_tag (first - 160) form) r.1) others,
+  r.2,
+)
+
+-- One that's missing.
+pub next_missing : {X : Type 0} (levels k : ℕ) (form : Named) (d : Node) (says : Node → X) (x : X) (octets : List ℕ)
+    → x ≡ says d → ReadsNext levels k (tagged_as k form (Default d)) says x octets octets
+next_missing levels k form d says x octets e =
+    (d, λ least cs ns less others. set_missing levels k least form d cs ns octets less others, e)
+
+pub reads_higher : {X : Type 0} (levels more : ℕ) (form : Named) (says : Node → X) (x : X) (octets rest : List ℕ)
+    → levels ≤ more → Reads levels form says x octets rest → Reads more form says x octets rest
+reads_higher levels more form says x octets rest less r =
+    (r.0, spelled_higher levels more form r.0 octets rest less r.1, r.2)
