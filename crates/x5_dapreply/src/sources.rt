@@ -24,11 +24,11 @@ use x5_writer::{Backwards, WriteFault, write_node};
 pub(crate) fn put_count(
     alloc: Global,
     out: &mut Backwards,
-    number_of: u32,
+    value: u32,
 ) -> Result<(), WriteFault>
-    ensures { PutsOf count (nodes.whole number_of) out.old out.new result }
+    ensures { PutsOf count (nodes.whole value) out.old out.new result }
 {
-    let node = number(number_of);
+    let node = number(value);
     write_node(
         alloc,
         out,
