@@ -5,12 +5,11 @@ use Rattle.std.specs.declared.option.Option.{Option}
 use Rattle.std.specs.declared.option.Option.TheVariants.{Some}
 use Rattle.std.specs.declared.result.Result.{Result}
 use Rattle.x5_model_messages.specs.Replies as replies
-use Rattle.x5_model_messages.specs.Terms.{node_of}
 use Rattle.x5_model_octets.specs.Elements.{Elements, canonical}
 use Rattle.x5_model_typed.specs.Forms.{Component, at, or, plain}
 use Rattle.x5_model_typed.specs.Layouts.{Surroundings, layout, no_qualifier, optional}
 use Rattle.x5_model_typed.specs.Named as named
-use Rattle.x5_model_typed.specs.Nodes.{Node, row, whole}
+use Rattle.x5_model_typed.specs.Nodes.{Node, row}
 use Rattle.x5_model_typed.specs.Written.{canonical_octets, tagged_with, written, written_components}
 use Rattle.x5_ops.specs.declared.journal.Operation.{Operation}
 use Rattle.x5_ops.specs.declared.journal.Operation.TheVariants as operations

@@ -56,7 +56,7 @@ fn put_sources(alloc: Global, out: &mut Backwards, sources: &[Source]) -> Result
 }
 
 /// Where the entry is from, in that tag.
-fn put_origin(
+fn put_tagged_source(
     alloc: Global,
     out: &mut Backwards,
     tag: u32,
@@ -110,7 +110,7 @@ fn put_read(
     ensures { PutsPart (named.Outcome named.Read) (node_of (replies.info_node (info_view entry.now) ∷ replies.source_node (told_source source.now) ∷ [])) out.old out.new result }
 {
     let behind = out.len();
-    put_origin(alloc, out, 1, source)?;
+    put_tagged_source(alloc, out, 1, source)?;
     put_entry(alloc, out, entry)?;
     enclose(out, 0, 17, behind)?;
     Ok(())
@@ -141,7 +141,7 @@ fn put_compared(
     ensures { PutsPart (named.Outcome named.Compare) (replies.answer_node (replies.Match matched copy (told_source source.now))) out.old out.new result }
 {
     let behind = out.len();
-    put_origin(alloc, out, 2, source)?;
+    put_tagged_source(alloc, out, 2, source)?;
     put_verdict(out, matched, copy)?;
     enclose(out, 0, 17, behind)?;
     Ok(())

@@ -1,13 +1,10 @@
 -- What is written of the name of an agent.
 use Rattle.std.proofs.Common.{◌≡◌, ℕ, Bool, true, false, List, ap, ◌∙◌}
-use Rattle.std.specs.List.{find}
 use Rattle.std.specs.Option.{is_some}
 use Rattle.std.specs.Prelude.{if◌then◌else◌}
-use Rattle.std.specs.declared.option.Option.{Option}
 use Rattle.std.specs.declared.option.Option.TheVariants.{None, Some}
 use Rattle.x5_model.specs.Words.{in_option}
 use Rattle.x5_model_octets.specs.Elements as elements
-use Rattle.x5_model_octets.specs.Elements.{Element}
 use Rattle.x5_model_typed.specs.Forms.{Alternative}
 use Rattle.x5_model_typed.specs.Layouts.{Surroundings, agent_name, any_agent, layout}
 use Rattle.x5_model_typed.specs.Leaves.{is_agent_name, where_so}

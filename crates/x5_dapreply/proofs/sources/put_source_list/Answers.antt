@@ -1,5 +1,5 @@
 -- Each source is a member.
-use Rattle.std.proofs.Common.{ap, map, sym, ◌∙◌}
+use Rattle.std.proofs.Common.{map}
 use Rattle.std.proofs.Common.{refl}
 use Rattle.x5_dapreply.specs.ReplyViews.{told_source}
 use Rattle.x5_model_messages.specs.Replies as replies

@@ -1,5 +1,5 @@
 -- The code and the result stand in the element.
-use Rattle.std.proofs.Common.{[], ◌∷◌, ℕ, List, refl, subst, sym}
+use Rattle.std.proofs.Common.{[], ◌∷◌, ◌∙◌, ℕ, List, ap, subst, sym}
 use Rattle.x5_model_messages.specs.Replies as replies
 use Rattle.x5_model_messages.specs.Terms.{node_of}
 use Rattle.x5_model_typed.specs.Named as named
@@ -30,4 +30,5 @@ returns c =
     pair_put 0 16 c.len-behind.result (of named.DapResult (node_of (whole (code_view op) ∷ s ∷ []))) (digit (code_view op))
     (of (named.Outcome (form_of op)) s) c.args.out.now early late c.enclose.new.out (coded_is op s)
     c.len-behind.ensures c.in_ok-enclose.ensures c.in_ok-put_answer.ensures
-    (subst (λ (l : List ℕ). IsPut (digit (code_view op)) early l) (sym ?) (digit_put (code_view op) early))
+    (subst (λ (l : List ℕ). IsPut (digit (code_view op)) early l)
+    (sym (c.in_ok-put_all.ensures ∙ ap (λ (k : ℕ). 2 ∷ 1 ∷ k ∷ early) c.code.ensures)) (digit_put (code_view op) early))

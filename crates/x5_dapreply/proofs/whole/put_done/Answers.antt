@@ -1,6 +1,5 @@
 -- The id and the result stand in the element.
 use Rattle.std.proofs.Common.{[], ◌∷◌}
-use Rattle.std.specs.declared.option.Option.TheVariants.{Some}
 use Rattle.x5_model_messages.specs.Replies as replies
 use Rattle.x5_model_messages.specs.Terms.{node_of}
 use Rattle.x5_model_typed.specs.Named as named

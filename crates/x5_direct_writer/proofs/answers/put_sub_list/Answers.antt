@@ -1,5 +1,5 @@
 -- What is said of each entry is a member.
-use Rattle.std.proofs.Common.{ap, map, sym, ◌∙◌}
+use Rattle.std.proofs.Common.{map}
 use Rattle.std.proofs.Common.{refl}
 use Rattle.x5_ops.specs.AnswerViews.{sub_view}
 use Rattle.x5_model_messages.specs.Replies as replies

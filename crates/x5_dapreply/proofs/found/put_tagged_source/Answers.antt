@@ -7,7 +7,7 @@ use Rattle.x5_types.specs.FormView.{nowhere}
 use Rattle.x5_dapreply.specs.ReplyViews.{told_source}
 use Rattle.x5_direct_writer.proofs.Wholes.{passed_on}
 use Rattle.x5_dapreply.proofs.Founding.{at, part_fails, part_put}
-use Rattle.x5_dapreply.proofs.found.put_origin.Goals as goal
+use Rattle.x5_dapreply.proofs.found.put_tagged_source.Goals as goal
 
 pub returns-in_err-put_source : goal.returns-in_err-put_source
 returns-in_err-put_source c =
