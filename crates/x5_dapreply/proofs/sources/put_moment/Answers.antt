@@ -19,9 +19,10 @@ returns-in-None c w =
 
 pub returns-in-Some : goal.returns-in-Some
 returns-in-Some c w =
-    let some : Some c.in-Some.seconds ≡ c.args.moment = (rw c.in-Some.is at c.moment.view_is) in
+    let some : Some c.in-Some.field-0.0 ≡ c.args.moment = (rw c.in-Some.is at c.moment.view_is) in
     let old = c.args.out.now in
     let new = c.put_count.new.out in
     let r = c.put_count.result in
     subst (λ (m : Option ℕ). Puts canonical_all (moment_elements w m) old new r) some
-    (alone_puts (written (layout w) (layout w count) (whole c.in-Some.seconds)) old new r (c.put_count.ensures w))
+    (subst (λ (k : ℕ). Puts canonical_all (moment_elements w (Some k)) old new r) (sym c.in-Some.seconds-is)
+    (alone_puts (written (layout w) (layout w count) (whole c.in-Some.seconds)) old new r (c.put_count.ensures w)))

@@ -25,7 +25,8 @@ returns-in-Failed-Name c =
     let p = c.args.protocol in
     let id = c.args.id in
     let code = code_view c.args.operation in
-    let named : c.in-Failed-Name.field-0 ≡ errors.Name c.in-Failed-Name.matched = c.in-Failed-Name.field-0-is in
+    let named : c.in-Failed-Name.field-0 ≡ errors.Name c.in-Failed-Name.matched =
+    (rw c.in-Failed-Name.is at c.in-Failed-Name.field-0-is) in
     subst (λ (m : Reply). Writes (canonical_octets table (answer_form p) (reply_node (referral_of p) id (told_reply code m)))
     c.write_missing.result) (sym c.in-Failed-Name.is)
     (subst (λ (e : DirError). Writes (canonical_octets table (answer_form p)
