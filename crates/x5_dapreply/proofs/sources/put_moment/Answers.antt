@@ -24,5 +24,4 @@ returns-in-Some c w =
     let new = c.put_count.new.out in
     let r = c.put_count.result in
     subst (λ (m : Option ℕ). Puts canonical_all (moment_elements w m) old new r) some
-    (subst (λ (k : ℕ). Puts canonical_all (moment_elements w (Some k)) old new r) (sym c.in-Some.seconds-is)
-    (alone_puts (written (layout w) (layout w count) (whole c.in-Some.seconds)) old new r (c.put_count.ensures w)))
+    (alone_puts (written (layout w) (layout w count) (whole c.in-Some.field-0.0)) old new r (c.put_count.ensures w))
