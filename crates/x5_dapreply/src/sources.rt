@@ -21,11 +21,7 @@ use x5_types::{Named, Surroundings};
 use x5_writer::{Backwards, WriteFault, write_node};
 
 /// An id, or the seconds of a moment.
-pub(crate) fn put_count(
-    alloc: Global,
-    out: &mut Backwards,
-    value: u32,
-) -> Result<(), WriteFault>
+pub(crate) fn put_count(alloc: Global, out: &mut Backwards, value: u32) -> Result<(), WriteFault>
     ensures { PutsOf count (nodes.whole value) out.old out.new result }
 {
     let node = number(value);
