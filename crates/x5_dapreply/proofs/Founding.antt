@@ -1,6 +1,6 @@
 -- What is written of results and of whole replies is what is written of their parts, one in another.
-use Rattle.std.proofs.Common.{◌≡◌, ℕ, Bool, true, false, List, [], ◌∷◌, ◌++◌, length, map, refl, ap, sym, subst, append-nil}
-use Rattle.std.proofs.Common.{◌∙◌, ◌==◌, if◌then◌else◌}
+use Rattle.std.proofs.Common.{◌≡◌, ℕ, Bool, true, false, List, [], ◌∷◌, ◌++◌, length, map, refl, ap, sym, subst}
+use Rattle.std.proofs.Common.{◌∙◌, ◌==◌, if◌then◌else◌, append-nil}
 use Rattle.std.proofs.Math.Dec.{eqb-suc-zero}
 use Rattle.std.specs.Global.{Global}
 use Rattle.std.specs.Prelude.{Vec, not}

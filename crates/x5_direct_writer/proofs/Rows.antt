@@ -1,4 +1,4 @@
--- A constructed element of a first element and others: that it is put once both are, and that it is lost where one of them is.
+-- A constructed element of a first element and others: it is put once both are, and it is lost where one of them is.
 use Rattle.std.proofs.Common.{◌≡◌, ℕ, List, length}
 use Rattle.std.specs.Result.{IsErrAnd}
 use Rattle.std.specs.declared.option.Option.{Option}
