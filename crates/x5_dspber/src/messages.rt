@@ -18,7 +18,6 @@ ghost use Rattle.x5_ops.specs.JournalViews.{code_view};
 ghost use Rattle.x5_ops.specs.RequestViews.{request_view};
 ghost use Rattle.x5_typed.specs.Comes.{ComesTo};
 ghost use Rattle.x5_types.specs.FormView.{table};
-ghost use Rattle.x5_types.specs.NodeView.{node_view};
 
 use crate::direct::message_in;
 use crate::read_chained::chained_in;
@@ -28,12 +27,11 @@ use x5_dapber::WireFault;
 use x5_dapreply::direct::usual_reply;
 use x5_dapreply::read_replies::reply_in;
 use x5_dapreply::{Protocol, write_reply};
-use x5_memory::NoMemory;
 use x5_ops::{Chained, Operation, Reply};
 use x5_syntax::Octets;
 use x5_typed::read;
 use x5_types::Named;
-use x5_writer::{WriteFault, write};
+use x5_writer::WriteFault;
 
 /// The canonical octets of an agent's message with the id: what it asks, where that stands, who passed it on, and the argument of
 /// the operation as a user gives it (X.519, section 7; X.690, section 10).

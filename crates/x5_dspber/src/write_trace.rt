@@ -11,11 +11,12 @@ ghost use Rattle.x5_ops.specs.ReferenceViews.{progress_view};
 
 use std::alloc::Global;
 use x5_dapber::parts::number;
+use x5_direct_writer::answers::put_agent;
 use x5_direct_writer::enclose;
 use x5_direct_writer::names::put_name;
 use x5_memory::NoMemory;
-use x5_ops::{AgentName, Progress, TraceItem};
-use x5_types::{Characters, Named, Node, Surroundings};
+use x5_ops::{Progress, TraceItem};
+use x5_types::{Named, Surroundings};
 use x5_writer::{Backwards, WriteFault, write_node};
 
 /// That the RDN with the number is to be resolved next.
@@ -61,13 +62,6 @@ fn put_wide(out: &mut Backwards, wide: bool) -> Result<(), NoMemory>
     Ok(())
 }
 
-fn put_agent(alloc: Global, out: &mut Backwards, agent: &AgentName) -> Result<(), WriteFault>
-    ensures { PutsOf named.AgentName (nodes.Text agent.now) out.old out.new result }
-{
-    let node = Node::Text(Characters::Lent(agent.as_str()));
-    write_node(alloc, out, Surroundings::Nowhere, Named::AgentName, &node)
-}
-
 /// An item of trace information.
 fn put_item(alloc: Global, out: &mut Backwards, item: &TraceItem) -> Result<(), WriteFault>
     ensures { PutsOf named.TraceItem (replies.item_node (told_item item.now)) out.old out.new result }
@@ -76,7 +70,7 @@ fn put_item(alloc: Global, out: &mut Backwards, item: &TraceItem) -> Result<(), 
     put_wide(out, item.wide)?;
     put_progress(alloc, out, item.progress)?;
     put_name(alloc, out, &item.target)?;
-    put_agent(alloc, out, &item.agent)?;
+    put_agent(out, &item.agent)?;
     enclose(out, 0, 16, behind)?;
     Ok(())
 }
