@@ -52,7 +52,7 @@ fn chaining_in(alloc: Global, octets: &[u8]) -> Result<Chaining, Unread>
     let kind = kind_in(kind_part)?;
     let target = target_in(alloc, target_part)?;
     let exclusions = exclusions_in(alloc, rest)?;
-    let trace = trace_in(alloc, trace_part)?;
+    let trace = trace_in(alloc, &target, target_part, trace_part)?;
     Ok(Chaining {
         target,
         progress,

@@ -105,15 +105,41 @@ fn wide_in(octets: &[u8]) -> Option<bool>
     Some(true)
 }
 
+/// The name that the octets begin with, and how many octets it takes: the known one, where they begin with the octets that spell it.
+fn name_like(
+    alloc: Global,
+    known: &Name,
+    spelled: &[u8],
+    octets: &[u8],
+) -> Result<(Name, usize), Unread>
+    requires { Reads 3 named.Name terms.name_of known.now spelled.now [] }
+    ensures reads { IfOk result (λ r. Reads 3 named.Name terms.name_of r.0 octets.now (drop r.1 octets.now)) }
+    ensures some { IfOk result (λ r. (0 < r.1) × (r.1 ≤ length octets.now)) }
+{
+    if spelled.is_empty() {
+        return name_at(alloc, octets);
+    }
+    match octets.strip_prefix(spelled) {
+        Some(_) => Ok((known.clone()?, spelled.len())),
+        None => name_at(alloc, octets),
+    }
+}
+
 /// The item of trace information that the octets begin with, and how many octets it takes.
-fn item_at(alloc: Global, octets: &[u8]) -> Result<(TraceItem, usize), Unread>
+fn item_at(
+    alloc: Global,
+    known: &Name,
+    spelled: &[u8],
+    octets: &[u8],
+) -> Result<(TraceItem, usize), Unread>
+    requires { Reads 3 named.Name terms.name_of known.now spelled.now [] }
     ensures reads { IfOk result (λ r. Reads 4 named.TraceItem replies.item_in (told_item r.0) octets.now (drop r.1 octets.now)) }
     ensures some { IfOk result (λ r. (0 < r.1) × (r.1 ≤ length octets.now)) }
 {
     let (content, rest) = opened(0x30, octets)?;
     let taken = octets.len() - rest.len();
     let (agent, behind) = agent_at(content)?;
-    let (target, size) = name_at(alloc, behind)?;
+    let (target, size) = name_like(alloc, known, spelled, behind)?;
     let (progress, end) = progress_at(&behind[size..])?;
     let Some(wide) = wide_in(end) else {
         return Err(Unread::Unusual);
@@ -141,7 +167,13 @@ fn add(trace: &mut Trace, item: TraceItem) -> Result<(), Unread>
 }
 
 /// The different items, 128 at most, that are all of the octets.
-fn items_in(alloc: Global, octets: &[u8]) -> Result<Trace, Unread>
+fn items_in(
+    alloc: Global,
+    known: &Name,
+    spelled: &[u8],
+    octets: &[u8],
+) -> Result<Trace, Unread>
+    requires { Reads 3 named.Name terms.name_of known.now spelled.now [] }
     ensures each { IfOk result (λ t. ReadEach 4 named.TraceItem replies.item_in (map told_item t) octets.now) }
     ensures few { IfOk result (λ t. length t ≤ 128) }
     ensures apart { IfOk result (λ t. distinct same_named t ≡ true) }
@@ -149,22 +181,28 @@ fn items_in(alloc: Global, octets: &[u8]) -> Result<Trace, Unread>
     let mut trace = Trace::new(alloc);
     let mut left = octets;
     while !left.is_empty() {
-        let (item, taken) = item_at(alloc, left)?;
+        let (item, taken) = item_at(alloc, known, spelled, left)?;
         add(&mut trace, item)?;
         left = &left[taken..];
     }
     Ok(trace)
 }
 
-/// The trace information that is all of the octets.
-pub(crate) fn trace_in(alloc: Global, octets: &[u8]) -> Result<Trace, Unread>
+/// The trace information that is all of the octets; names in it are mostly the known one.
+pub(crate) fn trace_in(
+    alloc: Global,
+    known: &Name,
+    spelled: &[u8],
+    octets: &[u8],
+) -> Result<Trace, Unread>
+    requires { Reads 3 named.Name terms.name_of known.now spelled.now [] }
     ensures { IfOk result (λ t. Reads 5 named.Trace items_of (map told_item t) octets.now []) }
 {
     let (content, rest) = opened(0x30, octets)?;
     if !rest.is_empty() {
         return Err(Unread::Unusual);
     }
-    let trace = items_in(alloc, content)?;
+    let trace = items_in(alloc, known, spelled, content)?;
     Ok(trace)
 }
 
