@@ -78,3 +78,16 @@ front_kept levels form says octets left done now x None e a same = tt
 front_kept levels form says octets left done now x (Some f) e a same =
     subst (λ xs. BeginEach levels form says xs f.now) (all_but_last done now x e)
     (subst (λ (l : List ℕ). BeginEach levels form says done l) (sym same) (front_is levels form says octets left done a))
+
+-- Where the octets of a whole spelling stand again they spell the same.
+pub spelled_again : {X : Type 0} (levels : ℕ) (form : Named) (says : Node → X) (x : X) (spelled octets rest : List ℕ)
+    → Reads levels form says x spelled [] → octets ≡ spelled ++ rest → Reads levels form says x octets rest
+spelled_again levels form says x spelled octets rest r e = (
+  r.0,
+  record {
+    part = r.1.part;
+    whole = e ∙ ap (λ (l : List ℕ). l ++ rest) (r.1.whole ∙ append-nil r.1.part);
+    is_element = r.1.is_element;
+  },
+  r.2,
+)

@@ -259,6 +259,27 @@ pub fn name_at(alloc: Global, octets: &[u8]) -> Result<(Name, usize), Unread>
     Ok((name, taken))
 }
 
+/// The name that the octets begin with, and how many octets it takes: a known one, where they begin with the octets that spell that.
+pub fn name_like(
+    alloc: Global,
+    known: &Name,
+    spelled: &[u8],
+    octets: &[u8],
+) -> Result<(Name, usize), Unread>
+    requires { Reads 3 named.Name terms.name_of known.now spelled.now [] }
+    ensures reads { IfOk result (λ r. Reads 3 named.Name terms.name_of r.0 octets.now (drop r.1 octets.now)) }
+    ensures some { IfOk result (λ r. (0 < r.1) × (r.1 ≤ length octets.now)) }
+{
+    if spelled.is_empty() {
+        return name_at(alloc, octets);
+    }
+    let Some(rest) = octets.strip_prefix(spelled) else {
+        return name_at(alloc, octets);
+    };
+    let taken = octets.len() - rest.len();
+    Ok((known.clone()?, taken))
+}
+
 /// The RDNs of the name but the last.
 fn rdns_above(alloc: Global, name: &Name) -> Result<Vec<Rdn>, Unread>
     ensures { IfOk result (λ rdns. rdns.items ≡ take (length name.now - 1) name.now) }

@@ -1,7 +1,6 @@
 -- How far a name is resolved, kinds of references and items of a trace, each from what is found of its parts.
 use Rattle.std.proofs.Common.{◌≡◌, ℕ, ◌+◌, ◌*◌, ◌≤◌, ◌<◌, ◌%◌, Bool, true, false, List, [], ◌∷◌}
-use Rattle.std.proofs.Common.{◌++◌, append-nil, length, refl, ap, sym, ◌∙◌, subst, arith, lit<, lit≤, drop, if◌then◌else◌}
-use Rattle.std.proofs.Math.Seq.{drop-append_seam}
+use Rattle.std.proofs.Common.{length, refl, ap, sym, ◌∙◌, subst, arith, lit<, lit≤, drop, if◌then◌else◌}
 use Rattle.std.specs.Prelude.{ℤ, pos}
 use Rattle.std.proofs.lemmas.Bool.{le-leb}
 use Rattle.std.specs.declared.option.Option.TheVariants.{Some}
@@ -162,19 +161,3 @@ item_read agent target p wide content first second third octets rest o a b c d =
           refl,
       item_said agent target p wide b.0 c.0 b.2 c.2,
     )
-
--- ---- names
-
--- Where the octets of a name stand again they spell it again.
-pub spelled_again : (name : values.Name) (spelled octets rest : List ℕ)
-    → Reads 3 named.Name terms.name_of name spelled [] → octets ≡ spelled ++ rest
-    → Reads 3 named.Name terms.name_of name octets (drop (length spelled) octets)
-spelled_again name spelled octets rest r e =
-    let same : rest ≡ drop (length spelled) octets =
-    sym (ap (λ (l : List ℕ). drop (length spelled) l) e ∙ drop-append_seam spelled rest) in
-    let s : Spelled 3 named.Name r.0 octets rest = record {
-      part = r.1.part;
-      whole = e ∙ ap (λ (l : List ℕ). l ++ rest) (r.1.whole ∙ append-nil r.1.part);
-      is_element = r.1.is_element;
-    } in
-    (r.0, subst (λ (l : List ℕ). Spelled 3 named.Name r.0 octets l) same s, r.2)

@@ -17,7 +17,7 @@ use std::alloc::Global;
 use x5_dapber::direct::small_at;
 use x5_direct::Unread;
 use x5_direct::element::opened;
-use x5_direct::names::{name_at, rdns_in};
+use x5_direct::names::{name_at, name_like, rdns_in};
 use x5_names::Name;
 use x5_ops::{AgentName, Progress, RdnList, RefType, Trace, TraceItem};
 use x5_syntax::Text;
@@ -105,26 +105,6 @@ fn wide_in(octets: &[u8]) -> Option<bool>
     Some(true)
 }
 
-/// The name that the octets begin with, and how many octets it takes: the known one, where they begin with the octets that spell it.
-fn name_like(
-    alloc: Global,
-    known: &Name,
-    spelled: &[u8],
-    octets: &[u8],
-) -> Result<(Name, usize), Unread>
-    requires { Reads 3 named.Name terms.name_of known.now spelled.now [] }
-    ensures reads { IfOk result (λ r. Reads 3 named.Name terms.name_of r.0 octets.now (drop r.1 octets.now)) }
-    ensures some { IfOk result (λ r. (0 < r.1) × (r.1 ≤ length octets.now)) }
-{
-    if spelled.is_empty() {
-        return name_at(alloc, octets);
-    }
-    match octets.strip_prefix(spelled) {
-        Some(_) => Ok((known.clone()?, spelled.len())),
-        None => name_at(alloc, octets),
-    }
-}
-
 /// The item of trace information that the octets begin with, and how many octets it takes.
 fn item_at(
     alloc: Global,
@@ -167,12 +147,7 @@ fn add(trace: &mut Trace, item: TraceItem) -> Result<(), Unread>
 }
 
 /// The different items, 128 at most, that are all of the octets.
-fn items_in(
-    alloc: Global,
-    known: &Name,
-    spelled: &[u8],
-    octets: &[u8],
-) -> Result<Trace, Unread>
+fn items_in(alloc: Global, known: &Name, spelled: &[u8], octets: &[u8]) -> Result<Trace, Unread>
     requires { Reads 3 named.Name terms.name_of known.now spelled.now [] }
     ensures each { IfOk result (λ t. ReadEach 4 named.TraceItem replies.item_in (map told_item t) octets.now) }
     ensures few { IfOk result (λ t. length t ≤ 128) }
