@@ -174,7 +174,7 @@ fn begun<'a>(
     requires { BeginEach 2 named.Rdn terms.rdn_of above.now above_octets.now }
     ensures { IfOk result (λ r. Ahead 2 named.Rdn terms.rdn_of octets.now r.0.items r.1.now) }
 {
-    let mut rdns: Vec<Rdn> = Vec::with_capacity(alloc, above.len() + 1)?;
+    let mut rdns: Vec<Rdn> = Vec::with_capacity(alloc, octets.len() / 12 + 1)?;
     if let Some(left) = octets.strip_prefix(above_octets) {
         if !left.is_empty() {
             rdns.extend_from_slice(above)?;
