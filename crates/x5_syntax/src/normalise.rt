@@ -18,7 +18,7 @@ use x5_memory::NoMemory;
 fn oid_normal(alloc: Global, arcs: &[u32]) -> Result<Vec<u8>, NoMemory>
     ensures { IfOk result (λ octets. octets.items ≡ model.oid_normal arcs.now) }
 {
-    let mut octets = Vec::new(alloc);
+    let mut octets = Vec::with_capacity(alloc, arcs.len().saturating_mul(4))?;
     for arc in arcs {
         octets.extend_from_slice(&arc.to_be_bytes())?;
     }
