@@ -6,3 +6,4 @@ pub mod TypeView
 pub mod Reading
 pub mod ValueView
 pub mod Kept
+pub mod Plain

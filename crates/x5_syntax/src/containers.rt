@@ -1,6 +1,7 @@
 //! Texts, octets and normal forms: lists of octets, each under a name of its own.
 
-ghost use Rattle.std.specs.Prelude.{◌≡◌, [], length, IfOk, IfSome, string_bytes};
+ghost use Rattle.std.specs.Char.{to_ascii_lowercase};
+ghost use Rattle.std.specs.Prelude.{◌≡◌, [], length, map, IfOk, IfSome, string_bytes};
 
 use std::alloc::{AllocError, Global};
 use std::fmt;
@@ -200,6 +201,16 @@ impl Normal {
         Ok(Normal {
             kept: Kept::Apart(octets),
         })
+    }
+
+    /// Makes its letters of ASCII small. No memory.
+    pub(crate) fn make_ascii_lowercase(&mut self)
+        ensures { self.new ≡ map to_ascii_lowercase self.old }
+    {
+        match &mut self.kept {
+            Kept::InPlace { octets, .. } => octets.make_ascii_lowercase(),
+            Kept::Apart(octets) => octets.make_ascii_lowercase(),
+        }
     }
 
     /// Its octets. No memory.

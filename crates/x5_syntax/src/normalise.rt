@@ -29,7 +29,7 @@ fn oid_normal(alloc: Global, arcs: &[u32]) -> Result<Vec<u8>, NoMemory>
 pub fn text_normal(alloc: Global, kind: TypeId, text: &str) -> Result<Normal, NoMemory>
     ensures { IfOk result (λ normal. normal ≡ model.text_normal (kind_of kind) text.now) }
 {
-    Ok(Normal::new(part_normal(alloc, kind.kind(), true, true, text)?))
+    part_normal(alloc, kind.kind(), true, true, text)
 }
 
 /// Adds a pair of a key: the type's number, the normal value and a zero.
@@ -81,14 +81,14 @@ fn is_of_kind(kind: Kind, value: &Value) -> bool
 }
 
 /// The normal form of a value of the kind.
-fn normal_form(alloc: Global, kind: Kind, value: &Value) -> Result<Vec<u8>, NoMemory>
-    ensures { IfOk result (λ octets. octets.items ≡ model.normal_form (kind_view kind) (value_view value.now)) }
+fn normal_form(alloc: Global, kind: Kind, value: &Value) -> Result<Normal, NoMemory>
+    ensures { IfOk result (λ normal. normal ≡ model.normal_form (kind_view kind) (value_view value.now)) }
 {
     match value {
         Value::Text(text) => part_normal(alloc, kind, true, true, text.as_str()),
-        Value::Octets(octets) => Ok(Vec::from_slice(alloc, octets.as_slice())?),
-        Value::Oid(oid) => oid_normal(alloc, oid.arcs()),
-        Value::Name(name) => name_normal(alloc, name.rdns()),
+        Value::Octets(octets) => Normal::from_slice(alloc, octets.as_slice()),
+        Value::Oid(oid) => Ok(Normal::new(oid_normal(alloc, oid.arcs())?)),
+        Value::Name(name) => Ok(Normal::new(name_normal(alloc, name.rdns())?)),
     }
 }
 
@@ -104,7 +104,7 @@ pub fn normal(alloc: Global, kind: TypeId, value: &Value) -> Result<Normal, Synt
     if let Some(most) = value.limit_passed() {
         return Err(SyntaxFault::TooLong(most));
     }
-    Ok(Normal::new(normal_form(alloc, kind, value)?))
+    Ok(normal_form(alloc, kind, value)?)
 }
 
 /// The normal form of a part of a substrings item for a type that has substrings: `first` says that it's the initial part, `last`
@@ -128,5 +128,5 @@ pub fn normal_part(
     if text.len() > MOST_VALUE_OCTETS {
         return Err(SyntaxFault::TooLong(MOST_VALUE_OCTETS as u32));
     }
-    Ok(Normal::new(part_normal(alloc, kind, first, last, text.as_str())?))
+    Ok(part_normal(alloc, kind, first, last, text.as_str())?)
 }

@@ -1,11 +1,13 @@
 //! Which texts are of a kind, and their normal forms (X.520: matching rules).
 
-ghost use Rattle.std.specs.Prelude.{◌≡◌, IfOk, IsAscii, filter, not, string_bytes};
+ghost use Rattle.std.specs.Prelude.{◌≡◌, IfOk, IsAscii, filter, map, not, string_bytes};
 ghost use Rattle.std.specs.List.{list_all, list_any};
-ghost use Rattle.std.specs.Char.{is_ascii_digit};
+ghost use Rattle.std.specs.Char.{is_ascii_digit, to_ascii_lowercase};
 ghost use Rattle.x5_model.specs.Normal as model;
+ghost use Rattle.x5_syntax.specs.Plain as plain;
 ghost use Rattle.x5_syntax.specs.Views.{kind_view};
 
+use crate::containers::Normal;
 use crate::escapes::is_control;
 use crate::kinds::Kind;
 use std::alloc::Global;
@@ -94,6 +96,21 @@ fn drops_space_before(last: bool, text: &[u8]) -> bool
     }
 }
 
+/// Whether the text is of ASCII, with its spaces in their normal form.
+fn is_plain(first: bool, last: bool, text: &[u8]) -> bool
+    ensures { result ≡ plain.is_plain first last text.now }
+{
+    let mut behind_space = first;
+    for octet in text {
+        let is_space = *octet == b' ';
+        if *octet >= 128 || (is_space && behind_space) {
+            return false;
+        }
+        behind_space = is_space;
+    }
+    !(behind_space && last)
+}
+
 /// Each run of spaces as one space, and none where the value ends.
 fn single_spaced(alloc: Global, last: bool, text: &[u8]) -> Result<Vec<u8>, NoMemory>
     ensures { IfOk result (λ kept. kept.items ≡ model.single_spaced last text.now) }
@@ -168,6 +185,26 @@ fn folded_and_spaced(
     spaced(alloc, first, last, folded.as_bytes())
 }
 
+/// A copy of the octets in small letters of ASCII. Few take no memory.
+fn lowered(alloc: Global, octets: &[u8]) -> Result<Normal, NoMemory>
+    ensures { IfOk result (λ normal. normal ≡ map to_ascii_lowercase octets.now) }
+{
+    let mut normal = Normal::from_slice(alloc, octets)?;
+    normal.make_ascii_lowercase();
+    Ok(normal)
+}
+
+/// The normal form of a text that is folded and spaced: most texts are plain, and then need no vector.
+#[tactic(auto, using(crate::proofs::TextLemmas::plain_folded))]
+fn folded_normal(alloc: Global, first: bool, last: bool, text: &str) -> Result<Normal, NoMemory>
+    ensures { IfOk result (λ normal. normal ≡ model.spaced first last (model.folded text.now)) }
+{
+    if is_plain(first, last, text.as_bytes()) {
+        return lowered(alloc, text.as_bytes());
+    }
+    Ok(Normal::new(folded_and_spaced(alloc, first, last, text)?))
+}
+
 /// The normal form of a part of a text; `first` says that it begins the value, `last` that it ends it.
 pub(crate) fn part_normal(
     alloc: Global,
@@ -175,18 +212,16 @@ pub(crate) fn part_normal(
     first: bool,
     last: bool,
     text: &str,
-) -> Result<Vec<u8>, NoMemory>
-    ensures { IfOk result (λ normal. normal.items ≡ model.part_normal (kind_view kind) first last text.now) }
+) -> Result<Normal, NoMemory>
+    ensures { IfOk result (λ normal. normal ≡ model.part_normal (kind_view kind) first last text.now) }
 {
     match kind {
-        Kind::Text | Kind::Printable | Kind::Country => {
-            folded_and_spaced(alloc, first, last, text)
-        }
-        Kind::Numeric => without_spaces(alloc, text.as_bytes()),
+        Kind::Text | Kind::Printable | Kind::Country => folded_normal(alloc, first, last, text),
+        Kind::Numeric => Ok(Normal::new(without_spaces(alloc, text.as_bytes())?)),
         Kind::Telephone => {
             let spaced = folded_and_spaced(alloc, first, last, text)?;
-            dialled(alloc, &spaced)
+            Ok(Normal::new(dialled(alloc, &spaced)?))
         }
-        Kind::Oid | Kind::Name | Kind::Octets => Ok(Vec::from_slice(alloc, text.as_bytes())?),
+        Kind::Oid | Kind::Name | Kind::Octets => Normal::from_slice(alloc, text.as_bytes()),
     }
 }
