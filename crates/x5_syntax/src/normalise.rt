@@ -1,6 +1,6 @@
 //! Normal forms, by which values of one type are compared (X.520: matching rules).
 
-ghost use Rattle.std.specs.Prelude.{◌≡◌, ◌++◌, ◌∷◌, [], map, flat_map, IfOk, OnOk};
+ghost use Rattle.std.specs.Prelude.{◌≡◌, ◌≤◌, ◌*◌, ◌++◌, ◌∷◌, [], length, map, take, flat_map, IfOk, OnOk};
 ghost use Rattle.x5_model.specs.Normal as model;
 ghost use Rattle.x5_model.specs.Types.{kind_of};
 ghost use Rattle.x5_syntax.specs.Views.{kind_view};
@@ -15,7 +15,7 @@ use std::alloc::Global;
 use x5_memory::NoMemory;
 
 /// Four octets an arc.
-fn oid_normal(alloc: Global, arcs: &[u32]) -> Result<Vec<u8>, NoMemory>
+fn arc_octets(alloc: Global, arcs: &[u32]) -> Result<Vec<u8>, NoMemory>
     ensures { IfOk result (λ octets. octets.items ≡ model.oid_normal arcs.now) }
 {
     let mut octets = Vec::with_capacity(alloc, arcs.len().saturating_mul(4))?;
@@ -23,6 +23,31 @@ fn oid_normal(alloc: Global, arcs: &[u32]) -> Result<Vec<u8>, NoMemory>
         octets.extend_from_slice(&arc.to_be_bytes())?;
     }
     Ok(octets)
+}
+
+/// So many arcs need no vector, and nearly all object identifiers have no more.
+const FEW_ARCS: usize = 7;
+
+/// Four octets an arc of few arcs, at the front.
+fn few_arc_octets(arcs: &[u32]) -> [u8; 4 * FEW_ARCS]
+    requires { length arcs.now ≤ 7 }
+    ensures { take (4 * length arcs.now) result ≡ model.oid_normal arcs.now }
+{
+    let mut octets = [0u8; 4 * FEW_ARCS];
+    for (i, arc) in arcs.iter().enumerate() {
+        octets[4 * i..4 * i + 4].copy_from_slice(&arc.to_be_bytes());
+    }
+    octets
+}
+
+/// The normal form of an object identifier: four octets an arc.
+fn oid_normal(alloc: Global, arcs: &[u32]) -> Result<Normal, NoMemory>
+    ensures { IfOk result (λ normal. normal ≡ model.oid_normal arcs.now) }
+{
+    if arcs.len() <= FEW_ARCS {
+        return Normal::from_slice(alloc, &few_arc_octets(arcs)[..4 * arcs.len()]);
+    }
+    Ok(Normal::new(arc_octets(alloc, arcs)?))
 }
 
 /// The normal form of a text of the type, whatever its length.
@@ -87,7 +112,7 @@ fn normal_form(alloc: Global, kind: Kind, value: &Value) -> Result<Normal, NoMem
     match value {
         Value::Text(text) => part_normal(alloc, kind, true, true, text.as_str()),
         Value::Octets(octets) => Normal::from_slice(alloc, octets.as_slice()),
-        Value::Oid(oid) => Ok(Normal::new(oid_normal(alloc, oid.arcs())?)),
+        Value::Oid(oid) => oid_normal(alloc, oid.arcs()),
         Value::Name(name) => Ok(Normal::new(name_normal(alloc, name.rdns())?)),
     }
 }
