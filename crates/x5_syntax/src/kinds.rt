@@ -120,7 +120,8 @@ fn is_same(word: &str, keyword: &str) -> bool
     word.eq_ignore_ascii_case(keyword)
 }
 
-/// The row of the table with the number.
+/// The row of the table with the number. It stands in line, so that who reads one column looks up that column alone.
+#[inline(always)]
 fn row(number: u8) -> Option<TypeRow>
     ensures { IsRow result (model.row_of number) }
 {
