@@ -1,12 +1,12 @@
 //! Normal forms, by which values of one type are compared (X.520: matching rules).
 
-ghost use Rattle.std.specs.Prelude.{◌≡◌, ◌≤◌, ◌*◌, ◌++◌, ◌∷◌, [], length, map, take, flat_map, IfOk, OnOk};
+ghost use Rattle.std.specs.Prelude.{◌≡◌, ◌≤◌, ◌++◌, ◌∷◌, [], length, map, flat_map, IfOk, OnOk};
 ghost use Rattle.x5_model.specs.Normal as model;
 ghost use Rattle.x5_model.specs.Types.{kind_of};
 ghost use Rattle.x5_syntax.specs.Views.{kind_view};
 ghost use Rattle.x5_syntax.specs.ValueView.{value_view, Gives};
 
-use crate::containers::{Normal, Text};
+use crate::containers::{MOST_IN_PLACE, Normal, Text};
 use crate::kinds::{Kind, TypeId};
 use crate::names::{MOST_VALUE_OCTETS, RdnValue};
 use crate::texts::{is_part_of_kind, is_text_of_kind, part_normal};
@@ -25,27 +25,27 @@ fn arc_octets(alloc: Global, arcs: &[u32]) -> Result<Vec<u8>, NoMemory>
     Ok(octets)
 }
 
-/// So many arcs need no vector, and nearly all object identifiers have no more.
-const FEW_ARCS: usize = 7;
+/// How many arcs have their octets in place at most: nearly all object identifiers have no more.
+const MOST_ARCS_IN_PLACE: usize = MOST_IN_PLACE / 4;
 
-/// Four octets an arc of few arcs, at the front.
-fn few_arc_octets(arcs: &[u32]) -> [u8; 4 * FEW_ARCS]
+/// Four octets an arc, of few arcs. No memory.
+fn few_arcs_normal(arcs: &[u32]) -> Normal
     requires { length arcs.now ≤ 7 }
-    ensures { take (4 * length arcs.now) result ≡ model.oid_normal arcs.now }
+    ensures { result ≡ model.oid_normal arcs.now }
 {
-    let mut octets = [0u8; 4 * FEW_ARCS];
+    let mut octets = [0u8; MOST_IN_PLACE];
     for (i, arc) in arcs.iter().enumerate() {
         octets[4 * i..4 * i + 4].copy_from_slice(&arc.to_be_bytes());
     }
-    octets
+    Normal::from_first(4 * arcs.len(), octets)
 }
 
 /// The normal form of an object identifier: four octets an arc.
 fn oid_normal(alloc: Global, arcs: &[u32]) -> Result<Normal, NoMemory>
     ensures { IfOk result (λ normal. normal ≡ model.oid_normal arcs.now) }
 {
-    if arcs.len() <= FEW_ARCS {
-        return Normal::from_slice(alloc, &few_arc_octets(arcs)[..4 * arcs.len()]);
+    if arcs.len() <= MOST_ARCS_IN_PLACE {
+        return Ok(few_arcs_normal(arcs));
     }
     Ok(Normal::new(arc_octets(alloc, arcs)?))
 }

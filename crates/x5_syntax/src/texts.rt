@@ -1,13 +1,13 @@
 //! Which texts are of a kind, and their normal forms (X.520: matching rules).
 
-ghost use Rattle.std.specs.Prelude.{◌≡◌, IfOk, IsAscii, filter, map, not, string_bytes};
+ghost use Rattle.std.specs.Prelude.{◌≡◌, IfOk, IfSome, IsAscii, filter, not, string_bytes};
 ghost use Rattle.std.specs.List.{list_all, list_any};
-ghost use Rattle.std.specs.Char.{is_ascii_digit, to_ascii_lowercase};
+ghost use Rattle.std.specs.Char.{is_ascii_digit};
 ghost use Rattle.x5_model.specs.Normal as model;
 ghost use Rattle.x5_syntax.specs.Plain as plain;
 ghost use Rattle.x5_syntax.specs.Views.{kind_view};
 
-use crate::containers::Normal;
+use crate::containers::{MOST_IN_PLACE, Normal};
 use crate::escapes::is_control;
 use crate::kinds::Kind;
 use std::alloc::Global;
@@ -96,21 +96,6 @@ fn drops_space_before(last: bool, text: &[u8]) -> bool
     }
 }
 
-/// Whether the text is of ASCII, with its spaces in their normal form.
-fn is_plain(first: bool, last: bool, text: &[u8]) -> bool
-    ensures { result ≡ plain.is_plain first last text.now }
-{
-    let mut behind_space = first;
-    for octet in text {
-        let is_space = *octet == b' ';
-        if *octet >= 128 || (is_space && behind_space) {
-            return false;
-        }
-        behind_space = is_space;
-    }
-    !(behind_space && last)
-}
-
 /// Each run of spaces as one space, and none where the value ends.
 fn single_spaced(alloc: Global, last: bool, text: &[u8]) -> Result<Vec<u8>, NoMemory>
     ensures { IfOk result (λ kept. kept.items ≡ model.single_spaced last text.now) }
@@ -185,22 +170,43 @@ fn folded_and_spaced(
     spaced(alloc, first, last, folded.as_bytes())
 }
 
-/// A copy of the octets in small letters of ASCII. Few take no memory.
-fn lowered(alloc: Global, octets: &[u8]) -> Result<Normal, NoMemory>
-    ensures { IfOk result (λ normal. normal ≡ map to_ascii_lowercase octets.now) }
+/// Whether the octet is of ASCII, and no space where `behind_space` says that one goes before, or the value begins.
+fn stays(behind_space: bool, octet: u8) -> bool
+    ensures { result ≡ plain.stays behind_space octet }
 {
-    let mut normal = Normal::from_slice(alloc, octets)?;
-    normal.make_ascii_lowercase();
-    Ok(normal)
+    octet < 128 && !(octet == b' ' && behind_space)
 }
 
-/// The normal form of a text that is folded and spaced: most texts are plain, and then need no vector.
+/// The normal form of a short text of ASCII that has its spaces as the normal form has them: the text in small letters.
+/// `None` says that the text is another. No memory.
 #[tactic(auto, using(crate::proofs::TextLemmas::plain_folded))]
+fn plain_normal(first: bool, last: bool, text: &[u8]) -> Option<Normal>
+    ensures { IfSome result (λ normal. normal ≡ model.spaced first last (model.folded text.now)) }
+{
+    if text.len() > MOST_IN_PLACE {
+        return None;
+    }
+    let mut octets = [0u8; MOST_IN_PLACE];
+    let mut behind_space = first;
+    for (i, octet) in text.iter().enumerate() {
+        if !stays(behind_space, *octet) {
+            return None;
+        }
+        octets[i] = octet.to_ascii_lowercase();
+        behind_space = *octet == b' ';
+    }
+    if behind_space && last {
+        return None;
+    }
+    Some(Normal::from_first(text.len(), octets))
+}
+
+/// The normal form of a text that is folded and spaced.
 fn folded_normal(alloc: Global, first: bool, last: bool, text: &str) -> Result<Normal, NoMemory>
     ensures { IfOk result (λ normal. normal ≡ model.spaced first last (model.folded text.now)) }
 {
-    if is_plain(first, last, text.as_bytes()) {
-        return lowered(alloc, text.as_bytes());
+    if let Some(normal) = plain_normal(first, last, text.as_bytes()) {
+        return Ok(normal);
     }
     Ok(Normal::new(folded_and_spaced(alloc, first, last, text)?))
 }

@@ -4,7 +4,7 @@ use Rattle.std.proofs.lemmas.List.{drop_more}
 use Rattle.std.proofs.lemmas.Slice.{take-put_mid}
 use Rattle.std.specs.Int.{to_be_bytes, w32}
 use Rattle.x5_model.specs.Normal.{oid_normal}
-use Rattle.x5_syntax.proofs.normalise.few_arc_octets.Goals as goal
+use Rattle.x5_syntax.proofs.normalise.few_arcs_normal.Goals as goal
 
 pub loop-i-preserved : goal.loop-i-preserved
 loop-i-preserved c =
