@@ -1,5 +1,4 @@
 pub mod Views
-pub mod RowView
 pub mod Dotted
 pub mod Escapes
 pub mod TypeView
