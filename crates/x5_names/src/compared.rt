@@ -49,10 +49,10 @@ impl Ord for Pair {
     ghost matches_eq = { λ x y. pair_ties (key_of_pair x) (key_of_pair y) };
 
     fn cmp(&self, other: &Pair) -> Ordering {
-        self.kind()
-            .number()
-            .cmp(&other.kind().number())
-            .then(self.normal().as_slice().cmp(other.normal().as_slice()))
+        match self.kind().number().cmp(&other.kind().number()) {
+            Ordering::Equal => self.normal().as_slice().cmp(other.normal().as_slice()),
+            by_kind => by_kind,
+        }
     }
 }
 
@@ -74,7 +74,10 @@ impl PartialEq for Rdn {
 
     #[tactic(auto, using(crate::proofs::ByKeys::same_rdns))]
     fn eq(&self, other: &Rdn) -> bool {
-        self.pairs() == other.pairs()
+        match (self.pairs(), other.pairs()) {
+            ([pair], [other]) => pair == other,
+            (pairs, others) => pairs == others,
+        }
     }
 }
 
@@ -103,7 +106,10 @@ impl Ord for Rdn {
 
     #[tactic(auto, using(crate::proofs::ByKeys::rdns_cmp))]
     fn cmp(&self, other: &Rdn) -> Ordering {
-        self.pairs().cmp(other.pairs())
+        match (self.pairs(), other.pairs()) {
+            ([pair], [other]) => pair.cmp(other),
+            (pairs, others) => pairs.cmp(others),
+        }
     }
 }
 

@@ -1,6 +1,6 @@
 //! Texts, octets and normal forms: lists of octets, each under a name of its own.
 
-ghost use Rattle.std.specs.Prelude.{◌≡◌, [], length, IfOk, IfSome, string_bytes};
+ghost use Rattle.std.specs.Prelude.{◌≡◌, ◌≤◌, [], length, take, IfOk, IfSome, string_bytes};
 
 use std::alloc::{AllocError, Global};
 use std::fmt;
@@ -125,7 +125,7 @@ impl Clone for Octets {
 }
 
 /// How many octets a normal form keeps in place at most: as many as leave it the size that its vector needs anyway.
-const MOST_IN_PLACE: usize = 30;
+pub(crate) const MOST_IN_PLACE: usize = 30;
 
 /// Where the octets of a normal form are: few lie in place, as most normal forms have few.
 #[derive(Drop)]
@@ -168,15 +168,23 @@ fn in_place(octets: &[u8]) -> Option<Normal>
     }
     let mut copied = [0u8; MOST_IN_PLACE];
     copied[..count].copy_from_slice(octets);
-    Some(Normal {
-        kept: Kept::InPlace {
-            count: count as u8,
-            octets: copied,
-        },
-    })
+    Some(Normal::from_first(count, copied))
 }
 
 impl Normal {
+    /// A normal form of the first of these octets. No memory.
+    pub(crate) fn from_first(count: usize, octets: [u8; MOST_IN_PLACE]) -> Normal
+        requires { count ≤ 30 }
+        ensures { result ≡ take count octets }
+    {
+        Normal {
+            kept: Kept::InPlace {
+                count: count as u8,
+                octets,
+            },
+        }
+    }
+
     /// A normal form of these octets. No memory.
     pub fn new(octets: Vec<u8>) -> Normal
         ensures { result ≡ octets.items }
