@@ -7,7 +7,7 @@ use std::alloc::Global;
 use std::marker::Model;
 use x5_memory::NoMemory;
 
-/// So many octets there is room for at least, once there is one: most messages have fewer, and never grow.
+/// Room is taken for so many octets at once, or for more: most messages have fewer, and take room only once.
 const LEAST_ROOM: usize = 512;
 
 /// Octets, each put before those that are there: so the length of a content is known where its header is put.
@@ -89,7 +89,7 @@ impl Backwards {
         self.put_any_header(class, constructed, tag, length)
     }
 
-    /// The same, of any number of octets.
+    /// The same header, of any number of octets.
     #[cold]
     #[inline(never)]
     fn put_any_header(
@@ -184,7 +184,7 @@ fn make_room(row: &mut Vec<u8>, more: usize) -> Result<(), NoMemory>
     grow(row, more)
 }
 
-/// Makes room for so many more, and for many more if there was none.
+/// Takes room for so many more, and for no fewer than `LEAST_ROOM`.
 #[cold]
 #[inline(never)]
 fn grow(row: &mut Vec<u8>, more: usize) -> Result<(), NoMemory>
