@@ -1,6 +1,6 @@
 //! The places of nodes: by halves among those in order, and from RDN to RDN down from the prefix.
 
-ghost use Rattle.std.specs.Prelude.{◌≡◌, ◌↔◌, ◌<◌, true, false, length, IsTrue, MatchOption, MatchResult, map, [], slice_index_or, slice_set, vec_len, None, Some, IfOk, OnOk, ◌++◌, ◌≤◌};
+ghost use Rattle.std.specs.Prelude.{ℕ, ◌≡◌, ◌↔◌, ◌<◌, true, false, length, IsTrue, MatchOption, MatchResult, map, [], slice_index_or, slice_set, vec_len, None, Some, IfOk, OnOk, ◌++◌, ◌≤◌};
 ghost use Rattle.std.specs.Bool.{MatchBool};
 ghost use Rattle.x5_model.specs.Members.{In};
 ghost use Rattle.x5_dse.specs.declared.node.NodeId.{NodeId};
@@ -8,7 +8,7 @@ ghost use Rattle.x5_model.specs.Keys.{is_prefix};
 ghost use Rattle.x5_model.specs.Values.{Name, key_of_pair, key_of};
 ghost use Rattle.x5_dse.specs.Step.{IsStep, IsUnder};
 ghost use Rattle.x5_dse.specs.Changes.{NotInserted};
-ghost use Rattle.x5_dse.specs.Inside.{slot_at, is_used, held, spot_at, spots_of, spot_cmp, spot_below, nodes_of, IsPlace, IsRow, IsDown, IsSite, IsChild, IsStart, IsMove, IsOther, name_at, parent_at, path_of, top};
+ghost use Rattle.x5_dse.specs.Inside.{Spot, slot_at, is_used, held, spot_at, spots_of, spot_cmp, spot_below, nodes_of, IsPlace, IsRow, IsDown, IsSite, IsChild, IsStart, IsMove, IsOther, name_at, parent_at, path_of, top};
 ghost use Rattle.std.specs.Option.{option_map};
 ghost use Rattle.x5_dse.specs.Linked.{IsLowest, id_of, length_in, node_at, node_with, prefix_of};
 
@@ -229,6 +229,38 @@ pub(crate) fn is_below_at(slots: &[Option<Dse>], order: &[NodeId], node: NodeId,
     at < order.len() && held_at(slots, order[at]).parent == node
 }
 
+/// Whether all before the place stand below nodes of lower numbers.
+fn ends_before(slots: &[Option<Dse>], order: &[NodeId], node: NodeId, at: usize) -> bool
+    requires row { IsRow slots.now order.now }
+    requires within { at ≤ length order.now }
+    ensures { IsTrue result → (k : ℕ) (d : Spot) → k < at → (slice_index_or (spots_of slots.now order.now) k d).0 < node.0 }
+{
+    at == 0 || held_at(slots, order[at - 1]).parent.0 < node.0
+}
+
+/// Whether all from the place on stand below the node, or nodes of higher numbers.
+fn begins_at(slots: &[Option<Dse>], order: &[NodeId], node: NodeId, at: usize) -> bool
+    requires row { IsRow slots.now order.now }
+    requires within { at ≤ length order.now }
+    ensures { IsTrue result → (k : ℕ) (d : Spot) → at ≤ k → k < length (spots_of slots.now order.now) → node.0 ≤ (slice_index_or (spots_of slots.now order.now) k d).0 }
+{
+    at == order.len() || node.0 <= held_at(slots, order[at]).parent.0
+}
+
+/// Where the run of what stands just below the node begins: the place that is tried first, or where a search finds it.
+fn run_near(slots: &[Option<Dse>], order: &[NodeId], node: NodeId, tried: usize) -> usize
+    requires { IsRow slots.now order.now }
+    ensures { IsStart (spots_of slots.now order.now) node result }
+{
+    if tried <= order.len()
+        && ends_before(slots, order, node, tried)
+        && begins_at(slots, order, node, tried)
+    {
+        return tried;
+    }
+    run_of(slots, order, node)
+}
+
 /// Whether anything stands just below the node.
 pub(crate) fn has_children(slots: &[Option<Dse>], order: &[NodeId], node: NodeId) -> bool
     requires { IsRow slots.now order.now }
@@ -247,6 +279,19 @@ pub(crate) fn place_of_node(slots: &[Option<Dse>], order: &[NodeId], node: NodeI
     match place_of(slots, order, dse.parent, dse.pairs()) {
         Ok(at) => at,
         Err(_) => unreachable!(),
+    }
+}
+
+/// The place of the node: the one that is tried first, or where a search finds it.
+fn place_near(slots: &[Option<Dse>], order: &[NodeId], node: NodeId, tried: usize) -> usize
+    requires row { IsRow slots.now order.now }
+    requires ordered { In node order.now }
+    ensures { (result < length order.now) × ((d : NodeId) → slice_index_or order.now result d ≡ node) }
+{
+    if tried < order.len() && order[tried] == node {
+        tried
+    } else {
+        place_of_node(slots, order, node)
     }
 }
 
@@ -327,8 +372,22 @@ pub(crate) fn move_of(
     }
 }
 
+/// The places in order to which a walk has come: its node's, and where the run of what stands just below a node began that it left
+/// last. It goes on nearby, so these are tried first.
+#[derive(Clone, Copy, Debug, Drop)]
+pub(crate) struct Reached {
+    pub(crate) place: usize,
+    pub(crate) run: usize,
+}
+
 /// The next node in the order of keys after a node without any below it, among those at or below another.
-fn past(slots: &[Option<Dse>], order: &[NodeId], from: NodeId, node: NodeId) -> Option<NodeId>
+fn past(
+    slots: &[Option<Dse>],
+    order: &[NodeId],
+    from: NodeId,
+    node: NodeId,
+    reached: &mut Reached,
+) -> Option<NodeId>
     requires row { IsRow slots.now order.now }
     requires from_used { is_used slots.now from ≡ true }
     requires used { is_used slots.now node ≡ true }
@@ -338,10 +397,11 @@ fn past(slots: &[Option<Dse>], order: &[NodeId], from: NodeId, node: NodeId) -> 
 {
     let mut at = node;
     while at.0 != from.0 {
-        let place = place_of_node(slots, order, at);
+        let place = place_near(slots, order, at, reached.place);
         let next = place + 1;
         let above = held_at(slots, at).parent;
         if is_below_at(slots, order, above, next) {
+            reached.place = next;
             return Some(order[next]);
         }
         at = above;
@@ -355,6 +415,7 @@ pub(crate) fn after(
     order: &[NodeId],
     from: NodeId,
     node: NodeId,
+    reached: &mut Reached,
 ) -> Option<NodeId>
     requires row { IsRow slots.now order.now }
     requires from_used { is_used slots.now from ≡ true }
@@ -362,9 +423,11 @@ pub(crate) fn after(
     requires under { IsUnder slots.now from node }
     ensures { (prefix : Name) → IsStep prefix slots.now from node result }
 {
-    let run = run_of(slots, order, node);
+    let run = run_near(slots, order, node, reached.run);
+    reached.run = run;
     if is_below_at(slots, order, node, run) {
+        reached.place = run;
         return Some(order[run]);
     }
-    past(slots, order, from, node)
+    past(slots, order, from, node, reached)
 }
