@@ -196,7 +196,10 @@ impl DseTree {
         ensures spare { self.old.spare ≤ self.new.spare }
         ensures ok { OnOk result (count ≤ self.new.spare) }
     {
-        self.widen(count.saturating_sub(self.spare()))?;
+        if count <= self.spare() {
+            return Ok(());
+        }
+        self.widen(count - self.spare())?;
         while self.spare() < count {
             self.grow()?;
         }
