@@ -24,3 +24,4 @@ pub mod Rooms
 mod Selections
 pub mod Sets
 pub mod Tags
+mod UsualSelections

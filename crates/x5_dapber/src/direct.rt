@@ -1,6 +1,6 @@
 //! Requests (X.511, sections 7 and 9 to 11; X.519, section 7), read straight from octets in their usual spelling: the components of
-//! an argument in the order of their tags, the object's name and where a search looks by their octets, and each other one, of 96
-//! octets at most, by the table of types.
+//! an argument in the order of their tags, each by its octets where these are usual, and else, if they are 96 at most, by the table of
+//! types.
 ghost use Rattle.std.specs.Prelude.{◌≡◌, ◌-◌, ◌<◌, ◌≤◌, ◌%◌, ◌∷◌, [], IfOk, IfSome, length};
 ghost use Rattle.std.specs.declared.option.Option.TheVariants.{Some};
 ghost use Rattle.x5_dapber.specs.Direct.{Invokes, ReadsNext, code_of};
@@ -27,6 +27,7 @@ ghost use Rattle.x5_types.specs.NodeView.{node_view};
 use crate::read_arguments::{argument_in, controls_in, selection_in};
 use crate::read_filters::filter_in;
 use crate::read_values::asserted_in;
+use crate::usual_selections::usual_selection;
 use std::alloc::Global;
 use x5_direct::Unread;
 use x5_direct::element::opened;
@@ -40,7 +41,7 @@ use x5_types::{Content, Leaf, Named, Node, Numbers, Operation, Surroundings, lea
 
 /// The content of the one element that the octets are, if that octet identifies it.
 #[inline]
-fn whole(first: u8, octets: &[u8]) -> Result<&[u8], Unread>
+pub(crate) fn whole(first: u8, octets: &[u8]) -> Result<&[u8], Unread>
     requires { first % 32 < 31 }
     ensures { IfOk result (λ content. Opens first content.now octets.now []) }
 {
@@ -90,6 +91,24 @@ fn object_at(alloc: Global, octets: &[u8]) -> Result<(Name, &[u8]), Unread>
     Ok((name, rest))
 }
 
+/// The selection of attributes that is all of the octets, by the table of types.
+fn selection_by_table(alloc: Global, octets: &[u8]) -> Result<Selection, Unread>
+    ensures { IfOk result (λ s. Reads 48 named.Selection requests.selection_in (selection_view s) octets.now []) }
+{
+    let node = part(alloc, Named::Selection, octets)?;
+    Ok(selection_in(alloc, &node)?)
+}
+
+/// The selection of attributes that is all of the octets.
+fn selection_of(alloc: Global, octets: &[u8]) -> Result<Selection, Unread>
+    ensures { IfOk result (λ s. Reads 48 named.Selection requests.selection_in (selection_view s) octets.now []) }
+{
+    match usual_selection(alloc, octets) {
+        Err(Unread::Unusual) => selection_by_table(alloc, octets),
+        read => read,
+    }
+}
+
 /// The selection of attributes behind that octet, and the octets behind it. All are selected where it's missing.
 fn selection_at(alloc: Global, first: u8, octets: &[u8]) -> Result<(Selection, &[u8]), Unread>
     requires context { 160 ≤ first }
@@ -103,8 +122,7 @@ fn selection_at(alloc: Global, first: u8, octets: &[u8]) -> Result<(Selection, &
         return Ok((Selection::All, octets));
     }
     let (content, rest) = opened(first, octets)?;
-    let node = part(alloc, Named::Selection, content)?;
-    Ok((selection_in(alloc, &node)?, rest))
+    Ok((selection_of(alloc, content)?, rest))
 }
 
 /// The service controls, which are all of the octets, or missing.

@@ -6,13 +6,8 @@ use Rattle.x5_model_typed.specs.Forms.{Default}
 use Rattle.x5_model_typed.specs.Layouts.{all_attributes}
 use Rattle.x5_model_typed.specs.Named as named
 use Rattle.x5_ops.specs.RequestViews.{selection_view}
-use Rattle.x5_types.specs.NodeView.{node_view}
-use Rattle.x5_dapber.proofs.ReadIsSayable.{selection_fits}
 use Rattle.x5_dapber.proofs.Sets.{next_given, next_missing}
 use Rattle.x5_dapber.proofs.direct.selection_at.Goals as goal
-
-pub selection_in-requires : goal.selection_in-requires
-selection_in-requires c = selection_fits (node_view c.in_ok-node.node) c.in_ok-node.ensures.fits
 
 pub returns-in_default : goal.returns-in_default
 returns-in_default c =
@@ -25,6 +20,6 @@ returns-then-octet-first c =
 pub returns : goal.returns
 returns c =
     next_given 48 c.args.first named.Selection (Default all_attributes) requests.selection_in
-    (selection_view c.in_ok-selection_in.field-0) c.in_ok-content.content.now c.args.octets.now
+    (selection_view c.in_ok-selection_of.field-0) c.in_ok-content.content.now c.args.octets.now
     c.in_ok-content.rest.now c.requires.context c.requires.low c.in_ok-content.ensures.opens
-    (node_view c.in_ok-node.node, c.in_ok-node.ensures.is, c.in_ok-selection_in.ensures)
+    c.in_ok-selection_of.ensures
