@@ -109,7 +109,7 @@ impl Gathered {
         push_terms(&mut self.postings, node, room.into_terms());
     }
 
-    /// The index of the same nodes, with the same values. No memory.
+    /// The index of the same nodes, with the same values. It needs no memory; with some it's quicker.
     pub fn in_order(self) -> Postings
         ensures { HaveSame self.postings result.postings }
     {
