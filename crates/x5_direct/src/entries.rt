@@ -143,7 +143,7 @@ fn entry_behind<'a>(
         return Err(Unread::Unusual);
     }
     let attributes = all_stored_in(alloc, members)?;
-    let entry = Entry::from_list(attributes).shared(alloc)?;
+    let entry = Entry::from_list(attributes);
     Ok((Named { name, entry }, taken, front))
 }
 

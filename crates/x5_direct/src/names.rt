@@ -161,7 +161,9 @@ pub fn rdn_at(alloc: Global, octets: &[u8]) -> Result<(Rdn, usize), Unread>
     let (content, rest) = opened(0x31, octets)?;
     let taken = octets.len() - rest.len();
     let pair = pair_in(alloc, content)?;
-    Ok((Rdn::one(alloc, pair)?, taken))
+    let mut pairs = Vec::with_capacity(alloc, 1)?;
+    pairs.push(pair)?;
+    Ok((Rdn::new(pairs), taken))
 }
 
 /// The RDNs with which the octets begin, where these are those of known RDNs and more are left; and what is left.

@@ -5,4 +5,3 @@ pub mod Escapes
 pub mod TypeView
 pub mod Reading
 pub mod ValueView
-pub mod Kept

@@ -1,6 +1,6 @@
 //! Which texts are of a kind, and their normal forms (X.520: matching rules).
 
-ghost use Rattle.std.specs.Prelude.{◌≡◌, IfOk, IsAscii, filter, not, string_bytes};
+ghost use Rattle.std.specs.Prelude.{◌≡◌, IfOk, filter, not, string_bytes};
 ghost use Rattle.std.specs.List.{list_all, list_any};
 ghost use Rattle.std.specs.Char.{is_ascii_digit};
 ghost use Rattle.x5_model.specs.Normal as model;
@@ -142,16 +142,6 @@ fn dialled(alloc: Global, text: &[u8]) -> Result<Vec<u8>, NoMemory>
     )
 }
 
-/// A folded text of ASCII with its spaces in their normal form: folding is lowering its letters, which are no spaces.
-fn lower_and_spaced(alloc: Global, first: bool, last: bool, text: &str) -> Result<Vec<u8>, NoMemory>
-    requires { IsAscii text.now }
-    ensures { IfOk result (λ kept. kept.items ≡ model.spaced first last (model.folded text.now)) }
-{
-    let mut kept = spaced(alloc, first, last, text.as_bytes())?;
-    kept.make_ascii_lowercase();
-    Ok(kept)
-}
-
 /// A folded text with its spaces in their normal form.
 fn folded_and_spaced(
     alloc: Global,
@@ -161,9 +151,6 @@ fn folded_and_spaced(
 ) -> Result<Vec<u8>, NoMemory>
     ensures { IfOk result (λ kept. kept.items ≡ model.spaced first last (model.folded text.now)) }
 {
-    if text.is_ascii() {
-        return lower_and_spaced(alloc, first, last, text);
-    }
     let folded = folded(alloc, text)?;
     spaced(alloc, first, last, folded.as_bytes())
 }

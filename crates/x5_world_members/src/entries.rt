@@ -17,14 +17,14 @@ use crate::fault::LoadFault;
 use crate::given::given_behind;
 use crate::json::{list_at, members_at, only};
 use crate::key_set::KeySet;
-use crate::names::{entry_name_behind, last_rdn};
+use crate::names::{entry_name_at, last_rdn};
 use crate::place::Place;
 use crate::spelling::moved_below;
 use serde_json::Value;
 use std::alloc::Global;
 use std::marker::Model;
 use x5_memory::NoMemory;
-use x5_names::{Key, KnownName, Name};
+use x5_names::{Key, Name};
 use x5_ops::{Named, NamedList};
 
 /// Entries in the order of the file, no two of one key, each of which is found without a walk through the others.
@@ -140,20 +140,19 @@ fn whole_name(
     Ok(None)
 }
 
-/// The entries with one more, which an object describes. What stands above it is known then.
+/// The entries with one more, which an object describes.
 #[tactic(auto, using(crate::proofs::Owned::whole_key))]
-fn entry_behind<'a>(
+fn entry_behind(
     alloc: Global,
     place: &Place<'_>,
     prefix: &Name,
-    known: &mut KnownName<'a>,
     before: Entries,
-    value: &'a Value,
+    value: &Value,
 ) -> Result<Entries, LoadFault>
     ensures { ReadsPart (λ e. e) result (model.entry_behind (path_of place.now) prefix.now before (view value.now)) }
 {
     let members = members_at(alloc, place, value)?;
-    let own = entry_name_behind(alloc, place, "name", known, value)?;
+    let own = entry_name_at(alloc, place, "name", value)?;
     if before.has(&own) {
         return Err(Place::Member(place, "name").bad_shape(alloc));
     }
@@ -181,10 +180,8 @@ pub(crate) fn entries_behind(
     ensures { ReadsPart (λ e. e) result (model.entries_behind (path_of place.now) 0 prefix.now [] (items_view items.now)) }
 {
     let mut entries = Entries::new(alloc, items.len())?;
-    let mut known = KnownName::root(alloc);
     for (i, item) in items.iter().enumerate() {
-        let at = Place::Item(&*place, i);
-        entries = entry_behind(alloc, &at, prefix, &mut known, entries, item)?;
+        entries = entry_behind(alloc, &Place::Item(&*place, i), prefix, entries, item)?;
     }
     Ok(entries)
 }

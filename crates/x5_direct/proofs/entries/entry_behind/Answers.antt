@@ -1,6 +1,6 @@
 -- A name and attributes in their order, and nothing else, are the entry.
-use Rattle.std.proofs.Common.{◌≡◌, ◌-◌, ℕ, true, List, drop, length, refl, sym, ap, subst, ◌∙◌}
-use Rattle.x5_model.specs.Entries.{Stored, Entry}
+use Rattle.std.proofs.Common.{◌≡◌, ◌-◌, ℕ, true, List, drop, length, refl, sym, subst, ◌∙◌}
+use Rattle.x5_model.specs.Entries.{Stored}
 use Rattle.x5_model_messages.specs.Shadows.{entry_in}
 use Rattle.x5_model_typed.specs.Named as named
 use Rattle.x5_direct.specs.Spelled.{Opens, Reads}
@@ -23,7 +23,7 @@ returns-clause-reads c =
     subst (λ (l : List ℕ). Opens 49 members l end) (rest_here content c.in_ok-name.named_by) c.in_ok-members.ensures.opens in
     subst (λ (l : List Stored). Reads 7 named.Entry entry_in (record { name = name; entry = record { attributes = l } }) octets
     (drop (length octets - length rest) octets))
-    (sym (ap (λ (e : Entry). e.attributes) c.in_ok-entry.ensures ∙ c.from_list.ensures))
+    (sym c.from_list-entry.ensures)
     (read_taken 7 named.Entry entry_in (record { name = name; entry = record { attributes = attributes } }) octets rest
     (length octets - length rest) refl
     (entry_reads name attributes content behind members end octets rest c.in_ok-content.ensures.opens
