@@ -1,18 +1,18 @@
 -- Arguments, each from what is found of its components.
-use Rattle.std.proofs.Common.{◌≡◌, ℕ, List, [], ◌∷◌, refl, lit<, lit≤, subst, sym}
+use Rattle.std.proofs.Common.{◌≡◌, ℕ, List, [], ◌∷◌, map, refl, lit<, lit≤, subst, sym}
 use Rattle.std.specs.declared.option.Option.TheVariants.{Some}
 use Rattle.x5_model.specs.Filters.{Assertion, Filter}
 use Rattle.x5_model.specs.Requests as model
 use Rattle.x5_model.specs.Values.{Name}
 use Rattle.x5_model_messages.specs.FilterTerms.{filter_in}
 use Rattle.x5_model_messages.specs.Requests.{argument_in, controls_in, selection_in, subset_in, subset_number}
-use Rattle.x5_model_messages.specs.Terms.{name_of, assertion_in}
+use Rattle.x5_model_messages.specs.Terms.{name_of, assertion_in, change_in}
 use Rattle.x5_model_typed.specs.Forms.{Primitive, at, or}
 use Rattle.x5_model_typed.specs.Judged.{leaf_node}
 use Rattle.x5_model_typed.specs.Layouts.{argument, controls, all_attributes, everything, set, integer}
 use Rattle.x5_model_typed.specs.Leaves.{from_to, number}
 use Rattle.x5_model_typed.specs.Named as named
-use Rattle.x5_model_typed.specs.Nodes.{Node, Many, row, whole}
+use Rattle.x5_model_typed.specs.Nodes.{Node, Many, parts, row, whole}
 use Rattle.x5_direct.specs.Spelled.{Opens, Reads}
 use Rattle.x5_direct.proofs.Spelling.{branch_spelled, leaf_spelled}
 use Rattle.x5_dapber.specs.Direct.{ReadsNext, SpelledInSet}
@@ -95,6 +95,20 @@ compare_read c name s content octets second third o a b d =
     argument_read named.Compare 2 (asked c (model.Compare name s)) (a.0 ∷ b.0 ∷ d.0 ∷ []) content octets o
     (a.1 1 _ _ (lit< tt) (b.1 30 _ _ (lit< tt) (d.1 31 [] [] (lit< tt) (set_over 49 31))))
     (compare_said c name s a.0 b.0 d.0 a.2 b.2 d.2)
+
+modify_said : (c : model.Controls) (name : Name) (cs : List model.Change) (a b d : Node) → name ≡ name_of a
+    → cs ≡ map change_in (parts b) → c ≡ controls_in d
+    → asked c (model.ModifyEntry name cs) ≡ argument_in 8 (Many (row (a ∷ b ∷ d ∷ [])))
+modify_said c name cs a b d e f g = cc (e, f, g)
+
+pub modify_read : (c : model.Controls) (name : Name) (cs : List model.Change) (content octets second third : List ℕ)
+    → Opens 49 content octets [] → IsObject name content second
+    → ReadsNext 49 1 (at 1 named.Changes) (λ n. map change_in (parts n)) cs second third → AreControls c third
+    → Reads 50 (named.Argument named.ModifyEntry) (argument_in 8) (asked c (model.ModifyEntry name cs)) octets []
+modify_read c name cs content octets second third o a b d =
+    argument_read named.ModifyEntry 8 (asked c (model.ModifyEntry name cs)) (a.0 ∷ b.0 ∷ d.0 ∷ []) content octets o
+    (a.1 1 _ _ (lit< tt) (b.1 30 _ _ (lit< tt) (d.1 31 [] [] (lit< tt) (set_over 49 31))))
+    (modify_said c name cs a.0 b.0 d.0 a.2 b.2 d.2)
 
 list_said : (c : model.Controls) (name : Name) (a d : Node) → name ≡ name_of a → c ≡ controls_in d
     → asked c (model.ListBelow name) ≡ argument_in 4 (Many (row (a ∷ d ∷ [])))

@@ -24,5 +24,7 @@ pub mod Rooms
 mod Selections
 pub mod Sets
 pub mod Tags
+mod UsualChanges
+mod UsualControls
 mod UsualFilters
 mod UsualSelections

@@ -1,7 +1,7 @@
 //! Requests (X.511, sections 7 and 9 to 11; X.519, section 7), read straight from octets in their usual spelling: the components of
 //! an argument in the order of their tags, each by its octets where these are usual, and else, if they are 96 at most, by the table of
 //! types.
-ghost use Rattle.std.specs.Prelude.{◌≡◌, ◌-◌, ◌<◌, ◌≤◌, ◌%◌, ◌∷◌, [], IfOk, IfSome, length};
+ghost use Rattle.std.specs.Prelude.{◌≡◌, ◌-◌, ◌<◌, ◌≤◌, ◌%◌, ◌∷◌, [], IfOk, IfSome, length, map};
 ghost use Rattle.std.specs.declared.option.Option.TheVariants.{Some};
 ghost use Rattle.x5_dapber.specs.Direct.{Invokes, ReadsNext, code_of};
 ghost use Rattle.x5_direct.specs.Spelled.{Opens, Reads, Spelled};
@@ -18,7 +18,7 @@ ghost use Rattle.x5_model_typed.specs.Named as named;
 ghost use Rattle.x5_model_typed.specs.Nodes as nodes;
 ghost use Rattle.x5_model_typed.specs.Typed.{Spells};
 ghost use Rattle.x5_model_typed_laws.specs.Fits.{Fits};
-ghost use Rattle.x5_ops.specs.RequestViews.{controls_view, request_view, selection_view, subset_view};
+ghost use Rattle.x5_ops.specs.RequestViews.{change_view, controls_view, request_view, selection_view, subset_view};
 ghost use Rattle.x5_syntax.specs.TypeView.{type_view};
 ghost use Rattle.x5_syntax.specs.ValueView.{value_view};
 ghost use Rattle.x5_types.specs.FormView.{named_view, operation_view, table};
@@ -27,6 +27,8 @@ ghost use Rattle.x5_types.specs.NodeView.{node_view};
 use crate::read_arguments::{argument_in, controls_in, selection_in};
 use crate::read_filters::filter_in;
 use crate::read_values::asserted_in;
+use crate::usual_changes::usual_changes;
+use crate::usual_controls::usual_controls;
 use crate::usual_filters::usual_filter;
 use crate::usual_selections::usual_selection;
 use std::alloc::Global;
@@ -36,7 +38,7 @@ use x5_direct::names::name_at;
 use x5_direct::part::part_at;
 use x5_match::Filter;
 use x5_names::Name;
-use x5_ops::{Body, Controls, Request, Selection, Subset};
+use x5_ops::{Body, ChangeList, Controls, Request, Selection, Subset};
 use x5_syntax::{TypeRef, Value};
 use x5_types::{Content, Leaf, Named, Node, Numbers, Operation, Surroundings, leaf_node};
 
@@ -126,6 +128,24 @@ fn selection_at(alloc: Global, first: u8, octets: &[u8]) -> Result<(Selection, &
     Ok((selection_of(alloc, content)?, rest))
 }
 
+/// The service controls that are all of the octets, by the table of types.
+fn controls_by_table(alloc: Global, octets: &[u8]) -> Result<Controls, Unread>
+    ensures { IfOk result (λ c. Reads 48 named.Controls requests.controls_in (controls_view c) octets.now []) }
+{
+    let node = part(alloc, Named::Controls, octets)?;
+    Ok(controls_in(&node))
+}
+
+/// The service controls that are all of the octets.
+fn controls_of(alloc: Global, octets: &[u8]) -> Result<Controls, Unread>
+    ensures { IfOk result (λ c. Reads 48 named.Controls requests.controls_in (controls_view c) octets.now []) }
+{
+    match usual_controls(octets) {
+        Some(controls) => Ok(controls),
+        None => controls_by_table(alloc, octets),
+    }
+}
+
 /// The service controls, which are all of the octets, or missing.
 fn controls_last(alloc: Global, octets: &[u8]) -> Result<Controls, Unread>
     ensures { IfOk result (λ c. ReadsNext 49 30 layouts.controls requests.controls_in (controls_view c) octets.now []) }
@@ -138,8 +158,7 @@ fn controls_last(alloc: Global, octets: &[u8]) -> Result<Controls, Unread>
         });
     }
     let content = whole(0xBE, octets)?;
-    let node = part(alloc, Named::Controls, content)?;
-    Ok(controls_in(&node))
+    Ok(controls_of(alloc, content)?)
 }
 
 /// Where a search looks, as the content says.
@@ -290,6 +309,28 @@ fn remove_of(alloc: Global, octets: &[u8]) -> Result<Request, Unread>
     })
 }
 
+/// The changes of an entry, and the octets behind them.
+fn changes_at(alloc: Global, octets: &[u8]) -> Result<(ChangeList, &[u8]), Unread>
+    ensures { IfOk result (λ r. ReadsNext 49 1 (forms.at 1 named.Changes) (λ n. map terms.change_in (nodes.parts n)) (map change_view r.0) octets.now r.1.now) }
+{
+    let (content, rest) = opened(0xA1, octets)?;
+    Ok((usual_changes(alloc, content)?, rest))
+}
+
+/// The request to change an entry whose argument is all of the octets.
+fn modify_of(alloc: Global, octets: &[u8]) -> Result<Request, Unread>
+    ensures { IfOk result (λ r. Reads 50 (named.Argument named.ModifyEntry) (requests.argument_in 8) (request_view r) octets.now []) }
+{
+    let content = whole(0x31, octets)?;
+    let (object, behind) = object_at(alloc, content)?;
+    let (changes, last) = changes_at(alloc, behind)?;
+    let controls = controls_last(alloc, last)?;
+    Ok(Request {
+        controls,
+        body: Body::Modify { object, changes },
+    })
+}
+
 /// The request of the operation whose argument is all of the octets, by the table of types.
 fn by_table(alloc: Global, code: u8, operation: Operation, octets: &[u8]) -> Result<Request, Unread>
     requires { code ≡ code_of (operation_view operation) }
@@ -315,6 +356,7 @@ pub fn argument_of(
         Operation::ListBelow => list_of(alloc, octets),
         Operation::Search => search_of(alloc, octets),
         Operation::RemoveEntry => remove_of(alloc, octets),
+        Operation::ModifyEntry => modify_of(alloc, octets),
         _ => by_table(alloc, code, operation, octets),
     }
 }

@@ -15,6 +15,8 @@ mod read_attributes;
 mod read_filters;
 pub mod read_parts;
 pub mod read_values;
+mod usual_changes;
+mod usual_controls;
 mod usual_filters;
 mod usual_selections;
 pub mod values;

@@ -7,18 +7,13 @@ use Rattle.x5_model_typed.specs.Forms.{Default}
 use Rattle.x5_model_typed.specs.Layouts.{controls, no_controls}
 use Rattle.x5_model_typed.specs.Named as named
 use Rattle.x5_ops.specs.RequestViews.{controls_view}
-use Rattle.x5_types.specs.NodeView.{node_view}
 use Rattle.x5_direct.proofs.Heads.{nothing}
 use Rattle.x5_dapber.specs.Direct.{ReadsNext}
-use Rattle.x5_dapber.proofs.ReadIsSayable.{controls_fit}
 use Rattle.x5_dapber.proofs.Sets.{next_given, next_missing}
 use Rattle.x5_dapber.proofs.direct.controls_last.Goals as goal
 
 abbrev none : Controls
 none = record { nocopy = false; nochain = false; size = None }
-
-pub controls_in-requires : goal.controls_in-requires
-controls_in-requires c = controls_fit (node_view c.in_ok-node.node) c.in_ok-node.ensures.fits
 
 pub returns-then-is_empty : goal.returns-then-is_empty
 returns-then-is_empty c =
@@ -28,6 +23,6 @@ returns-then-is_empty c =
 
 pub returns : goal.returns
 returns c =
-    next_given 48 190 named.Controls (Default no_controls) requests.controls_in (controls_view c.controls_in.result)
+    next_given 48 190 named.Controls (Default no_controls) requests.controls_in (controls_view c.in_ok-controls_of.field-0)
     c.in_ok-content.content.now c.args.octets.now [] (lit≤ tt) (lit< tt) c.in_ok-content.ensures
-    (node_view c.in_ok-node.node, c.in_ok-node.ensures.is, c.controls_in.ensures)
+    c.in_ok-controls_of.ensures
