@@ -1,6 +1,6 @@
 //! A copy, made of the content of a total refresh.
 
-ghost use Rattle.std.specs.Prelude.{◌≡◌, ◌++◌, ◌∷◌, [], true, IfOk, MatchOption, Some, option_map};
+ghost use Rattle.std.specs.Prelude.{◌≡◌, ◌++◌, ◌∷◌, [], true, IfOk, OnOk, MatchOption, Some, option_map};
 ghost use Rattle.x5_model.specs.Keys.{Key};
 ghost use Rattle.x5_model.specs.Values.{key_of};
 ghost use Rattle.x5_model.specs.Words.{ascending, first_of};
@@ -16,20 +16,19 @@ use x5_index::Room;
 use x5_memory::NoMemory;
 use x5_ops::{Content, Moment, Named, NamedList};
 
-/// The context with this entry more, behind all others.
-fn with_entry(alloc: Global, filling: Filling, named: Named) -> Result<Filling, NoMemory>
-    requires order { ascending named_below (entries_of filling.nodes.nodes ++ named ∷ []) ≡ true }
-    requires can { CanAdd (entries_of filling.nodes.nodes) named }
-    ensures { IfOk result (λ after. IsExtended filling (named ∷ []) after) }
+/// Adds this entry to the context, behind all others.
+fn add_entry(alloc: Global, filling: &mut Filling, named: Named) -> Result<(), NoMemory>
+    requires order { ascending named_below (entries_of filling.old.nodes.nodes ++ named ∷ []) ≡ true }
+    requires can { CanAdd (entries_of filling.old.nodes.nodes) named }
+    ensures { OnOk result (IsExtended filling.old (named ∷ []) filling.new) }
 {
-    let mut filling = filling;
     let room = Room::new(alloc, &named.entry)?;
     filling.reserve(1, room.len())?;
     let Named { name, entry } = named;
     let Ok(_node) = filling.insert(name, entry, room) else {
         unreachable!()
     };
-    Ok(filling)
+    Ok(())
 }
 
 /// The context with these entries more. They are in the order of their keys, each behind the one above it. There is room for all
@@ -41,7 +40,7 @@ fn with_entries(alloc: Global, held: Held, entries: Vec<Named>) -> Result<Held, 
     let mut filling = held.filling();
     filling.reserve(entries.len(), entries.len())?;
     for named in entries {
-        filling = with_entry(alloc, filling, named)?;
+        add_entry(alloc, &mut filling, named)?;
     }
     Ok(filling.finish())
 }

@@ -15,8 +15,8 @@ loop-named-init c =
     (c.in_ok-reserve.ensures.nodes ∙ ap (λ (n : Nodes). n.nodes) c.filling-filling.ensures.nodes)
     (still_only c.args.held c.filling-filling.result c.reserve.new.self c.filling-filling.ensures.others c.in_ok-reserve.ensures.others))
 
-pub with_entry-requires : goal.with_entry-requires
-with_entry-requires c =
+pub add_entry-requires : goal.add_entry-requires
+add_entry-requires c =
     let steps : into_iter_items c.loop-named.named-iterator ≡ c.in-Some.named ∷ into_iter_items c.next.new.self =
     c.in-Some.ensures.steps.0 in
     let s : SoFar c.args.held c.args.entries.items c.loop-named.filling (c.in-Some.named ∷ into_iter_items c.next.new.self) =
@@ -33,9 +33,9 @@ loop-named-preserved c =
     let steps : into_iter_items c.loop-named.named-iterator ≡ c.in-Some.named ∷ into_iter_items c.next.new.self =
     c.in-Some.ensures.steps.0 in
     one_taken c.requires.0 c.args.held c.args.entries.items c.loop-named.filling c.in-Some.named
-    (into_iter_items c.next.new.self) c.in_ok-filling.filling c.requires.2
+    (into_iter_items c.next.new.self) c.add_entry.new.filling c.requires.2
     (subst (λ (left : List Named). SoFar c.args.held c.args.entries.items c.loop-named.filling left) steps c.loop-named.invariant)
-    c.in_ok-filling.ensures
+    c.in_ok-add_entry.ensures
 
 pub returns : goal.returns
 returns c =
