@@ -1,5 +1,4 @@
 pub mod Anywhere
-pub mod Beginning
 pub mod Carried
 pub mod EntryParts
 pub mod Heads

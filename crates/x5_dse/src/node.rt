@@ -73,12 +73,7 @@ impl Dse {
     pub(crate) fn rdn(&self, alloc: Global) -> Result<Rdn, NoMemory>
         ensures { IfOk result (λ rdn. rdn ≡ self.now.rdn) }
     {
-        match &self.own {
-            Own::Last(name) => match name.rdns() {
-                [] => Rdn::new(alloc, Vec::new(alloc)),
-                [.., last] => Ok(last.clone()?),
-            },
-            Own::Renamed(rdn) => Ok(rdn.clone()?),
-        }
+        let pairs = Vec::from_clones(alloc, self.pairs())?;
+        Ok(Rdn::new(pairs))
     }
 }

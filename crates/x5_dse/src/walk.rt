@@ -3,7 +3,6 @@
 ghost use Rattle.std.specs.Iterator.{YieldsFirst, item_count};
 
 use crate::node::NodeId;
-use crate::place::Reached;
 use crate::tree::DseTree;
 use std::marker::Model;
 
@@ -13,7 +12,6 @@ pub struct Walk<'a> {
     pub(crate) tree: &'a DseTree,
     pub(crate) from: NodeId,
     pub(crate) at: Option<NodeId>,
-    pub(crate) reached: Reached,
 }
 
 impl<'a> Model for Walk<'a> {
@@ -40,7 +38,7 @@ impl<'a> Iterator for Walk<'a> {
         let Some(node) = self.at else {
             return None;
         };
-        self.at = self.tree.after(self.from, node, &mut self.reached);
+        self.at = self.tree.after(self.from, node);
         Some(node)
     }
 }

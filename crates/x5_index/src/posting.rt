@@ -46,10 +46,11 @@ impl Model for Posting {
 pub(crate) fn compare_terms(term: &Term, kind: TypeId, normal: &Normal) -> Ordering
     ensures { result ≡ pair_cmp term.now (kind, normal.now) }
 {
-    match term.kind.number().cmp(&kind.number()) {
-        Ordering::Equal => term.normal.as_slice().cmp(normal.as_slice()),
-        unequal => unequal,
-    }
+    let octets = term.normal.as_slice();
+    term.kind
+        .number()
+        .cmp(&kind.number())
+        .then(octets.cmp(normal.as_slice()))
 }
 
 /// Whether the value of this type and normal form is among these. No memory.
@@ -66,10 +67,7 @@ pub(crate) fn has_term(terms: &[Term], kind: TypeId, normal: &Normal) -> bool
 fn compare(posting: &Posting, kind: TypeId, normal: &Normal, node: usize) -> Ordering
     ensures { result ≡ posting_cmp posting.now (record { term = (kind, normal.now); node = node }) }
 {
-    match compare_terms(&posting.term, kind, normal) {
-        Ordering::Equal => posting.node.cmp(&node),
-        unequal => unequal,
-    }
+    compare_terms(&posting.term, kind, normal).then(posting.node.cmp(&node))
 }
 
 /// How a posting stands to another.

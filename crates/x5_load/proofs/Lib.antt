@@ -5,4 +5,3 @@ pub mod Texts
 pub mod Dates
 pub mod Known
 pub mod Whole
-pub mod Referring

@@ -1,4 +1,1 @@
-pub mod ByKeys
 pub mod Fronts
-mod Below
-mod Slash

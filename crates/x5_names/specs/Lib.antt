@@ -1,4 +1,3 @@
 pub mod KeyOrder
 pub mod Reading
 pub mod KeyHash
-pub mod Sharing

@@ -86,8 +86,7 @@ pub fn with_values(
 {
     let _ordered = entry.attributes();
     let Entry { attributes } = entry;
-    let held = attributes.into_vec()?;
-    let others = others_of(alloc, held, kind)?;
+    let others = others_of(alloc, attributes.into_vec(), kind)?;
     let attributes = with_attribute(others, kind, values)?;
     Ok(Entry::from_list(StoredList::from_vec(attributes)))
 }

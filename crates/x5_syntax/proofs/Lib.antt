@@ -1,4 +1,3 @@
 pub mod OidLemmas
 pub mod EscapeLemmas
 pub mod NameLemmas
-pub mod TextLemmas

@@ -1,8 +1,7 @@
 pub mod Views
+pub mod RowView
 pub mod Dotted
 pub mod Escapes
 pub mod TypeView
 pub mod Reading
 pub mod ValueView
-pub mod Kept
-pub mod Plain

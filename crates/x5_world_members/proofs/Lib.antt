@@ -1,5 +1,3 @@
-pub mod ByParts
-pub mod Failing
 pub mod Items
 pub mod LastRdn
 pub mod Owned

@@ -66,11 +66,8 @@ pub(crate) fn is_oid(arcs: &[u32]) -> bool
     }
 }
 
-/// Puts the content of an OBJECT IDENTIFIER.
-///
-/// # Errors
-/// That memory ran out.
-pub fn put_oid(out: &mut Backwards, arcs: &[u32]) -> Result<(), NoMemory>
+/// The content of an OBJECT IDENTIFIER.
+pub(crate) fn put_oid(out: &mut Backwards, arcs: &[u32]) -> Result<(), NoMemory>
     requires { IsTrue (normal.is_oid arcs.now) }
     ensures { OnOk result (out.new ≡ leaves.oid_octets arcs.now ++ out.old) }
 {

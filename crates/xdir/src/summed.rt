@@ -122,7 +122,6 @@ fn count_command(
     match carried {
         Some(course) => {
             totals.count(&course.journal, &course.outcome);
-            drop(course);
             Ok(())
         }
         None => Ok(()),
