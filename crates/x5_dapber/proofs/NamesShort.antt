@@ -1,10 +1,9 @@
 -- The names of a request that octets spell are no longer than names may be.
-use Rattle.std.proofs.Common.{◌≡◌, ℕ, ◌+◌, ◌-◌, ◌≤◌, ◌==◌, Bool, true, false, List, [], ◌∷◌, ◌++◌, length, map, take, ap, sym, subst, arith, length-append}
+use Rattle.std.proofs.Common.{◌≡◌, ℕ, ◌-◌, ◌≤◌, ◌==◌, Bool, true, false, List, [], ◌∷◌, ◌++◌, length, subst, arith, length-append}
 use Rattle.std.specs.Prelude.{if◌then◌else◌}
 use Rattle.std.proofs.lemmas.List.{length-map, length-take}
 use Rattle.std.specs.declared.option.Option.{Option}
 use Rattle.std.specs.declared.option.Option.TheVariants.{None, Some}
-use Rattle.x5_model.specs.Filters.{Assertion}
 use Rattle.x5_model.specs.Normal.{most_rdns, stored_rdn}
 use Rattle.x5_model.specs.Requests.{Body, Read, Compare, ListBelow, Search, AddEntry, RemoveEntry, ModifyEntry, ModifyDn}
 use Rattle.x5_model.specs.Values.{Rdn, Name, name_above}
@@ -12,7 +11,6 @@ use Rattle.x5_model.specs.Words.{in_option}
 use Rattle.x5_model_messages.specs.Requests.{two_of, three_of, four_of, five_of, body_in, request_in}
 use Rattle.x5_model_messages.specs.Terms.{name_of, number_in}
 use Rattle.x5_model_run.specs.Journal.{same_name}
-use Rattle.x5_model_run.specs.Needs as needs
 use Rattle.x5_model_typed.specs.Nodes as nodes
 use Rattle.x5_model_typed.specs.Nodes.{Node, Vacant, Flag, Number, Oid, Bits, Octets, Chosen, Many, Nil, More, parts}
 use Rattle.x5_model_typed.specs.Rules.{rdn_in, name_in}

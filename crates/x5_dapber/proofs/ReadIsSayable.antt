@@ -102,7 +102,7 @@ attribute_fits n f =
 pub attributes_fit : (n : Node) → Fits table (table named.Attributes) n → All IsAttribute (nodes.parts n)
 attributes_fit n f = many_of named.Attribute IsAttribute attribute_fits n (only_made table _ n refl (λ m. refl) f)
 
-assertion_fits : (n : Node) → Fits table (table named.Assertion) n → IsAssertion n
+pub assertion_fits : (n : Node) → Fits table (table named.Assertion) n → IsAssertion n
 assertion_fits n f =
     let m = only_made table _ n refl (λ x. refl) f in
     let two = pair_in table named.AnyOid named.Value m.members (sequence_in table _ m.members m.within) in
@@ -264,7 +264,7 @@ no_filter _ (chosen a tag form found c f settles) =
 no_filter _ (chosen_made {ns} a tag found inside settles) =
     absurd (never_within a.content ns (found_is (λ x. is_never x.content) (is_marked tag) (table (named.Filter 0)) a refl found) inside)
 
-filter_fits : (n : Node) → Fits table (table (named.Filter 16)) n → IsFilter n
+pub filter_fits : (n : Node) → Fits table (table (named.Filter 16)) n → IsFilter n
 filter_fits =
     above 15 16 refl (above 14 15 refl (above 13 14 refl (above 12 13 refl (above 11 12 refl (above 10 11 refl
     (above 9 10 refl (above 8 9 refl (above 7 8 refl (above 6 7 refl (above 5 6 refl (above 4 5 refl
@@ -299,7 +299,7 @@ small_count m small k e = (let same : m ≡ k = cc in subst (λ (x : ℕ). x < 2
 
 -- ---- arguments
 
-selection_fits : (n : Node) → Fits table (table named.Selection) n → IsSelection n
+pub selection_fits : (n : Node) → Fits table (table named.Selection) n → IsSelection n
 selection_fits n f =
     let m = only_made table _ n refl (λ x. refl) f in
     let first = optional_in table Vacant 1 named.TypeList [] (λ types. All IsType (nodes.parts types)) (All-nil IsType) types_fit m.members (set_in table _ m.members m.within) in
@@ -312,7 +312,7 @@ anything n = Unit {0}
 pub no_count : IsCount Vacant
 no_count k e = absurd (cc e)
 
-controls_fit : (n : Node) → Fits table (table named.Controls) n → AreControls n
+pub controls_fit : (n : Node) → Fits table (table named.Controls) n → AreControls n
 controls_fit n f =
     let m = only_made table _ n refl (λ x. refl) f in
     let a = optional_in table (options_node false false) 0 named.Options _ anything tt (λ x g. tt) m.members (set_in table _ m.members m.within) in

@@ -1,3 +1,5 @@
+pub mod Direct
+pub mod PutsPart
 pub mod Results
 pub mod Sayable
 pub mod ShortNames

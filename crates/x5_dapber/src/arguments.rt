@@ -41,7 +41,7 @@ fn size_node<'a>(size: Option<u32>) -> Node<'a>
 }
 
 /// Service controls (X.511, section 7.5).
-fn controls_node<'a>(alloc: Global, controls: Controls) -> Result<Node<'a>, NoMemory>
+pub(crate) fn controls_node<'a>(alloc: Global, controls: Controls) -> Result<Node<'a>, NoMemory>
     ensures { IfOk result (λ n. node_view n ≡ requests.controls_node (controls_view controls)) }
 {
     let options = options_node(alloc, controls.nocopy, controls.nochain)?;

@@ -4,6 +4,7 @@
 
 pub mod arguments;
 mod attributes;
+pub mod direct;
 mod fault;
 mod filters;
 mod messages;
@@ -14,7 +15,10 @@ mod read_attributes;
 mod read_filters;
 pub mod read_parts;
 pub mod read_values;
+mod usual_selections;
 pub mod values;
+pub mod write_arguments;
+pub mod write_parts;
 
 pub use crate::fault::WireFault;
 pub use crate::messages::{decode_request, encode_request};

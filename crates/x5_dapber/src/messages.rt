@@ -1,5 +1,6 @@
 //! Whole messages of a user (X.519, section 7), as octets.
 ghost use Rattle.std.specs.Prelude.{◌≡◌, ℕ, IfOk, Result, Ok};
+ghost use Rattle.x5_dapber.specs.PutsPart.{PutsValue};
 ghost use Rattle.x5_dapber.specs.Results.{IsWritten, Decodes, IsRead};
 ghost use Rattle.x5_dapber.specs.ShortNames.{HasShortNames};
 ghost use Rattle.x5_model.specs.Requests as model;
@@ -14,28 +15,44 @@ ghost use Rattle.x5_model_typed_laws.specs.Fits.{Fits};
 ghost use Rattle.x5_ops.specs.RequestViews.{request_view};
 ghost use Rattle.x5_typed.specs.Comes.{ComesTo};
 ghost use Rattle.x5_types.specs.FormView.{table};
-ghost use Rattle.x5_types.specs.NodeView.{node_view};
+ghost use Rattle.x5_writer.specs.Puts.{Writes};
 
-use crate::arguments::argument_node;
+use crate::direct::message_in;
 use crate::fault::WireFault;
-use crate::parts::{chosen, number, three};
 use crate::read_arguments::request_in;
+use crate::write_arguments::put_argument;
+use crate::write_parts::{put_code, put_number};
 use std::alloc::Global;
-use x5_memory::NoMemory;
+use x5_direct_writer::enclose;
 use x5_ops::Request;
 use x5_syntax::Octets;
 use x5_typed::read;
-use x5_types::{Named, Node};
-use x5_writer::{WriteFault, write};
+use x5_types::Named;
+use x5_writer::{Backwards, WriteFault};
 
 /// A user's message: an invoke with its id, the operation's code and the argument.
-fn request_node<'a>(alloc: Global, id: u32, request: &'a Request) -> Result<Node<'a>, NoMemory>
-    ensures { IfOk result (λ n. node_view n ≡ requests.request_node id (request_view request.now)) }
+fn put_request(
+    alloc: Global,
+    out: &mut Backwards,
+    id: u32,
+    request: &Request,
+) -> Result<(), WriteFault>
+    ensures { PutsValue named.DapRequest (requests.request_node id (request_view request.now)) out.old out.new result }
 {
-    let argument = argument_node(alloc, request)?;
-    let code = number(u32::from(request.body.operation().code()));
-    let invoke = three(alloc, number(id), code, argument)?;
-    chosen(alloc, 1, invoke)
+    let behind = out.len();
+    put_argument(alloc, out, request)?;
+    put_code(out, request.body.operation())?;
+    put_number(alloc, out, Named::NumberBelow(0, 4_294_967_295), id)?;
+    enclose(out, 2, 1, behind)?;
+    Ok(())
+}
+
+fn write_request(alloc: Global, id: u32, request: &Request) -> Result<Vec<u8>, WriteFault>
+    ensures { Writes (canonical_octets table named.DapRequest (requests.request_node id (request_view request.now))) result }
+{
+    let mut out = Backwards::new(alloc);
+    put_request(alloc, &mut out, id, request)?;
+    Ok(out.into_octets())
 }
 
 /// The canonical octets of a user's message with the id and the request (X.519, section 7; X.690, section 10).
@@ -50,8 +67,19 @@ pub fn encode_request(alloc: Global, id: u32, request: &Request) -> Result<Octet
     ensures spelled { Fits table (table named.DapRequest) (requests.request_node id (request_view request.now))
         → IfOk result (λ octets. Spells table named.DapRequest octets (requests.request_node id (request_view request.now))) }
 {
-    let node = request_node(alloc, id, request)?;
-    Ok(Octets::new(write(alloc, Named::DapRequest, &node)?))
+    Ok(Octets::new(write_request(alloc, id, request)?))
+}
+
+/// What a user's message says, read by the table of types, in whatever spelling.
+fn request_by_table(alloc: Global, octets: &[u8]) -> Result<(u32, Request), WireFault>
+    ensures decodes { (e : Result nodes.Node judged.Breach) → ComesTo named.DapRequest octets.now e
+        → Decodes (λ p. (p.0, request_view p.1)) requests.request_in e result }
+    ensures comes { (e : Result nodes.Node judged.Breach) × ComesTo named.DapRequest octets.now e }
+    ensures spelled { IfOk result (λ p. (n : nodes.Node) × Spells table named.DapRequest octets.now n
+        × ((p.0, request_view p.1) ≡ requests.request_in n)) }
+{
+    let node = read(alloc, Named::DapRequest, octets)?;
+    Ok(request_in(alloc, &node)?)
 }
 
 /// The id and the request of a user's message (X.519, section 7): of octets that are one spelling of it and nothing else.
@@ -75,6 +103,8 @@ pub fn decode_request(alloc: Global, octets: &[u8]) -> Result<(u32, Request), Wi
     ensures back { (id : ℕ) (r : model.Request) → IsBody r.body → Spells table named.DapRequest octets.now (requests.request_node id r)
         → IsRead {Y = ℕ × model.Request} (λ p. (p.0, request_view p.1)) (id, r) result }
 {
-    let node = read(alloc, Named::DapRequest, octets)?;
-    Ok(request_in(alloc, &node)?)
+    let Ok(request) = message_in(alloc, octets) else {
+        return request_by_table(alloc, octets);
+    };
+    Ok(request)
 }

@@ -19,7 +19,7 @@ use x5_rules::name_of;
 use x5_types::Node;
 
 /// The service controls that the node says.
-fn controls_in(node: &Node<'_>) -> Controls
+pub(crate) fn controls_in(node: &Node<'_>) -> Controls
     requires { sayable.AreControls (node_view node.now) }
     ensures { controls_view result ≡ requests.controls_in (node_view node.now) }
 {
@@ -65,7 +65,7 @@ fn types_in(alloc: Global, nodes: &[Node<'_>]) -> Result<TypeList, NoMemory>
 }
 
 /// The selection of attributes that the node says.
-fn selection_in(alloc: Global, node: &Node<'_>) -> Result<Selection, NoMemory>
+pub(crate) fn selection_in(alloc: Global, node: &Node<'_>) -> Result<Selection, NoMemory>
     requires { sayable.IsSelection (node_view node.now) }
     ensures { IfOk result (λ s. selection_view s ≡ requests.selection_in (node_view node.now)) }
 {

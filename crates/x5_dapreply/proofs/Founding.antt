@@ -1,28 +1,39 @@
--- What is written of what a search found is what is written of its parts, one in another.
+-- What is written of results and of whole replies is what is written of their parts, one in another.
 use Rattle.std.proofs.Common.{◌≡◌, ℕ, Bool, true, false, List, [], ◌∷◌, ◌++◌, length, map, refl, ap, sym, subst}
-use Rattle.std.proofs.Common.{◌∙◌, ◌==◌, if◌then◌else◌}
+use Rattle.std.proofs.Common.{◌∙◌, ◌==◌, if◌then◌else◌, append-nil}
 use Rattle.std.proofs.Math.Dec.{eqb-suc-zero}
+use Rattle.std.specs.Global.{Global}
+use Rattle.std.specs.Prelude.{Vec, not}
+use Rattle.std.specs.Result.{IsErrAnd}
 use Rattle.std.specs.declared.option.Option.{Option}
-use Rattle.std.specs.declared.option.Option.TheVariants.{Some}
+use Rattle.std.specs.declared.option.Option.TheVariants.{None, Some}
+use Rattle.std.specs.declared.result.Result.{Result}
 use Rattle.std.specs.declared.result.Result.TheVariants.{Ok, Err}
+use Rattle.x5_model.specs.Words.{in_option}
 use Rattle.x5_model_messages.specs.Replies as replies
 use Rattle.x5_model_messages.specs.Terms.{node_of}
 use Rattle.x5_model_octets.specs.Elements as elements
 use Rattle.x5_model_octets.specs.Elements.{Element, Elements, canonical, canonical_all}
 use Rattle.x5_model_typed.specs.Layouts.{no_qualifier}
 use Rattle.x5_model_typed.specs.Named as named
-use Rattle.x5_model_typed.specs.Nodes as nodes
-use Rattle.x5_model_typed.specs.Nodes.{Node, row, same, whole}
-use Rattle.x5_model_typed.specs.Written.{one_before, tagged_with, written, written_components}
+use Rattle.x5_model_typed.specs.Nodes.{Chosen, Flag, Node, row, same, whole}
+use Rattle.x5_model_typed.specs.Written.{canonical_octets, one_before, tagged_with, written, written_components}
 use Rattle.x5_types.specs.FormView.{table}
+use Rattle.x5_ops.specs.JournalViews.{code_view}
+use Rattle.x5_ops.specs.declared.journal.Operation.{Operation}
+use Rattle.x5_ops.specs.declared.journal.Operation.TheVariants as operations
 use Rattle.x5_ops.specs.declared.references.Reference.{Reference}
-use Rattle.x5_writer.specs.Puts.{Puts}
+use Rattle.x5_writer.specs.Puts.{Puts, Writes}
 use Rattle.x5_writer.specs.declared.fault.WriteFault.{WriteFault}
+use Rattle.x5_writer.specs.declared.fault.WriteFault.TheVariants.{Misfit, NoMemory}
 use Rattle.x5_direct_writer.specs.PutsOf.{Encloses}
-use Rattle.x5_direct_writer.proofs.Putting.{around, enclosed_put, one_put}
-use Rattle.x5_direct_writer.proofs.Wholes.{first_fault, inner_fault, last_put, later_fault, tagged_fault, tagged_put}
-use Rattle.x5_dapreply.specs.Found.{qualifier}
+use Rattle.x5_direct_writer.proofs.Putting.{around, one_put}
+use Rattle.x5_direct_writer.proofs.Rows.{AreLost, ArePut, pair}
+use Rattle.x5_direct_writer.proofs.Wholes.{first_fault, later_fault, last_put, tagged_fault, tagged_put}
+use Rattle.x5_dapreply.specs.Found.{PutsPart, answer_form, count, form_of, qualifier, verdict}
 use Rattle.x5_dapreply.specs.ReplyViews.{told_reference}
+use Rattle.x5_dapreply.specs.declared.whole.Protocol.{Protocol}
+use Rattle.x5_dapreply.specs.declared.whole.Protocol.TheVariants.{Dap, Dsp}
 
 -- ---- the outcome
 
@@ -84,130 +95,114 @@ part_fails tag form n m fault mid new old late is put =
     tagged_fault tag (written table (table form) n) fault mid new old late
     (subst (λ (x : Node). Puts {Y = Unit {0}} canonical (written table (table form) x) mid new (Err fault)) is put)
 
--- ---- the parts of a search's result
+-- ---- the parts of results
 
-abbrev pub entries_element : Node → Option Element
-entries_element a = tagged_with (Some 0) (written table (table named.EntryInfos) a)
+-- what is written of a value of the type
+abbrev pub of : named.Named → Node → Option Element
+of form n = written table (table form) n
 
-abbrev pub sources_element : Node → Option Element
-sources_element b = tagged_with (Some 1) (written table (table named.Sources) b)
+-- in that tag
+abbrev pub at : ℕ → named.Named → Node → Option Element
+at tag form n = tagged_with (Some tag) (of form n)
 
-abbrev pub searched : Node → Option Element
-searched n = written table (table (named.Outcome named.Search)) n
+-- where the entries of a list or search are from, and its outcome
+abbrev pub whence : Node → Node → Option Elements
+whence sources outcome = one_before (at 1 named.Sources sources) (outcome_elements outcome)
 
-search_is : (a b q : Node) → searched (node_of (a ∷ b ∷ q ∷ []))
-    ≡ around 0 17 (one_before (entries_element a) (one_before (sources_element b) (outcome_elements q)))
-search_is a b q = refl
+-- ---- whether an entry has a value
 
-pub search_put : (k : ℕ) (a b q : Node) (old early mid late new : List ℕ) → k ≡ length old → Encloses 0 17 k late new
-    → Puts {Y = Unit {0}} canonical_all (outcome_elements q) old early (Ok tt)
-    → Puts {Y = Unit {0}} canonical (sources_element b) early mid (Ok tt)
-    → Puts {Y = Unit {0}} canonical (entries_element a) mid late (Ok tt)
-    → Puts {Y = Unit {0}} canonical (searched (node_of (a ∷ b ∷ q ∷ []))) old new (Ok tt)
-search_put k a b q old early mid late new before header outcome sources entries =
-    enclosed_put 0 17 k (searched (node_of (a ∷ b ∷ q ∷ [])))
-    (one_before (entries_element a) (one_before (sources_element b) (outcome_elements q))) old late new
-    (search_is a b q) before header
-    (one_put (entries_element a) (one_before (sources_element b) (outcome_elements q)) old mid late
-    (one_put (sources_element b) (outcome_elements q) old early mid outcome sources) entries)
+abbrev flag_of : ℕ → ℕ → Element
+flag_of tag octet = elements.Constructed 2 tag (elements.More (elements.Primitive 0 1 (octet ∷ [])) elements.Nil)
 
-pub outcome_lost : (a b q : Node) (fault : WriteFault) (mid new old late : List ℕ)
-    → Puts {Y = Unit {0}} canonical_all (outcome_elements q) mid new (Err fault)
-    → Puts {Y = Unit {0}} canonical (searched (node_of (a ∷ b ∷ q ∷ []))) old late (Err fault)
-outcome_lost a b q fault mid new old late put =
-    inner_fault 0 17 (searched (node_of (a ∷ b ∷ q ∷ [])))
-    (one_before (entries_element a) (one_before (sources_element b) (outcome_elements q))) fault mid new old late
-    (search_is a b q)
-    (later_fault (entries_element a) (one_before (sources_element b) (outcome_elements q)) fault mid new mid new
-    (later_fault (sources_element b) (outcome_elements q) fault mid new mid new put))
+abbrev flag : ℕ → ℕ → Option Element
+flag tag octet = Some (flag_of tag octet)
 
-pub sources_lost : (a b q : Node) (fault : WriteFault) (mid new old late : List ℕ)
-    → Puts {Y = Unit {0}} canonical (sources_element b) mid new (Err fault)
-    → Puts {Y = Unit {0}} canonical (searched (node_of (a ∷ b ∷ q ∷ []))) old late (Err fault)
-sources_lost a b q fault mid new old late put =
-    inner_fault 0 17 (searched (node_of (a ∷ b ∷ q ∷ [])))
-    (one_before (entries_element a) (one_before (sources_element b) (outcome_elements q))) fault mid new old late
-    (search_is a b q)
-    (later_fault (entries_element a) (one_before (sources_element b) (outcome_elements q)) fault mid new mid new
-    (first_fault (sources_element b) (outcome_elements q) fault mid new mid new put))
+-- before where it is from
+abbrev pub judged : Bool → Bool → Option Elements → Option Elements
+judged true true os = one_before (flag 0 255) (one_before (flag 1 0) os)
+judged true false os = one_before (flag 0 255) os
+judged false true os = one_before (flag 0 0) (one_before (flag 1 0) os)
+judged false false os = one_before (flag 0 0) os
 
-pub entries_lost : (a b q : Node) (fault : WriteFault) (mid new old late : List ℕ)
-    → Puts {Y = Unit {0}} canonical (entries_element a) mid new (Err fault)
-    → Puts {Y = Unit {0}} canonical (searched (node_of (a ∷ b ∷ q ∷ []))) old late (Err fault)
-entries_lost a b q fault mid new old late put =
-    inner_fault 0 17 (searched (node_of (a ∷ b ∷ q ∷ [])))
-    (one_before (entries_element a) (one_before (sources_element b) (outcome_elements q))) fault mid new old late
-    (search_is a b q)
-    (first_fault (entries_element a) (one_before (sources_element b) (outcome_elements q)) fault mid new mid new put)
+pub judged_is : (matched copy : Bool) (source : Node)
+    → of (named.Outcome named.Compare) (node_of (Flag matched ∷ Flag (not copy) ∷ source ∷ []))
+    ≡ around 0 17 (judged matched copy (one_before (at 2 named.Source source) (Some elements.Nil)))
+judged_is true true source = refl
+judged_is true false source = refl
+judged_is false true source = refl
+judged_is false false source = refl
+
+pub judged_put : (matched copy : Bool) (os : Option Elements) (old mid new : List ℕ) → ArePut os old mid
+    → new ≡ verdict matched copy ++ mid → ArePut (judged matched copy os) old new
+judged_put true true os old mid new put is =
+    one_put (flag 0 255) (one_before (flag 1 0) os) old (161 ∷ 3 ∷ 1 ∷ 1 ∷ 0 ∷ mid) new
+    (one_put (flag 1 0) os old mid (161 ∷ 3 ∷ 1 ∷ 1 ∷ 0 ∷ mid) put (flag_of 1 0, refl, refl)) (flag_of 0 255, refl, is)
+judged_put true false os old mid new put is = one_put (flag 0 255) os old mid new put (flag_of 0 255, refl, is)
+judged_put false true os old mid new put is =
+    one_put (flag 0 0) (one_before (flag 1 0) os) old (161 ∷ 3 ∷ 1 ∷ 1 ∷ 0 ∷ mid) new
+    (one_put (flag 1 0) os old mid (161 ∷ 3 ∷ 1 ∷ 1 ∷ 0 ∷ mid) put (flag_of 1 0, refl, refl)) (flag_of 0 0, refl, is)
+judged_put false false os old mid new put is = one_put (flag 0 0) os old mid new put (flag_of 0 0, refl, is)
+
+pub judged_lost : (matched copy : Bool) (os : Option Elements) (fault : WriteFault) (mid new old late : List ℕ)
+    → AreLost os mid new fault → AreLost (judged matched copy os) old late fault
+judged_lost true true os fault mid new old late put =
+    later_fault (flag 0 255) (one_before (flag 1 0) os) fault mid new old late
+    (later_fault (flag 1 0) os fault mid new mid new put)
+judged_lost true false os fault mid new old late put = later_fault (flag 0 255) os fault mid new old late put
+judged_lost false true os fault mid new old late put =
+    later_fault (flag 0 0) (one_before (flag 1 0) os) fault mid new old late
+    (later_fault (flag 1 0) os fault mid new mid new put)
+judged_lost false false os fault mid new old late put = later_fault (flag 0 0) os fault mid new old late put
 
 -- ---- with the code, and with the id
 
-abbrev five : Option Element
-five = Some (elements.Primitive 0 2 (5 ∷ []))
+-- an INTEGER of one octet
+abbrev pub digit : ℕ → Option Element
+digit k = Some (elements.Primitive 0 2 (k ∷ []))
 
-abbrev pub coded : Node → Option Element
-coded s = written table (table named.DapResult) (node_of (whole 5 ∷ s ∷ []))
+pub digit_put : (k : ℕ) (old : List ℕ) → Puts {Y = Unit {0}} canonical (digit k) old (2 ∷ 1 ∷ k ∷ old) (Ok tt)
+digit_put k old = (elements.Primitive 0 2 (k ∷ []), refl, refl)
 
-coded_is : (s : Node) → coded s ≡ around 0 16 (one_before five (one_before (searched s) (Some elements.Nil)))
-coded_is s = refl
+pub coded_is : (op : Operation) (s : Node) → of named.DapResult (node_of (whole (code_view op) ∷ s ∷ []))
+    ≡ around 0 16 (pair (digit (code_view op)) (of (named.Outcome (form_of op)) s))
+coded_is operations.Read s = refl
+coded_is operations.Compare s = refl
+coded_is operations.List s = refl
+coded_is operations.Search s = refl
+coded_is operations.AddEntry s = refl
+coded_is operations.RemoveEntry s = refl
+coded_is operations.ModifyEntry s = refl
+coded_is operations.ModifyDn s = refl
 
-pub coded_put : (k : ℕ) (s : Node) (old early late new : List ℕ) → k ≡ length old → Encloses 0 16 k late new
-    → Puts {Y = Unit {0}} canonical (searched s) old early (Ok tt) → late ≡ (2 ∷ 1 ∷ 5 ∷ []) ++ early
-    → Puts {Y = Unit {0}} canonical (coded s) old new (Ok tt)
-coded_put k s old early late new before header put code =
-    enclosed_put 0 16 k (coded s) (one_before five (one_before (searched s) (Some elements.Nil))) old late new
-    (coded_is s) before header
-    (one_put five (one_before (searched s) (Some elements.Nil)) old early late (last_put (searched s) old early put)
-    (elements.Primitive 0 2 (5 ∷ []), refl, code))
+pub done_is : (p : Protocol) (x y : Node)
+    → of (answer_form p) (Chosen 2 (node_of (x ∷ y ∷ []))) ≡ around 2 2 (pair (of count x) (of named.DapResult y))
+done_is Dap x y = refl
+done_is Dsp x y = refl
 
-pub coded_fails : (s : Node) (fault : WriteFault) (mid new old late : List ℕ)
-    → Puts {Y = Unit {0}} canonical (searched s) mid new (Err fault)
-    → Puts {Y = Unit {0}} canonical (coded s) old late (Err fault)
-coded_fails s fault mid new old late put =
-    inner_fault 0 16 (coded s) (one_before five (one_before (searched s) (Some elements.Nil))) fault mid new old late
-    (coded_is s)
-    (later_fault five (one_before (searched s) (Some elements.Nil)) fault mid new mid new
-    (first_fault (searched s) (Some elements.Nil) fault mid new mid new put))
+-- that there is no such object
+pub matched_is : (n : Node)
+    → of named.NameError (node_of (whole 1 ∷ n ∷ [])) ≡ around 0 16 (pair (digit 1) (of named.Name n))
+matched_is n = refl
 
-abbrev id_element : Node → Option Element
-id_element x = written table (table (named.NumberBelow 0 4294967295)) x
+pub missing_is : (p : Protocol) (x e : Node) → of (answer_form p) (Chosen 3 (node_of (x ∷ whole 2 ∷ e ∷ [])))
+    ≡ around 2 3 (one_before (of count x) (pair (digit 2) (of named.NameError e)))
+missing_is Dap x e = refl
+missing_is Dsp x e = refl
 
-abbrev result_element : Node → Option Element
-result_element y = written table (table named.DapResult) y
+-- ---- octets
 
-abbrev pub answered : Node → Node → Option Element
-answered x y = written table (table named.DapAnswer) (nodes.Chosen 2 (node_of (x ∷ y ∷ [])))
+pub all_written : (form : named.Named) (n : Node) (old new items : List ℕ)
+    → PutsPart {Y = Unit {0}} form n old new (Ok tt) → old ≡ [] → items ≡ new → canonical_octets table form n ≡ Some items
+all_written form n old new items put none is =
+    ap (λ (o : Option Element). in_option None (λ (e : Element). Some (canonical e)) o) put.1
+    ∙ ap (λ (l : List ℕ). Some l)
+    (sym (is ∙ put.2 ∙ ap (λ (l : List ℕ). canonical put.0 ++ l) none ∙ append-nil (canonical put.0)))
 
-answered_is : (x y : Node) → answered x y
-    ≡ around 2 2 (one_before (id_element x) (one_before (result_element y) (Some elements.Nil)))
-answered_is x y = refl
-
-pub answered_put : (k : ℕ) (x z y : Node) (old early late new : List ℕ) → z ≡ x → k ≡ length old
-    → Encloses 2 2 k late new
-    → Puts {Y = Unit {0}} canonical (result_element y) old early (Ok tt)
-    → Puts {Y = Unit {0}} canonical (id_element z) early late (Ok tt)
-    → Puts {Y = Unit {0}} canonical (answered x y) old new (Ok tt)
-answered_put k x z y old early late new is before header result id =
-    enclosed_put 2 2 k (answered x y) (one_before (id_element x) (one_before (result_element y) (Some elements.Nil)))
-    old late new (answered_is x y) before header
-    (one_put (id_element x) (one_before (result_element y) (Some elements.Nil)) old early late
-    (last_put (result_element y) old early result)
-    (subst (λ (n : Node). Puts {Y = Unit {0}} canonical (id_element n) early late (Ok tt)) is id))
-
-pub result_lost : (x y : Node) (fault : WriteFault) (mid new old late : List ℕ)
-    → Puts {Y = Unit {0}} canonical (result_element y) mid new (Err fault)
-    → Puts {Y = Unit {0}} canonical (answered x y) old late (Err fault)
-result_lost x y fault mid new old late put =
-    inner_fault 2 2 (answered x y) (one_before (id_element x) (one_before (result_element y) (Some elements.Nil))) fault
-    mid new old late (answered_is x y)
-    (later_fault (id_element x) (one_before (result_element y) (Some elements.Nil)) fault mid new mid new
-    (first_fault (result_element y) (Some elements.Nil) fault mid new mid new put))
-
-pub id_lost : (x z y : Node) (fault : WriteFault) (mid new old late : List ℕ) → z ≡ x
-    → Puts {Y = Unit {0}} canonical (id_element z) mid new (Err fault)
-    → Puts {Y = Unit {0}} canonical (answered x y) old late (Err fault)
-id_lost x z y fault mid new old late is put =
-    inner_fault 2 2 (answered x y) (one_before (id_element x) (one_before (result_element y) (Some elements.Nil))) fault
-    mid new old late (answered_is x y)
-    (first_fault (id_element x) (one_before (result_element y) (Some elements.Nil)) fault mid new mid new
-    (subst (λ (n : Node). Puts {Y = Unit {0}} canonical (id_element n) mid new (Err fault)) is put))
+pub none_written : (form : named.Named) (n : Node) (fault : WriteFault) (old new : List ℕ)
+    (r : Result (Vec ℕ Global) WriteFault) → PutsPart {Y = Unit {0}} form n old new (Err fault)
+    → IsErrAnd r (λ x. x ≡ fault) → Writes (canonical_octets table form n) r
+none_written form n fault old new (Ok v) put h = elim h [ ]
+none_written form n fault old new (Err Misfit) put h =
+    ap (λ (o : Option Element). in_option None (λ (e : Element). Some (canonical e)) o)
+    (subst (λ (f : WriteFault). PutsPart {Y = Unit {0}} form n old new (Err f)) (sym h) put)
+none_written form n fault old new (Err NoMemory) put h = tt

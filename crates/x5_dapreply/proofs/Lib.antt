@@ -4,6 +4,7 @@ pub mod ReplyRooms
 pub mod RepliesBack
 pub mod ReplyIsSayable
 pub mod Sequences
+mod Sourcing
 mod ShownParts
 pub mod Six
 pub mod SaidReplies

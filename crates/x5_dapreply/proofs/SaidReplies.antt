@@ -13,7 +13,8 @@ use Rattle.x5_direct.specs.Spelled.{Reads}
 use Rattle.x5_dapreply.specs.ReplyViews.{heard, heard_in, unnumbered}
 use Rattle.x5_dapreply.specs.Told.{IsTold}
 use Rattle.x5_dapreply.proofs.RepliesBack.{replies_back}
-use Rattle.x5_dapreply.proofs.WholeSpelling.{comes_only, spelled_whole}
+use Rattle.x5_dapber.proofs.Coming.{comes_only}
+use Rattle.x5_dapreply.proofs.WholeSpelling.{spelled_whole}
 
 abbrev pub seen : ℕ × Reply → ℕ × replies.Reply
 seen p = (p.0, heard p.1)

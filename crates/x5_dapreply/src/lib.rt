@@ -10,8 +10,11 @@ pub mod read_references;
 pub mod read_replies;
 pub mod references;
 pub mod replies;
+mod sources;
+mod whole;
 
 pub use crate::messages::{decode_answer, encode_answer};
+pub use crate::whole::{Protocol, write_reply};
 pub use x5_dapber::WireFault;
 pub use x5_memory::NoMemory;
 pub use x5_typed::BerFault;

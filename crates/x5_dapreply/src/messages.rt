@@ -16,8 +16,8 @@ ghost use Rattle.x5_types.specs.FormView.{table};
 ghost use Rattle.x5_types.specs.NodeView.{node_view};
 
 use crate::direct::usual_reply;
-use crate::found::write_answer;
 use crate::read_replies::reply_in;
+use crate::whole::{Protocol, write_reply};
 use std::alloc::Global;
 use x5_dapber::WireFault;
 use x5_memory::NoMemory;
@@ -44,7 +44,7 @@ pub fn encode_answer(
     ensures spelled { Fits table (table named.DapAnswer) (replies.reply_node replies.to_user id (told_reply (code_view operation) reply.now))
         → IfOk result (λ octets. Spells table named.DapAnswer octets (replies.reply_node replies.to_user id (told_reply (code_view operation) reply.now))) }
 {
-    Ok(Octets::new(write_answer(alloc, id, operation, reply)?))
+    Ok(Octets::new(write_reply(alloc, Protocol::Dap, id, operation, reply)?))
 }
 
 /// The id and the reply of an answer to a user (X.519, section 7): of octets that are one spelling of it and nothing else. The code of

@@ -84,7 +84,7 @@ pub(crate) fn outcome_node<'a>(alloc: Global, outcome: &'a Outcome) -> Result<No
 }
 
 /// A result: of a read, a compare, a list, a search, or an update.
-fn answer_node<'a>(alloc: Global, answer: &'a Answer) -> Result<Node<'a>, NoMemory>
+pub(crate) fn answer_node<'a>(alloc: Global, answer: &'a Answer) -> Result<Node<'a>, NoMemory>
     ensures { IfOk result (λ n. node_view n ≡ replies.answer_node (told_answer answer.now)) }
 {
     match answer {

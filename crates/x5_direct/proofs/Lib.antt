@@ -1,4 +1,5 @@
 pub mod Anywhere
+pub mod Beginning
 pub mod Carried
 pub mod EntryParts
 pub mod Heads

@@ -65,6 +65,15 @@ SpelledEach levels form ns octets = (depth at : ℕ) → depth + levels ≤ deep
 abbrev pub ReadEach : {X : Type 0} → ℕ → Named → (Node → X) → List X → List ℕ → Type 0
 ReadEach levels form says xs octets = (ns : List Node) × SpelledEach levels form ns octets × (xs ≡ map says ns)
 
+-- Wherever they stand first, they are members of which that is said, and those that follow are what they are.
+abbrev pub BeginEach : {X : Type 0} → ℕ → Named → (Node → X) → List X → List ℕ → Type 0
+BeginEach {X = X} levels form says xs front =
+    (more : List X) (rest : List ℕ) → ReadEach levels form says more rest → ReadEach levels form says (xs ++ more) (front ++ rest)
+
+-- The octets are such members, and behind them what is left.
+abbrev pub Ahead : {X : Type 0} → ℕ → Named → (Node → X) → List ℕ → List X → List ℕ → Type 0
+Ahead levels form says octets xs left = (front : List ℕ) × (octets ≡ front ++ left) × BeginEach levels form says xs front
+
 -- They are members in the order of the components, with those values.
 pub record AreInOrder (cs : List Component) (ns : List Node) (octets : List ℕ) (depth at : ℕ) : Type 0 where
   pub members : Trees

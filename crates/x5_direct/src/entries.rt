@@ -1,22 +1,24 @@
 //! Entries of refreshes (X.525, section 10), whose attributes stand in the order of their types, and values in that of their normal
 //! forms.
-ghost use Rattle.std.specs.Prelude.{◌≡◌, ◌<◌, ◌≤◌, ◌&&◌, IfOk, Some, drop, length, map, not, true};
+ghost use Rattle.std.specs.Prelude.{◌≡◌, ◌<◌, ◌≤◌, ◌&&◌, ◌-◌, IfOk, IfSome, Some, drop, length, map, not, take, true};
 ghost use Rattle.std.specs.List.{list_all};
 ghost use Rattle.x5_direct.specs.Kept.{kept_in, stored_as};
-ghost use Rattle.x5_direct.specs.Spelled.{ReadEach, Reads};
+ghost use Rattle.x5_direct.specs.Spelled.{BeginEach, ReadEach, Reads};
 ghost use Rattle.x5_model.specs.Attributes.{is_ordered, kind_below, value_below};
 ghost use Rattle.x5_model.specs.Normal.{is_of_kind};
 ghost use Rattle.x5_model.specs.Types.{kind_of};
 ghost use Rattle.x5_model.specs.Words.{ascending, in_option, is_empty, last_of, octets_below};
 ghost use Rattle.x5_model_messages.specs.Shadows as shadows;
+ghost use Rattle.x5_model_messages.specs.Terms as terms;
 ghost use Rattle.x5_model_typed.specs.Named as named;
 
 use crate::element::opened;
-use crate::names::{SHORT_OID, name_at, type_at};
+use crate::names::{SHORT_OID, known_above, name_behind, type_at};
 use crate::unread::Unread;
 use crate::values::value_at;
 use std::alloc::Global;
 use x5_match::{Entry, Stored, StoredList, StoredValue, StoredValueList};
+use x5_names::Rdn;
 use x5_ops::{Named, NamedList};
 use x5_syntax::{Normal, TypeId, normal};
 
@@ -119,21 +121,30 @@ fn all_stored_in(alloc: Global, octets: &[u8]) -> Result<StoredList, Unread>
     Ok(StoredList::from_vec(attributes))
 }
 
-/// The entry with its name that the octets begin with, all of it from the entry itself, and how many octets it takes.
-fn entry_at(alloc: Global, octets: &[u8]) -> Result<(Named, usize), Unread>
+/// The entry with its name that the octets begin with, all of it from the entry itself, and how many octets it takes; those of its
+/// name's RDNs that are spelled as known ones aren't read again. With them, if they may be known from then on, the octets of all its
+/// RDNs but the last.
+fn entry_behind<'a>(
+    alloc: Global,
+    above_octets: &[u8],
+    above: &[Rdn],
+    octets: &'a [u8],
+) -> Result<(Named, usize, Option<&'a [u8]>), Unread>
+    requires { BeginEach 2 named.Rdn terms.rdn_of above.now above_octets.now }
     ensures reads { IfOk result (λ r. Reads 7 named.Entry shadows.entry_in r.0 octets.now (drop r.1 octets.now)) }
     ensures some { IfOk result (λ r. (0 < r.1) × (r.1 ≤ length octets.now)) }
+    ensures front { IfOk result (λ r. IfSome r.2 (λ front. BeginEach 2 named.Rdn terms.rdn_of (take (length r.0.name - 1) r.0.name) front.now)) }
 {
     let (content, rest) = opened(0x30, octets)?;
     let taken = octets.len() - rest.len();
-    let (name, named_by) = name_at(alloc, content)?;
+    let (name, named_by, front) = name_behind(alloc, above_octets, above, content)?;
     let (members, end) = opened(0x31, &content[named_by..])?;
     if !end.is_empty() {
         return Err(Unread::Unusual);
     }
     let attributes = all_stored_in(alloc, members)?;
-    let entry = Entry::from_list(attributes);
-    Ok((Named { name, entry }, taken))
+    let entry = Entry::from_list(attributes).shared(alloc)?;
+    Ok((Named { name, entry }, taken, front))
 }
 
 /// The entries that are all of the octets.
@@ -141,9 +152,14 @@ pub fn entries_in(alloc: Global, octets: &[u8]) -> Result<NamedList, Unread>
     ensures { IfOk result (λ l. ReadEach 7 named.Entry shadows.entry_in l octets.now) }
 {
     let mut entries = Vec::with_capacity(alloc, octets.len() / 128 + 1)?;
+    let mut above = Vec::new(alloc);
+    let mut above_octets: &[u8] = &[];
     let mut rest = octets;
     while !rest.is_empty() {
-        let (entry, taken) = entry_at(alloc, rest)?;
+        let (entry, taken, front) = entry_behind(alloc, above_octets, &above, rest)?;
+        let (known, octets) = known_above(alloc, &entry.name, front, above_octets, above)?;
+        above = known;
+        above_octets = octets;
         entries.push(entry)?;
         rest = &rest[taken..];
     }

@@ -1,7 +1,7 @@
 //! Names of entries (X.501, section 9).
-ghost use Rattle.std.specs.Prelude.{◌≡◌, ◌<◌, ◌≤◌, IfOk, IfSome, [], ◌∷◌, drop, length, true};
+ghost use Rattle.std.specs.Prelude.{◌≡◌, ◌<◌, ◌≤◌, ◌-◌, IfOk, IfSome, [], ◌∷◌, drop, length, take, true};
 ghost use Rattle.std.specs.List.{list_all};
-ghost use Rattle.x5_direct.specs.Spelled.{Spelled, Reads, ReadEach, pair_of};
+ghost use Rattle.x5_direct.specs.Spelled.{Ahead, BeginEach, Spelled, Reads, ReadEach, pair_of};
 ghost use Rattle.x5_model.specs.Normal as normal;
 ghost use Rattle.x5_model.specs.Types as types;
 ghost use Rattle.x5_model.specs.Values as values;
@@ -161,23 +161,93 @@ pub fn rdn_at(alloc: Global, octets: &[u8]) -> Result<(Rdn, usize), Unread>
     let (content, rest) = opened(0x31, octets)?;
     let taken = octets.len() - rest.len();
     let pair = pair_in(alloc, content)?;
-    let mut pairs = Vec::with_capacity(alloc, 1)?;
-    pairs.push(pair)?;
-    Ok((Rdn::new(pairs), taken))
+    Ok((Rdn::one(alloc, pair)?, taken))
+}
+
+/// The RDNs with which the octets begin, where these are those of known RDNs and more are left; and what is left.
+fn begun<'a>(
+    alloc: Global,
+    above_octets: &[u8],
+    above: &[Rdn],
+    octets: &'a [u8],
+) -> Result<(Vec<Rdn>, &'a [u8]), Unread>
+    requires { BeginEach 2 named.Rdn terms.rdn_of above.now above_octets.now }
+    ensures { IfOk result (λ r. Ahead 2 named.Rdn terms.rdn_of octets.now r.0.items r.1.now) }
+{
+    let mut rdns: Vec<Rdn> = Vec::with_capacity(alloc, octets.len() / 12 + 1)?;
+    if let Some(left) = octets.strip_prefix(above_octets) {
+        if !left.is_empty() {
+            rdns.extend_from_slice(above)?;
+            return Ok((rdns, left));
+        }
+    }
+    Ok((rdns, octets))
+}
+
+/// The octets before those that are left, if they are of use.
+fn front_of<'a>(octets: &'a [u8], left: &[u8], of_use: bool) -> Option<&'a [u8]>
+    ensures { IfSome result (λ front. front.now ≡ take (length octets.now - length left.now) octets.now) }
+{
+    if of_use {
+        Some(&octets[..octets.len().saturating_sub(left.len())])
+    } else {
+        None
+    }
+}
+
+/// The RDNs that are all of the octets, of which those that are spelled as known ones aren't read again; and, if they may be
+/// known from then on, the octets of all but the last.
+fn rdns_behind<'a>(
+    alloc: Global,
+    above_octets: &[u8],
+    above: &[Rdn],
+    octets: &'a [u8],
+) -> Result<(Vec<Rdn>, Option<&'a [u8]>), Unread>
+    requires { BeginEach 2 named.Rdn terms.rdn_of above.now above_octets.now }
+    ensures read { IfOk result (λ r. ReadEach 2 named.Rdn terms.rdn_of r.0.items octets.now) }
+    ensures front { IfOk result (λ r. IfSome r.1 (λ front. BeginEach 2 named.Rdn terms.rdn_of (take (length r.0.items - 1) r.0.items) front.now)) }
+{
+    let (mut rdns, mut left) = begun(alloc, above_octets, above, octets)?;
+    let known = rdns.len();
+    let mut front = None;
+    while !left.is_empty() {
+        let before = front_of(octets, left, rdns.len() > known);
+        let (rdn, taken) = rdn_at(alloc, left)?;
+        rdns.push(rdn)?;
+        front = before;
+        left = &left[taken..];
+    }
+    Ok((rdns, front))
 }
 
 /// The RDNs that are all of the octets.
 pub fn rdns_in(alloc: Global, octets: &[u8]) -> Result<Vec<Rdn>, Unread>
     ensures { IfOk result (λ rdns. ReadEach 2 named.Rdn terms.rdn_of rdns.items octets.now) }
 {
-    let mut rdns = Vec::with_capacity(alloc, octets.len() / 16 + 1)?;
-    let mut left = octets;
-    while !left.is_empty() {
-        let (rdn, taken) = rdn_at(alloc, left)?;
-        rdns.push(rdn)?;
-        left = &left[taken..];
-    }
+    let (rdns, _) = rdns_behind(alloc, &[], &[], octets)?;
     Ok(rdns)
+}
+
+/// The name that the octets begin with, and how many octets it takes; those of its RDNs that are spelled as known ones aren't read
+/// again. With them, if they may be known from then on, the octets of all RDNs but the last.
+pub fn name_behind<'a>(
+    alloc: Global,
+    above_octets: &[u8],
+    above: &[Rdn],
+    octets: &'a [u8],
+) -> Result<(Name, usize, Option<&'a [u8]>), Unread>
+    requires { BeginEach 2 named.Rdn terms.rdn_of above.now above_octets.now }
+    ensures reads { IfOk result (λ r. Reads 3 named.Name terms.name_of r.0 octets.now (drop r.1 octets.now)) }
+    ensures some { IfOk result (λ r. (0 < r.1) × (r.1 ≤ length octets.now)) }
+    ensures front { IfOk result (λ r. IfSome r.2 (λ front. BeginEach 2 named.Rdn terms.rdn_of (take (length r.0 - 1) r.0) front.now)) }
+{
+    let (content, rest) = opened(0x30, octets)?;
+    let taken = octets.len() - rest.len();
+    let (rdns, front) = rdns_behind(alloc, above_octets, above, content)?;
+    if rdns.len() > MOST_RDNS {
+        return Err(Unread::Unusual);
+    }
+    Ok((Name::new(alloc, rdns)?, taken, front))
 }
 
 /// The name that the octets begin with, and how many octets it takes.
@@ -185,11 +255,56 @@ pub fn name_at(alloc: Global, octets: &[u8]) -> Result<(Name, usize), Unread>
     ensures reads { IfOk result (λ r. Reads 3 named.Name terms.name_of r.0 octets.now (drop r.1 octets.now)) }
     ensures some { IfOk result (λ r. (0 < r.1) × (r.1 ≤ length octets.now)) }
 {
-    let (content, rest) = opened(0x30, octets)?;
-    let taken = octets.len() - rest.len();
-    let rdns = rdns_in(alloc, content)?;
-    if rdns.len() > MOST_RDNS {
-        return Err(Unread::Unusual);
+    let (name, taken, _) = name_behind(alloc, &[], &[], octets)?;
+    Ok((name, taken))
+}
+
+/// The name that the octets begin with, and how many octets it takes: a known one, where they begin with the octets that spell that.
+pub fn name_like(
+    alloc: Global,
+    known: &Name,
+    spelled: &[u8],
+    octets: &[u8],
+) -> Result<(Name, usize), Unread>
+    requires { Reads 3 named.Name terms.name_of known.now spelled.now [] }
+    ensures reads { IfOk result (λ r. Reads 3 named.Name terms.name_of r.0 octets.now (drop r.1 octets.now)) }
+    ensures some { IfOk result (λ r. (0 < r.1) × (r.1 ≤ length octets.now)) }
+{
+    if spelled.is_empty() {
+        return name_at(alloc, octets);
     }
-    Ok((Name::new(alloc, rdns)?, taken))
+    let Some(rest) = octets.strip_prefix(spelled) else {
+        return name_at(alloc, octets);
+    };
+    let taken = octets.len() - rest.len();
+    Ok((known.clone()?, taken))
+}
+
+/// The RDNs of the name but the last.
+fn rdns_above(alloc: Global, name: &Name) -> Result<Vec<Rdn>, Unread>
+    ensures { IfOk result (λ rdns. rdns.items ≡ take (length name.now - 1) name.now) }
+{
+    let rdns = name.rdns();
+    Ok(Vec::from_clones(alloc, &rdns[..rdns.len().saturating_sub(1)])?)
+}
+
+/// What names may begin with from now on: what stands above this one, if its octets are at hand, and else as before.
+pub(crate) fn known_above<'a>(
+    alloc: Global,
+    name: &Name,
+    front: Option<&'a [u8]>,
+    above_octets: &'a [u8],
+    above: Vec<Rdn>,
+) -> Result<(Vec<Rdn>, &'a [u8]), Unread>
+    requires front { IfSome front (λ front. BeginEach 2 named.Rdn terms.rdn_of (take (length name.now - 1) name.now) front.now) }
+    requires above { BeginEach 2 named.Rdn terms.rdn_of above.items above_octets.now }
+    ensures { IfOk result (λ r. BeginEach 2 named.Rdn terms.rdn_of r.0.items r.1.now) }
+{
+    match front {
+        Some(front) => {
+            let rdns = rdns_above(alloc, name)?;
+            Ok((rdns, front))
+        }
+        None => Ok((above, above_octets)),
+    }
 }

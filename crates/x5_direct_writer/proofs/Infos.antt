@@ -24,7 +24,7 @@ use Rattle.x5_direct_writer.proofs.Naming.{in_two}
 use Rattle.x5_direct_writer.proofs.Putting.{around, enclosed_put, nothing_before, one_put}
 
 -- FALSE before others
-abbrev flagged : Bool → Option Elements → Option Elements
+abbrev pub flagged : Bool → Option Elements → Option Elements
 flagged true os = one_before (Some (elements.Primitive 0 1 (0 ∷ []))) os
 flagged false os = os
 
@@ -48,7 +48,7 @@ has_info e l is =
     ∙ ap (λ (m : List Attribute). map (λ a. replies.shown_node (shown_view a)) m) (sym is))
     (info_is e.copy (terms.name_node e.name) (node_of (map replies.shown_node (map shown_view e.attributes))))
 
-flagged_put : (copy : Bool) (os : Option Elements) (old mid new : List ℕ)
+pub flagged_put : (copy : Bool) (os : Option Elements) (old mid new : List ℕ)
     → Puts {Y = Unit {0}} canonical_all os old mid (Ok tt)
     → new ≡ (if copy then 1 ∷ 1 ∷ 0 ∷ [] else []) ++ mid
     → Puts {Y = Unit {0}} canonical_all (flagged copy os) old new (Ok tt)
@@ -72,7 +72,7 @@ info_put k copy name attributes n old early mid late new is before header behind
     (one_put (written (layout w) (layout w named.Attributes) attributes) (Some elements.Nil) old old early
     (elements.Nil, refl, refl) (behind w)) origin) (front w))
 
-none_flagged : (copy : Bool) → flagged copy None ≡ None
+pub none_flagged : (copy : Bool) → flagged copy None ≡ None
 none_flagged true = refl
 none_flagged false = refl
 

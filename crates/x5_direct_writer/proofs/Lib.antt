@@ -1,7 +1,11 @@
+pub mod Agents
 pub mod Infos
 pub mod Naming
+pub mod Oids
 pub mod Parts
 pub mod Putting
+pub mod Rows
+pub mod Subs
 pub mod Texts
 pub mod Types
 pub mod Wholes

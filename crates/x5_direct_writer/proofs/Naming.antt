@@ -1,8 +1,7 @@
 -- What is written of names and RDNs has their RDNs and pairs as its members.
-use Rattle.std.proofs.Common.{◌≡◌, ℕ, List, [], ◌∷◌, map, refl, ap, ap₂, sym, ◌∙◌}
+use Rattle.std.proofs.Common.{◌≡◌, ℕ, List, [], ◌∷◌, map, refl, ap, sym, ◌∙◌}
 use Rattle.x5_model.specs.Values as values
 use Rattle.x5_model_messages.specs.Terms as terms
-use Rattle.x5_model_octets.specs.Elements as elements
 use Rattle.x5_model_typed.specs.Layouts.{layout}
 use Rattle.x5_model_typed.specs.Named as named
 use Rattle.x5_model_typed.specs.Nodes.{Node, row}

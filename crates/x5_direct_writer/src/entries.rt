@@ -16,7 +16,7 @@ use x5_ops::{EntryInfo, Named};
 use x5_writer::{Backwards, WriteFault};
 
 /// That the information comes from a shadow: `fromEntry` is true where it isn't there.
-fn put_origin(out: &mut Backwards, copy: bool) -> Result<(), NoMemory>
+pub(crate) fn put_origin(out: &mut Backwards, copy: bool) -> Result<(), NoMemory>
     ensures { OnOk result (out.new ≡ (if copy then 1 ∷ 1 ∷ 0 ∷ [] else []) ++ out.old) }
 {
     if copy {
@@ -26,7 +26,7 @@ fn put_origin(out: &mut Backwards, copy: bool) -> Result<(), NoMemory>
 }
 
 /// What is shown of an entry: its name, whether it comes from a shadow, and attributes.
-fn put_info(alloc: Global, out: &mut Backwards, info: &EntryInfo) -> Result<(), WriteFault>
+pub fn put_info(alloc: Global, out: &mut Backwards, info: &EntryInfo) -> Result<(), WriteFault>
     ensures { PutsOf named.EntryInfo (replies.info_node (info_view info.now)) out.old out.new result }
 {
     let behind = out.len();

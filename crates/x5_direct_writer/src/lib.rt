@@ -2,6 +2,7 @@
 //! the writer over the table of types writes of them, with no values of types between. What is rare goes by that writer.
 #![tactic(auto)]
 
+pub mod answers;
 pub mod entries;
 mod header;
 pub mod names;

@@ -25,7 +25,7 @@ pub fn put_known_type(out: &mut Backwards, kind: TypeId) -> Result<(), WriteFaul
     Ok(())
 }
 
-pub(crate) fn arcs_node<'a>(alloc: Global, arcs: &[u32]) -> Result<Node<'a>, NoMemory>
+fn arcs_node<'a>(alloc: Global, arcs: &[u32]) -> Result<Node<'a>, NoMemory>
     ensures { IfOk result (λ n. node_view n ≡ nodes.Oid arcs.now) }
 {
     Ok(Node::Oid(Vec::from_clones(alloc, arcs)?))
@@ -54,6 +54,14 @@ pub fn put_text(alloc: Global, out: &mut Backwards, text: &Text) -> Result<(), W
         out.put_header(0, false, 19, octets.len())?;
         return Ok(());
     }
+    put_other_text(alloc, out, text)
+}
+
+/// A text of any characters, by the table of types. It stands apart, so that the usual text takes few steps.
+#[inline(never)]
+fn put_other_text(alloc: Global, out: &mut Backwards, text: &Text) -> Result<(), WriteFault>
+    ensures { PutsOf named.Value (nodes.Text text.now) out.old out.new result }
+{
     let node = Node::Text(Characters::Lent(text.as_str()));
     write_node(alloc, out, Surroundings::Nowhere, Named::Value, &node)
 }

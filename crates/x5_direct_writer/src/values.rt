@@ -6,17 +6,18 @@ ghost use Rattle.x5_model_messages.specs.Shadows as shadows;
 ghost use Rattle.x5_model_messages.specs.Terms as terms;
 ghost use Rattle.x5_model_messages.specs.Terms.{node_of};
 ghost use Rattle.x5_model_typed.specs.Named as named;
+ghost use Rattle.x5_model_typed.specs.Nodes as nodes;
 ghost use Rattle.x5_ops.specs.AnswerViews.{shown_view};
 ghost use Rattle.x5_syntax.specs.ValueView.{value_view};
 
 use crate::header::enclose;
-use crate::names::{arcs_node, put_known_type, put_name_value, put_text, put_type};
+use crate::names::{put_known_type, put_name_value, put_text, put_type};
 use std::alloc::Global;
 use x5_match::{Stored, StoredValue};
 use x5_ops::Attribute;
-use x5_syntax::Value;
-use x5_types::{Bytes, Named, Node, Surroundings};
-use x5_writer::{Backwards, WriteFault, write_node};
+use x5_syntax::{Oid, Value};
+use x5_types::{Bytes, Named, Node, Surroundings, is_short};
+use x5_writer::{Backwards, WriteFault, put_oid, write_node};
 
 /// A value, by its form.
 pub fn put_value(alloc: Global, out: &mut Backwards, value: &Value) -> Result<(), WriteFault>
@@ -28,12 +29,23 @@ pub fn put_value(alloc: Global, out: &mut Backwards, value: &Value) -> Result<()
             let node = Node::Octets(Bytes::Lent(octets.as_slice()));
             write_node(alloc, out, Surroundings::Nowhere, Named::Value, &node)
         }
-        Value::Oid(oid) => {
-            let node = arcs_node(alloc, oid.arcs())?;
-            write_node(alloc, out, Surroundings::Nowhere, Named::Value, &node)
-        }
+        Value::Oid(oid) => put_oid_value(out, oid),
         Value::Name(name) => put_name_value(alloc, out, name),
     }
+}
+
+/// A value that is an object identifier: one of not too many octets.
+fn put_oid_value(out: &mut Backwards, oid: &Oid) -> Result<(), WriteFault>
+    ensures { PutsOf named.Value (nodes.Oid oid.now) out.old out.new result }
+{
+    let arcs = oid.arcs();
+    if !is_short(arcs) {
+        return Err(WriteFault::Misfit);
+    }
+    let behind = out.len();
+    put_oid(out, arcs)?;
+    out.put_header(0, false, 6, out.len().saturating_sub(behind))?;
+    Ok(())
 }
 
 fn put_stored_value(

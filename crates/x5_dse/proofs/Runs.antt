@@ -1,5 +1,5 @@
 -- What stands just below a node is one run in order: where it begins, and what is told by what stands there.
-use Rattle.std.proofs.Common.{◌≡◌, ℕ, ◌<◌, ◌≤◌, true, ◌⊎◌, inl, inr, List, [], ◌∷◌, length, get_or, refl, sym, ap, subst, ◌∙◌, arith, Ok, Err}
+use Rattle.std.proofs.Common.{◌≡◌, ℕ, ◌-◌, ◌<◌, ◌≤◌, true, ◌⊎◌, inl, inr, List, [], ◌∷◌, length, get_or, refl, sym, ap, subst, ◌∙◌, arith, Ok, Err}
 use Rattle.std.specs.Cmp.{ranked}
 use Rattle.std.specs.Ordering.{is_lt, nat_cmp, ordering_then}
 use Rattle.std.specs.declared.cmp.Ordering.{Ordering}
@@ -50,6 +50,33 @@ start_missing spots node at w = record {
   before = λ k d l. less_above (get_or spots k d) node.0 (w.1 k d l);
   after = λ k d l m. no_greater (node.0, []) (get_or spots k d) (w.2 k d l m);
 }
+
+pub not_last : (at n : ℕ) → at ≤ n → (at ≡ n → ⊥) → at < n
+not_last at n l h = elim (lt_or_eq at n (omega arith)) [ inl p ↦ p | inr e ↦ absurd (h e) ]
+
+module _ (slots : Slots) (order : List NodeId) (h : ascending spot_below (spots_of slots order) ≡ true) (node : NodeId) (at : ℕ) where
+  above_at : (k : ℕ) (d : Spot) → k < length order → (get_or (spots_of slots order) k d).0 ≡ (parent_at slots (get_or order k top)).0
+  above_at k d l = ap (λ (s : Spot). s.0) (spot_get slots order k top d l)
+
+  above_rises : (i j : ℕ) (d : Spot) → i ≤ j → j < length (spots_of slots order) → (get_or (spots_of slots order) i d).0 ≤ (get_or (spots_of slots order) j d).0
+  above_rises i j d l m = elim (lt_or_eq i j (omega arith)) [
+    | inl p ↦ no_greater (get_or (spots_of slots order) i d) (get_or (spots_of slots order) j d) (rising (spots_of slots order) d i j h p m)
+    | inr p ↦ (let e : (get_or (spots_of slots order) i d).0 ≡ (get_or (spots_of slots order) j d).0 = ap (λ (n : ℕ). (get_or (spots_of slots order) n d).0) p in omega arith)
+  ]
+
+  -- the last before a place stands below a node of a lower number, so all before it do
+  pub all_before : 0 < at → at ≤ length order → (parent_at slots (get_or order (at - 1) top)).0 < node.0 → (k : ℕ) (d : Spot) → k < at → (get_or (spots_of slots order) k d).0 < node.0
+  all_before some within less k d l =
+      let e : (get_or (spots_of slots order) (at - 1) d).0 ≡ (parent_at slots (get_or order (at - 1) top)).0 = above_at (at - 1) d (omega arith) in
+      let r : (get_or (spots_of slots order) k d).0 ≤ (get_or (spots_of slots order) (at - 1) d).0 = above_rises k (at - 1) d (omega arith) (omega (arith, spots_length slots order)) in
+      omega arith
+
+  -- and what stands at a place below the node or one of a higher number, so do all from there on
+  pub all_from : at < length order → node.0 ≤ (parent_at slots (get_or order at top)).0 → (k : ℕ) (d : Spot) → at ≤ k → k < length (spots_of slots order) → node.0 ≤ (get_or (spots_of slots order) k d).0
+  all_from within more k d l m =
+      let e : (get_or (spots_of slots order) at d).0 ≡ (parent_at slots (get_or order at top)).0 = above_at at d within in
+      let r : (get_or (spots_of slots order) at d).0 ≤ (get_or (spots_of slots order) k d).0 = above_rises at k d l m in
+      omega arith
 
 module _ (slots : Slots) (order : List NodeId) (h : ascending spot_below (spots_of slots order) ≡ true) (node : NodeId) (at : ℕ) (start : IsStart (spots_of slots order) node at) where
   -- with something below the node, the first of it is where the run begins

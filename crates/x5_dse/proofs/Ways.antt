@@ -8,7 +8,7 @@ use Rattle.x5_model.specs.Values.{Name, key_of_rdn, key_of}
 use Rattle.x5_model.proofs.Prefixes.{prefix_decides, prefix_chain, prefix_length, parent_is_prefix}
 use Rattle.x5_dse.specs.declared.node.NodeId.{NodeId}
 use Rattle.x5_dse.specs.Linked.{Node, length_in, node_key, node_with, IsLowest}
-use Rattle.x5_dse.specs.Inside.{Slots, Spot, top, is_used, parent_at, rdn_at, path, path_of, name_at, node_of, spot_at, spots_of, IsPlace, IsChild, IsRow, IsDown, IsSite}
+use Rattle.x5_dse.specs.Inside.{Slots, Spot, top, is_used, parent_at, rdn_at, path, path_of, name_at, node_of, spot_at, spots_of, GoesNext, IsPlace, IsChild, IsRow, IsDown, IsSite}
 use Rattle.x5_dse.proofs.Ids.{same_id}
 use Rattle.x5_dse.proofs.Spots.{lt_or_le}
 use Rattle.x5_dse.proofs.Named.{key_in, all_nodes, order_used, key_length, unique, child_key, child_parent, above_there, ordered, of_nodes, live_node, under_prefix}
@@ -70,6 +70,11 @@ from_prefix prefix slots order key node n e down =
       within = omega (arith, length-drop (length prefix) key);
       ends = λ l c m s. down.ends (omega (arith, length-drop (length prefix) key)) c m (s ∙ ap (λ (r : KeyRdn). (node.0, r)) (sym (get_or-drop (length prefix) key n [])));
     }
+
+pub next_from_prefix : (prefix : Name) (slots : Slots) (order : List NodeId) (key : Key) (node : NodeId) (n at : ℕ) → GoesNext slots order (drop (length prefix) key) node n at → GoesNext slots order key node (length prefix + n) at
+next_from_prefix prefix slots order key node n at next = record {
+  place = λ l. subst (λ (r : KeyRdn). IsPlace (spots_of slots order) (node.0, r) (Err at)) (get_or-drop (length prefix) key n []) (next.place (omega (arith, length-drop (length prefix) key)));
+}
 
 -- ---- what it tells
 

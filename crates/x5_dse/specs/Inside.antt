@@ -130,6 +130,10 @@ pub record IsDown (prefix : Name) (slots : Slots) (order : List NodeId) (key : K
   pub ends : count < length key → (c : NodeId) → In c order → spot_at slots c ≡ (node.0, slice_index_or key count []) →
       ⊥
 
+-- the place in order at which the node of the next RDN of a key would go, where there is a next one
+pub record GoesNext (slots : Slots) (order : List NodeId) (key : Key) (node : NodeId) (count at : ℕ) : Type 0 where
+  pub place : count < length key → IsPlace (spots_of slots order) (node.0, slice_index_or key count []) (Err at)
+
 -- the node just above a key that isn't there, and the place in order at which the key's node would go
 pub record IsSite (prefix : Name) (slots : Slots) (order : List NodeId) (name : Name) (above : NodeId)
     (at : ℕ) : Type 0 where

@@ -73,7 +73,12 @@ impl Dse {
     pub(crate) fn rdn(&self, alloc: Global) -> Result<Rdn, NoMemory>
         ensures { IfOk result (λ rdn. rdn ≡ self.now.rdn) }
     {
-        let pairs = Vec::from_clones(alloc, self.pairs())?;
-        Ok(Rdn::new(pairs))
+        match &self.own {
+            Own::Last(name) => match name.rdns() {
+                [] => Rdn::new(alloc, Vec::new(alloc)),
+                [.., last] => Ok(last.clone()?),
+            },
+            Own::Renamed(rdn) => Ok(rdn.clone()?),
+        }
     }
 }

@@ -1,6 +1,6 @@
 //! The places of nodes: by halves among those in order, and from RDN to RDN down from the prefix.
 
-ghost use Rattle.std.specs.Prelude.{◌≡◌, ◌↔◌, ◌<◌, true, false, length, IsTrue, MatchOption, MatchResult, map, [], slice_index_or, slice_set, vec_len, None, Some, IfOk, OnOk, ◌++◌, ◌≤◌};
+ghost use Rattle.std.specs.Prelude.{ℕ, ◌≡◌, ◌↔◌, ◌<◌, true, false, length, IsTrue, IfSome, MatchOption, MatchResult, map, [], slice_index_or, slice_set, vec_len, None, Some, IfOk, OnOk, ◌++◌, ◌≤◌};
 ghost use Rattle.std.specs.Bool.{MatchBool};
 ghost use Rattle.x5_model.specs.Members.{In};
 ghost use Rattle.x5_dse.specs.declared.node.NodeId.{NodeId};
@@ -8,7 +8,7 @@ ghost use Rattle.x5_model.specs.Keys.{is_prefix};
 ghost use Rattle.x5_model.specs.Values.{Name, key_of_pair, key_of};
 ghost use Rattle.x5_dse.specs.Step.{IsStep, IsUnder};
 ghost use Rattle.x5_dse.specs.Changes.{NotInserted};
-ghost use Rattle.x5_dse.specs.Inside.{slot_at, is_used, held, spot_at, spots_of, spot_cmp, spot_below, nodes_of, IsPlace, IsRow, IsDown, IsSite, IsChild, IsStart, IsMove, IsOther, name_at, parent_at, path_of, top};
+ghost use Rattle.x5_dse.specs.Inside.{Spot, slot_at, is_used, held, spot_at, spots_of, spot_cmp, spot_below, nodes_of, GoesNext, IsPlace, IsRow, IsDown, IsSite, IsStart, IsMove, IsOther, name_at, parent_at, path_of, top};
 ghost use Rattle.std.specs.Option.{option_map};
 ghost use Rattle.x5_dse.specs.Linked.{IsLowest, id_of, length_in, node_at, node_with, prefix_of};
 
@@ -79,53 +79,51 @@ pub(crate) fn place_of(
     Err(low)
 }
 
-/// The node that has this node above and these pairs.
-fn child_of(
-    slots: &[Option<Dse>],
-    order: &[NodeId],
-    above: NodeId,
-    pairs: &[Pair],
-) -> Option<NodeId>
-    requires { IsRow slots.now order.now }
-    ensures { IsChild slots.now order.now (above.0, map key_of_pair pairs.now) result }
-{
-    match place_of(slots, order, above, pairs) {
-        Ok(at) => Some(order[at]),
-        Err(_) => None,
-    }
+/// A way down from the prefix to a name: the lowest node on it, how many of the RDNs lead there, and the place at which the node
+/// of the next RDN would go, if there is a next one.
+#[derive(Clone, Copy)]
+pub(crate) struct Way {
+    node: NodeId,
+    count: usize,
+    next: usize,
 }
 
-/// How far down from the prefix the RDNs lead: the lowest node on the way, and how many of them it has.
-fn descend(slots: &[Option<Dse>], order: &[NodeId], rdns: &[Rdn]) -> (NodeId, usize)
+/// How far down from the prefix the RDNs lead.
+fn descend(slots: &[Option<Dse>], order: &[NodeId], rdns: &[Rdn]) -> Way
     requires { IsRow slots.now order.now }
-    ensures { IsDown [] slots.now order.now (key_of rdns.now) result.0 result.1 }
+    ensures down { IsDown [] slots.now order.now (key_of rdns.now) result.node result.count }
+    ensures next { GoesNext slots.now order.now (key_of rdns.now) result.node result.count result.next }
 {
     let mut node = NodeId(0);
-    for (i, rdn) in rdns.iter().enumerate() {
-        match child_of(slots, order, node, rdn.pairs()) {
-            Some(child) => node = child,
-            None => return (node, i),
+    for (count, rdn) in rdns.iter().enumerate() {
+        match place_of(slots, order, node, rdn.pairs()) {
+            Ok(at) => node = order[at],
+            Err(next) => return Way { node, count, next },
         }
     }
-    (node, rdns.len())
+    Way {
+        node,
+        count: rdns.len(),
+        next: 0,
+    }
 }
 
-/// The lowest node on the way to the name, and how many RDNs of the name it has; none where the name isn't below the prefix.
-pub(crate) fn way_to(
-    prefix: &Name,
-    slots: &[Option<Dse>],
-    order: &[NodeId],
-    name: &Name,
-) -> Option<(NodeId, usize)>
+/// The way to the name; none where the name isn't below the prefix.
+fn way_to(prefix: &Name, slots: &[Option<Dse>], order: &[NodeId], name: &Name) -> Option<Way>
     requires { IsRow slots.now order.now }
-    ensures { MatchOption result (is_prefix (key_of prefix.now) (key_of name.now) ≡ false) (λ w. IsDown prefix.now slots.now order.now (key_of name.now) w.0 w.1) }
+    ensures down { MatchOption result (is_prefix (key_of prefix.now) (key_of name.now) ≡ false) (λ w. IsDown prefix.now slots.now order.now (key_of name.now) w.node w.count) }
+    ensures next { IfSome result (λ w. GoesNext slots.now order.now (key_of name.now) w.node w.count w.next) }
 {
     if !prefix.is_prefix(name) {
         return None;
     }
-    let count = prefix.len();
-    let (node, below) = descend(slots, order, &name.rdns()[count..]);
-    Some((node, count + below))
+    let above = prefix.len();
+    let Way { node, count, next } = descend(slots, order, &name.rdns()[above..]);
+    Some(Way {
+        node,
+        count: above + count,
+        next,
+    })
 }
 
 /// The node of the name.
@@ -139,9 +137,9 @@ pub(crate) fn find_node(
     ensures { result ≡ option_map id_of (node_at (nodes_of prefix.now slots.now order.now) (key_of name.now)) }
 {
     match way_to(prefix, slots, order, name) {
-        Some((node, count)) => {
-            if count == name.len() {
-                Some(node)
+        Some(way) => {
+            if way.count == name.len() {
+                Some(way.node)
             } else {
                 None
             }
@@ -163,7 +161,7 @@ pub(crate) fn lowest_node(
     ensures long { option_map length_in (node_with (nodes_of prefix.now slots.now order.now) result.0) ≡ Some result.1 }
 {
     match way_to(prefix, slots, order, name) {
-        Some(way) => way,
+        Some(way) => (way.node, way.count),
         None => unreachable!(),
     }
 }
@@ -178,36 +176,16 @@ pub(crate) fn site_of(
     requires { IsRow slots.now order.now }
     ensures { MatchResult result (λ s. IsSite prefix.now slots.now order.now name.now s.0 s.1) (λ fault. NotInserted (nodes_of prefix.now slots.now order.now) (key_of name.now) fault) }
 {
-    match way_to(prefix, slots, order, name) {
-        Some((node, count)) => site_on_way(prefix, slots, order, name, node, count),
-        None => Err(DseFault::NoParent),
-    }
-}
-
-/// The same where the way to the name is known.
-fn site_on_way(
-    prefix: &Name,
-    slots: &[Option<Dse>],
-    order: &[NodeId],
-    name: &Name,
-    node: NodeId,
-    count: usize,
-) -> Result<(NodeId, usize), DseFault>
-    requires row { IsRow slots.now order.now }
-    requires way { IsDown prefix.now slots.now order.now (key_of name.now) node count }
-    ensures { MatchResult result (λ s. IsSite prefix.now slots.now order.now name.now s.0 s.1) (λ fault. NotInserted (nodes_of prefix.now slots.now order.now) (key_of name.now) fault) }
-{
-    if count == name.len() {
+    let Some(way) = way_to(prefix, slots, order, name) else {
+        return Err(DseFault::NoParent);
+    };
+    if way.count == name.len() {
         return Err(DseFault::Exists);
     }
-    if count + 1 < name.len() {
+    if way.count + 1 < name.len() {
         return Err(DseFault::NoParent);
     }
-    let last = &name.rdns()[count];
-    match place_of(slots, order, node, last.pairs()) {
-        Ok(_) => unreachable!(),
-        Err(place) => Ok((node, place)),
-    }
+    Ok((way.node, way.next))
 }
 
 /// Where the run of what stands just below the node begins.
@@ -229,6 +207,38 @@ pub(crate) fn is_below_at(slots: &[Option<Dse>], order: &[NodeId], node: NodeId,
     at < order.len() && held_at(slots, order[at]).parent == node
 }
 
+/// Whether all before the place stand below nodes of lower numbers.
+fn ends_before(slots: &[Option<Dse>], order: &[NodeId], node: NodeId, at: usize) -> bool
+    requires row { IsRow slots.now order.now }
+    requires within { at ≤ length order.now }
+    ensures { IsTrue result → (k : ℕ) (d : Spot) → k < at → (slice_index_or (spots_of slots.now order.now) k d).0 < node.0 }
+{
+    at == 0 || held_at(slots, order[at - 1]).parent.0 < node.0
+}
+
+/// Whether all from the place on stand below the node, or nodes of higher numbers.
+fn begins_at(slots: &[Option<Dse>], order: &[NodeId], node: NodeId, at: usize) -> bool
+    requires row { IsRow slots.now order.now }
+    requires within { at ≤ length order.now }
+    ensures { IsTrue result → (k : ℕ) (d : Spot) → at ≤ k → k < length (spots_of slots.now order.now) → node.0 ≤ (slice_index_or (spots_of slots.now order.now) k d).0 }
+{
+    at == order.len() || node.0 <= held_at(slots, order[at]).parent.0
+}
+
+/// Where the run of what stands just below the node begins: the place that is tried first, or where a search finds it.
+fn run_near(slots: &[Option<Dse>], order: &[NodeId], node: NodeId, tried: usize) -> usize
+    requires { IsRow slots.now order.now }
+    ensures { IsStart (spots_of slots.now order.now) node result }
+{
+    if tried <= order.len()
+        && ends_before(slots, order, node, tried)
+        && begins_at(slots, order, node, tried)
+    {
+        return tried;
+    }
+    run_of(slots, order, node)
+}
+
 /// Whether anything stands just below the node.
 pub(crate) fn has_children(slots: &[Option<Dse>], order: &[NodeId], node: NodeId) -> bool
     requires { IsRow slots.now order.now }
@@ -247,6 +257,19 @@ pub(crate) fn place_of_node(slots: &[Option<Dse>], order: &[NodeId], node: NodeI
     match place_of(slots, order, dse.parent, dse.pairs()) {
         Ok(at) => at,
         Err(_) => unreachable!(),
+    }
+}
+
+/// The place of the node: the one that is tried first, or where a search finds it.
+fn place_near(slots: &[Option<Dse>], order: &[NodeId], node: NodeId, tried: usize) -> usize
+    requires row { IsRow slots.now order.now }
+    requires ordered { In node order.now }
+    ensures { (result < length order.now) × ((d : NodeId) → slice_index_or order.now result d ≡ node) }
+{
+    if tried < order.len() && order[tried] == node {
+        tried
+    } else {
+        place_of_node(slots, order, node)
     }
 }
 
@@ -327,8 +350,22 @@ pub(crate) fn move_of(
     }
 }
 
+/// The places in order to which a walk has come: its node's, and where the run of what stands just below a node began that it left
+/// last. It goes on nearby, so these are tried first.
+#[derive(Clone, Copy, Debug, Drop)]
+pub(crate) struct Reached {
+    pub(crate) place: usize,
+    pub(crate) run: usize,
+}
+
 /// The next node in the order of keys after a node without any below it, among those at or below another.
-fn past(slots: &[Option<Dse>], order: &[NodeId], from: NodeId, node: NodeId) -> Option<NodeId>
+fn past(
+    slots: &[Option<Dse>],
+    order: &[NodeId],
+    from: NodeId,
+    node: NodeId,
+    reached: &mut Reached,
+) -> Option<NodeId>
     requires row { IsRow slots.now order.now }
     requires from_used { is_used slots.now from ≡ true }
     requires used { is_used slots.now node ≡ true }
@@ -338,10 +375,11 @@ fn past(slots: &[Option<Dse>], order: &[NodeId], from: NodeId, node: NodeId) -> 
 {
     let mut at = node;
     while at.0 != from.0 {
-        let place = place_of_node(slots, order, at);
+        let place = place_near(slots, order, at, reached.place);
         let next = place + 1;
         let above = held_at(slots, at).parent;
         if is_below_at(slots, order, above, next) {
+            reached.place = next;
             return Some(order[next]);
         }
         at = above;
@@ -355,6 +393,7 @@ pub(crate) fn after(
     order: &[NodeId],
     from: NodeId,
     node: NodeId,
+    reached: &mut Reached,
 ) -> Option<NodeId>
     requires row { IsRow slots.now order.now }
     requires from_used { is_used slots.now from ≡ true }
@@ -362,9 +401,11 @@ pub(crate) fn after(
     requires under { IsUnder slots.now from node }
     ensures { (prefix : Name) → IsStep prefix slots.now from node result }
 {
-    let run = run_of(slots, order, node);
+    let run = run_near(slots, order, node, reached.run);
+    reached.run = run;
     if is_below_at(slots, order, node, run) {
+        reached.place = run;
         return Some(order[run]);
     }
-    past(slots, order, from, node)
+    past(slots, order, from, node, reached)
 }

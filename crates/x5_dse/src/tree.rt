@@ -11,8 +11,8 @@ ghost use Rattle.x5_dse.specs.Changes.{Inserted, NotInserted, Removed, NotRemove
 use crate::children::Children;
 use crate::node::{Dse, DseFault, NodeId, Own};
 use crate::place::{
-    after, find_node, has_children, held_at, lowest_node, move_of, name_of, place_of_node, run_of,
-    site_of, take_out,
+    Reached, after, find_node, has_children, held_at, lowest_node, move_of, name_of, place_of_node,
+    run_of, site_of, take_out,
 };
 use crate::walk::Walk;
 use std::alloc::Global;
@@ -149,16 +149,17 @@ impl DseTree {
             tree: self,
             from: node,
             at: Some(node),
+            reached: Reached { place: 0, run: 0 },
         }
     }
 
     /// The next node of a walk from a node.
-    pub(crate) fn after(&self, from: NodeId, node: NodeId) -> Option<NodeId>
+    pub(crate) fn after(&self, from: NodeId, node: NodeId, reached: &mut Reached) -> Option<NodeId>
         requires { IsWithin self.now.nodes from node }
         ensures rest { walk_from self.now.nodes from node ≡ node ∷ in_option [] (walk_from self.now.nodes from) result }
         ensures next { IsAt self.now.nodes from result }
     {
-        after(&self.slots, &self.order, from, node)
+        after(&self.slots, &self.order, from, node, reached)
     }
 
     /// Makes room for one entry more. After want of memory the entries are as they were.
@@ -195,7 +196,10 @@ impl DseTree {
         ensures spare { self.old.spare ≤ self.new.spare }
         ensures ok { OnOk result (count ≤ self.new.spare) }
     {
-        self.widen(count.saturating_sub(self.spare()))?;
+        if count <= self.spare() {
+            return Ok(());
+        }
+        self.widen(count - self.spare())?;
         while self.spare() < count {
             self.grow()?;
         }

@@ -3,6 +3,7 @@
 ghost use Rattle.std.specs.Iterator.{YieldsFirst, item_count};
 
 use crate::node::NodeId;
+use crate::place::Reached;
 use crate::tree::DseTree;
 use std::marker::Model;
 
@@ -12,6 +13,7 @@ pub struct Walk<'a> {
     pub(crate) tree: &'a DseTree,
     pub(crate) from: NodeId,
     pub(crate) at: Option<NodeId>,
+    pub(crate) reached: Reached,
 }
 
 impl<'a> Model for Walk<'a> {
@@ -38,7 +40,7 @@ impl<'a> Iterator for Walk<'a> {
         let Some(node) = self.at else {
             return None;
         };
-        self.at = self.tree.after(self.from, node);
+        self.at = self.tree.after(self.from, node, &mut self.reached);
         Some(node)
     }
 }

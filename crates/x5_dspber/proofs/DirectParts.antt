@@ -2,7 +2,7 @@
 use Rattle.std.proofs.Common.{◌≡◌, ℕ, ◌+◌, ◌*◌, ◌≤◌, ◌<◌, ◌%◌, Bool, true, false, List, [], ◌∷◌}
 use Rattle.std.proofs.Common.{length, refl, ap, sym, ◌∙◌, subst, arith, lit<, lit≤, drop, if◌then◌else◌}
 use Rattle.std.specs.Prelude.{ℤ, pos}
-use Rattle.std.proofs.lemmas.Bool.{lt-ltb, le-leb}
+use Rattle.std.proofs.lemmas.Bool.{le-leb}
 use Rattle.std.specs.declared.option.Option.TheVariants.{Some}
 use Rattle.x5_model.specs.References.{Progress, Start, Next, Done}
 use Rattle.x5_model.specs.Values as values
@@ -18,26 +18,14 @@ use Rattle.x5_model_typed.specs.Layouts.{integer, sequence, optional, agent_name
 use Rattle.x5_model_typed.specs.Rules.{progress_rule}
 use Rattle.x5_model_typed.specs.Typed as typed
 use Rattle.x5_model_typed.specs.Trees.{Bare}
+use Rattle.x5_dapber.proofs.Invoking.{number_reads, one_octet}
 use Rattle.x5_dspber.specs.Direct.{IsResolved, IsWide}
 use Rattle.x5_direct.specs.Spelled.{Opens, Spelled, SpelledInOrder, Reads}
-use Rattle.x5_direct.proofs.Heads.{opens_so, short_length}
 use Rattle.x5_direct.proofs.Naming.{so}
 use Rattle.x5_direct.proofs.Spelling.{branch_spelled, leaf_spelled, order_in, order_next, order_given, order_over}
 use Rattle.x5_direct.proofs.Spelling.{spelled_higher}
 
 -- ---- small numbers
-
--- An identifier octet, the length 1, and a content of one octet.
-pub one_octet : (first a : ℕ) (rest : List ℕ) → first < 256 → first % 32 < 31
-    → Opens first (a ∷ []) (first ∷ 1 ∷ a ∷ rest) rest
-one_octet first a rest small low =
-    opens_so first 1 (first ∷ 1 ∷ a ∷ rest) (1 ∷ a ∷ rest) (a ∷ rest) (a ∷ []) rest small low refl
-    (short_length 1 (a ∷ rest) (lit< tt)) (omega arith) refl refl
-
-pub number_reads : (test : ℤ → Bool) (k : ℕ) → k < 128 → test (pos k) ≡ true
-    → leaf_node (Primitive (number test)) (k ∷ []) ≡ Some (whole k)
-number_reads test k small is =
-    let same : 0 * 256 + k ≡ k = omega arith in rw (lt-ltb k 128 small, same, is) refl
 
 pub phase_spelled : (k : ℕ) (rest : List ℕ) → k < 128 → from_to 1 3 (pos k) ≡ true
     → Spelled 0 (named.Enumeration 1 3) (whole k) (10 ∷ 1 ∷ k ∷ rest) rest
@@ -173,12 +161,3 @@ item_read agent target p wide content first second third octets rest o a b c d =
           refl,
       item_said agent target p wide b.0 c.0 b.2 c.2,
     )
-
--- ---- what is left of octets
-
-pub all_taken : (k : ℕ) (octets : List ℕ) → k ≡ length octets → drop k octets ≡ []
-all_taken k octets e = ap (λ (j : ℕ). drop j octets) e ∙ by octets
-  where
-    by : (l : List ℕ) → drop (length l) l ≡ []
-    by [] = refl
-    by (o ∷ l) = by l

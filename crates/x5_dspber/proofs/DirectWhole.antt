@@ -31,15 +31,16 @@ use Rattle.x5_model_typed.specs.Trees.{Row, Lies}
 use Rattle.x5_model_typed.proofs.Laws.{list_row}
 use Rattle.x5_ops.specs.ReferenceViews.{kind_of_number}
 use Rattle.x5_types.specs.FormView.{nowhere, table}
-use Rattle.x5_dspber.specs.Direct.{AreFour, ReadLast, ReadsChaining, chaining_parts, code_of, items_of, last_part}
+use Rattle.x5_dspber.specs.Direct.{AreFour, ReadLast, ReadsChaining, chaining_parts, items_of, last_part}
 use Rattle.x5_dspber.specs.Direct.{rdns_of}
-use Rattle.x5_dspber.specs.Direct.{SpelledInSet}
 use Rattle.x5_direct.specs.Spelled.{Opens, Spelled, SpelledInOrder, Reads, ReadEach}
-use Rattle.x5_dspber.proofs.DirectSet.{tagged, set_given, set_missing, set_over, set_in}
+use Rattle.x5_dapber.specs.Direct.{Invokes, SpelledInSet}
+use Rattle.x5_dapber.proofs.Coming.{whole_spelled}
+use Rattle.x5_dapber.proofs.Invoking.{invoke_spelled, number_reads, one_octet}
+use Rattle.x5_dapber.proofs.Sets.{tagged, set_given, set_missing, set_over, set_in}
 use Rattle.x5_dspber.proofs.DirectTrace.{so_ruled}
 use Rattle.x5_direct.proofs.Spelling.{branch_spelled, leaf_spelled, each_in, order_in, order_next, order_over}
 use Rattle.x5_direct.proofs.Spelling.{has_tag, spelled_higher}
-use Rattle.x5_dspber.proofs.DirectParts.{one_octet, number_reads}
 
 -- ---- a trace, RDNs and kinds
 
@@ -199,103 +200,36 @@ chaining_read target progress kind exclusions trace targets progresses traces ki
 pub carried_read : (o : named.Operation) (k : ℕ) (m : chains.Chained) (r : Request)
     (chaining behind content octets rest : List ℕ) → Opens 48 content octets rest → Opens 49 chaining content behind
     → ReadsChaining m.target m.progress m.kind m.exclusions m.trace chaining → m.request ≡ r
-    → Reads 48 (named.Argument o) (argument_in k) r behind []
-    → Reads 49 (named.Chained o) (carried_in k) m octets rest
+    → Reads 50 (named.Argument o) (argument_in k) r behind []
+    → Reads 51 (named.Chained o) (carried_in k) m octets rest
 carried_read o k m r chaining behind content octets rest outer inner c is a =
     let ns : List Node = c.0 ∷ a.0 ∷ [] in
     let n : Node = Many (row ns) in
     let same : m.request ≡ argument_in k a.0 = is ∙ a.2 in (
       n,
-      branch_spelled 48 (named.Chained o) 48 0 16 (sequence (plain named.Chaining ∷ plain (named.Argument o) ∷ [])) n n
+      branch_spelled 50 (named.Chained o) 48 0 16 (sequence (plain named.Chaining ∷ plain (named.Argument o) ∷ [])) n n
           content octets rest outer refl (λ w. refl)
-          (order_in 48 (plain named.Chaining ∷ plain (named.Argument o) ∷ []) ns content
-          (order_next 48 named.Chaining (plain (named.Argument o) ∷ []) c.0 (a.0 ∷ []) content behind
-          (spelled_higher 7 48 named.Chaining c.0 content behind (lit≤ tt)
+          (order_in 50 (plain named.Chaining ∷ plain (named.Argument o) ∷ []) ns content
+          (order_next 50 named.Chaining (plain (named.Argument o) ∷ []) c.0 (a.0 ∷ []) content behind
+          (spelled_higher 7 50 named.Chaining c.0 content behind (lit≤ tt)
           (branch_spelled 6 named.Chaining 49 0 17 (set chaining_parts) c.0 c.0 chaining content behind inner refl
           (λ w. refl) c.1 refl))
-          (order_next 48 (named.Argument o) [] a.0 [] behind [] a.1 (order_over 48))))
+          (order_next 50 (named.Argument o) [] a.0 [] behind [] a.1 (order_over 50))))
           refl,
       c.2 m.request ∙ ap (λ (q : Request). chaining_in q c.0) same,
     )
 
 -- ---- messages
 
-abbrev codes : ℤ → Option named.Named
-codes = named_by (operation_codes named.Chained)
-
-by_code : (o : named.Operation) → codes (pos (code_of o)) ≡ Some (named.Chained o)
-by_code named.Read = refl
-by_code named.Compare = refl
-by_code named.ListBelow = refl
-by_code named.Search = refl
-by_code named.AddEntry = refl
-by_code named.RemoveEntry = refl
-by_code named.ModifyEntry = refl
-by_code named.ModifyDn = refl
-
-pub operation_codes_are : (o : named.Operation) (k : ℕ) → k ≡ code_of o → codes (pos k) ≡ Some (named.Chained o)
-operation_codes_are o k is = ap (λ (j : ℕ). codes (pos j)) is ∙ by_code o
-
-code_next : (levels k : ℕ) (form : named.Named) (n : Node) (octets behind : List ℕ) → codes (pos k) ≡ Some form
-    → Spelled levels named.AnyNumber (whole k) octets behind → SpelledInOrder levels (plain form ∷ []) (n ∷ []) behind
-    → SpelledInOrder levels (code named.AnyNumber codes ∷ []) (whole k ∷ n ∷ []) octets
-code_next levels k form n octets behind names s others depth at room =
-    let e = s.is_element depth at room in
-    let more = others depth (at + length s.part) room in
-    record {
-      members = Row e.tree more.members;
-      lie = (s.part, behind, e.lies, more.lie, s.whole);
-      in_order = λ w.
-          typed.next (has_tag (layout w) (layout w named.AnyNumber) e.tree (whole k) (e.is_of w)) (e.is_of w)
-          (typed.named (pos k) form refl names) (more.in_order w);
-    }
-
-pub id_spelled : (k : ℕ) (content octets rest : List ℕ) → Opens 2 content octets rest
-    → leaf_node (Primitive (number (from_to 0 4294967295))) content ≡ Some (whole k)
-    → Spelled 0 (named.NumberBelow 0 4294967295) (whole k) octets rest
-id_spelled k content octets rest o reads =
-    leaf_spelled (named.NumberBelow 0 4294967295) 2 0 2 (integer (from_to 0 4294967295)) (whole k) (whole k) content
-    octets rest o refl (lit< tt) (λ w. refl) reads refl
-
-code_spelled : (k : ℕ) (rest : List ℕ) → k < 128 → Spelled 0 named.AnyNumber (whole k) (2 ∷ 1 ∷ k ∷ rest) rest
-code_spelled k rest small =
-    leaf_spelled named.AnyNumber 2 0 2 (integer any_number) (whole k) (whole k) (k ∷ []) (2 ∷ 1 ∷ k ∷ rest) rest
-    (one_octet 2 k rest (lit< tt) (lit< tt)) refl (lit< tt) (λ w. refl) (number_reads any_number k small refl) refl
-
 abbrev pair : ℕ → chains.Chained → ℕ × chains.Chained
 pair i m = (i, m)
 
-pub message_read : (o : named.Operation) (i k : ℕ) (m : chains.Chained) (content after behind octets : List ℕ)
-    → Opens 161 content octets [] → codes (pos k) ≡ Some (named.Chained o) → k < 128
-    → Spelled 0 (named.NumberBelow 0 4294967295) (whole i) content after → after ≡ 2 ∷ 1 ∷ k ∷ behind
-    → Reads 49 (named.Chained o) (carried_in k) m behind []
-    → Reads 50 named.DspRequest chained_in (pair i m) octets []
-message_read o i k m content after behind octets outer names small first is c =
-    let ns : List Node = whole i ∷ whole k ∷ c.0 ∷ [] in
-    let n : Node = Many (row ns) in
-    let second : Spelled 0 named.AnyNumber (whole k) after behind =
-    subst (λ (l : List ℕ). Spelled 0 named.AnyNumber (whole k) l behind) (sym is) (code_spelled k behind small) in (
-      Chosen 1 n,
-      branch_spelled 49 named.DspRequest 161 2 1 (invoke (operation_codes named.Chained)) n n content octets [] outer
-          refl (λ w. refl)
-          (order_in 49 (id ∷ code named.AnyNumber codes ∷ []) ns content
-          (order_next 49 (named.NumberBelow 0 4294967295) (code named.AnyNumber codes ∷ []) (whole i)
-          (whole k ∷ c.0 ∷ []) content after
-          (spelled_higher 0 49 (named.NumberBelow 0 4294967295) (whole i) content after (lit≤ tt) first)
-          (code_next 49 k (named.Chained o) c.0 after behind names
-          (spelled_higher 0 49 named.AnyNumber (whole k) after behind (lit≤ tt) second)
-          (order_next 49 (named.Chained o) [] c.0 [] behind [] c.1 (order_over 49)))))
-          refl,
-      ap (pair i) c.2,
-    )
-
--- Octets that spell a value as a part spell it as a whole.
-pub whole_spelled : (levels : ℕ) (form : named.Named) (n : Node) (octets : List ℕ) → 1 + levels ≤ deepest
-    → Spelled levels form n octets [] → Spells table form octets n
-whole_spelled levels form n octets room s =
-    let e = s.is_element 1 0 room in
-    record {
-      tree = e.tree;
-      lies = subst (λ (l : List ℕ). Lies 1 0 e.tree l) (sym (s.whole ∙ append-nil s.part)) e.lies;
-      is_of = e.is_of nowhere;
-    }
+pub message_read : (o : named.Operation) (i k : ℕ) (m : chains.Chained) (octets behind : List ℕ)
+    → Invokes i k o octets behind → Reads 51 (named.Chained o) (carried_in k) m behind []
+    → (n : Node) × Spells table named.DspRequest octets n × (pair i m ≡ chained_in n)
+message_read o i k m octets behind v c = (
+  Chosen 1 (Many (row (whole i ∷ whole k ∷ c.0 ∷ []))),
+  whole_spelled 52 named.DspRequest _ octets (omega arith)
+      (invoke_spelled 51 named.DspRequest named.Chained o i k c.0 octets behind (λ w. refl) v c.1),
+  ap (pair i) c.2,
+)

@@ -1,11 +1,11 @@
 mod Carried
 mod ChainedIsSayable
 mod ChainedSpelled
-mod DirectArgument
+mod ChainedWritten
 mod DirectParts
-mod DirectSet
 mod DirectTrace
 mod DirectWhole
 mod Five
 mod MessagesShort
 mod ResultIsSayable
+mod TraceWritten

@@ -1,19 +1,17 @@
 -- What octets in their usual spelling hold of a message between agents.
-use Rattle.std.specs.Prelude.{◌≡◌, ℕ, ◌+◌, ◌≤◌, Bool, true, false, List, [], ◌∷◌, map}
+use Rattle.std.specs.Prelude.{◌≡◌, ℕ, ◌≤◌, Bool, true, false, List, [], ◌∷◌, map}
 use Rattle.x5_model.specs.References.{Progress, Start, Next, Done, RefType}
 use Rattle.x5_model.specs.Requests.{Request}
 use Rattle.x5_model.specs.Values.{Name, Rdn}
 use Rattle.x5_model_messages.specs.Chained.{chaining_in}
 use Rattle.x5_model_messages.specs.Replies.{TraceItem, item_in}
 use Rattle.x5_model_messages.specs.Terms.{rdn_of}
-use Rattle.x5_model_octets.specs.Elements.{deepest}
 use Rattle.x5_model_typed.specs.Forms.{Component, Set, at}
-use Rattle.x5_model_typed.specs.Layouts.{Surroundings, layout, or_nothing}
+use Rattle.x5_model_typed.specs.Layouts.{or_nothing}
 use Rattle.x5_model_typed.specs.Named as named
-use Rattle.x5_model_typed.specs.Nodes.{Node, parts, row}
-use Rattle.x5_model_typed.specs.Trees.{Trees, Bare, Row, LieAll, class_of, tag_of}
-use Rattle.x5_model_typed.specs.Typed.{InAnyOrder}
+use Rattle.x5_model_typed.specs.Nodes.{Node, parts}
 use Rattle.x5_direct.specs.Spelled.{Opens, SpelledIn}
+use Rattle.x5_dapber.specs.Direct.{SpelledInSet}
 
 -- ---- what the members of nodes say
 
@@ -22,17 +20,6 @@ items_of n = map item_in (parts n)
 
 abbrev pub rdns_of : Node → List Rdn
 rdns_of n = map rdn_of (parts n)
-
--- the code of the operation (X.519, section 7)
-abbrev pub code_of : named.Operation → ℕ
-code_of named.Read = 1
-code_of named.Compare = 2
-code_of named.ListBelow = 4
-code_of named.Search = 5
-code_of named.AddEntry = 6
-code_of named.RemoveEntry = 7
-code_of named.ModifyEntry = 8
-code_of named.ModifyDn = 9
 
 -- ---- short contents
 
@@ -47,23 +34,6 @@ IsResolved Done octets = octets ≡ 10 ∷ 1 ∷ 3 ∷ []
 abbrev pub IsWide : Bool → List ℕ → Type 0
 IsWide true octets = octets ≡ 1 ∷ 1 ∷ 255 ∷ []
 IsWide false octets = octets ≡ []
-
--- ---- components of a SET in the order of their context tags
-
--- Each has a context tag of that number at least.
-abbrev pub AreFrom : ℕ → Trees → Type 0
-AreFrom low Bare = Unit {0}
-AreFrom low (Row t ts) = (class_of t ≡ 2) × (low ≤ tag_of t) × AreFrom low ts
-
--- The octets are members in the order of the components and of tags from that number on, with those values.
-pub record AreInSet (low : ℕ) (cs : List Component) (ns : List Node) (octets : List ℕ) (depth at : ℕ) : Type 0 where
-  pub members : Trees
-  pub lie : LieAll depth at members octets
-  pub any_order : (w : Surroundings) → InAnyOrder (layout w) cs members (row ns)
-  pub are_from : AreFrom low members
-
-abbrev pub SpelledInSet : ℕ → ℕ → List Component → List Node → List ℕ → Type 0
-SpelledInSet levels low cs ns octets = (depth at : ℕ) → depth + levels ≤ deepest → AreInSet low cs ns octets depth at
 
 -- ---- chaining arguments (X.518, section 10.3)
 

@@ -14,29 +14,15 @@ ghost use Rattle.x5_ops.specs.ReferenceViews.{kind_view, progress_view};
 ghost use Rattle.x5_trace.specs.Items.{same_named};
 
 use std::alloc::Global;
+use x5_dapber::direct::small_at;
 use x5_direct::Unread;
 use x5_direct::element::opened;
-use x5_direct::names::{name_at, rdns_in};
+use x5_direct::names::{name_at, name_like, rdns_in};
 use x5_names::Name;
 use x5_ops::{AgentName, Progress, RdnList, RefType, Trace, TraceItem};
 use x5_syntax::Text;
 use x5_trace::{MOST_ITEMS, push, repeats};
 use x5_types::{Letters, Surroundings, is_text};
-
-/// The number below 128 in an element of that identifier and of one octet, which the octets begin with, and the octets behind it.
-#[inline]
-pub(crate) fn small_at(first: u8, octets: &[u8]) -> Option<(u8, &[u8])>
-    ensures is { IfSome result (λ r. octets.now ≡ first ∷ 1 ∷ r.0 ∷ r.1.now) }
-    ensures small { IfSome result (λ r. r.0 < 128) }
-{
-    let [identifier, length, number, rest @ ..] = octets else {
-        return None;
-    };
-    if *identifier != first || *length != 1 || *number >= 128 {
-        return None;
-    }
-    Some((*number, rest))
-}
 
 /// How far a name is resolved, as the content says.
 fn progress_of(content: &[u8]) -> Option<Progress>
@@ -120,14 +106,20 @@ fn wide_in(octets: &[u8]) -> Option<bool>
 }
 
 /// The item of trace information that the octets begin with, and how many octets it takes.
-fn item_at(alloc: Global, octets: &[u8]) -> Result<(TraceItem, usize), Unread>
+fn item_at(
+    alloc: Global,
+    known: &Name,
+    spelled: &[u8],
+    octets: &[u8],
+) -> Result<(TraceItem, usize), Unread>
+    requires { Reads 3 named.Name terms.name_of known.now spelled.now [] }
     ensures reads { IfOk result (λ r. Reads 4 named.TraceItem replies.item_in (told_item r.0) octets.now (drop r.1 octets.now)) }
     ensures some { IfOk result (λ r. (0 < r.1) × (r.1 ≤ length octets.now)) }
 {
     let (content, rest) = opened(0x30, octets)?;
     let taken = octets.len() - rest.len();
     let (agent, behind) = agent_at(content)?;
-    let (target, size) = name_at(alloc, behind)?;
+    let (target, size) = name_like(alloc, known, spelled, behind)?;
     let (progress, end) = progress_at(&behind[size..])?;
     let Some(wide) = wide_in(end) else {
         return Err(Unread::Unusual);
@@ -155,7 +147,8 @@ fn add(trace: &mut Trace, item: TraceItem) -> Result<(), Unread>
 }
 
 /// The different items, 128 at most, that are all of the octets.
-fn items_in(alloc: Global, octets: &[u8]) -> Result<Trace, Unread>
+fn items_in(alloc: Global, known: &Name, spelled: &[u8], octets: &[u8]) -> Result<Trace, Unread>
+    requires { Reads 3 named.Name terms.name_of known.now spelled.now [] }
     ensures each { IfOk result (λ t. ReadEach 4 named.TraceItem replies.item_in (map told_item t) octets.now) }
     ensures few { IfOk result (λ t. length t ≤ 128) }
     ensures apart { IfOk result (λ t. distinct same_named t ≡ true) }
@@ -163,22 +156,28 @@ fn items_in(alloc: Global, octets: &[u8]) -> Result<Trace, Unread>
     let mut trace = Trace::new(alloc);
     let mut left = octets;
     while !left.is_empty() {
-        let (item, taken) = item_at(alloc, left)?;
+        let (item, taken) = item_at(alloc, known, spelled, left)?;
         add(&mut trace, item)?;
         left = &left[taken..];
     }
     Ok(trace)
 }
 
-/// The trace information that is all of the octets.
-pub(crate) fn trace_in(alloc: Global, octets: &[u8]) -> Result<Trace, Unread>
+/// The trace information that is all of the octets; names in it are mostly the known one.
+pub(crate) fn trace_in(
+    alloc: Global,
+    known: &Name,
+    spelled: &[u8],
+    octets: &[u8],
+) -> Result<Trace, Unread>
+    requires { Reads 3 named.Name terms.name_of known.now spelled.now [] }
     ensures { IfOk result (λ t. Reads 5 named.Trace items_of (map told_item t) octets.now []) }
 {
     let (content, rest) = opened(0x30, octets)?;
     if !rest.is_empty() {
         return Err(Unread::Unusual);
     }
-    let trace = items_in(alloc, content)?;
+    let trace = items_in(alloc, known, spelled, content)?;
     Ok(trace)
 }
 

@@ -2,11 +2,12 @@
 //! writer and the one reader over the table of types (X.690).
 #![tactic(auto)]
 
-mod chained;
 mod direct;
 mod direct_parts;
 mod messages;
 mod read_chained;
+mod write_chained;
+mod write_trace;
 
 pub use crate::messages::{decode_chained, decode_result, encode_chained, encode_result};
 pub use x5_dapber::WireFault;

@@ -18,25 +18,20 @@ ghost use Rattle.x5_ops.specs.JournalViews.{code_view};
 ghost use Rattle.x5_ops.specs.RequestViews.{request_view};
 ghost use Rattle.x5_typed.specs.Comes.{ComesTo};
 ghost use Rattle.x5_types.specs.FormView.{table};
-ghost use Rattle.x5_types.specs.NodeView.{node_view};
 
-use crate::chained::chained_node;
 use crate::direct::message_in;
 use crate::read_chained::chained_in;
+use crate::write_chained::write_chained;
 use std::alloc::Global;
 use x5_dapber::WireFault;
 use x5_dapreply::direct::usual_reply;
 use x5_dapreply::read_replies::reply_in;
-use x5_dapreply::replies::reply_node;
-use x5_memory::NoMemory;
+use x5_dapreply::{Protocol, write_reply};
 use x5_ops::{Chained, Operation, Reply};
 use x5_syntax::Octets;
 use x5_typed::read;
 use x5_types::Named;
-use x5_writer::{WriteFault, write};
-
-/// The code of a referral to an agent (X.518, section 13.2).
-const REFERRAL: u32 = 9;
+use x5_writer::WriteFault;
 
 /// The canonical octets of an agent's message with the id: what it asks, where that stands, who passed it on, and the argument of
 /// the operation as a user gives it (X.519, section 7; X.690, section 10).
@@ -51,8 +46,7 @@ pub fn encode_chained(alloc: Global, id: u32, message: &Chained) -> Result<Octet
     ensures spelled { Fits table (table named.DspRequest) (chains.chained_node id (told_chained message.now))
         → IfOk result (λ octets. Spells table named.DspRequest octets (chains.chained_node id (told_chained message.now))) }
 {
-    let node = chained_node(alloc, id, message)?;
-    Ok(Octets::new(write(alloc, Named::DspRequest, &node)?))
+    Ok(Octets::new(write_chained(alloc, id, message)?))
 }
 
 /// What an agent's message says, read by the table of types, in whatever spelling.
@@ -111,8 +105,7 @@ pub fn encode_result(
     ensures spelled { Fits table (table named.DspAnswer) (replies.reply_node replies.to_agent id (told_reply (code_view operation) reply.now))
         → IfOk result (λ octets. Spells table named.DspAnswer octets (replies.reply_node replies.to_agent id (told_reply (code_view operation) reply.now))) }
 {
-    let node = reply_node(alloc, REFERRAL, id, operation.code(), reply)?;
-    Ok(Octets::new(write(alloc, Named::DspAnswer, &node)?))
+    Ok(Octets::new(write_reply(alloc, Protocol::Dsp, id, operation, reply)?))
 }
 
 /// The id and the reply of an answer to an agent (X.519, section 7): of octets that are one spelling of it and nothing else. The code

@@ -1,6 +1,7 @@
 //! Postings that are gathered as they come, and put into order at once.
 
 ghost use Rattle.std.specs.Prelude.{◌≡◌, ◌+◌, ◌≤◌, ◌++◌, false, length, map, vec_len, vec_capacity, OnOk, OnErr, IsTrue};
+ghost use Rattle.std.specs.List.Sorted.{IsPermutation, IsSortedBy};
 ghost use Rattle.x5_model.specs.Attributes.{is_ordered};
 ghost use Rattle.x5_model.specs.Entries.{Entry as entry};
 ghost use Rattle.x5_model.specs.Members.{Once};
@@ -47,13 +48,34 @@ fn push_terms(postings: &mut Vec<Posting>, node: usize, terms: Vec<Term>)
     }
 }
 
-/// Puts postings, each of which is there once, into their order. No memory.
+/// Puts postings into their order, with memory. Entries mostly come in the order of their names, and so many postings of one type
+/// in theirs: once those of each type stand together, a stable sort keeps such runs.
+fn sort_by_runs(postings: &mut Vec<Posting>) -> Result<(), NoMemory>
+    ensures permutation { IsPermutation postings.old.items postings.new.items }
+    ensures sorted { OnOk result (IsSortedBy posting_below postings.new.items) }
+{
+    postings.sort_by_key(|posting| posting.term.kind.number())?;
+    postings.sort_by(|one, other| compare_postings(one, other))?;
+    Ok(())
+}
+
+/// Puts postings into their order.
+fn sort_in_place(postings: &mut Vec<Posting>)
+    ensures permutation { IsPermutation postings.old.items postings.new.items }
+    ensures sorted { IsSortedBy posting_below postings.new.items }
+{
+    postings.sort_unstable_by(|one, other| compare_postings(one, other));
+}
+
+/// Puts postings, each of which is there once, into their order. It needs no memory: where there is none, they are sorted in place.
 fn put_in_order(postings: &mut Vec<Posting>)
     requires { Once postings.old.items }
     ensures ordered { IsTrue (ascending posting_below postings.new.items) }
     ensures same { HaveSame postings.old.items postings.new.items }
 {
-    postings.sort_unstable_by(|one, other| compare_postings(one, other));
+    if sort_by_runs(postings).is_err() {
+        sort_in_place(postings);
+    }
 }
 
 impl Gathered {
@@ -87,7 +109,7 @@ impl Gathered {
         push_terms(&mut self.postings, node, room.into_terms());
     }
 
-    /// The index of the same nodes, with the same values. No memory.
+    /// The index of the same nodes, with the same values. It needs no memory; with some it's quicker.
     pub fn in_order(self) -> Postings
         ensures { HaveSame self.postings result.postings }
     {

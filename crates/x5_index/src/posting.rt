@@ -46,11 +46,10 @@ impl Model for Posting {
 pub(crate) fn compare_terms(term: &Term, kind: TypeId, normal: &Normal) -> Ordering
     ensures { result ≡ pair_cmp term.now (kind, normal.now) }
 {
-    let octets = term.normal.as_slice();
-    term.kind
-        .number()
-        .cmp(&kind.number())
-        .then(octets.cmp(normal.as_slice()))
+    match term.kind.number().cmp(&kind.number()) {
+        Ordering::Equal => term.normal.as_slice().cmp(normal.as_slice()),
+        unequal => unequal,
+    }
 }
 
 /// Whether the value of this type and normal form is among these. No memory.
@@ -67,7 +66,10 @@ pub(crate) fn has_term(terms: &[Term], kind: TypeId, normal: &Normal) -> bool
 fn compare(posting: &Posting, kind: TypeId, normal: &Normal, node: usize) -> Ordering
     ensures { result ≡ posting_cmp posting.now (record { term = (kind, normal.now); node = node }) }
 {
-    compare_terms(&posting.term, kind, normal).then(posting.node.cmp(&node))
+    match compare_terms(&posting.term, kind, normal) {
+        Ordering::Equal => posting.node.cmp(&node),
+        unequal => unequal,
+    }
 }
 
 /// How a posting stands to another.

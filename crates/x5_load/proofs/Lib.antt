@@ -5,3 +5,4 @@ pub mod Texts
 pub mod Dates
 pub mod Known
 pub mod Whole
+pub mod Referring

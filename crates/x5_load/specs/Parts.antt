@@ -5,12 +5,13 @@ use Rattle.serde_json.specs.Data.{Data, Items, Members}
 use Rattle.serde_json.specs.Events.{items_len}
 use Rattle.x5_know.specs.Moments.{Start}
 use Rattle.x5_model.specs.Values.{Text}
-use Rattle.x5_model_tree.specs.Described.{most_agents, most_agreements, most_cut, most_with_copies}
-use Rattle.x5_model_tree.specs.World.{Agreement}
+use Rattle.x5_model_tree.specs.Described.{most_agents, most_agreements, most_cut, most_shadows, most_with_copies}
+use Rattle.x5_model_tree.specs.World.{Access, Agreement}
 use Rattle.x5_model_world.specs.AgentText.{Agents, names_behind}
+use Rattle.x5_model_world.specs.ContextText.{agent_of, agents_behind}
 use Rattle.x5_model_world.specs.Mentioned.{first_of_two, first_at, unknown_text, unknown_in_pair, unknown_in_world}
 use Rattle.x5_model_world.specs.NetworkText.{pairs_behind, pair_of_agents, numbers_behind}
-use Rattle.x5_model_world.specs.Reading.{Read, ◌>>=◌, needed, if_few, text_at, some_at, list_if_any, only}
+use Rattle.x5_model_world.specs.Reading.{Read, ◌>>=◌, at, needed, if_few, text_at, some_at, list_if_any, only}
 use Rattle.x5_model_world.specs.StartText.{two, year_of, is_day, is_time, start_of}
 use Rattle.x5_model_world.specs.WorldFile.{File, agreements_behind, with_copies, network_of, world_members, world_in}
 use Rattle.x5_model_world.specs.WorldFile.{if_known}
@@ -22,6 +23,16 @@ abbrev pub is_true_moment : Text → Bool
 is_true_moment t =
     (nat_le 1900 (year_of t) && nat_le (year_of t) 9000)
     && (is_day (year_of t) (two t 4) (two t 6) && is_time (two t 8) (two t 10) (two t 12))
+
+-- ---- the agents at which a reference is
+
+abbrev pub access_at : List Text → Text → Data → Read Access
+access_at names path d = do
+  master ← text_at path (codes "master") d
+  texts ← list_if_any path (codes "shadows") d
+  few ← if_few (at path (codes "shadows")) most_shadows (items_len texts) texts
+  shadows ← agents_behind names (at path (codes "shadows")) 0 [] few
+  Ok (record { master = agent_of names master; shadows = shadows })
 
 -- ---- the network's lists, at a path
 

@@ -5,6 +5,7 @@ ghost use Rattle.serde_json.specs.View.{view, items_view};
 ghost use Rattle.x5_model.specs.Values.{key_of};
 ghost use Rattle.x5_model_world.specs.AgentText as model;
 ghost use Rattle.x5_model_world.specs.ContextText.{has_key};
+ghost use Rattle.x5_load.specs.Parts as parts;
 ghost use Rattle.x5_world_members.specs.Paths.{path_of};
 ghost use Rattle.x5_world_members.specs.Views.{ReadsPart};
 
@@ -117,9 +118,9 @@ impl KeyedReferences {
 
     /// The references with one more cross reference, to whose name there is none.
     #[tactic(auto, using(crate::proofs::Pins::cross_more, crate::proofs::Pins::cross_keys))]
-    fn with_cross(self, pin: Name, access: Access) -> Result<KeyedReferences, NoMemory>
-        requires { has_key (model.pin_keys self.cross) (key_of pin) ≡ false }
-        ensures { IfOk result (λ r. r ≡ model.with_reference self true (record { pin = pin; access = access })) }
+    fn with_cross(self, pin: &Name, access: Access) -> Result<KeyedReferences, NoMemory>
+        requires { has_key (model.pin_keys self.cross) (key_of pin.now) ≡ false }
+        ensures { IfOk result (λ r. r ≡ model.with_reference self true (record { pin = pin.now; access = access })) }
     {
         let KeyedReferences {
             specific,
@@ -131,6 +132,7 @@ impl KeyedReferences {
         let key = pin.key().clone()?;
         cross_keys.add(key)?;
         crosses.push(true)?;
+        let pin = pin.clone()?;
         cross.push(Cross { pin, access })?;
         Ok(KeyedReferences {
             specific,
@@ -146,11 +148,11 @@ impl KeyedReferences {
     fn with_subordinate(
         self,
         alloc: Global,
-        pin: Name,
+        pin: &Name,
         access: Access,
     ) -> Result<KeyedReferences, NoMemory>
-        requires { has_key (model.pin_keys self.subordinate) (key_of pin) ≡ false }
-        ensures { IfOk result (λ r. r ≡ model.with_reference self false (record { pin = pin; access = access })) }
+        requires { has_key (model.pin_keys self.subordinate) (key_of pin.now) ≡ false }
+        ensures { IfOk result (λ r. r ≡ model.with_reference self false (record { pin = pin.now; access = access })) }
     {
         let KeyedReferences {
             mut specific,
@@ -162,6 +164,7 @@ impl KeyedReferences {
         let key = pin.key().clone()?;
         specific_keys.add(key)?;
         crosses.push(false)?;
+        let pin = pin.clone()?;
         let context = Name::root(alloc);
         specific.push(Specific {
             context,
@@ -183,11 +186,11 @@ impl KeyedReferences {
         self,
         alloc: Global,
         cross: bool,
-        pin: Name,
+        pin: &Name,
         access: Access,
     ) -> Result<KeyedReferences, NoMemory>
-        requires { has_key (model.pin_keys (model.of_kind self cross)) (key_of pin) ≡ false }
-        ensures { IfOk result (λ r. r ≡ model.with_reference self cross (record { pin = pin; access = access })) }
+        requires { has_key (model.pin_keys (model.of_kind self cross)) (key_of pin.now) ≡ false }
+        ensures { IfOk result (λ r. r ≡ model.with_reference self cross (record { pin = pin.now; access = access })) }
     {
         if cross {
             self.with_cross(pin, access)
@@ -197,8 +200,26 @@ impl KeyedReferences {
     }
 }
 
+/// The agents at which the reference is that an object describes.
+fn access_at(
+    alloc: Global,
+    names: &AgentNames,
+    place: &Place<'_>,
+    value: &Value,
+) -> Result<Access, LoadFault>
+    ensures { ReadsPart (λ a. a) result (parts.access_at names.now (path_of place.now) (view value.now)) }
+{
+    let master = text_at(alloc, place, "master", value)?;
+    let texts = list_if_any(alloc, place, "shadows", value)?;
+    few(alloc, &Place::Member(place, "shadows"), MOST_SHADOWS, texts)?;
+    let shadows = agents_behind(alloc, names, &Place::Member(place, "shadows"), texts)?;
+    let master = agent_of(names, master);
+    Ok(Access { master, shadows })
+}
+
 /// The reference that an object behind these describes: of which kind it is, to which name, and at which agents. No other of its kind
 /// is to that name.
+#[tactic(auto, using(crate::proofs::Referring::by_access))]
 fn reference_in(
     alloc: Global,
     names: &AgentNames,
@@ -218,18 +239,14 @@ fn reference_in(
     if before.has(cross, &pin) {
         return Err(Place::Member(place, "name").bad_shape(alloc));
     }
-    let master = text_at(alloc, place, "master", value)?;
-    let texts = list_if_any(alloc, place, "shadows", value)?;
-    few(alloc, &Place::Member(place, "shadows"), MOST_SHADOWS, texts)?;
-    let shadows = agents_behind(alloc, names, &Place::Member(place, "shadows"), texts)?;
+    let access = access_at(alloc, names, place, value)?;
     only(
         alloc,
         place,
         &["kind", "name", "master", "shadows"],
         members,
     )?;
-    let master = agent_of(names, master);
-    Ok((cross, pin, Access { master, shadows }))
+    Ok((cross, pin, access))
 }
 
 /// The references with one more, which an object describes.
@@ -243,7 +260,7 @@ fn reference_behind(
     ensures { ReadsPart (λ r. r) result (model.reference_behind names.now (path_of place.now) before (view value.now)) }
 {
     let (cross, pin, access) = reference_in(alloc, names, place, &before, value)?;
-    let references = before.with(alloc, cross, pin, access)?;
+    let references = before.with(alloc, cross, &pin, access)?;
     Ok(references)
 }
 

@@ -3,3 +3,4 @@ pub mod Occurrence
 pub mod PlaceView
 pub mod FilterView
 pub mod FilterText
+pub mod HeldView

@@ -1,11 +1,12 @@
 //! Entries: attributes with their values (X.501, section 8).
 
-ghost use Rattle.std.specs.Prelude.{◌≡◌, ◌++◌, ◌∷◌, [], OnOk, OnErr, IsTrue};
+ghost use Rattle.std.specs.Prelude.{◌≡◌, ◌++◌, ◌∷◌, [], IfOk, OnOk, OnErr, IsTrue};
 ghost use Rattle.std.specs.Option.{option_copied};
 ghost use Rattle.x5_model.specs.Attributes as model;
 
 use std::alloc::{AllocError, Global};
 use std::marker::Model;
+use std::rc::Rc;
 use x5_syntax::{NoMemory, Normal, TypeId, Value};
 
 /// A value with its normal form for its type.
@@ -88,19 +89,27 @@ impl Model for Stored {
     ghost view = { λ a. record { kind = a.kind; values = a.values } };
 }
 
+/// The attributes of one list alone, or those that it shares with its copies.
+#[derive(Debug, Drop)]
+enum Held {
+    Own(Vec<Stored>),
+    Shared(Rc<Vec<Stored>>),
+}
+
 /// Attributes of an entry, in the order of their types' numbers.
 #[derive(Debug, Drop)]
 pub struct StoredList {
-    attributes: Vec<Stored>,
+    attributes: Held,
 }
 
 impl Model for StoredList {
     ghost use Rattle.std.specs.Prelude.{List};
     ghost use Rattle.x5_model.specs.Entries as entries;
+    ghost use Rattle.x5_match.specs.HeldView.{held_view};
 
     ghost Value = { List entries.Stored };
 
-    ghost view = { λ l. l.attributes.items };
+    ghost view = { λ l. held_view l.attributes };
 }
 
 impl StoredList {
@@ -108,40 +117,51 @@ impl StoredList {
     pub fn from_vec(attributes: Vec<Stored>) -> StoredList
         ensures { result ≡ attributes.items }
     {
-        StoredList { attributes }
+        StoredList {
+            attributes: Held::Own(attributes),
+        }
     }
 
-    /// Its members as a vector. No memory.
-    pub fn into_vec(self) -> Vec<Stored>
-        ensures { result.items ≡ self }
+    /// Its members as a vector: copies of them where other lists share them.
+    pub fn into_vec(self) -> Result<Vec<Stored>, NoMemory>
+        ensures { IfOk result (λ v. v.items ≡ self) }
     {
         let StoredList { attributes } = self;
-        attributes
+        match attributes {
+            Held::Own(attributes) => Ok(attributes),
+            Held::Shared(attributes) => Ok(Rc::unwrap_or_clone(attributes)?),
+        }
+    }
+
+    /// The same list, whose copies share its members.
+    pub fn shared(self, alloc: Global) -> Result<StoredList, NoMemory>
+        ensures { IfOk result (λ l. l ≡ self) }
+    {
+        let StoredList { attributes } = self;
+        let attributes = match attributes {
+            Held::Own(attributes) => Rc::new(alloc, attributes)?,
+            Held::Shared(attributes) => attributes,
+        };
+        Ok(StoredList {
+            attributes: Held::Shared(attributes),
+        })
     }
 
     /// The empty list. No memory.
     pub fn new(alloc: Global) -> StoredList
         ensures { result ≡ [] }
     {
-        StoredList {
-            attributes: Vec::new(alloc),
-        }
-    }
-
-    /// Adds a member at the end.
-    pub fn push(&mut self, attribute: Stored) -> Result<(), NoMemory>
-        ensures ok { OnOk result (self.new ≡ self.old ++ attribute ∷ []) }
-        ensures err { OnErr result (self.new ≡ self.old) }
-    {
-        self.attributes.push(attribute)?;
-        Ok(())
+        StoredList::from_vec(Vec::new(alloc))
     }
 
     /// Its members. No memory.
     pub fn as_slice(&self) -> &[Stored]
         ensures { result.now ≡ self.now }
     {
-        self.attributes.as_slice()
+        match &self.attributes {
+            Held::Own(attributes) => attributes.as_slice(),
+            Held::Shared(attributes) => attributes.as_ref().as_slice(),
+        }
     }
 }
 
@@ -170,9 +190,7 @@ impl Entry {
         ensures { result.attributes ≡ [] }
     {
         Entry {
-            attributes: StoredList {
-                attributes: Vec::new(alloc),
-            },
+            attributes: StoredList::new(alloc),
         }
     }
 
@@ -182,6 +200,17 @@ impl Entry {
         ensures { result.attributes ≡ attributes }
     {
         Entry { attributes }
+    }
+
+    /// The same entry, whose copies share its attributes. For entries that live long and are copied often, as those of a context
+    /// are at each total refresh: a copy of them takes no memory.
+    pub fn shared(self, alloc: Global) -> Result<Entry, NoMemory>
+        ensures { IfOk result (λ e. e ≡ self) }
+    {
+        let Entry { attributes } = self;
+        Ok(Entry {
+            attributes: attributes.shared(alloc)?,
+        })
     }
 
     /// Its attributes. No memory.
@@ -268,14 +297,24 @@ impl Clone for Stored {
     }
 }
 
+impl Clone for StoredList {
+    ghost is_clone = { λ a b. b ≡ a };
+
+    fn clone(&self) -> Result<StoredList, AllocError> {
+        let attributes = match &self.attributes {
+            Held::Own(attributes) => Held::Own(attributes.clone()?),
+            Held::Shared(attributes) => Held::Shared(attributes.clone()?),
+        };
+        Ok(StoredList { attributes })
+    }
+}
+
 impl Clone for Entry {
     ghost is_clone = { λ a b. b ≡ a };
 
     fn clone(&self) -> Result<Entry, AllocError> {
         Ok(Entry {
-            attributes: StoredList {
-                attributes: self.attributes.attributes.clone()?,
-            },
+            attributes: self.attributes.clone()?,
         })
     }
 }

@@ -11,6 +11,8 @@ pub mod Keywords
 pub mod NamesRead
 pub mod GivenNames
 pub mod Names
+pub mod Anywhere
+pub mod Longer
 pub mod NameUtf8
 pub mod Values
 pub mod FoldTable

@@ -1,1 +1,4 @@
+pub mod ByKeys
 pub mod Fronts
+mod Below
+mod Slash

@@ -1,3 +1,4 @@
 pub mod KeyOrder
 pub mod Reading
 pub mod KeyHash
+pub mod Sharing

@@ -5,10 +5,12 @@ ghost use Rattle.std.specs.Cmp.Lexicographic.{lists_per, lists_equiv};
 ghost use Rattle.std.specs.Ordering.{as_partial_cmp};
 ghost use Rattle.std.proofs.Common.{refl, ap};
 ghost use Rattle.x5_model.specs.Keys as model;
+ghost use Rattle.x5_model.specs.Values.{key_of};
 ghost use Rattle.x5_names.specs.KeyHash as model_hash;
 ghost use Rattle.x5_model.proofs.KeyLaws.{pair_cmp_total, pair_ties, pair_decides, rdn_cmp_total, rdn_ties, rdn_decides, key_cmp_total, key_ties, key_decides};
 ghost use Rattle.x5_names.specs.KeyOrder.{same_pair_laws, same_pair_equivalence, pair_partial_order, rdn_partial_order, key_partial_order};
 
+use crate::shared::Rdns;
 use std::alloc::{AllocError, Global};
 use std::cmp::Ordering;
 use std::hash::{Hash, Hasher};
@@ -44,18 +46,19 @@ impl Model for KeyRdn {
     ghost view = { λ r. r.pairs.items };
 }
 
-/// The key of a name: the keys of its RDNs from the root.
+/// The key of a name: the keys of its RDNs from the root, which it shares with the name.
 #[derive(Debug, Drop)]
 pub struct Key {
-    rdns: Vec<KeyRdn>,
+    rdns: Rdns,
 }
 
 impl Model for Key {
     ghost use Rattle.x5_model.specs.Keys as keys;
+    ghost use Rattle.x5_model.specs.Values.{key_of};
 
     ghost Value = { keys.Key };
 
-    ghost view = { λ k. k.rdns.items };
+    ghost view = { λ k. key_of k.rdns };
 }
 
 impl KeyPair {
@@ -78,8 +81,8 @@ impl KeyRdn {
 
 impl Key {
     /// The key of a name with these RDNs. No memory.
-    pub fn new(rdns: Vec<KeyRdn>) -> Key
-        ensures { result ≡ rdns.items }
+    pub(crate) fn new(rdns: Rdns) -> Key
+        ensures { result ≡ key_of rdns }
     {
         Key { rdns }
     }
@@ -88,26 +91,28 @@ impl Key {
     pub fn len(&self) -> usize
         ensures { result ≡ length self.now }
     {
-        self.rdns.len()
+        self.rdns.as_slice().len()
     }
 
     /// Whether the first RDNs of the other name are those of this one. No memory.
-    #[tactic(auto, using(crate::proofs::Fronts::take_min))]
+    #[tactic(auto, using(crate::proofs::Fronts::front_is))]
     pub fn is_prefix(&self, of: &Key) -> bool
         ensures { result ≡ model.is_prefix self.now of.now }
     {
-        let count = self.rdns.len().min(of.rdns.len());
-        let front = &of.rdns[..count];
-        front == self.rdns.as_slice()
+        let first = self.rdns.as_slice();
+        let all = of.rdns.as_slice();
+        let count = first.len().min(all.len());
+        &all[..count] == first
     }
 
     /// The key of the first RDNs.
+    #[tactic(auto, using(crate::proofs::Fronts::key_front))]
     pub fn first(&self, alloc: Global, count: usize) -> Result<Key, NoMemory>
         requires { count ≤ length self.now }
         ensures { IfOk result (λ key. key ≡ take count self.now) }
     {
-        let rdns = Vec::from_clones(alloc, &self.rdns[..count])?;
-        Ok(Key { rdns })
+        let rdns = self.rdns.first(alloc, count)?;
+        Ok(Key::new(rdns))
     }
 }
 
@@ -194,8 +199,9 @@ impl PartialEq for Key {
 
     ghost laws = { lists_per (lists_per same_pair_laws) };
 
+    #[tactic(auto, using(crate::proofs::ByKeys::same_names))]
     fn eq(&self, other: &Key) -> bool {
-        self.rdns == other.rdns
+        self.rdns.as_slice() == other.rdns.as_slice()
     }
 }
 
@@ -222,8 +228,9 @@ impl Ord for Key {
 
     ghost matches_eq = { key_ties };
 
+    #[tactic(auto, using(crate::proofs::ByKeys::names_cmp))]
     fn cmp(&self, other: &Key) -> Ordering {
-        self.rdns.cmp(&other.rdns)
+        self.rdns.as_slice().cmp(other.rdns.as_slice())
     }
 }
 
@@ -253,8 +260,9 @@ impl Hash for Key {
 
     ghost respects_eq = { λ a b same. ap model_hash.key_writes ((key_decides a b).0 same) };
 
+    #[tactic(auto, using(crate::proofs::ByKeys::name_hash))]
     fn hash<H: Hasher>(&self, state: &mut H) {
-        self.rdns.hash(state);
+        self.rdns.as_slice().hash(state);
     }
 }
 

@@ -115,6 +115,6 @@ pub(crate) fn last_of(alloc: Global, name: &Name) -> Result<Rdn, NoMemory>
 {
     match name.last() {
         Some(rdn) => Ok(rdn.clone()?),
-        None => Ok(Rdn::new(Vec::new(alloc))),
+        None => Ok(Rdn::new(alloc, Vec::new(alloc))?),
     }
 }

@@ -110,7 +110,7 @@ fn renamed(
     };
     let entry = with_rdn(alloc, entry, rdn)?;
     match doubled(&entry) {
-        None => Ok(entry),
+        None => Ok(entry.shared(alloc)?),
         Some(kind) => Err(ChangeFault::Refused(DirError::Attribute {
             problem: attribute_problem::CONSTRAINT_VIOLATION,
             kind: TypeRef::Known(kind),

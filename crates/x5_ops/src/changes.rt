@@ -136,7 +136,7 @@ pub fn added_entry(alloc: Global, rdn: &Rdn, offered: &AttributeList) -> Result<
 {
     match attribute_repeats(alloc, offered.as_slice())? {
         Some(refusal) => Err(ChangeFault::Refused(refusal.into_error(alloc))),
-        None => Ok(stored_entry(alloc, rdn, offered)?),
+        None => Ok(stored_entry(alloc, rdn, offered)?.shared(alloc)?),
     }
 }
 
@@ -335,7 +335,7 @@ pub fn change(
 {
     let entry = copied_entry(entry)?;
     match modified(alloc, entry, rdn, changes.as_slice()) {
-        Ok(entry) => Ok(entry),
+        Ok(entry) => Ok(entry.shared(alloc)?),
         Err(Stop::Refused(refusal)) => Err(ChangeFault::Refused(refusal.into_error(alloc))),
         Err(Stop::NoMemory) => Err(ChangeFault::NoMemory),
     }

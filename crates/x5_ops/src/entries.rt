@@ -86,7 +86,8 @@ pub fn with_values(
 {
     let _ordered = entry.attributes();
     let Entry { attributes } = entry;
-    let others = others_of(alloc, attributes.into_vec(), kind)?;
+    let held = attributes.into_vec()?;
+    let others = others_of(alloc, held, kind)?;
     let attributes = with_attribute(others, kind, values)?;
     Ok(Entry::from_list(StoredList::from_vec(attributes)))
 }

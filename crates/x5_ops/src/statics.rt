@@ -395,7 +395,7 @@ fn entry_at(alloc: Global, object: &Name, attributes: &AttributeList) -> Result<
 {
     match object.last() {
         Some(rdn) => stored_entry(alloc, rdn, attributes),
-        None => stored_entry(alloc, &Rdn::new(Vec::new(alloc)), attributes),
+        None => stored_entry(alloc, &Rdn::new(alloc, Vec::new(alloc))?, attributes),
     }
 }
 

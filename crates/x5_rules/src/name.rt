@@ -95,7 +95,7 @@ pub fn rdn_of(alloc: Global, node: &Node<'_>) -> Result<Rdn, NoMemory>
     for part in parts {
         pairs.push(stored_pair_in(alloc, part)?)?;
     }
-    Ok(Rdn::new(pairs))
+    Rdn::new(alloc, pairs)
 }
 
 /// The name that the node says: of each RDN its pairs, of each pair its type's number and its text.

@@ -31,7 +31,7 @@ fn normal_of_octets(alloc: Global, kind: TypeId, octets: &[u8]) -> Result<Option
     if kind.kind() != Kind::Octets {
         return Ok(None);
     }
-    Ok(Some(Normal::new(Vec::from_slice(alloc, octets)?)))
+    Ok(Some(Normal::from_slice(alloc, octets)?))
 }
 
 /// Four octets an arc.

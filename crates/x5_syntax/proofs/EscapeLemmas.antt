@@ -1,12 +1,13 @@
 -- Texts with escapes, part by part.
-use Rattle.std.proofs.Common.{◌≡◌, ℕ, ◌+◌, List, [], ◌∷◌, ◌++◌, length, Result, Ok, Err, refl, sym, ◌∙◌, ap, append_assoc, Bor, map, get_or, drop, suc, add-one, IsUtf8, Bool, true, false, ◌<◌, ◌⊎◌, inl, inr, arith}
+use Rattle.std.proofs.Common.{◌≡◌, ℕ, ◌+◌, List, [], ◌∷◌, ◌++◌, length, Result, Ok, Err, refl, sym, ◌∙◌, ap, append_assoc, append-nil, ◌==◌, Bor, map, get_or, drop, suc, add-one, IsUtf8, Bool, true, false, ◌<◌, ◌⊎◌, inl, inr, arith}
+use Rattle.std.proofs.lemmas.Bool.{or_parts}
 use Rattle.std.proofs.lemmas.List.Splits.{slice_split-cons_yes, slice_split-cons_no, length-slice_split}
 use Rattle.std.proofs.lemmas.Str.{IsUtf8-from_is_utf8}
 use Rattle.std.specs.Str.{is_utf8}
 use Rattle.std.proofs.Math.Seq.{drop-cons}
-use Rattle.std.specs.List.{slice_split, onto_first}
+use Rattle.std.specs.List.{list_any, slice_split, onto_first}
 use Rattle.x5_model.specs.Values.{Text}
-use Rattle.x5_model_text.specs.ValueText.{joined}
+use Rattle.x5_model_text.specs.ValueText.{joined, plain_at, parts_at, resolved}
 use Rattle.x5_syntax.specs.Escapes.{span}
 
 pub cases_bool : (b : Bool) → (b ≡ true) ⊎ (b ≡ false)
@@ -54,3 +55,21 @@ not_utf8 bs h = elim (cases_bool (is_utf8 bs)) [
   | inl valid ↦ absurd (h (IsUtf8-from_is_utf8 bs valid))
   | inr invalid ↦ invalid
 ]
+
+-- ---- a text that isn't cut
+
+one_part : (p : ℕ → Bool) (t : Text) → list_any p t ≡ false → slice_split p t ≡ t ∷ []
+one_part p [] h = refl
+one_part p (b ∷ t) h =
+    let parts = or_parts (p b) (list_any p t) h in
+    slice_split-cons_no p b t parts.0 ∙ ap (onto_first b) (one_part p t parts.1)
+
+pub uncut : (c : ℕ) (t : Text) → list_any (λ b. b == c) t ≡ false → slice_split (λ b. b == c) t ≡ t ∷ []
+uncut c t h = one_part (λ b. b == c) t h
+
+joined_nil : (r : Result Text ℕ) → joined r (Ok []) ≡ r
+joined_nil (Ok t) = ap Ok (append-nil t)
+joined_nil (Err place) = refl
+
+pub resolved_uncut : (at : ℕ) (t : Text) → list_any (λ b. b == 92) t ≡ false → resolved at t ≡ plain_at at t
+resolved_uncut at t h = ap (parts_at at) (uncut 92 t h) ∙ joined_nil (plain_at at t)

@@ -1,3 +1,4 @@
 pub mod OidLemmas
 pub mod EscapeLemmas
 pub mod NameLemmas
+pub mod TextLemmas

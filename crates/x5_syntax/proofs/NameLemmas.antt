@@ -3,8 +3,8 @@ use Rattle.std.proofs.Common.{◌≡◌, ℕ, ◌+◌, ◌<◌, ◌≤◌, Bool,
 use Rattle.std.proofs.Math.Numerals.{one-add}
 use Rattle.std.proofs.lemmas.Bool.{eqb-true}
 use Rattle.x5_syntax.proofs.EscapeLemmas.{cases_bool}
-use Rattle.std.proofs.lemmas.Bool.{le-leb}
-use Rattle.std.specs.List.{position_or_len, join_with_byte}
+use Rattle.std.proofs.lemmas.Bool.{le-leb, and_parts, ltb-true}
+use Rattle.std.specs.List.{list_all, position_or_len, join_with_byte}
 use Rattle.x5_model.specs.Values.{Text, NameValue}
 use Rattle.x5_model_text.specs.NameText as text_of
 use Rattle.x5_model_text.specs.NameText.{NameFault, BadSpelling, TooManyPairs, TooManyRdns, behind_slash}
@@ -41,3 +41,16 @@ not_slash limited (b ∷ t) h = elim (cases_bool (b == 47)) [
   | inl same ↦ absurd (h t (ap (λ x. x ∷ t) (eqb-true b 47 same)))
   | inr other ↦ ap (λ x. if x then behind_slash limited t else Err (BadSpelling 0)) other
 ]
+
+-- ---- pairs that need no sorting
+
+pub single_sorted : (r : List (ℕ × Text)) → length r < 2 → text_of.sorted r ≡ r
+single_sorted [] h = refl
+single_sorted (p ∷ []) h = refl
+single_sorted (p ∷ q ∷ r) h = absurd (omega arith)
+
+pub singles_sorted : (n : NameValue) → list_all (λ r. nat_lt (length r) 2) n ≡ true → map text_of.sorted n ≡ n
+singles_sorted [] h = refl
+singles_sorted (r ∷ n) h =
+    let parts = and_parts (nat_lt (length r) 2) (list_all (λ r. nat_lt (length r) 2) n) h in
+    ap₂ ◌∷◌ (single_sorted r (ltb-true (length r) 2 parts.0)) (singles_sorted n parts.1)

@@ -1,6 +1,6 @@
 //! Texts, octets and normal forms: lists of octets, each under a name of its own.
 
-ghost use Rattle.std.specs.Prelude.{◌≡◌, [], length, IfOk, string_bytes};
+ghost use Rattle.std.specs.Prelude.{◌≡◌, ◌≤◌, [], length, take, IfOk, IfSome, string_bytes};
 
 use std::alloc::{AllocError, Global};
 use std::fmt;
@@ -124,33 +124,100 @@ impl Clone for Octets {
     }
 }
 
+/// How many octets a normal form keeps in place at most: as many as leave it the size that its vector needs anyway.
+pub(crate) const MOST_IN_PLACE: usize = 30;
+
+/// Where the octets of a normal form are: few lie in place, as most normal forms have few.
+#[derive(Drop)]
+enum Kept {
+    /// The first `count` of these.
+    InPlace {
+        count: u8,
+        octets: [u8; MOST_IN_PLACE],
+    },
+    /// More than lie in place.
+    Apart(Vec<u8>),
+}
+
 /// The normal form of a value, by which values of one type are compared.
-#[derive(Debug, Drop)]
+#[derive(Drop)]
 pub struct Normal {
-    octets: Vec<u8>,
+    kept: Kept,
 }
 
 impl Model for Normal {
     ghost use Rattle.std.specs.Prelude.{ℕ, List};
+    ghost use Rattle.x5_syntax.specs.Kept.{octets_of, IsKept};
 
     ghost Value = { List ℕ };
 
-    ghost view = { λ n. n.octets.items };
+    ghost view = { λ n. octets_of n.kept };
+
+    ghost invariant = { λ n. IsKept n.kept };
+}
+
+const _: () = prove!(size_of::<Normal>() == 32);
+
+/// A normal form of these octets in place, if they are few. No memory.
+fn in_place(octets: &[u8]) -> Option<Normal>
+    ensures { IfSome result (λ normal. normal ≡ octets.now) }
+{
+    let count = octets.len();
+    if count > MOST_IN_PLACE {
+        return None;
+    }
+    let mut copied = [0u8; MOST_IN_PLACE];
+    copied[..count].copy_from_slice(octets);
+    Some(Normal::from_first(count, copied))
 }
 
 impl Normal {
+    /// A normal form of the first of these octets. No memory.
+    pub(crate) fn from_first(count: usize, octets: [u8; MOST_IN_PLACE]) -> Normal
+        requires { count ≤ 30 }
+        ensures { result ≡ take count octets }
+    {
+        Normal {
+            kept: Kept::InPlace {
+                count: count as u8,
+                octets,
+            },
+        }
+    }
+
     /// A normal form of these octets. No memory.
     pub fn new(octets: Vec<u8>) -> Normal
         ensures { result ≡ octets.items }
     {
-        Normal { octets }
+        match in_place(octets.as_slice()) {
+            Some(normal) => normal,
+            None => Normal {
+                kept: Kept::Apart(octets),
+            },
+        }
+    }
+
+    /// A normal form of a copy of these octets. Few take no memory.
+    pub fn from_slice(alloc: Global, octets: &[u8]) -> Result<Normal, NoMemory>
+        ensures { IfOk result (λ normal. normal ≡ octets.now) }
+    {
+        if let Some(normal) = in_place(octets) {
+            return Ok(normal);
+        }
+        let octets = Vec::from_slice(alloc, octets)?;
+        Ok(Normal {
+            kept: Kept::Apart(octets),
+        })
     }
 
     /// Its octets. No memory.
     pub fn as_slice(&self) -> &[u8]
         ensures { result.now ≡ self.now }
     {
-        self.octets.as_slice()
+        match &self.kept {
+            Kept::InPlace { count, octets } => &octets[..usize::from(*count)],
+            Kept::Apart(octets) => octets.as_slice(),
+        }
     }
 }
 
@@ -158,8 +225,21 @@ impl Clone for Normal {
     ghost is_clone = { λ a b. b ≡ a };
 
     fn clone(&self) -> Result<Normal, AllocError> {
-        Ok(Normal {
-            octets: self.octets.clone()?,
-        })
+        let kept = match &self.kept {
+            Kept::InPlace { count, octets } => Kept::InPlace {
+                count: *count,
+                octets: *octets,
+            },
+            Kept::Apart(octets) => Kept::Apart(octets.clone()?),
+        };
+        Ok(Normal { kept })
+    }
+}
+
+impl fmt::Debug for Normal {
+    fn fmt<W: fmt::Write>(&self, f: &mut fmt::Formatter<W>) -> fmt::Result {
+        f.debug_struct("Normal")
+            .field("octets", &self.as_slice())
+            .finish()
     }
 }

@@ -10,7 +10,7 @@ ghost use Rattle.x5_syntax.specs.Escapes.{Adds, Resolves, span};
 ghost use Rattle.x5_syntax.specs.declared.escapes.EscapeFault.TheVariants.{NoMemory as NoMemoryFault};
 
 use crate::containers::{Octets, Text};
-use crate::oid::pieces;
+use crate::oid::{is_cut, pieces};
 use std::alloc::{AllocError, AllocFailed, Global};
 use thiserror::Error;
 use x5_memory::NoMemory;
@@ -81,7 +81,7 @@ fn digit(value: u8) -> u8
 pub(crate) fn escaped(alloc: Global, octets: &[u8]) -> Result<Vec<u8>, NoMemory>
     ensures { IfOk result (λ text. text.items ≡ text_of.escaped octets.now) }
 {
-    let mut text = Vec::new(alloc);
+    let mut text = Vec::with_capacity(alloc, octets.len())?;
     for octet in octets {
         add_octet(&mut text, *octet)?;
     }
@@ -159,11 +159,26 @@ fn add_parts(out: &mut Vec<u8>, at: usize, parts: &[&str]) -> Result<(), EscapeF
     add_escapes(out, at + first.len(), escapes)
 }
 
+/// The octets of a text without escapes, which stands at the place.
+fn resolve_plain(alloc: Global, at: usize, text: &str) -> Result<Octets, EscapeFault>
+    requires { at + length text.now < 2 ^ 64 }
+    ensures { Resolves result (text_of.plain_at at text.now) }
+{
+    let octets = text.as_bytes();
+    if let Some(place) = control_place(octets) {
+        return Err(EscapeFault::Bad(at + place));
+    }
+    Ok(Octets::new(Vec::from_slice(alloc, octets)?))
+}
+
 /// The octets that the text of a value stands for; the text stands at the place, from which faults count.
 pub fn resolve(alloc: Global, at: usize, text: &str) -> Result<Octets, EscapeFault>
     requires { at + length text.now + 1 < 2 ^ 64 }
     ensures { Resolves result (text_of.resolved at text.now) }
 {
+    if !is_cut(text, b'\\') {
+        return resolve_plain(alloc, at, text);
+    }
     let parts = pieces(alloc, text, '\\')?;
     let mut octets = Vec::new(alloc);
     add_parts(&mut octets, at, &parts)?;

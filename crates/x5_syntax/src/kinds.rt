@@ -1,12 +1,11 @@
 //! The attribute types that agents know, and what their values are (X.520, X.501, X.509; docs/FORMATS.md, attribute types).
 
-ghost use Rattle.std.specs.Prelude.{◌≡◌, ◌↔◌, true, false, IsTrue, IfOk, None, Some, if◌then◌else◌};
+ghost use Rattle.std.specs.Prelude.{◌≡◌, ◌↔◌, IsTrue, IfOk, None, Some, if◌then◌else◌};
 ghost use Rattle.std.specs.Option.{option_map};
 ghost use Rattle.std.specs.Str.{str_eq_ignore_ascii_case};
 ghost use Rattle.x5_model.specs.Types as model;
 ghost use Rattle.x5_model_text.specs.TypeText as text_of;
 ghost use Rattle.x5_model_text.specs.TypeText.{keyword_of, row_of_word};
-ghost use Rattle.x5_syntax.specs.RowView.{IsRow};
 
 use crate::containers::Text;
 use crate::oid::Oid;
@@ -48,15 +47,6 @@ impl Kind {
     }
 }
 
-/// What is told of a type of the table.
-#[derive(Drop)]
-struct TypeRow {
-    keyword: &'static str,
-    kind: Kind,
-    names: bool,
-    single: bool,
-}
-
 /// A type of the table, by its number below 2.5.4.
 #[derive(Clone, Copy, Debug)]
 pub struct TypeId(pub u8);
@@ -74,45 +64,6 @@ impl Model for TypeId {
     ghost inverse = { λ n. record { 0 = n } };
 }
 
-/// A type that may stand in an RDN.
-fn naming(keyword: &'static str, kind: Kind) -> TypeRow
-    ensures keyword { result.keyword.now ≡ keyword.entry.now }
-    ensures rest { (result.kind ≡ kind) × (result.names ≡ true) × (result.single ≡ false) }
-{
-    TypeRow {
-        keyword,
-        kind,
-        names: true,
-        single: false,
-    }
-}
-
-/// A type that may not.
-fn plain(keyword: &'static str, kind: Kind) -> TypeRow
-    ensures keyword { result.keyword.now ≡ keyword.entry.now }
-    ensures rest { (result.kind ≡ kind) × (result.names ≡ false) × (result.single ≡ false) }
-{
-    TypeRow {
-        keyword,
-        kind,
-        names: false,
-        single: false,
-    }
-}
-
-/// A type of one value at most that may stand in an RDN.
-fn single(keyword: &'static str, kind: Kind) -> TypeRow
-    ensures keyword { result.keyword.now ≡ keyword.entry.now }
-    ensures rest { (result.kind ≡ kind) × (result.names ≡ true) × (result.single ≡ true) }
-{
-    TypeRow {
-        keyword,
-        kind,
-        names: true,
-        single: true,
-    }
-}
-
 /// Whether two words are the same but for ASCII case.
 fn is_same(word: &str, keyword: &str) -> bool
     ensures { result ≡ str_eq_ignore_ascii_case word.now keyword.now }
@@ -120,31 +71,14 @@ fn is_same(word: &str, keyword: &str) -> bool
     word.eq_ignore_ascii_case(keyword)
 }
 
-/// The row of the table with the number.
-fn row(number: u8) -> Option<TypeRow>
-    ensures { IsRow result (model.row_of number) }
+/// Whether the table has the number.
+fn is_known(number: u8) -> bool
+    ensures { result ≡ model.is_known number }
 {
-    Some(match number {
-        0 => plain("objectClass", Kind::Oid),
-        3 => naming("CN", Kind::Text),
-        4 => naming("SN", Kind::Text),
-        5 => naming("serialNumber", Kind::Printable),
-        6 => single("C", Kind::Country),
-        7 => naming("L", Kind::Text),
-        8 => naming("ST", Kind::Text),
-        10 => naming("O", Kind::Text),
-        11 => naming("OU", Kind::Text),
-        12 => naming("title", Kind::Text),
-        13 => naming("description", Kind::Text),
-        17 => naming("postalCode", Kind::Text),
-        20 => naming("telephoneNumber", Kind::Telephone),
-        24 => naming("x121Address", Kind::Numeric),
-        31 => plain("member", Kind::Name),
-        32 => plain("owner", Kind::Name),
-        34 => plain("seeAlso", Kind::Name),
-        35 => plain("userPassword", Kind::Octets),
-        _ => return None,
-    })
+    matches!(
+        number,
+        0 | 3 | 4 | 5 | 6 | 7 | 8 | 10 | 11 | 12 | 13 | 17 | 20 | 24 | 31 | 32 | 34 | 35
+    )
 }
 
 impl TypeId {
@@ -154,9 +88,10 @@ impl TypeId {
     pub fn new(number: u8) -> Option<TypeId>
         ensures { result ≡ (if model.is_known number then Some number else None) }
     {
-        match row(number) {
-            Some(_) => Some(TypeId(number)),
-            None => None,
+        if is_known(number) {
+            Some(TypeId(number))
+        } else {
+            None
         }
     }
 
@@ -218,28 +153,60 @@ impl TypeId {
     pub fn keyword(self) -> &'static str
         ensures { result.now ≡ keyword_of self }
     {
-        row(self.0).unwrap().keyword
+        match self.0 {
+            0 => "objectClass",
+            3 => "CN",
+            4 => "SN",
+            5 => "serialNumber",
+            6 => "C",
+            7 => "L",
+            8 => "ST",
+            10 => "O",
+            11 => "OU",
+            12 => "title",
+            13 => "description",
+            17 => "postalCode",
+            20 => "telephoneNumber",
+            24 => "x121Address",
+            31 => "member",
+            32 => "owner",
+            34 => "seeAlso",
+            35 => "userPassword",
+            _ => "",
+        }
     }
 
     /// What its values are. No memory.
     pub fn kind(self) -> Kind
         ensures { kind_view result ≡ model.kind_of self }
     {
-        row(self.0).unwrap().kind
+        match self.0 {
+            0 => Kind::Oid,
+            3 | 4 | 7 | 8 | 10 | 11 | 12 | 13 | 17 => Kind::Text,
+            5 => Kind::Printable,
+            6 => Kind::Country,
+            20 => Kind::Telephone,
+            24 => Kind::Numeric,
+            31 | 32 | 34 => Kind::Name,
+            _ => Kind::Octets,
+        }
     }
 
     /// Whether it may stand in an RDN. No memory.
     pub fn may_name(self) -> bool
         ensures { result ≡ model.may_name self }
     {
-        row(self.0).unwrap().names
+        matches!(
+            self.0,
+            3 | 4 | 5 | 6 | 7 | 8 | 10 | 11 | 12 | 13 | 17 | 20 | 24
+        )
     }
 
     /// Whether an entry has one value of it at most. No memory.
     pub fn is_single(self) -> bool
         ensures { result ≡ model.is_single self }
     {
-        row(self.0).unwrap().single
+        self.0 == 6
     }
 }
 

@@ -16,7 +16,7 @@ ghost use Rattle.x5_syntax.specs.declared.names.NameFault.TheVariants.{NoMemory 
 use crate::containers::{Octets, Text};
 use crate::escapes::{EscapeFault, escape, resolve};
 use crate::kinds::{TypeId, TypeRef};
-use crate::oid::pieces;
+use crate::oid::{is_cut, pieces};
 use crate::texts::is_text_of_kind;
 use std::alloc::{AllocError, AllocFailed, Global};
 use std::marker::Model;
@@ -202,7 +202,7 @@ fn pairs_at(
     requires { at + span (map (λ x. x.now) parts.now) < 2 ^ 64 }
     ensures { ReadsName (λ pairs. pairs.items) result (text_of.pairs_at limited at [] (map (λ x. x.now) parts.now)) }
 {
-    let mut pairs = Vec::new(alloc);
+    let mut pairs = Vec::with_capacity(alloc, parts.len())?;
     let mut place = at;
     for part in parts {
         if limited && pairs.len() >= MOST_PAIRS {
@@ -225,6 +225,9 @@ fn rdn_at(
     requires { at + length text.now + 1 < 2 ^ 64 }
     ensures { ReadsName (λ pairs. pairs.items) result (text_of.rdn_at limited at text.now) }
 {
+    if !is_cut(text, b'+') {
+        return pairs_at(alloc, limited, at, &[text]);
+    }
     let parts = pieces(alloc, text, '+')?;
     pairs_at(alloc, limited, at, &parts)
 }
@@ -267,7 +270,7 @@ fn rdns_at(
     requires { at + span (map (λ x. x.now) parts.now) < 2 ^ 64 }
     ensures { ReadsName (λ rdns. rdns.items) result (text_of.rdns_at limited at [] (map (λ x. x.now) parts.now)) }
 {
-    let mut rdns = Vec::new(alloc);
+    let mut rdns = Vec::with_capacity(alloc, parts.len())?;
     let mut place = at;
     for part in parts {
         if limited && rdns.len() >= MOST_RDNS {
@@ -331,7 +334,7 @@ fn insert(pairs: &mut Vec<(TypeId, Text)>, pair: (TypeId, Text)) -> Result<(), N
 fn sorted(alloc: Global, pairs: &[(TypeId, Text)]) -> Result<RdnValue, NoMemory>
     ensures { IfOk result (λ rdn. rdn ≡ text_of.sorted pairs.now) }
 {
-    let mut done = Vec::new(alloc);
+    let mut done = Vec::with_capacity(alloc, pairs.len())?;
     for pair in pairs {
         let text = pair.1.clone()?;
         insert(&mut done, (pair.0, text))?;
@@ -339,16 +342,33 @@ fn sorted(alloc: Global, pairs: &[(TypeId, Text)]) -> Result<RdnValue, NoMemory>
     Ok(RdnValue { pairs: done })
 }
 
-/// The RDNs with their pairs in the order of type numbers.
-pub(crate) fn sorted_rdns(alloc: Global, rdns: &[RdnValue]) -> Result<NameValue, NoMemory>
+/// Copies of the RDNs with their pairs in the order of type numbers.
+fn sorted_copies(alloc: Global, rdns: &[RdnValue]) -> Result<NameValue, NoMemory>
     ensures { IfOk result (λ name. name ≡ map text_of.sorted rdns.now) }
 {
-    let mut done = Vec::new(alloc);
+    let mut done = Vec::with_capacity(alloc, rdns.len())?;
     for rdn in rdns {
         let pairs = rdn.pairs();
         done.push(sorted(alloc, pairs)?)?;
     }
     Ok(NameValue { rdns: done })
+}
+
+/// Whether each RDN has one pair at most.
+fn are_single(rdns: &[RdnValue]) -> bool
+    ensures { result ≡ list_all (λ r. nat_lt (length r) 2) rdns.now }
+{
+    rdns.iter().all(|rdn| rdn.pairs().len() < 2)
+}
+
+/// The RDNs with their pairs in the order of type numbers: those of one pair stand as they are.
+pub(crate) fn sorted_rdns(alloc: Global, rdns: Vec<RdnValue>) -> Result<NameValue, NoMemory>
+    ensures { IfOk result (λ name. name ≡ map text_of.sorted rdns.items) }
+{
+    if are_single(&rdns) {
+        return Ok(NameValue { rdns });
+    }
+    sorted_copies(alloc, &rdns)
 }
 
 /// The first limit that the pairs of an RDN pass.
@@ -545,7 +565,7 @@ impl NameValue {
         ensures { ReadsName (λ name. name) result (text_of.name_of_text text.now) }
     {
         let rdns = written_name(alloc, true, text)?;
-        Ok(sorted_rdns(alloc, &rdns)?)
+        Ok(sorted_rdns(alloc, rdns)?)
     }
 
     /// Its text.

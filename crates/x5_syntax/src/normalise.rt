@@ -1,12 +1,12 @@
 //! Normal forms, by which values of one type are compared (X.520: matching rules).
 
-ghost use Rattle.std.specs.Prelude.{◌≡◌, ◌++◌, ◌∷◌, [], map, flat_map, IfOk, OnOk};
+ghost use Rattle.std.specs.Prelude.{◌≡◌, ◌≤◌, ◌++◌, ◌∷◌, [], length, map, flat_map, IfOk, OnOk};
 ghost use Rattle.x5_model.specs.Normal as model;
 ghost use Rattle.x5_model.specs.Types.{kind_of};
 ghost use Rattle.x5_syntax.specs.Views.{kind_view};
 ghost use Rattle.x5_syntax.specs.ValueView.{value_view, Gives};
 
-use crate::containers::{Normal, Text};
+use crate::containers::{MOST_IN_PLACE, Normal, Text};
 use crate::kinds::{Kind, TypeId};
 use crate::names::{MOST_VALUE_OCTETS, RdnValue};
 use crate::texts::{is_part_of_kind, is_text_of_kind, part_normal};
@@ -15,21 +15,46 @@ use std::alloc::Global;
 use x5_memory::NoMemory;
 
 /// Four octets an arc.
-fn oid_normal(alloc: Global, arcs: &[u32]) -> Result<Vec<u8>, NoMemory>
+fn arc_octets(alloc: Global, arcs: &[u32]) -> Result<Vec<u8>, NoMemory>
     ensures { IfOk result (λ octets. octets.items ≡ model.oid_normal arcs.now) }
 {
-    let mut octets = Vec::new(alloc);
+    let mut octets = Vec::with_capacity(alloc, arcs.len().saturating_mul(4))?;
     for arc in arcs {
         octets.extend_from_slice(&arc.to_be_bytes())?;
     }
     Ok(octets)
 }
 
+/// How many arcs have their octets in place at most: nearly all object identifiers have no more.
+const MOST_ARCS_IN_PLACE: usize = MOST_IN_PLACE / 4;
+
+/// Four octets an arc, of few arcs. No memory.
+fn few_arcs_normal(arcs: &[u32]) -> Normal
+    requires { length arcs.now ≤ 7 }
+    ensures { result ≡ model.oid_normal arcs.now }
+{
+    let mut octets = [0u8; MOST_IN_PLACE];
+    for (i, arc) in arcs.iter().enumerate() {
+        octets[4 * i..4 * i + 4].copy_from_slice(&arc.to_be_bytes());
+    }
+    Normal::from_first(4 * arcs.len(), octets)
+}
+
+/// The normal form of an object identifier: four octets an arc.
+fn oid_normal(alloc: Global, arcs: &[u32]) -> Result<Normal, NoMemory>
+    ensures { IfOk result (λ normal. normal ≡ model.oid_normal arcs.now) }
+{
+    if arcs.len() <= MOST_ARCS_IN_PLACE {
+        return Ok(few_arcs_normal(arcs));
+    }
+    Ok(Normal::new(arc_octets(alloc, arcs)?))
+}
+
 /// The normal form of a text of the type, whatever its length.
 pub fn text_normal(alloc: Global, kind: TypeId, text: &str) -> Result<Normal, NoMemory>
     ensures { IfOk result (λ normal. normal ≡ model.text_normal (kind_of kind) text.now) }
 {
-    Ok(Normal::new(part_normal(alloc, kind.kind(), true, true, text)?))
+    part_normal(alloc, kind.kind(), true, true, text)
 }
 
 /// Adds a pair of a key: the type's number, the normal value and a zero.
@@ -81,14 +106,14 @@ fn is_of_kind(kind: Kind, value: &Value) -> bool
 }
 
 /// The normal form of a value of the kind.
-fn normal_form(alloc: Global, kind: Kind, value: &Value) -> Result<Vec<u8>, NoMemory>
-    ensures { IfOk result (λ octets. octets.items ≡ model.normal_form (kind_view kind) (value_view value.now)) }
+fn normal_form(alloc: Global, kind: Kind, value: &Value) -> Result<Normal, NoMemory>
+    ensures { IfOk result (λ normal. normal ≡ model.normal_form (kind_view kind) (value_view value.now)) }
 {
     match value {
         Value::Text(text) => part_normal(alloc, kind, true, true, text.as_str()),
-        Value::Octets(octets) => Ok(Vec::from_slice(alloc, octets.as_slice())?),
+        Value::Octets(octets) => Normal::from_slice(alloc, octets.as_slice()),
         Value::Oid(oid) => oid_normal(alloc, oid.arcs()),
-        Value::Name(name) => name_normal(alloc, name.rdns()),
+        Value::Name(name) => Ok(Normal::new(name_normal(alloc, name.rdns())?)),
     }
 }
 
@@ -104,7 +129,7 @@ pub fn normal(alloc: Global, kind: TypeId, value: &Value) -> Result<Normal, Synt
     if let Some(most) = value.limit_passed() {
         return Err(SyntaxFault::TooLong(most));
     }
-    Ok(Normal::new(normal_form(alloc, kind, value)?))
+    Ok(normal_form(alloc, kind, value)?)
 }
 
 /// The normal form of a part of a substrings item for a type that has substrings: `first` says that it's the initial part, `last`
@@ -128,5 +153,5 @@ pub fn normal_part(
     if text.len() > MOST_VALUE_OCTETS {
         return Err(SyntaxFault::TooLong(MOST_VALUE_OCTETS as u32));
     }
-    Ok(Normal::new(part_normal(alloc, kind, first, last, text.as_str())?))
+    Ok(part_normal(alloc, kind, first, last, text.as_str())?)
 }

@@ -2,7 +2,7 @@
 
 ghost use Rattle.std.specs.Prelude.{◌≡◌, ◌<◌, ◌==◌, ◌++◌, flat_map, IsTrue, IfOk, OnOk, None, Some, if◌then◌else◌, map, string_bytes};
 ghost use Rattle.std.specs.Char.{is_ascii_digit};
-ghost use Rattle.std.specs.List.{list_all, slice_split};
+ghost use Rattle.std.specs.List.{list_all, list_any, slice_split};
 ghost use Rattle.std.specs.Option.{option_map};
 ghost use Rattle.x5_model.specs.Normal as model;
 ghost use Rattle.x5_model_text.specs.TypeText as text_of;
@@ -41,6 +41,13 @@ pub(crate) fn pieces<'a>(
     ensures { IfOk result (λ parts. map (λ x. x.now) parts.items ≡ slice_split (λ b. b == separator) text.entry.now) }
 {
     text.split(separator).collect(alloc)
+}
+
+/// Whether the text has the separator: one that has none is its own one part.
+pub(crate) fn is_cut(text: &str, separator: u8) -> bool
+    ensures { result ≡ list_any (λ b. b == separator) text.now }
+{
+    text.as_bytes().iter().any(|octet| *octet == separator)
 }
 
 /// Whether the arcs are those of an object identifier.

@@ -1,11 +1,13 @@
 //! Which texts are of a kind, and their normal forms (X.520: matching rules).
 
-ghost use Rattle.std.specs.Prelude.{◌≡◌, IfOk, filter, not, string_bytes};
+ghost use Rattle.std.specs.Prelude.{◌≡◌, IfOk, IfSome, IsAscii, filter, not, string_bytes};
 ghost use Rattle.std.specs.List.{list_all, list_any};
 ghost use Rattle.std.specs.Char.{is_ascii_digit};
 ghost use Rattle.x5_model.specs.Normal as model;
+ghost use Rattle.x5_syntax.specs.Plain as plain;
 ghost use Rattle.x5_syntax.specs.Views.{kind_view};
 
+use crate::containers::{MOST_IN_PLACE, Normal};
 use crate::escapes::is_control;
 use crate::kinds::Kind;
 use std::alloc::Global;
@@ -142,6 +144,16 @@ fn dialled(alloc: Global, text: &[u8]) -> Result<Vec<u8>, NoMemory>
     )
 }
 
+/// A folded text of ASCII with its spaces in their normal form: folding is lowering its letters, which are no spaces.
+fn lower_and_spaced(alloc: Global, first: bool, last: bool, text: &str) -> Result<Vec<u8>, NoMemory>
+    requires { IsAscii text.now }
+    ensures { IfOk result (λ kept. kept.items ≡ model.spaced first last (model.folded text.now)) }
+{
+    let mut kept = spaced(alloc, first, last, text.as_bytes())?;
+    kept.make_ascii_lowercase();
+    Ok(kept)
+}
+
 /// A folded text with its spaces in their normal form.
 fn folded_and_spaced(
     alloc: Global,
@@ -151,8 +163,52 @@ fn folded_and_spaced(
 ) -> Result<Vec<u8>, NoMemory>
     ensures { IfOk result (λ kept. kept.items ≡ model.spaced first last (model.folded text.now)) }
 {
+    if text.is_ascii() {
+        return lower_and_spaced(alloc, first, last, text);
+    }
     let folded = folded(alloc, text)?;
     spaced(alloc, first, last, folded.as_bytes())
+}
+
+/// Whether the octet is of ASCII, and no space where `behind_space` says that one goes before, or the value begins.
+fn stays(behind_space: bool, octet: u8) -> bool
+    ensures { result ≡ plain.stays behind_space octet }
+{
+    octet < 128 && !(octet == b' ' && behind_space)
+}
+
+/// The normal form of a short text of ASCII that has its spaces as the normal form has them: the text in small letters.
+/// `None` says that the text is another. No memory.
+#[tactic(auto, using(crate::proofs::TextLemmas::plain_folded))]
+fn plain_normal(first: bool, last: bool, text: &[u8]) -> Option<Normal>
+    ensures { IfSome result (λ normal. normal ≡ model.spaced first last (model.folded text.now)) }
+{
+    if text.len() > MOST_IN_PLACE {
+        return None;
+    }
+    let mut octets = [0u8; MOST_IN_PLACE];
+    let mut behind_space = first;
+    for (i, octet) in text.iter().enumerate() {
+        if !stays(behind_space, *octet) {
+            return None;
+        }
+        octets[i] = octet.to_ascii_lowercase();
+        behind_space = *octet == b' ';
+    }
+    if behind_space && last {
+        return None;
+    }
+    Some(Normal::from_first(text.len(), octets))
+}
+
+/// The normal form of a text that is folded and spaced.
+fn folded_normal(alloc: Global, first: bool, last: bool, text: &str) -> Result<Normal, NoMemory>
+    ensures { IfOk result (λ normal. normal ≡ model.spaced first last (model.folded text.now)) }
+{
+    if let Some(normal) = plain_normal(first, last, text.as_bytes()) {
+        return Ok(normal);
+    }
+    Ok(Normal::new(folded_and_spaced(alloc, first, last, text)?))
 }
 
 /// The normal form of a part of a text; `first` says that it begins the value, `last` that it ends it.
@@ -162,18 +218,16 @@ pub(crate) fn part_normal(
     first: bool,
     last: bool,
     text: &str,
-) -> Result<Vec<u8>, NoMemory>
-    ensures { IfOk result (λ normal. normal.items ≡ model.part_normal (kind_view kind) first last text.now) }
+) -> Result<Normal, NoMemory>
+    ensures { IfOk result (λ normal. normal ≡ model.part_normal (kind_view kind) first last text.now) }
 {
     match kind {
-        Kind::Text | Kind::Printable | Kind::Country => {
-            folded_and_spaced(alloc, first, last, text)
-        }
-        Kind::Numeric => without_spaces(alloc, text.as_bytes()),
+        Kind::Text | Kind::Printable | Kind::Country => folded_normal(alloc, first, last, text),
+        Kind::Numeric => Ok(Normal::new(without_spaces(alloc, text.as_bytes())?)),
         Kind::Telephone => {
             let spaced = folded_and_spaced(alloc, first, last, text)?;
-            dialled(alloc, &spaced)
+            Ok(Normal::new(dialled(alloc, &spaced)?))
         }
-        Kind::Oid | Kind::Name | Kind::Octets => Ok(Vec::from_slice(alloc, text.as_bytes())?),
+        Kind::Oid | Kind::Name | Kind::Octets => Normal::from_slice(alloc, text.as_bytes()),
     }
 }

@@ -154,7 +154,7 @@ fn name_from(alloc: Global, text: Text) -> Result<Value, SyntaxFault>
     match written_name(alloc, false, text.as_str()) {
         Ok(rdns) => match name_over(&rdns) {
             Some(most) => Err(SyntaxFault::TooLong(most)),
-            None => Ok(Value::Name(sorted_rdns(alloc, &rdns)?)),
+            None => Ok(Value::Name(sorted_rdns(alloc, rdns)?)),
         },
         Err(NameFault::NoMemory) => Err(SyntaxFault::NoMemory),
         Err(_) => within(Value::Text(text)),

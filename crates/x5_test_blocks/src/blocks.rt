@@ -188,21 +188,35 @@ fn journal(alloc: Global, lines: Vec<Line>) -> Journal {
 }
 
 /// What is printed for line 2 of a world that starts with 1993.
-fn printed(alloc: Global, journal: &Journal, outcome: &LineOutcome) -> Result<Text, Fail> {
+fn shown(alloc: Global, journal: &Journal, outcome: &LineOutcome) -> Result<Text, Fail> {
     let start = start().ok_or("no start")?;
     Ok(block(alloc, &start, 2, journal, outcome)?)
+}
+
+/// The same, of a journal and an outcome that nobody looks at again.
+fn printed(alloc: Global, journal: Journal, outcome: LineOutcome) -> Result<Text, Fail> {
+    let text = shown(alloc, &journal, &outcome);
+    drop(outcome);
+    drop(journal);
+    text
+}
+
+/// Counts what a line came to, which nobody looks at again.
+fn count(totals: &mut Totals, journal: &Journal, outcome: LineOutcome) {
+    totals.count(journal, &outcome);
+    drop(outcome);
 }
 
 /// What is printed of the search without messages.
 fn search(alloc: Global) -> Result<Text, Fail> {
     let outcome = LineOutcome::Answered(found(alloc)?);
-    printed(alloc, &journal(alloc, Vec::new(alloc)), &outcome)
+    printed(alloc, journal(alloc, Vec::new(alloc)), outcome)
 }
 
 /// What is printed of the same answer of the one tree.
 fn plain_search(alloc: Global) -> Result<Text, Fail> {
     let outcome = LineOutcome::Plain(found(alloc)?);
-    printed(alloc, &journal(alloc, Vec::new(alloc)), &outcome)
+    printed(alloc, journal(alloc, Vec::new(alloc)), outcome)
 }
 
 #[test]
@@ -231,11 +245,9 @@ fn on_the_one_tree_nothing_is_a_copy_and_nobody_a_source(rt: HostRuntime) -> Res
 fn summed(alloc: Global) -> Result<Text, Fail> {
     let journal = journal(alloc, Vec::new(alloc));
     let mut totals = Totals::new();
-    totals.count(&journal, &LineOutcome::Answered(found(alloc)?));
-    totals.count(
-        &journal,
-        &LineOutcome::Refreshed(1, Refreshed::Nothing(Moment(1)), true),
-    );
+    count(&mut totals, &journal, LineOutcome::Answered(found(alloc)?));
+    let refreshed = LineOutcome::Refreshed(1, Refreshed::Nothing(Moment(1)), true);
+    count(&mut totals, &journal, refreshed);
     Ok(summary(alloc, &totals)?)
 }
 
@@ -267,7 +279,7 @@ fn asked(alloc: Global) -> Result<Line, Fail> {
 fn refresh(alloc: Global, number: u32, refreshed: Refreshed, heard: bool) -> Result<Text, Fail> {
     let lines = vec![in alloc; asked(alloc)?]?;
     let outcome = LineOutcome::Refreshed(number, refreshed, heard);
-    printed(alloc, &journal(alloc, lines), &outcome)
+    printed(alloc, journal(alloc, lines), outcome)
 }
 
 #[test]
@@ -301,7 +313,7 @@ fn rejected(alloc: Global, fate: Fate, breach: Breach) -> Result<Text, Fail> {
         fate,
         breach,
     };
-    printed(alloc, &journal(alloc, Vec::new(alloc)), &outcome)
+    printed(alloc, journal(alloc, Vec::new(alloc)), outcome)
 }
 
 #[test]
@@ -357,7 +369,7 @@ fn handed(alloc: Global, fate: Fate) -> Result<Text, Fail> {
         count: 50,
         reply: Reply::Done(Answer::Changed),
     };
-    printed(alloc, &journal, &outcome)
+    printed(alloc, journal, outcome)
 }
 
 #[test]

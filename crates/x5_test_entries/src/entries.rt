@@ -35,10 +35,10 @@ fn rename(tree: &mut DseTree, alloc: Global, text: &str, rdn: &str) -> Result<bo
     let Some(node) = tree.find(&named) else {
         return Ok(false);
     };
-    let rdn = Rdn::parse(alloc, rdn)?;
     if node == tree.top() {
         return Ok(false);
     }
+    let rdn = Rdn::parse(alloc, rdn)?;
     Ok(tree.rename(node, rdn, Entry::new(alloc)).is_ok())
 }
 

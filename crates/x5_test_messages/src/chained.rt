@@ -39,16 +39,18 @@ const REFERRAL: &str = "a3210201050201093119a0023000a10530030a0103a203020101a307
 fn message_comes_back(alloc: Global, digits: &str, wanted: u32) -> Result<bool, Fail> {
     let octets = octets(alloc, digits)?;
     let (id, message) = decode_chained(alloc, &octets)?;
-    let written = encode_chained(alloc, id, &message)?;
-    Ok(id == wanted && written.as_slice() == octets.as_slice())
+    let written = encode_chained(alloc, id, &message);
+    drop(message);
+    Ok(id == wanted && written?.as_slice() == octets.as_slice())
 }
 
 /// Whether the octets are read as a reply to message 5, which is written as them again.
 fn reply_comes_back(alloc: Global, digits: &str, operation: Operation) -> Result<bool, Fail> {
     let octets = octets(alloc, digits)?;
     let (id, reply) = decode_result(alloc, &octets)?;
-    let written = encode_result(alloc, id, operation, &reply)?;
-    Ok(id == 5 && written.as_slice() == octets.as_slice())
+    let written = encode_result(alloc, id, operation, &reply);
+    drop(reply);
+    Ok(id == 5 && written?.as_slice() == octets.as_slice())
 }
 
 #[test]

@@ -65,8 +65,10 @@ fn comes_back(
 ) -> Result<bool, Fail> {
     let octets = octets(alloc, digits)?;
     let (id, reply) = decode_answer(alloc, &octets)?;
-    let written = encode_answer(alloc, id, operation, &reply)?;
-    Ok(id == 5 && kind(&reply) == wanted && written.as_slice() == octets.as_slice())
+    let written = encode_answer(alloc, id, operation, &reply);
+    let kind = kind(&reply);
+    drop(reply);
+    Ok(id == 5 && kind == wanted && written?.as_slice() == octets.as_slice())
 }
 
 #[test]

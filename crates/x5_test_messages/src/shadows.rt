@@ -85,8 +85,9 @@ fn message_comes_back(alloc: Global, digits: &str, wanted: u32) -> Result<bool, 
         return Ok(false);
     };
     let (id, message) = decode_shadow(alloc, &start, &names, &octets)?;
-    let written = encode_shadow(alloc, &start, &names, id, &message)?;
-    Ok(id == wanted && written.as_slice() == octets.as_slice())
+    let written = encode_shadow(alloc, &start, &names, id, &message);
+    drop(message);
+    Ok(id == wanted && written?.as_slice() == octets.as_slice())
 }
 
 #[test]

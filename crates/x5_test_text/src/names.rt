@@ -2,7 +2,7 @@
 use std::alloc::Global;
 use std::cmp::Ordering;
 use std::test::Fail;
-use x5_names::{Name, Rdn};
+use x5_names::{KnownName, Name, Rdn};
 use x5_syntax::{Text, TypeRef};
 
 fn name(alloc: Global, text: &str) -> Result<Name, Fail> {
@@ -72,6 +72,33 @@ fn names_are_taken_apart_and_put_together(rt: HostRuntime) -> Result<(), Fail> {
     assert_eq!(rt; found.as_str(), "/C=NL");
     let found = printed(alloc, &grown(alloc, "/C=NL/O=Example", "cn=A\\2fB")?)?;
     assert_eq!(rt; found.as_str(), "/C=NL/O=Example/CN=A\\2fB");
+    Ok(())
+}
+
+fn printed_behind<'a>(
+    alloc: Global,
+    known: &mut KnownName<'a>,
+    text: &'a str,
+) -> Result<Text, Fail> {
+    let name = known.parse(alloc, text)?;
+    printed(alloc, &name)
+}
+
+#[test]
+fn names_in_a_row_are_read(rt: HostRuntime) -> Result<(), Fail> {
+    let alloc = rt.alloc();
+    let mut known = KnownName::root(alloc);
+    for (text, wanted) in [
+        ("/", "/"),
+        ("/c=NL", "/C=NL"),
+        ("/c=NL/o=a", "/C=NL/O=a"),
+        ("/c=NL/ou=b+cn=c", "/C=NL/CN=c+OU=b"),
+        ("/c=NL/o=a/cn=d\\2fe", "/C=NL/O=a/CN=d\\2fe"),
+        ("/c=NL/o=a/cn=f", "/C=NL/O=a/CN=f"),
+    ] {
+        let found = printed_behind(alloc, &mut known, text)?;
+        assert_eq!(rt; found.as_str(), wanted);
+    }
     Ok(())
 }
 

@@ -27,7 +27,7 @@ pub(crate) fn last_of(alloc: Global, name: &Name) -> Result<Rdn, NoMemory>
 {
     match name.last() {
         Some(rdn) => Ok(rdn.clone()?),
-        None => Ok(Rdn::new(Vec::new(alloc))),
+        None => Ok(Rdn::new(alloc, Vec::new(alloc))?),
     }
 }
 
@@ -70,7 +70,7 @@ pub(crate) fn renamed(
     };
     let entry = with_rdn(alloc, entry, rdn)?;
     match doubled(&entry) {
-        None => Ok(entry),
+        None => Ok(entry.shared(alloc)?),
         Some(kind) => Err(ChangeFault::Refused(DirError::Attribute {
             problem: attribute_problem::CONSTRAINT_VIOLATION,
             kind: TypeRef::Known(kind),

@@ -1,3 +1,5 @@
+pub mod ByParts
+pub mod Failing
 pub mod Items
 pub mod LastRdn
 pub mod Owned

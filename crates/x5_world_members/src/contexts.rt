@@ -95,7 +95,26 @@ impl Contexts {
     }
 }
 
+/// The non-specific references that an object lists, where so many agents are listed before.
+fn nssrs_at(
+    alloc: Global,
+    names: &AgentNames,
+    place: &Place<'_>,
+    entries: &Entries,
+    listed: usize,
+    value: &Value,
+) -> Result<Nssrs, LoadFault>
+    requires { listed ≤ 4096 }
+    ensures { ReadsPart (λ n. n) result (parts.nssrs_at names.now (path_of place.now) listed entries.now (view value.now)) }
+{
+    let list = list_if_any(alloc, place, "nssr", value)?;
+    let none = Nssrs::new(alloc, listed);
+    let here = Place::Member(place, "nssr");
+    nssrs_behind(alloc, names, &here, entries, none, list)
+}
+
 /// The contexts with one more, whose prefix and entries are read, where the file has so many entries with these.
+#[tactic(auto, using(crate::proofs::ByParts::context_by_parts))]
 fn with_entries_read(
     alloc: Global,
     names: &AgentNames,
@@ -110,17 +129,15 @@ fn with_entries_read(
     requires { used ≤ 100_000 }
     ensures { ReadsPart (λ c. c) result (parts.with_entries_read names.now (path_of place.now) before prefix entries used (members_view members.now.entries) (view value.now)) }
 {
-    let list = list_if_any(alloc, place, "nssr", value)?;
-    let none = Nssrs::new(alloc, before.counts().nssr_agents());
-    let here = Place::Member(place, "nssr");
-    let found = nssrs_behind(alloc, names, &here, &entries, none, list)?;
-    only(alloc, place, &["prefix", "entries", "nssr"], members)?;
+    let nssr_agents = before.counts().nssr_agents();
+    let found = nssrs_at(alloc, names, place, &entries, nssr_agents, value)?;
     let listed = found.listed();
     let spec = ContextSpec {
         prefix,
         entries: entries.into_list(),
         nssr: found.into_list(),
     };
+    only(alloc, place, &["prefix", "entries", "nssr"], members)?;
     let contexts = before.with(spec, used, listed)?;
     Ok(contexts)
 }

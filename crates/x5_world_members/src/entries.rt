@@ -9,6 +9,7 @@ ghost use Rattle.x5_model.specs.Values.{key_of};
 ghost use Rattle.x5_model.specs.Words.{is_empty as is_empty_list};
 ghost use Rattle.x5_model_tree.specs.Tree.{key_at};
 ghost use Rattle.x5_model_world.specs.ContextText as model;
+ghost use Rattle.x5_world_members.specs.Parts as parts;
 ghost use Rattle.x5_world_members.specs.Paths.{path_of};
 ghost use Rattle.x5_world_members.specs.Views.{ReadsPart};
 
@@ -17,14 +18,15 @@ use crate::fault::LoadFault;
 use crate::given::given_behind;
 use crate::json::{list_at, members_at, only};
 use crate::key_set::KeySet;
-use crate::names::{entry_name_at, last_rdn};
+use crate::names::{entry_name_behind, last_rdn};
 use crate::place::Place;
 use crate::spelling::moved_below;
 use serde_json::Value;
 use std::alloc::Global;
 use std::marker::Model;
+use x5_match::Entry;
 use x5_memory::NoMemory;
-use x5_names::{Key, Name};
+use x5_names::{Key, KnownName, Name, Rdn};
 use x5_ops::{Named, NamedList};
 
 /// Entries in the order of the file, no two of one key, each of which is found without a walk through the others.
@@ -140,33 +142,76 @@ fn whole_name(
     Ok(None)
 }
 
-/// The entries with one more, which an object describes.
+/// The whole name of an entry that stands behind these, if it may stand there.
 #[tactic(auto, using(crate::proofs::Owned::whole_key))]
-fn entry_behind(
+fn whole_name_at(
     alloc: Global,
     place: &Place<'_>,
     prefix: &Name,
-    before: Entries,
+    before: &Entries,
+    own: Name,
+) -> Result<Name, LoadFault>
+    requires { is_empty_list own ≡ false }
+    ensures read { ReadsPart (λ n. n) result (parts.whole_name_at (path_of place.now) prefix.now before.now own) }
+    ensures key { IfOk result (λ n. key_of n ≡ key_of own) }
+{
+    match whole_name(alloc, prefix, before, own)? {
+        Some(name) => Ok(name),
+        None => Err(Place::Member(place, "name").bad_shape(alloc)),
+    }
+}
+
+/// The entry of the RDN that an object describes.
+fn entry_at(alloc: Global, place: &Place<'_>, rdn: &Rdn, value: &Value) -> Result<Entry, LoadFault>
+    ensures { ReadsPart (λ e. e) result (parts.entry_at (path_of place.now) rdn.now (view value.now)) }
+{
+    let texts = list_at(alloc, place, "attrs", value)?;
+    let given = given_behind(alloc, &Place::Member(place, "attrs"), texts)?;
+    match entry_given(alloc, rdn, given)? {
+        Some(entry) => Ok(entry),
+        None => Err(place.bad_shape(alloc)),
+    }
+}
+
+/// An entry with its whole name, which stands behind these.
+fn named_at(
+    alloc: Global,
+    place: &Place<'_>,
+    prefix: &Name,
+    before: &Entries,
+    own: Name,
     value: &Value,
+) -> Result<Named, LoadFault>
+    requires { is_empty_list own ≡ false }
+    ensures read { ReadsPart (λ e. e) result (parts.named_at (path_of place.now) prefix.now before.now own (view value.now)) }
+    ensures key { IfOk result (λ e. key_at e ≡ key_of own) }
+{
+    let rdn = last_rdn(alloc, &own)?;
+    let name = whole_name_at(alloc, place, prefix, before, own)?;
+    let entry = entry_at(alloc, place, &rdn, value)?;
+    Ok(Named { name, entry })
+}
+
+/// The entries with one more, which an object describes. What stands above it is known then.
+#[tactic(auto, using(crate::proofs::ByParts::entry_by_parts))]
+fn entry_behind<'a>(
+    alloc: Global,
+    place: &Place<'_>,
+    prefix: &Name,
+    known: &mut KnownName<'a>,
+    before: Entries,
+    value: &'a Value,
 ) -> Result<Entries, LoadFault>
     ensures { ReadsPart (λ e. e) result (model.entry_behind (path_of place.now) prefix.now before (view value.now)) }
 {
     let members = members_at(alloc, place, value)?;
-    let own = entry_name_at(alloc, place, "name", value)?;
+    let own = entry_name_behind(alloc, place, "name", known, value)?;
     if before.has(&own) {
         return Err(Place::Member(place, "name").bad_shape(alloc));
     }
-    let rdn = last_rdn(alloc, &own)?;
-    let Some(name) = whole_name(alloc, prefix, &before, own)? else {
-        return Err(Place::Member(place, "name").bad_shape(alloc));
-    };
-    let texts = list_at(alloc, place, "attrs", value)?;
-    let given = given_behind(alloc, &Place::Member(place, "attrs"), texts)?;
-    let Some(entry) = entry_given(alloc, &rdn, given)? else {
-        return Err(place.bad_shape(alloc));
-    };
+    let named = named_at(alloc, place, prefix, &before, own, value)?;
     only(alloc, place, &["name", "attrs"], members)?;
-    let entries = before.with(Named { name, entry })?;
+    let entries = before.with(named)?;
     Ok(entries)
 }
 
@@ -180,8 +225,10 @@ pub(crate) fn entries_behind(
     ensures { ReadsPart (λ e. e) result (model.entries_behind (path_of place.now) 0 prefix.now [] (items_view items.now)) }
 {
     let mut entries = Entries::new(alloc, items.len())?;
+    let mut known = KnownName::root(alloc);
     for (i, item) in items.iter().enumerate() {
-        entries = entry_behind(alloc, &Place::Item(&*place, i), prefix, entries, item)?;
+        let at = Place::Item(&*place, i);
+        entries = entry_behind(alloc, &at, prefix, &mut known, entries, item)?;
     }
     Ok(entries)
 }

@@ -80,7 +80,7 @@ pub(crate) fn entry_given(
     };
     let entry = with_rdn(alloc, entry, rdn)?;
     if has_class(&entry) && doubled(&entry).is_none() {
-        Ok(Some(entry))
+        Ok(Some(entry.shared(alloc)?))
     } else {
         Ok(None)
     }

@@ -14,7 +14,7 @@ use crate::place::Place;
 use serde_json::Value;
 use std::alloc::Global;
 use x5_memory::NoMemory;
-use x5_names::{Name, NameFault, Rdn};
+use x5_names::{KnownName, Name, NameFault, Rdn};
 use x5_syntax::NameValue;
 
 /// The name that a text spells.
@@ -58,6 +58,41 @@ pub fn entry_name_at(
     Ok(found)
 }
 
+/// The name that a text spells, whose last RDN alone is read if it stands just below the known one.
+fn known_in<'a>(
+    alloc: Global,
+    place: &Place<'_>,
+    known: &mut KnownName<'a>,
+    text: &'a str,
+) -> Result<Name, LoadFault>
+    ensures { ReadsPart (λ n. n) result (model.name_in (path_of place.now) text.now) }
+{
+    match known.parse(alloc, text) {
+        Ok(name) => Ok(name),
+        Err(NameFault::NoMemory) => Err(LoadFault::NoMemory),
+        Err(_) => Err(place.bad_name(alloc)),
+    }
+}
+
+/// The name at the member, which has one RDN at least, in a list of which many stand just below the same one.
+pub(crate) fn entry_name_behind<'a>(
+    alloc: Global,
+    place: &Place<'_>,
+    name: &'static str,
+    known: &mut KnownName<'a>,
+    value: &'a Value,
+) -> Result<Name, LoadFault>
+    ensures read { ReadsPart (λ n. n) result (model.entry_name_at (path_of place.now) name.now (view value.now)) }
+    ensures some { IfOk result (λ n. is_empty_list n ≡ false) }
+{
+    let text = text_at(alloc, place, name, value)?;
+    let found = known_in(alloc, &Place::Member(place, name), known, text)?;
+    if is_empty(&found) {
+        return Err(Place::Member(place, name).bad_shape(alloc));
+    }
+    Ok(found)
+}
+
 /// Whether the name has no RDNs.
 fn is_empty(name: &Name) -> bool
     ensures { result ≡ is_empty_list name.now }
@@ -72,6 +107,6 @@ pub(crate) fn last_rdn(alloc: Global, name: &Name) -> Result<Rdn, NoMemory>
 {
     match name.last() {
         Some(rdn) => Ok(rdn.clone()?),
-        None => Ok(Rdn::new(Vec::new(alloc))),
+        None => Ok(Rdn::new(alloc, Vec::new(alloc))?),
     }
 }

@@ -1,11 +1,14 @@
 //! Octets that are written from the last to the first, and the headers of elements (X.690, 8.1 and 10.1).
-ghost use Rattle.std.specs.Prelude.{◌≡◌, ◌+◌, ◌*◌, ◌<◌, ◌≤◌, [], ◌∷◌, ◌++◌, length, reverse, OnOk};
+ghost use Rattle.std.specs.Prelude.{◌≡◌, ◌+◌, ◌*◌, ◌<◌, ◌≤◌, [], ◌∷◌, ◌++◌, length, reverse, OnOk, IsTrue, vec_len, vec_capacity};
 ghost use Rattle.x5_model_octets.specs.Headers.{form_bit};
 ghost use Rattle.x5_model_octets.specs.Elements.{group_from, groups, identifier, identifier_octets, shortest_length, without_zeros};
 
 use std::alloc::Global;
 use std::marker::Model;
 use x5_memory::NoMemory;
+
+/// Room is taken for so many octets at once, or for more: most messages have fewer, and take room only once.
+const LEAST_ROOM: usize = 512;
 
 /// Octets, each put before those that are there: so the length of a content is known where its header is put.
 #[derive(Drop)]
@@ -44,7 +47,8 @@ impl Backwards {
     pub fn put(&mut self, octet: u8) -> Result<(), NoMemory>
         ensures { OnOk result (self.new ≡ octet ∷ self.old) }
     {
-        self.octets.push(octet)?;
+        make_room(&mut self.octets, 1)?;
+        self.octets.push_reserved(octet);
         Ok(())
     }
 
@@ -53,15 +57,6 @@ impl Backwards {
         ensures { OnOk result (self.new ≡ octets.now ++ self.old) }
     {
         push_reversed(&mut self.octets, octets)
-    }
-
-    fn put_two(&mut self, first: u8, second: u8) -> Result<(), NoMemory>
-        ensures { OnOk result (self.new ≡ first ∷ second ∷ self.old) }
-    {
-        self.octets.reserve(2)?;
-        self.octets.push_reserved(second);
-        self.octets.push_reserved(first);
-        Ok(())
     }
 
     /// The octets, from the first to the last.
@@ -74,7 +69,7 @@ impl Backwards {
     }
 
     /// The header of an element whose content has that length: the fewest octets for the tag number and for a
-    /// definite length.
+    /// definite length. Mostly that is one octet each.
     pub fn put_header(
         &mut self,
         class: u8,
@@ -85,9 +80,28 @@ impl Backwards {
         requires { class < 4 }
         ensures { OnOk result (self.new ≡ identifier_octets (identifier constructed class tag) ++ (shortest_length length ++ self.old)) }
     {
-        if tag < 31 && length < 128 {
-            return self.put_two(leading(class, constructed) + tag as u8, length as u8);
+        if tag < 31 && length < 128 && has_room(&self.octets, 2) {
+            self.octets.push_reserved(length as u8);
+            self.octets
+                .push_reserved(leading(class, constructed) + tag as u8);
+            return Ok(());
         }
+        self.put_any_header(class, constructed, tag, length)
+    }
+
+    /// The same header, of any number of octets.
+    #[cold]
+    #[inline(never)]
+    fn put_any_header(
+        &mut self,
+        class: u8,
+        constructed: bool,
+        tag: u32,
+        length: usize,
+    ) -> Result<(), NoMemory>
+        requires { class < 4 }
+        ensures { OnOk result (self.new ≡ identifier_octets (identifier constructed class tag) ++ (shortest_length length ++ self.old)) }
+    {
         self.put_length(length as u64)?;
         self.put_identifier(class, constructed, tag)
     }
@@ -150,11 +164,42 @@ fn leading(class: u8, constructed: bool) -> u8
     64 * class + if constructed { 32 } else { 0 }
 }
 
+/// Whether there is room for so many more.
+#[inline(always)]
+fn has_room(row: &Vec<u8>, more: usize) -> bool
+    ensures { IsTrue result → vec_len row.now + more ≤ vec_capacity row.now }
+{
+    row.capacity() - row.len() >= more
+}
+
+/// Makes room for so many more.
+#[inline(always)]
+fn make_room(row: &mut Vec<u8>, more: usize) -> Result<(), NoMemory>
+    ensures same { row.new.items ≡ row.old.items }
+    ensures room { OnOk result (vec_len row.new + more ≤ vec_capacity row.new) }
+{
+    if has_room(row, more) {
+        return Ok(());
+    }
+    grow(row, more)
+}
+
+/// Takes room for so many more, and for no fewer than `LEAST_ROOM`.
+#[cold]
+#[inline(never)]
+fn grow(row: &mut Vec<u8>, more: usize) -> Result<(), NoMemory>
+    ensures same { row.new.items ≡ row.old.items }
+    ensures room { OnOk result (vec_len row.new + more ≤ vec_capacity row.new) }
+{
+    row.reserve(more.max(LEAST_ROOM))?;
+    Ok(())
+}
+
 /// Adds the octets, the last of them first.
 fn push_reversed(row: &mut Vec<u8>, octets: &[u8]) -> Result<(), NoMemory>
     ensures { OnOk result (row.new.items ≡ row.old.items ++ reverse octets.now) }
 {
-    row.reserve(octets.len())?;
+    make_room(row, octets.len())?;
     let mut i = octets.len();
     while i > 0 {
         i -= 1;

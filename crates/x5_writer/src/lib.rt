@@ -14,6 +14,7 @@ mod writer;
 
 pub use crate::backwards::Backwards;
 pub use crate::fault::WriteFault;
+pub use crate::number::put_oid;
 pub use crate::writer::{write, write_in, write_node};
 pub use x5_memory::NoMemory;
 pub use x5_types::Surroundings;

@@ -66,8 +66,11 @@ pub(crate) fn is_oid(arcs: &[u32]) -> bool
     }
 }
 
-/// The content of an OBJECT IDENTIFIER.
-pub(crate) fn put_oid(out: &mut Backwards, arcs: &[u32]) -> Result<(), NoMemory>
+/// Puts the content of an OBJECT IDENTIFIER.
+///
+/// # Errors
+/// That memory ran out.
+pub fn put_oid(out: &mut Backwards, arcs: &[u32]) -> Result<(), NoMemory>
     requires { IsTrue (normal.is_oid arcs.now) }
     ensures { OnOk result (out.new ≡ leaves.oid_octets arcs.now ++ out.old) }
 {

@@ -122,7 +122,11 @@ fn print_command<K: Sink>(
     ensures block { (past : List Did) → StandsAt network.old (point (world_view described.now) past) → (IsTrue is_consistent ↔ IsConsistent (world_view described.now)) → WritesBlock result (file_view described.now) past (before + 1) (command_view command.now) network.new (K.octets out.old) (K.octets out.new) (K.fault_count out.old) (K.fault_count out.new) }
 {
     match carry_out(alloc, &described.start, network, is_consistent, command) {
-        Ok(Some(course)) => print_course(alloc, described, before, &course, out),
+        Ok(Some(course)) => {
+            let status = print_course(alloc, described, before, &course, out);
+            drop(course);
+            status
+        }
         Ok(None) => Status::Done,
         Err(NoMemory) => Status::NoMemory,
     }

@@ -122,6 +122,7 @@ fn count_command(
     match carried {
         Some(course) => {
             totals.count(&course.journal, &course.outcome);
+            drop(course);
             Ok(())
         }
         None => Ok(()),

@@ -1,11 +1,13 @@
--- What the octets spell is a value for whose parts the code has types, so what it says is decoded.
+-- What octets in their usual spelling say is what they spell; all others are read by the table of types.
 use Rattle.std.proofs.Common.{◌≡◌, ℕ, true, List, sym, subst, arith}
 use Rattle.std.specs.List.{list_all}
-use Rattle.std.proofs.lemmas.Result.{err_from_is_err_and}
+use Rattle.std.proofs.lemmas.Result.{IfOk-weaker}
+use Rattle.std.specs.declared.result.Result.{Result}
 use Rattle.std.specs.declared.result.Result.TheVariants.{Ok}
 use Rattle.x5_model.specs.Requests as model
 use Rattle.x5_model_messages.specs.Requests.{request_in, request_node}
 use Rattle.x5_model_messages.proofs.Requests.{requests_back}
+use Rattle.x5_model_typed.specs.Judged as judged
 use Rattle.x5_model_typed.specs.Named as named
 use Rattle.x5_model_typed.specs.Nodes.{Node}
 use Rattle.x5_model_typed.specs.Typed.{Spells}
@@ -13,87 +15,80 @@ use Rattle.x5_model_typed_laws.specs.Said.{is_octet}
 use Rattle.x5_model_typed_laws.proofs.Closed.{messages_spelled_fit}
 use Rattle.x5_ops.specs.RequestViews.{request_view}
 use Rattle.x5_ops.specs.declared.requests.Request.{Request}
+use Rattle.x5_typed.specs.Comes.{ComesTo}
 use Rattle.x5_types.specs.FormView.{nowhere, table}
-use Rattle.x5_types.specs.NodeView.{node_view}
-use Rattle.x5_dapber.proofs.Decoding.{value_decodes, fault_decodes, memory_decodes, known_read}
-use Rattle.x5_dapber.specs.Sayable.{IsRequest}
+use Rattle.x5_dapber.specs.Results.{Decodes}
 use Rattle.x5_dapber.specs.ShortNames.{HasShortNames}
-use Rattle.x5_dapber.proofs.NamesShort.{names_short}
+use Rattle.x5_dapber.proofs.Decoding.{known_read}
 use Rattle.x5_dapber.proofs.Octets.{are_octets, spelled_comes}
+use Rattle.x5_dapber.proofs.Coming.{comes_only}
 use Rattle.x5_dapber.proofs.ReadIsSayable.{request_fits}
+use Rattle.x5_dapber.proofs.NamesShort.{names_short}
 use Rattle.x5_dapber.proofs.messages.decode_request.Goals as goal
 
 abbrev seen : ℕ × Request → ℕ × model.Request
 seen p = (p.0, request_view p.1)
 
-sayable : (octets : List ℕ) (n : Node) → list_all is_octet octets ≡ true → Spells table named.DapRequest octets n → IsRequest n
-sayable octets n are spells = request_fits n (messages_spelled_fit nowhere named.DapRequest octets n are spells)
+-- the octets spell what the request says
+abbrev Says : List ℕ → ℕ × Request → Type 0
+Says octets p = (n : Node) × Spells table named.DapRequest octets n × (seen p ≡ request_in n)
 
-pub request_in-requires : goal.request_in-requires
-request_in-requires c =
-    sayable c.args.octets.now (node_view c.in_ok-node.node)
-    (are_octets c.args.octets.now (λ k. omega (arith, c.type_inv.octets k))) c.in_ok-node.ensures.spelled
+said_decodes : (octets : List ℕ) (p : ℕ × Request) → Says octets p → (e : Result Node judged.Breach)
+    → ComesTo named.DapRequest octets e → Decodes seen request_in e (Ok p)
+said_decodes octets p s e comes =
+    subst (λ (r : Result Node judged.Breach). Decodes seen request_in r (Ok p))
+    (sym (comes_only named.DapRequest octets s.0 s.1 e comes)) s.2
 
--- a breach, or want of memory while octets are read
-pub returns-in_err-node-clause-decodes : goal.returns-in_err-node-clause-decodes
-returns-in_err-node-clause-decodes c = λ e comes.
-    let p = err_from_is_err_and c.from_residual.result c.from_residual.ensures.1 in
-    fault_decodes seen request_in e _ c.from_residual.result p.0 p.1 p.2 (c.in_err-node.ensures.reads e comes)
+said_short : (octets : List ℕ) → list_all is_octet octets ≡ true → (p : ℕ × Request) → Says octets p
+    → HasShortNames (request_view p.1).body
+said_short octets are p s =
+    subst (λ (q : ℕ × model.Request). HasShortNames q.1.body) (sym s.2)
+    (names_short s.0 (request_fits s.0 (messages_spelled_fit nowhere named.DapRequest octets s.0 are s.1)))
 
-pub returns-in_err-node-clause-exact : goal.returns-in_err-node-clause-exact
-returns-in_err-node-clause-exact c = λ n spells.
-    let p = err_from_is_err_and c.from_residual.result c.from_residual.ensures.1 in
-    let comes = spelled_comes named.DapRequest c.args.octets.now n spells in
-    fault_decodes seen request_in (Ok n) _ c.from_residual.result p.0 p.1 p.2 (c.in_err-node.ensures.reads (Ok n) comes)
-
-pub returns-in_err-node-clause-back : goal.returns-in_err-node-clause-back
-returns-in_err-node-clause-back c = λ id r body spells.
-    let p = err_from_is_err_and c.from_residual.result c.from_residual.ensures.1 in
-    let n = request_node id r in
-    let comes = spelled_comes named.DapRequest c.args.octets.now n spells in
-    known_read seen request_in n (id, r) c.from_residual.result (requests_back id r body)
-    (fault_decodes seen request_in (Ok n) _ c.from_residual.result p.0 p.1 p.2 (c.in_err-node.ensures.reads (Ok n) comes))
-
--- want of memory while the request is made
-pub returns-in_err-request_in-clause-decodes : goal.returns-in_err-request_in-clause-decodes
-returns-in_err-request_in-clause-decodes c = λ e comes.
-    let p = err_from_is_err_and c.from_residual-in_err-request_in.result c.from_residual-in_err-request_in.ensures.1 in
-    memory_decodes seen request_in e c.from_residual-in_err-request_in.result p.0 p.1 p.2
-
-pub returns-in_err-request_in-clause-exact : goal.returns-in_err-request_in-clause-exact
-returns-in_err-request_in-clause-exact c = λ n spells.
-    let p = err_from_is_err_and c.from_residual-in_err-request_in.result c.from_residual-in_err-request_in.ensures.1 in
-    memory_decodes seen request_in (Ok n) c.from_residual-in_err-request_in.result p.0 p.1 p.2
-
-pub returns-in_err-request_in-clause-back : goal.returns-in_err-request_in-clause-back
-returns-in_err-request_in-clause-back c = λ id r body spells.
-    let p = err_from_is_err_and c.from_residual-in_err-request_in.result c.from_residual-in_err-request_in.ensures.1 in
-    let n = request_node id r in
-    known_read seen request_in n (id, r) c.from_residual-in_err-request_in.result (requests_back id r body)
-    (memory_decodes seen request_in (Ok n) c.from_residual-in_err-request_in.result p.0 p.1 p.2)
+-- ---- in their usual spelling
 
 pub returns-clause-decodes : goal.returns-clause-decodes
-returns-clause-decodes c = λ e comes.
-    value_decodes seen request_in e c.in_ok-node.node c.in_ok-request_in.field-0 c.in_ok-request_in.ensures
-    (c.in_ok-node.ensures.reads e comes)
+returns-clause-decodes c = said_decodes c.args.octets.now c.in-Ok.request c.in-Ok.ensures
+
+pub returns-clause-comes : goal.returns-clause-comes
+returns-clause-comes c =
+    (Ok c.in-Ok.ensures.0, spelled_comes named.DapRequest c.args.octets.now c.in-Ok.ensures.0 c.in-Ok.ensures.1)
 
 pub returns-clause-exact : goal.returns-clause-exact
 returns-clause-exact c = λ n spells.
-    value_decodes seen request_in (Ok n) c.in_ok-node.node c.in_ok-request_in.field-0 c.in_ok-request_in.ensures
-    (c.in_ok-node.ensures.reads (Ok n) (spelled_comes named.DapRequest c.args.octets.now n spells))
+    said_decodes c.args.octets.now c.in-Ok.request c.in-Ok.ensures (Ok n)
+    (spelled_comes named.DapRequest c.args.octets.now n spells)
+
+pub returns-clause-spelled : goal.returns-clause-spelled
+returns-clause-spelled c = c.in-Ok.ensures
 
 pub returns-clause-back : goal.returns-clause-back
 returns-clause-back c = λ id r body spells.
     let n = request_node id r in
-    known_read seen request_in n (id, r) (Ok c.in_ok-request_in.field-0) (requests_back id r body)
-    (value_decodes seen request_in (Ok n) c.in_ok-node.node c.in_ok-request_in.field-0 c.in_ok-request_in.ensures
-    (c.in_ok-node.ensures.reads (Ok n) (spelled_comes named.DapRequest c.args.octets.now n spells)))
-
-pub returns-clause-spelled : goal.returns-clause-spelled
-returns-clause-spelled c = (node_view c.in_ok-node.node, c.in_ok-node.ensures.spelled, c.in_ok-request_in.ensures)
+    known_read seen request_in n (id, r) (Ok c.in-Ok.request) (requests_back id r body)
+    (said_decodes c.args.octets.now c.in-Ok.request c.in-Ok.ensures (Ok n)
+    (spelled_comes named.DapRequest c.args.octets.now n spells))
 
 pub returns-clause-short : goal.returns-clause-short
 returns-clause-short c =
-    subst (λ (p : ℕ × model.Request). HasShortNames p.1.body) (sym c.in_ok-request_in.ensures)
-    (names_short (node_view c.in_ok-node.node) (sayable c.args.octets.now (node_view c.in_ok-node.node)
-    (are_octets c.args.octets.now (λ k. omega (arith, c.type_inv.octets k))) c.in_ok-node.ensures.spelled))
+    said_short c.args.octets.now (are_octets c.args.octets.now (λ k. omega (arith, c.type_inv.octets k)))
+    c.in-Ok.request c.in-Ok.ensures
+
+-- ---- by the table of types
+
+pub returns-in_default-clause-exact : goal.returns-in_default-clause-exact
+returns-in_default-clause-exact c = λ n spells.
+    c.request_by_table.ensures.decodes (Ok n) (spelled_comes named.DapRequest c.args.octets.now n spells)
+
+pub returns-in_default-clause-back : goal.returns-in_default-clause-back
+returns-in_default-clause-back c = λ id r body spells.
+    let n = request_node id r in
+    known_read seen request_in n (id, r) c.request_by_table.result (requests_back id r body)
+    (c.request_by_table.ensures.decodes (Ok n) (spelled_comes named.DapRequest c.args.octets.now n spells))
+
+pub returns-in_default-clause-short : goal.returns-in_default-clause-short
+returns-in_default-clause-short c =
+    IfOk-weaker c.request_by_table.result (Says c.args.octets.now)
+    (λ (p : ℕ × Request). HasShortNames (request_view p.1).body)
+    (λ p s. said_short c.args.octets.now (are_octets c.args.octets.now (λ k. omega (arith, c.type_inv.octets k))) p s)
+    c.request_by_table.ensures.spelled

@@ -1,39 +1,60 @@
--- The id and the result stand in the element.
-use Rattle.std.proofs.Common.{[], ◌∷◌}
+-- The entries, the sources and the outcome stand in the element.
+use Rattle.std.proofs.Common.{[], ◌∷◌, map, refl}
+use Rattle.x5_model_messages.specs.Replies as replies
 use Rattle.x5_model_messages.specs.Terms.{node_of}
-use Rattle.x5_model_octets.specs.Elements.{canonical}
-use Rattle.x5_model_typed.specs.Nodes.{whole}
-use Rattle.x5_types.specs.NodeView.{node_view}
-use Rattle.x5_direct_writer.proofs.Wholes.{passed_on}
-use Rattle.x5_dapreply.specs.Found.{search_node}
-use Rattle.x5_dapreply.proofs.Founding.{answered, answered_put, id_lost, result_lost}
+use Rattle.x5_model_typed.specs.Named as named
+use Rattle.x5_ops.specs.AnswerViews.{info_view}
+use Rattle.x5_direct_writer.proofs.Putting.{one_put}
+use Rattle.x5_direct_writer.proofs.Rows.{front_lost, front_put, others_lost}
+use Rattle.x5_direct_writer.proofs.Wholes.{first_fault, later_fault}
+use Rattle.x5_dapreply.specs.ReplyViews.{told_outcome, told_source}
+use Rattle.x5_dapreply.proofs.Founding.{at, of, outcome_elements, whence}
 use Rattle.x5_dapreply.proofs.found.put_found.Goals as goal
 
-pub returns-in_err-put_coded : goal.returns-in_err-put_coded
-returns-in_err-put_coded c =
-    let x = whole c.args.id in
-    let y = node_of (whole 5 ∷ search_node c.args.entries.now c.args.sources.now c.args.outcome.now ∷ []) in
+pub returns-in_err-put_outcome : goal.returns-in_err-put_outcome
+returns-in_err-put_outcome c =
+    let a = node_of (map replies.info_node (map info_view c.args.entries.now)) in
+    let b = node_of (map replies.source_node (map told_source c.args.sources.now)) in
+    let q = replies.outcome_node (told_outcome c.args.outcome.now) in
     let old = c.args.out.now in
-    let new = c.put_coded.new.out in
-    let fault = c.in_err-put_coded.field-0.0 in
-    passed_on canonical (answered x y) old new fault c.from_residual.result c.from_residual.ensures.1
-    (result_lost x y fault old new old new c.in_err-put_coded.ensures)
+    let new = c.put_outcome.new.out in
+    let fault = c.in_err-put_outcome.field-0.0 in
+    others_lost 0 17 (of (named.Outcome named.Search) (node_of (a ∷ b ∷ q ∷ []))) (at 0 named.EntryInfos a) (whence b q) fault old new old new
+    c.from_residual.result refl c.from_residual.ensures.1
+    (later_fault (at 1 named.Sources b) (outcome_elements q) fault old new old new c.in_err-put_outcome.ensures)
 
-pub returns-in_err-write_node : goal.returns-in_err-write_node
-returns-in_err-write_node c =
-    let x = whole c.args.id in
-    let y = node_of (whole 5 ∷ search_node c.args.entries.now c.args.sources.now c.args.outcome.now ∷ []) in
+pub returns-in_err-put_sources : goal.returns-in_err-put_sources
+returns-in_err-put_sources c =
+    let a = node_of (map replies.info_node (map info_view c.args.entries.now)) in
+    let b = node_of (map replies.source_node (map told_source c.args.sources.now)) in
+    let q = replies.outcome_node (told_outcome c.args.outcome.now) in
     let old = c.args.out.now in
-    let new = c.write_node.new.out in
-    let fault = c.in_err-write_node.field-0.0 in
-    passed_on canonical (answered x y) old new fault
-    c.from_residual-in_err-write_node.result c.from_residual-in_err-write_node.ensures.1
-    (id_lost x (node_view c.number-id.result) y fault c.put_coded.new.out new old new c.number-id.ensures
-    c.in_err-write_node.ensures)
+    let mid = c.put_outcome.new.out in
+    let new = c.put_sources.new.out in
+    let fault = c.in_err-put_sources.field-0.0 in
+    others_lost 0 17 (of (named.Outcome named.Search) (node_of (a ∷ b ∷ q ∷ []))) (at 0 named.EntryInfos a) (whence b q) fault mid new old new
+    c.from_residual-in_err-put_sources.result refl c.from_residual-in_err-put_sources.ensures.1
+    (first_fault (at 1 named.Sources b) (outcome_elements q) fault mid new mid new c.in_err-put_sources.ensures)
+
+pub returns-in_err-put_entries : goal.returns-in_err-put_entries
+returns-in_err-put_entries c =
+    let a = node_of (map replies.info_node (map info_view c.args.entries.now)) in
+    let b = node_of (map replies.source_node (map told_source c.args.sources.now)) in
+    let q = replies.outcome_node (told_outcome c.args.outcome.now) in
+    let new = c.put_entries.new.out in
+    front_lost 0 17 (of (named.Outcome named.Search) (node_of (a ∷ b ∷ q ∷ []))) (at 0 named.EntryInfos a) (whence b q)
+    c.in_err-put_entries.field-0.0 c.put_sources.new.out new c.args.out.now new c.from_residual-in_err-put_entries.result refl
+    c.from_residual-in_err-put_entries.ensures.1 c.in_err-put_entries.ensures
 
 pub returns : goal.returns
 returns c =
-    let y = node_of (whole 5 ∷ search_node c.args.entries.now c.args.sources.now c.args.outcome.now ∷ []) in
-    answered_put c.len-behind.result (whole c.args.id) (node_view c.number-id.result) y c.args.out.now
-    c.put_coded.new.out c.write_node.new.out c.enclose.new.out c.number-id.ensures c.len-behind.ensures
-    c.in_ok-enclose.ensures c.in_ok-put_coded.ensures c.in_ok-write_node.ensures
+    let a = node_of (map replies.info_node (map info_view c.args.entries.now)) in
+    let b = node_of (map replies.source_node (map told_source c.args.sources.now)) in
+    let q = replies.outcome_node (told_outcome c.args.outcome.now) in
+    let old = c.args.out.now in
+    let early = c.put_outcome.new.out in
+    let mid = c.put_sources.new.out in
+    front_put 0 17 c.len-behind.result (of (named.Outcome named.Search) (node_of (a ∷ b ∷ q ∷ []))) (at 0 named.EntryInfos a) (whence b q)
+    old mid c.put_entries.new.out c.enclose.new.out refl c.len-behind.ensures c.in_ok-enclose.ensures
+    (one_put (at 1 named.Sources b) (outcome_elements q) old early mid c.in_ok-put_outcome.ensures
+    c.in_ok-put_sources.ensures) c.in_ok-put_entries.ensures

@@ -13,8 +13,8 @@ pub returns-clause-spelled : goal.returns-clause-spelled
 returns-clause-spelled c = λ fit.
     let r = told_reply (code_view c.args.operation) c.args.reply.now in
     let n = reply_node to_user c.args.id r in
-    let items = c.in_ok-write_answer.field-0.items in
+    let items = c.in_ok-write_reply.field-0.items in
     let short : length items < 2 ^ 64 =
-    omega (arith, c.in_ok-write_answer.field-0.ok.0, c.in_ok-write_answer.field-0.small) in
+    omega (arith, c.in_ok-write_reply.field-0.ok.0, c.in_ok-write_reply.field-0.small) in
     subst (λ (os : List ℕ). Spells table named.DapAnswer os n) (sym c.new.ensures)
-    (answer_spelled c.args.id r items fit c.in_ok-write_answer.ensures short)
+    (answer_spelled c.args.id r items fit c.in_ok-write_reply.ensures short)

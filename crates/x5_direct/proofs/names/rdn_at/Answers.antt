@@ -1,5 +1,5 @@
 -- The pair that is read is the RDN's only one.
-use Rattle.std.proofs.Common.{◌≡◌, ◌-◌, length, [], ◌∷◌, drop, refl, sym, ap, ◌++◌, ◌∙◌, subst}
+use Rattle.std.proofs.Common.{◌≡◌, ◌-◌, length, [], ◌∷◌, drop, refl, sym, subst}
 use Rattle.x5_model.specs.Values as values
 use Rattle.x5_model_messages.specs.Terms as terms
 use Rattle.x5_model_typed.specs.Named as named
@@ -13,10 +13,7 @@ returns-clause-reads c =
     let octets = c.args.octets.now in
     let rest = c.in_ok-content.rest.now in
     let taken = length octets - length rest in
-    let is : c.new.result ≡ c.in_ok-pair.pair ∷ [] =
-    c.new.ensures ∙ c.in_ok-push.ensures.items ∙ ap (λ (l : values.Rdn). l ++ c.in_ok-pair.pair ∷ [])
-    c.in_ok-pairs.ensures.items in
-    subst (λ (r : values.Rdn). Reads 2 named.Rdn terms.rdn_of r octets (drop taken octets)) (sym is)
+    subst (λ (r : values.Rdn). Reads 2 named.Rdn terms.rdn_of r octets (drop taken octets)) (sym c.in_ok-one.ensures)
     (read_taken 2 named.Rdn terms.rdn_of (c.in_ok-pair.pair ∷ []) octets rest taken refl
     (rdn_read c.in_ok-pair.pair c.in_ok-content.content.now octets rest c.in_ok-content.ensures.opens
     c.in_ok-pair.ensures))

@@ -1,5 +1,5 @@
 -- The RDNs are the members.
-use Rattle.std.proofs.Common.{ap, map, sym, ◌∙◌}
+use Rattle.std.proofs.Common.{map}
 use Rattle.x5_direct_writer.proofs.Naming.{has_written_rdns}
 use Rattle.x5_model_messages.specs.Terms as terms
 use Rattle.x5_model_typed.specs.Named as named

@@ -1,5 +1,5 @@
 -- The type and the text are the components.
-use Rattle.std.proofs.Common.{ap, map, refl, sym, ◌∙◌}
+use Rattle.std.proofs.Common.{refl}
 use Rattle.x5_model.specs.Values as values
 use Rattle.x5_model_messages.specs.Terms as terms
 use Rattle.x5_model_typed.specs.Nodes as nodes

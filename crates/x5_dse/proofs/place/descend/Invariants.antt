@@ -4,8 +4,8 @@ use Rattle.x5_model.specs.Values.{key_of}
 use Rattle.x5_dse.specs.Inside.{is_used, path_of}
 use Rattle.x5_dse.proofs.place.descend.Given as goal
 
-abbrev pub invariant-loop-i : goal.invariant-loop-i
-invariant-loop-i l = record {
+abbrev pub invariant-loop-count : goal.invariant-loop-count
+invariant-loop-count l = record {
   used : is_used l.slots l.node ≡ true;
-  on_way : key_of (path_of l.slots l.node) ≡ take l.i (key_of l.rdns);
+  on_way : key_of (path_of l.slots l.node) ≡ take l.count (key_of l.rdns);
 }

@@ -10,20 +10,20 @@ use Rattle.x5_dse.proofs.Ways.{outside, not_there, reached}
 use Rattle.x5_dse.proofs.place.find_node.Goals as goal
 
 pub returns-in-None : goal.returns-in-None
-returns-in-None c = sym (ap (option_map id_of) (none_found c.args.prefix.now c.args.slots.now c.args.order.now c.requires (key_of c.args.name.now) (outside c.args.prefix.now c.args.slots.now c.args.order.now c.requires (key_of c.args.name.now) c.in-None.ensures)))
+returns-in-None c = sym (ap (option_map id_of) (none_found c.args.prefix.now c.args.slots.now c.args.order.now c.requires (key_of c.args.name.now) (outside c.args.prefix.now c.args.slots.now c.args.order.now c.requires (key_of c.args.name.now) c.in-None.ensures.down)))
 
-pub returns-then-count-len : goal.returns-then-count-len
-returns-then-count-len c =
-    let down : IsDown c.args.prefix.now c.args.slots.now c.args.order.now (key_of c.args.name.now) c.in-Some.node c.in-Some.count = c.in-Some.ensures in
-    let all : c.in-Some.count ≡ length (key_of c.args.name.now) = c.if-count-len.true ∙ c.len.ensures ∙ sym (length-map c.args.name.now key_of_rdn) in
-    sym (ap (option_map id_of) (found c.args.prefix.now c.args.slots.now c.args.order.now c.requires c.in-Some.node (key_of c.args.name.now) down.used
-    (reached c.args.prefix.now c.args.slots.now c.args.order.now c.requires (key_of c.args.name.now) c.in-Some.node c.in-Some.count down all)))
+pub returns-then-way-len : goal.returns-then-way-len
+returns-then-way-len c =
+    let down : IsDown c.args.prefix.now c.args.slots.now c.args.order.now (key_of c.args.name.now) c.in-Some.way.node c.in-Some.way.count = c.in-Some.ensures.down in
+    let all : c.in-Some.way.count ≡ length (key_of c.args.name.now) = c.if-way-len.true ∙ c.len.ensures ∙ sym (length-map c.args.name.now key_of_rdn) in
+    sym (ap (option_map id_of) (found c.args.prefix.now c.args.slots.now c.args.order.now c.requires c.in-Some.way.node (key_of c.args.name.now) down.used
+    (reached c.args.prefix.now c.args.slots.now c.args.order.now c.requires (key_of c.args.name.now) c.in-Some.way.node c.in-Some.way.count down all)))
 
-pub returns-else-count-len : goal.returns-else-count-len
-returns-else-count-len c =
-    let down : IsDown c.args.prefix.now c.args.slots.now c.args.order.now (key_of c.args.name.now) c.in-Some.node c.in-Some.count = c.in-Some.ensures in
+pub returns-else-way-len : goal.returns-else-way-len
+returns-else-way-len c =
+    let down : IsDown c.args.prefix.now c.args.slots.now c.args.order.now (key_of c.args.name.now) c.in-Some.way.node c.in-Some.way.count = c.in-Some.ensures.down in
     let within = down.within in
-    let other : c.in-Some.count ≢ length (key_of c.args.name.now) = λ e. c.if-count-len.false (e ∙ length-map c.args.name.now key_of_rdn ∙ sym c.len.ensures) in
-    let less : c.in-Some.count < length (key_of c.args.name.now) = omega arith in
+    let other : c.in-Some.way.count ≢ length (key_of c.args.name.now) = λ e. c.if-way-len.false (e ∙ length-map c.args.name.now key_of_rdn ∙ sym c.len.ensures) in
+    let less : c.in-Some.way.count < length (key_of c.args.name.now) = omega arith in
     sym (ap (option_map id_of) (none_found c.args.prefix.now c.args.slots.now c.args.order.now c.requires (key_of c.args.name.now)
-    (not_there c.args.prefix.now c.args.slots.now c.args.order.now c.requires (key_of c.args.name.now) c.in-Some.node c.in-Some.count down less)))
+    (not_there c.args.prefix.now c.args.slots.now c.args.order.now c.requires (key_of c.args.name.now) c.in-Some.way.node c.in-Some.way.count down less)))

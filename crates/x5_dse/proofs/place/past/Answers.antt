@@ -17,8 +17,8 @@ loop-at-init c = record {
   behind = λ p. leaf_behind p c.args.slots.now c.args.order.now c.requires.row c.args.node c.requires.used c.requires.leaf;
 }
 
-pub place_of_node-place-requires-clause-ordered : goal.place_of_node-place-requires-clause-ordered
-place_of_node-place-requires-clause-ordered c =
+pub place_near-place-requires-clause-ordered : goal.place_near-place-requires-clause-ordered
+place_near-place-requires-clause-ordered c =
     let other : c.loop-at.at ≡ c.args.from → ⊥ = λ e. c.loop-at-test.true (ap (λ (k : NodeId). k.0) e) in
     at_ordered [] c.args.slots.now c.args.order.now c.requires.row c.args.from c.args.node c.loop-at.at c.loop-at.invariant.used c.requires.from_used (c.loop-at.invariant.under []) (c.loop-at.invariant.over []) (c.loop-at.invariant.behind []) other
 
@@ -26,20 +26,20 @@ pub returns-then-is_below_at : goal.returns-then-is_below_at
 returns-then-is_below_at c =
     let other : c.loop-at.at ≡ c.args.from → ⊥ = λ e. c.loop-at-test.true (ap (λ (k : NodeId). k.0) e) in
     let up : c.behind-slots.inside.parent ≡ parent_at c.args.slots.now c.loop-at.at = ap (λ (t : Slot). t.parent) (c.behind-slots.view_is ∙ c.held_at.ensures) in
-    let found : (c.place_of_node-place.result + 1 < length c.args.order.now) × (parent_at c.args.slots.now (get_or c.args.order.now (c.place_of_node-place.result + 1) top) ≡ c.behind-slots.inside.parent) = c.is_below_at.ensures.0 c.if-is_below_at.true in
-    λ p. sibling_is_next p c.args.slots.now c.args.order.now c.requires.row c.args.from c.args.node c.loop-at.at c.loop-at.invariant.used c.requires.from_used (c.loop-at.invariant.under p) (c.loop-at.invariant.over p) (c.loop-at.invariant.behind p) other c.place_of_node-place.result c.place_of_node-place.ensures.0 (c.place_of_node-place.ensures.1 top) found.0 (found.1 ∙ up)
+    let found : (c.place_near-place.result + 1 < length c.args.order.now) × (parent_at c.args.slots.now (get_or c.args.order.now (c.place_near-place.result + 1) top) ≡ c.behind-slots.inside.parent) = c.is_below_at.ensures.0 c.if-is_below_at.true in
+    λ p. sibling_is_next p c.args.slots.now c.args.order.now c.requires.row c.args.from c.args.node c.loop-at.at c.loop-at.invariant.used c.requires.from_used (c.loop-at.invariant.under p) (c.loop-at.invariant.over p) (c.loop-at.invariant.behind p) other c.place_near-place.result c.place_near-place.ensures.0 (c.place_near-place.ensures.1 top) found.0 (found.1 ∙ up)
 
 pub loop-at-preserved : goal.loop-at-preserved
 loop-at-preserved c =
     let other : c.loop-at.at ≡ c.args.from → ⊥ = λ e. c.loop-at-test.true (ap (λ (k : NodeId). k.0) e) in
     let up : c.behind-slots.inside.parent ≡ parent_at c.args.slots.now c.loop-at.at = ap (λ (t : Slot). t.parent) (c.behind-slots.view_is ∙ c.held_at.ensures) in
-    let none : (c.place_of_node-place.result + 1 < length c.args.order.now) × (parent_at c.args.slots.now (get_or c.args.order.now (c.place_of_node-place.result + 1) top) ≡ parent_at c.args.slots.now c.loop-at.at) → ⊥ =
+    let none : (c.place_near-place.result + 1 < length c.args.order.now) × (parent_at c.args.slots.now (get_or c.args.order.now (c.place_near-place.result + 1) top) ≡ parent_at c.args.slots.now c.loop-at.at) → ⊥ =
     λ w. let t = c.is_below_at.ensures.1 (w.0, w.1 ∙ sym up) in let f = c.if-is_below_at.false in cc in
     record {
       used = subst (λ (k : NodeId). is_used c.args.slots.now k ≡ true) (sym up) (up_used [] c.args.slots.now c.args.order.now c.requires.row c.args.from c.args.node c.loop-at.at c.loop-at.invariant.used c.requires.from_used (c.loop-at.invariant.under []) (c.loop-at.invariant.over []) (c.loop-at.invariant.behind []) other);
       under = subst (λ (k : NodeId). IsUnder c.args.slots.now c.args.from k) (sym up) (λ p. up_under p c.args.slots.now c.args.order.now c.requires.row c.args.from c.args.node c.loop-at.at c.loop-at.invariant.used c.requires.from_used (c.loop-at.invariant.under p) (c.loop-at.invariant.over p) (c.loop-at.invariant.behind p) other);
       over = subst (λ (k : NodeId). IsUnder c.args.slots.now k c.args.node) (sym up) (λ p. up_over p c.args.slots.now c.args.order.now c.requires.row c.args.from c.args.node c.loop-at.at c.loop-at.invariant.used c.requires.from_used (c.loop-at.invariant.under p) (c.loop-at.invariant.over p) (c.loop-at.invariant.behind p) other);
-      behind = subst (λ (k : NodeId). (p : Name) → IsBehind p c.args.slots.now c.args.node k) (sym up) (λ p. up_behind p c.args.slots.now c.args.order.now c.requires.row c.args.from c.args.node c.loop-at.at c.loop-at.invariant.used c.requires.from_used (c.loop-at.invariant.under p) (c.loop-at.invariant.over p) (c.loop-at.invariant.behind p) other c.place_of_node-place.result c.place_of_node-place.ensures.0 (c.place_of_node-place.ensures.1 top) none);
+      behind = subst (λ (k : NodeId). (p : Name) → IsBehind p c.args.slots.now c.args.node k) (sym up) (λ p. up_behind p c.args.slots.now c.args.order.now c.requires.row c.args.from c.args.node c.loop-at.at c.loop-at.invariant.used c.requires.from_used (c.loop-at.invariant.under p) (c.loop-at.invariant.over p) (c.loop-at.invariant.behind p) other c.place_near-place.result c.place_near-place.ensures.0 (c.place_near-place.ensures.1 top) none);
     }
 
 pub loop-at-smaller : goal.loop-at-smaller

@@ -3,7 +3,7 @@ use Rattle.std.proofs.Common.{List, ℕ, subst}
 use Rattle.x5_model_messages.specs.Terms as terms
 use Rattle.x5_model_typed.specs.Named as named
 use Rattle.x5_direct.specs.Spelled.{Reads}
-use Rattle.x5_dspber.proofs.DirectParts.{all_taken}
+use Rattle.x5_dapber.proofs.Invoking.{all_taken}
 use Rattle.x5_dspber.proofs.direct_parts.target_in.Goals as goal
 
 pub returns : goal.returns

@@ -21,7 +21,7 @@ use Rattle.x5_dapber.specs.Results.{Decodes}
 use Rattle.x5_dapber.specs.ShortNames.{HasShortNames}
 use Rattle.x5_dapber.proofs.Decoding.{known_read}
 use Rattle.x5_dapber.proofs.Octets.{are_octets, spelled_comes}
-use Rattle.x5_dapreply.proofs.WholeSpelling.{comes_only}
+use Rattle.x5_dapber.proofs.Coming.{comes_only}
 use Rattle.x5_dspber.specs.ChainedViews.{told_chained}
 use Rattle.x5_dspber.proofs.ChainedIsSayable.{chained_fits}
 use Rattle.x5_dspber.proofs.MessagesShort.{message_short}

@@ -1,11 +1,8 @@
 -- The octets that are written are those of the message, and they spell it.
-use Rattle.std.proofs.Common.{◌≡◌, ℕ, ◌<◌, ◌^◌, List, length, sym, subst, arith}
-use Rattle.std.specs.declared.option.Option.TheVariants.{Some}
+use Rattle.std.proofs.Common.{ℕ, ◌<◌, ◌^◌, List, length, sym, subst, arith}
 use Rattle.x5_model_messages.specs.Chained.{chained_node}
 use Rattle.x5_model_typed.specs.Named as named
-use Rattle.x5_model_typed.specs.Nodes as nodes
 use Rattle.x5_model_typed.specs.Typed.{Spells}
-use Rattle.x5_model_typed.specs.Written.{canonical_octets}
 use Rattle.x5_types.specs.FormView.{table}
 use Rattle.x5_dspber.specs.ChainedViews.{told_chained}
 use Rattle.x5_dspber.proofs.ChainedSpelled.{chained_spelled}
@@ -14,10 +11,8 @@ use Rattle.x5_dspber.proofs.messages.encode_chained.Goals as goal
 pub returns-clause-spelled : goal.returns-clause-spelled
 returns-clause-spelled c = λ fit.
     let m = told_chained c.args.message.now in
-    let n = chained_node c.args.id m in
-    let items = c.in_ok-write.field-0.items in
-    let short : length items < 2 ^ 64 = omega (arith, c.in_ok-write.field-0.ok.0, c.in_ok-write.field-0.small) in
-    let written : canonical_octets table named.DspRequest n ≡ Some items =
-    subst (λ (x : nodes.Node). canonical_octets table named.DspRequest x ≡ Some items) c.in_ok-node.ensures c.in_ok-write.ensures in
-    subst (λ (os : List ℕ). Spells table named.DspRequest os n) (sym c.new.ensures)
-    (chained_spelled c.args.id m items fit written short)
+    let items = c.in_ok-write_chained.field-0.items in
+    let short : length items < 2 ^ 64 =
+    omega (arith, c.in_ok-write_chained.field-0.ok.0, c.in_ok-write_chained.field-0.small) in
+    subst (λ (os : List ℕ). Spells table named.DspRequest os (chained_node c.args.id m)) (sym c.new.ensures)
+    (chained_spelled c.args.id m items fit c.in_ok-write_chained.ensures short)

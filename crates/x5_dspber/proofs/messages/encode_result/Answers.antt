@@ -3,7 +3,6 @@ use Rattle.std.proofs.Common.{◌≡◌, ℕ, ◌<◌, ◌^◌, List, length, sy
 use Rattle.std.specs.declared.option.Option.TheVariants.{Some}
 use Rattle.x5_model_messages.specs.Replies.{reply_node, to_agent}
 use Rattle.x5_model_typed.specs.Named as named
-use Rattle.x5_model_typed.specs.Nodes as nodes
 use Rattle.x5_model_typed.specs.Typed.{Spells}
 use Rattle.x5_model_typed.specs.Written.{canonical_octets}
 use Rattle.x5_model_typed_laws.proofs.Back.{written_is_spelled}
@@ -19,13 +18,10 @@ use Rattle.x5_dspber.proofs.messages.encode_result.Goals as goal
 pub returns-clause-spelled : goal.returns-clause-spelled
 returns-clause-spelled c = λ fit.
     let n = reply_node to_agent c.args.id (told_reply (code_view c.args.operation) c.args.reply.now) in
-    let items = c.in_ok-write.field-0.items in
-    let short : length items < 2 ^ 64 = omega (arith, c.in_ok-write.field-0.ok.0, c.in_ok-write.field-0.small) in
-    let written : canonical_octets table named.DspAnswer n ≡ Some items =
-    subst (λ (k : ℕ). canonical_octets table named.DspAnswer (reply_node to_agent c.args.id (told_reply k c.args.reply.now))
-    ≡ Some items) c.code.ensures
-    (subst (λ (x : nodes.Node). canonical_octets table named.DspAnswer x ≡ Some items) c.in_ok-node.ensures
-    c.in_ok-write.ensures) in
+    let items = c.in_ok-write_reply.field-0.items in
+    let short : length items < 2 ^ 64 =
+    omega (arith, c.in_ok-write_reply.field-0.ok.0, c.in_ok-write_reply.field-0.small) in
+    let written : canonical_octets table named.DspAnswer n ≡ Some items = c.in_ok-write_reply.ensures in
     let room = reply_room to_agent c.args.id (told_reply (code_view c.args.operation) c.args.reply.now) in
     let spells = written_is_spelled table named.DspAnswer n items a_table fit
     (has_spelling table (good_tags nowhere) named.DspAnswer n items room written short) written in

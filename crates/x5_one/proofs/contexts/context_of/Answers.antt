@@ -30,8 +30,8 @@ returns-in-Ok c =
     c.index-pins-at.is (c.in-Some.ensures.lookup.3.1 c.in-Some.found.now
     ∙ ap (λ (k : ℕ). get_or c.args.held.now k c.in-Some.found.now) place)
 
-pub loop-left-preserved : goal.loop-left-preserved
-loop-left-preserved c = (
+pub loop-left-preserved-in_default : goal.loop-left-preserved-in_default
+loop-left-preserved-in_default c = (
   (let l = c.loop-left.invariant.0 in omega arith),
   none_over_less c.args.held.now c.args.pins.now c.requires.rows c.requires.once c.args.key.now c.loop-left.left
       c.in_default.field-0 c.loop-left.invariant.1

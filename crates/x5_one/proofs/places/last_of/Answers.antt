@@ -7,5 +7,5 @@ pub returns-in_ok-clone-in-Some : goal.returns-in_ok-clone-in-Some
 returns-in_ok-clone-in-Some c = c.in_ok-clone-in-Some.ensures.cases
     ∙ last_there c.args.name.now c.in-Some.rdn.now c.in-Some.ensures
 
-pub returns-in-None : goal.returns-in-None
-returns-in-None c = c.new-in-None.ensures ∙ c.new.ensures.items ∙ sym (last_none c.args.name.now c.in-None.ensures)
+pub returns-in_ok-new-in-None : goal.returns-in_ok-new-in-None
+returns-in_ok-new-in-None c = c.in_ok-new-in-None.ensures ∙ c.new.ensures.items ∙ sym (last_none c.args.name.now c.in-None.ensures)

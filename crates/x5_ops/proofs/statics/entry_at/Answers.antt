@@ -14,8 +14,8 @@ returns-in-Some c =
     (sym (last_by_place c.args.object.now c.in-Some.rdn.now (sym c.last.ensures ∙ ap option_copied c.in-Some.is)))
     c.stored_entry.ensures
 
-pub returns-in-None : goal.returns-in-None
-returns-in-None c =
+pub returns-in_ok-new-in-None : goal.returns-in_ok-new-in-None
+returns-in_ok-new-in-None c =
     subst (λ (r : Rdn). IfOk c.stored_entry-in-None-2.result (λ e. e ≡ added_entry r (map attribute_view c.args.attributes.now)))
-    (c.new-in-None.ensures ∙ c.new.ensures.items ∙ sym (none_by_place c.args.object.now (sym c.last.ensures ∙ ap option_copied c.in-None.is)))
+    (c.in_ok-new-in-None.ensures ∙ c.new.ensures.items ∙ sym (none_by_place c.args.object.now (sym c.last.ensures ∙ ap option_copied c.in-None.is)))
     c.stored_entry-in-None-2.ensures

@@ -11,7 +11,7 @@ returns-in_ok-clone-in-Some c =
     ∙ last_some c.args.name.now c.in-Some.rdn.now
     (ap (option_map (λ (r : Bor Held). r.now)) (sym c.in-Some.is) ∙ c.last.ensures)
 
-pub returns-in-None : goal.returns-in-None
-returns-in-None c =
-    c.new-in-None.ensures ∙ c.new.ensures.items
+pub returns-in_ok-new-in-None : goal.returns-in_ok-new-in-None
+returns-in_ok-new-in-None c =
+    c.in_ok-new-in-None.ensures ∙ c.new.ensures.items
     ∙ last_none c.args.name.now (ap (option_map (λ (r : Bor Held). r.now)) (sym c.in-None.is) ∙ c.last.ensures)

@@ -9,6 +9,6 @@ returns-in_ok-clone-in-Some c =
     c.in_ok-clone-in-Some.ensures.cases
     ∙ sym (last_by_place c.args.name.now c.in-Some.rdn.now (sym c.last.ensures ∙ ap option_copied c.in-Some.is))
 
-pub returns-in-None : goal.returns-in-None
-returns-in-None c =
-    c.new-in-None.ensures ∙ c.new.ensures.items ∙ sym (none_by_place c.args.name.now (sym c.last.ensures ∙ ap option_copied c.in-None.is))
+pub returns-in_ok-new-in-None : goal.returns-in_ok-new-in-None
+returns-in_ok-new-in-None c =
+    c.in_ok-new-in-None.ensures ∙ c.new.ensures.items ∙ sym (none_by_place c.args.name.now (sym c.last.ensures ∙ ap option_copied c.in-None.is))

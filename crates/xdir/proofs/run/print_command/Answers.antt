@@ -28,8 +28,8 @@ returns-in-Ok-Some-clause-block g c = λ past stands told.
     writes_course (file_view c.args.described.now) past (c.args.before + 1) (command_view c.args.command.now) done.command net done.is done.askable
     c.in-Ok-Some.course
     (carried p done.command net c.in-Ok-Some.field-0 c.in-Ok-Some.course c.in-Ok-Some.field-0-is done.carried)
-    c.print_course.result (g.K.Sink.octets c.args.out.now) (g.K.Sink.octets c.print_course.new.out)
-    (g.K.Sink.fault_count c.args.out.now) (g.K.Sink.fault_count c.print_course.new.out) c.print_course.ensures.line
+    c.print_course-status.result (g.K.Sink.octets c.args.out.now) (g.K.Sink.octets c.print_course-status.new.out)
+    (g.K.Sink.fault_count c.args.out.now) (g.K.Sink.fault_count c.print_course-status.new.out) c.print_course-status.ensures.line
 
 pub returns-in-Ok-None-clause-block : goal.returns-in-Ok-None-clause-block
 returns-in-Ok-None-clause-block g c = λ past stands told.

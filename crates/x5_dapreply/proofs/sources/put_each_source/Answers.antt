@@ -1,0 +1,35 @@
+-- The sources are put from the last to the first.
+use Rattle.std.proofs.Common.{arith, map}
+use Rattle.x5_dapreply.specs.ReplyViews.{told_source}
+use Rattle.x5_model_messages.specs.Replies as replies
+use Rattle.x5_model_typed.specs.Named as named
+use Rattle.x5_direct_writer.proofs.Putting.{each_error, each_fails, end_put, more_put, start_put}
+use Rattle.x5_dapreply.proofs.sources.put_each_source.Goals as goal
+
+pub loop-i-init : goal.loop-i-init
+loop-i-init c = record {
+  inside = omega arith;
+  put = start_put named.Source (λ e. replies.source_node (told_source e)) c.args.sources.now c.args.out.now;
+}
+
+pub loop-i-preserved : goal.loop-i-preserved
+loop-i-preserved c = record {
+  inside = omega (arith, c.loop-i.invariant.inside);
+  put =
+      more_put named.Source (λ e. replies.source_node (told_source e)) c.args.sources.now c.loop-i.i c.index-sources-i.result c.args.out.now c.loop-i.out
+      c.put_source.new.out c.loop-i.invariant.inside c.loop-i-test.true c.index-sources-i.is c.loop-i.invariant.put
+      c.in_ok-put_source.ensures;
+}
+
+pub returns-in_err-put_source : goal.returns-in_err-put_source
+returns-in_err-put_source c =
+    each_error named.Source (map (λ e. replies.source_node (told_source e)) c.args.sources.now) c.args.out.now c.put_source.new.out
+    c.in_err-put_source.field-0.0 c.from_residual.result c.from_residual.ensures.1
+    (each_fails named.Source (λ e. replies.source_node (told_source e)) c.args.sources.now c.loop-i.i c.index-sources-i.result c.in_err-put_source.field-0.0
+    c.args.out.now c.loop-i.out c.put_source.new.out c.put_source.new.out c.loop-i.invariant.inside c.loop-i-test.true
+    c.index-sources-i.is c.in_err-put_source.ensures)
+
+pub returns : goal.returns
+returns c =
+    end_put named.Source (λ e. replies.source_node (told_source e)) c.args.sources.now c.loop-i.i c.args.out.now c.loop-i.out
+    (omega (arith, c.loop-i-test.false)) c.loop-i.invariant.put
