@@ -1,6 +1,6 @@
 -- Members that stand first in octets, whatever follows them.
 use Rattle.std.proofs.Common.{◌≡◌, ℕ, ◌-◌, ◌+◌, List, [], ◌∷◌, ◌++◌, length, take, drop, refl, ap, sym, ◌∙◌, subst, arith}
-use Rattle.std.proofs.Common.{append_assoc, append-nil, length-append}
+use Rattle.std.proofs.Common.{append_assoc, append-nil, length-append, length-drop, ◌≤◌}
 use Rattle.std.proofs.Common.{Bor, IfSome}
 use Rattle.std.proofs.Math.Seq.{take-append_seam}
 use Rattle.std.specs.declared.option.Option.{Option}
@@ -91,3 +91,16 @@ spelled_again levels form says x spelled octets rest r e = (
   },
   r.2,
 )
+
+-- The octets that it takes spell it by themselves.
+pub read_alone : {X : Type 0} (levels : ℕ) (form : Named) (says : Node → X) (x : X) (octets : List ℕ) (taken : ℕ)
+    → taken ≤ length octets → Reads levels form says x octets (drop taken octets)
+    → Reads levels form says x (take taken octets) []
+read_alone levels form says x octets taken within r =
+    let part = r.1.part in
+    let rest = drop taken octets in
+    let size : length part ≡ taken =
+    omega (arith, within, ap length r.1.whole, length-append part rest, length-drop taken octets) in
+    let same : take taken octets ≡ part =
+    ap (λ (k : ℕ). take k octets) (sym size) ∙ ap (λ (o : List ℕ). take (length part) o) r.1.whole ∙ take-append_seam part rest in
+    (r.0, record { part = part; whole = same ∙ sym (append-nil part); is_element = r.1.is_element }, r.2)

@@ -124,7 +124,7 @@ fn all_stored_in(alloc: Global, octets: &[u8]) -> Result<StoredList, Unread>
 /// The entry with its name that the octets begin with, all of it from the entry itself, and how many octets it takes; those of its
 /// name's RDNs that are spelled as known ones aren't read again. With them, if they may be known from then on, the octets of all its
 /// RDNs but the last.
-fn entry_behind<'a>(
+pub(crate) fn entry_behind<'a>(
     alloc: Global,
     above_octets: &[u8],
     above: &[Rdn],
@@ -145,23 +145,4 @@ fn entry_behind<'a>(
     let attributes = all_stored_in(alloc, members)?;
     let entry = Entry::from_list(attributes).shared(alloc)?;
     Ok((Named { name, entry }, taken, front))
-}
-
-/// The entries that are all of the octets.
-pub fn entries_in(alloc: Global, octets: &[u8]) -> Result<NamedList, Unread>
-    ensures { IfOk result (λ l. ReadEach 7 named.Entry shadows.entry_in l octets.now) }
-{
-    let mut entries = Vec::with_capacity(alloc, octets.len() / 128 + 1)?;
-    let mut above = Vec::new(alloc);
-    let mut above_octets: &[u8] = &[];
-    let mut rest = octets;
-    while !rest.is_empty() {
-        let (entry, taken, front) = entry_behind(alloc, above_octets, &above, rest)?;
-        let (known, octets) = known_above(alloc, &entry.name, front, above_octets, above)?;
-        above = known;
-        above_octets = octets;
-        entries.push(entry)?;
-        rest = &rest[taken..];
-    }
-    Ok(NamedList::from_vec(entries))
 }

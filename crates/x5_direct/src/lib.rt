@@ -8,6 +8,7 @@ pub mod entries;
 pub mod infos;
 pub mod names;
 pub mod part;
+pub mod seen;
 mod unread;
 pub mod values;
 

@@ -70,6 +70,7 @@ impl Backwards {
 
     /// The header of an element whose content has that length: the fewest octets for the tag number and for a
     /// definite length. Mostly that is one octet each.
+    #[inline(always)]
     pub fn put_header(
         &mut self,
         class: u8,

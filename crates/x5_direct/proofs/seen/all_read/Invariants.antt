@@ -5,7 +5,7 @@ use Rattle.x5_model_messages.specs.Terms.{rdn_of}
 use Rattle.x5_model_typed.specs.Named as named
 use Rattle.x5_direct.specs.Spelled.{BeginEach}
 use Rattle.x5_direct.proofs.Spelling.{Goes}
-use Rattle.x5_direct.proofs.entries.entries_in.Given as goal
+use Rattle.x5_direct.proofs.seen.all_read.Given as goal
 
 abbrev pub invariant-loop-above_octets : goal.invariant-loop-above_octets
 invariant-loop-above_octets l = Goes 7 named.Entry entry_in l.octets l.entries.items l.rest
