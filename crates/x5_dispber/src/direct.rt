@@ -1,5 +1,5 @@
 //! A total refresh (X.525, section 10) read straight from octets, where it's spelled as usual: definite lengths, strings in one piece,
-//! and entries, attributes and values in their order.
+//! and entries, attributes and values in their order. Entries that come again as they were seen aren't read again.
 ghost use Rattle.std.specs.Prelude.{◌≡◌, ◌<◌, ◌≤◌, ◌∷◌, IfOk, IfSome, [], drop, length, map};
 ghost use Rattle.x5_direct.specs.Here.{ReadsHere};
 ghost use Rattle.x5_dispber.specs.Direct.{LeafAt};
@@ -17,7 +17,7 @@ use crate::shadow::{Refresh, Shadow};
 use std::alloc::Global;
 use x5_direct::Unread;
 use x5_direct::element::opened;
-use x5_direct::entries::entries_in;
+use x5_direct::seen::SeenEntries;
 use x5_know::{AgentNames, Start};
 use x5_ops::{Content, Moment};
 use x5_types::{Leaf, Node, Numbers, Surroundings};
@@ -68,6 +68,7 @@ fn content_in(
     alloc: Global,
     start: &Start,
     names: &AgentNames,
+    seen: &mut SeenEntries,
     octets: &[u8],
 ) -> Result<Content, Unread>
     ensures { IfOk result (λ c. ReadsHere (world start.now names.now) 9 named.Total shadows.total_in
@@ -80,7 +81,7 @@ fn content_in(
     if rest.len() + end.len() > 0 {
         return Err(Unread::Unusual);
     }
-    let entries = entries_in(alloc, first)?;
+    let entries = seen.read(alloc, first)?;
     let specific = all_known_at(alloc, start, names, second)?;
     let nssr = all_others_at(alloc, start, names, third)?;
     Ok(Content {
@@ -95,6 +96,7 @@ fn sent_in(
     alloc: Global,
     start: &Start,
     names: &AgentNames,
+    seen: &mut SeenEntries,
     octets: &[u8],
 ) -> Result<Shadow, Unread>
     ensures { IfOk result (λ m. ReadsHere (world start.now names.now) 11 named.UpdateArgument (shadows.argument_in 2) (told_shadow names.now m) octets.now []) }
@@ -107,7 +109,7 @@ fn sent_in(
     if rest.len() + end.len() > 0 {
         return Err(Unread::Unusual);
     }
-    let total = content_in(alloc, start, names, chosen)?;
+    let total = content_in(alloc, start, names, seen, chosen)?;
     let refresh = Refresh::Total(total);
     Ok(Shadow::Update {
         agreement,
@@ -134,6 +136,7 @@ pub(crate) fn update_in(
     alloc: Global,
     start: &Start,
     names: &AgentNames,
+    seen: &mut SeenEntries,
     octets: &[u8],
 ) -> Result<(u32, Shadow), Unread>
     ensures { IfOk result (λ r. ReadsHere (world start.now names.now) 12 named.DispMessage shadows.shadow_in (r.0, told_shadow names.now r.1) octets.now []) }
@@ -146,6 +149,6 @@ pub(crate) fn update_in(
     if !rest.is_empty() {
         return Err(Unread::Unusual);
     }
-    let message = sent_in(alloc, start, names, sent)?;
+    let message = sent_in(alloc, start, names, seen, sent)?;
     Ok((id, message))
 }

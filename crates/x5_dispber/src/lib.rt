@@ -16,6 +16,7 @@ mod total;
 pub use crate::messages::{decode_shadow, encode_shadow};
 pub use crate::shadow::{Refresh, Shadow};
 pub use x5_dapber::WireFault;
+pub use x5_direct::seen::SeenEntries;
 pub use x5_memory::NoMemory;
 pub use x5_typed::BerFault;
 pub use x5_writer::WriteFault;

@@ -23,6 +23,7 @@ use crate::total::write_shadow;
 use std::alloc::Global;
 use x5_dapber::WireFault;
 use x5_dapber::parts::{chosen, number, three, two};
+use x5_direct::seen::SeenEntries;
 use x5_know::{AgentNames, Start};
 use x5_memory::NoMemory;
 use x5_ops::Moment;
@@ -196,7 +197,8 @@ fn decode_by_table(
 }
 
 /// The id of a message of shadowing, and what it says, in a world with that start and these agents (X.519, section 7): of octets that are
-/// one spelling of it and nothing else.
+/// one spelling of it and nothing else. Entries of a total refresh that come again from the same octets as they were seen aren't read
+/// again, and those of this one are seen then; nothing that is answered depends on what was seen.
 ///
 /// # Errors
 /// The first breach in the order of reading, with its place: the whole first reading, whatever the type, before the
@@ -205,6 +207,7 @@ pub fn decode_shadow(
     alloc: Global,
     start: &Start,
     names: &AgentNames,
+    seen: &mut SeenEntries,
     octets: &[u8],
 ) -> Result<(u32, Shadow), WireFault>
     // What the value says, or the breach, that reading comes to; and it comes to exactly one.
@@ -220,9 +223,9 @@ pub fn decode_shadow(
     ensures back { (id : ℕ) (m : shadows.Shadow) → IsShadow m → Spells (world_table start.now names.now) named.DispMessage octets.now (shadows.shadow_node id m)
         → IsRead {Y = ℕ × shadows.Shadow} (λ p. (p.0, told_shadow names.now p.1)) (id, m) result }
 {
-    // Total refreshes are most of what is read, and mostly spelled in the one usual way. Whatever else it is, and where memory ran out,
-    // the table says it.
-    match update_in(alloc, start, names, octets) {
+    // Total refreshes are most of what is read, and mostly spelled in the one usual way, of entries that are seen. Whatever else it is,
+    // and where memory ran out, the table says it.
+    match update_in(alloc, start, names, seen, octets) {
         Ok(read) => Ok(read),
         Err(_) => decode_by_table(alloc, start, names, octets),
     }

@@ -8,7 +8,7 @@ ghost use Rattle.x5_model_typed.specs.Typed.{Spells};
 ghost use Rattle.x5_types.specs.FormView.{world, world_table};
 
 use std::alloc::Global;
-use x5_dispber::{Shadow, WireFault, WriteFault, decode_shadow, encode_shadow};
+use x5_dispber::{SeenEntries, Shadow, WireFault, WriteFault, decode_shadow, encode_shadow};
 use x5_know::{AgentNames, Start};
 use x5_memory::NoMemory;
 use x5_syntax::Octets;
@@ -35,12 +35,18 @@ fn octets_of(
 }
 
 /// The message of shadowing that octets spell.
-fn read(alloc: Global, start: &Start, names: &AgentNames, octets: &[u8]) -> Result<Shadow, NoMemory>
+fn read(
+    alloc: Global,
+    start: &Start,
+    names: &AgentNames,
+    seen: &mut SeenEntries,
+    octets: &[u8],
+) -> Result<Shadow, NoMemory>
     requires spelled { (id : ℕ) × (m : shadows.Shadow) × ShadowWithin (world start.now names.now) m × Spells (world_table start.now names.now) named.DispMessage octets.now (shadows.shadow_node id m) }
     ensures read { (id : ℕ) (m : shadows.Shadow) → ShadowWithin (world start.now names.now) m → Spells (world_table start.now names.now) named.DispMessage octets.now (shadows.shadow_node id m)
         → IfOk result (λ message. told_shadow names.now message ≡ m) }
 {
-    match decode_shadow(alloc, start, names, octets) {
+    match decode_shadow(alloc, start, names, seen, octets) {
         Ok((_, message)) => Ok(message),
         Err(WireFault::NoMemory) => Err(NoMemory),
         Err(WireFault::Ber(_)) => unreachable!(),
@@ -49,16 +55,17 @@ fn read(alloc: Global, start: &Start, names: &AgentNames, octets: &[u8]) -> Resu
 }
 
 /// A message of shadowing as its receiver has it, in a world whose start and agents both ends share: what is read in the octets that
-/// it's written as (X.519, section 7: DISP). It tells just what was sent.
+/// it's written as (X.519, section 7: DISP). It tells just what was sent, whatever entries of refreshes the receiver has seen.
 pub fn carried_shadow(
     alloc: Global,
     start: &Start,
     names: &AgentNames,
+    seen: &mut SeenEntries,
     message: &Shadow,
 ) -> Result<Shadow, NoMemory>
     requires { ShadowWithin (world start.now names.now) (told_shadow names.now message.now) }
     ensures { IfOk result (λ taken. told_shadow names.now taken ≡ told_shadow names.now message.now) }
 {
     let octets = octets_of(alloc, start, names, message)?;
-    read(alloc, start, names, octets.as_slice())
+    read(alloc, start, names, seen, octets.as_slice())
 }

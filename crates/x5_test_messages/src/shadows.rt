@@ -4,7 +4,7 @@ use crate::spelled::{front, octets};
 use jiff::civil::Date;
 use std::alloc::Global;
 use std::test::Fail;
-use x5_dispber::{BerFault, Shadow, WireFault, decode_shadow, encode_shadow};
+use x5_dispber::{BerFault, SeenEntries, Shadow, WireFault, decode_shadow, encode_shadow};
 use x5_know::{AgentNames, Start};
 use x5_ops::AgentName;
 use x5_syntax::Text;
@@ -84,7 +84,8 @@ fn message_comes_back(alloc: Global, digits: &str, wanted: u32) -> Result<bool, 
     let Some(start) = start() else {
         return Ok(false);
     };
-    let (id, message) = decode_shadow(alloc, &start, &names, &octets)?;
+    let mut seen = SeenEntries::none(alloc);
+    let (id, message) = decode_shadow(alloc, &start, &names, &mut seen, &octets)?;
     let written = encode_shadow(alloc, &start, &names, id, &message);
     drop(message);
     Ok(id == wanted && written?.as_slice() == octets.as_slice())
@@ -110,7 +111,10 @@ fn refreshes_come_back(rt: HostRuntime) -> Result<(), Fail> {
 fn fault(alloc: Global, octets: &[u8]) -> Result<Option<WireFault>, Fail> {
     let names = agents(alloc)?;
     match start() {
-        Some(start) => Ok(decode_shadow(alloc, &start, &names, octets).err()),
+        Some(start) => {
+            let mut seen = SeenEntries::none(alloc);
+            Ok(decode_shadow(alloc, &start, &names, &mut seen, octets).err())
+        }
         None => Ok(None),
     }
 }

@@ -12,6 +12,7 @@ mod links;
 mod naming;
 mod refreshing;
 mod refreshment;
+mod seen;
 mod shadows;
 mod stamps;
 mod world;

@@ -25,6 +25,7 @@ use x5_memory::NoMemory;
 use x5_ops::{Fate, Line, LineList, Listed, Moment, Refreshed, ShadowOperation};
 use x5_refresh as refresh;
 use x5_refresh::{Brought, ended, opens};
+use x5_shadow_wire::SeenEntries;
 
 /// invalidAgreementID (X.525, section 12): there is no agreement of this number.
 const INVALID_AGREEMENT_ID: u8 = 1;
@@ -177,6 +178,7 @@ fn updated(
     alloc: Global,
     start: &Start,
     world: &mut World,
+    seen: &mut Vec<SeenEntries>,
     by: &Way,
     lines: LineList,
     supplied: Supplied,
@@ -200,7 +202,7 @@ fn updated(
         ShadowOperation::UpdateShadow,
         last,
     )?)?;
-    let read = update_read(alloc, start, world, by, supplied)?;
+    let read = update_read(alloc, start, world, seen, by, supplied)?;
     let stamp = read.stamp;
     let count = taken(alloc, start, world, by, read, last)?;
     Ok(Refreshment {
@@ -228,6 +230,7 @@ fn opened(
     alloc: Global,
     start: &Start,
     world: &mut World,
+    seen: &mut Vec<SeenEntries>,
     by: &Way,
     supplied: Supplied,
 ) -> Result<Refreshment, NoMemory>
@@ -251,7 +254,7 @@ fn opened(
     let begun = answered(alloc, start, world.names(), by, problem, first)?;
     match begun {
         refresh::Start::Ended(became) => Ok(stopped(lines, became)),
-        refresh::Start::GoesOn => updated(alloc, start, world, by, lines, supplied),
+        refresh::Start::GoesOn => updated(alloc, start, world, seen, by, lines, supplied),
     }
 }
 
@@ -292,6 +295,7 @@ fn by_place(
     alloc: Global,
     start: &Start,
     world: &mut World,
+    seen: &mut Vec<SeenEntries>,
     place: usize,
     push: bool,
     total: bool,
@@ -311,16 +315,17 @@ fn by_place(
         refresh::Start::Ended(became) => Ok(stopped(Listed::new(alloc), became)),
         refresh::Start::GoesOn => {
             let way = told(alloc, start, world, by)?;
-            opened(alloc, start, world, &way, supplied)
+            opened(alloc, start, world, seen, &way, supplied)
         }
     }
 }
 
-/// A refresh by the agreement of this number, or its problem where there is none.
+/// A refresh by the agreement of this number, or its problem where there is none. Consumers have seen this.
 pub(crate) fn refreshed(
     alloc: Global,
     start: &Start,
     world: &mut World,
+    seen: &mut Vec<SeenEntries>,
     number: u32,
     push: bool,
     total: bool,
@@ -341,6 +346,6 @@ pub(crate) fn refreshed(
                 given: None,
             },
         )),
-        Some(place) => by_place(alloc, start, world, place, push, total),
+        Some(place) => by_place(alloc, start, world, seen, place, push, total),
     }
 }

@@ -15,6 +15,7 @@ ghost use Rattle.x5_world.specs.Refreshes.{IsSound};
 ghost use Rattle.x5_world.specs.Refreshing.{CanBring, IsWay, acknowledging};
 
 use crate::refreshing::{Supplied, Way, first_operation, last_moment};
+use crate::seen::carried_by;
 use crate::world::World;
 use std::alloc::Global;
 use x5_know::{AgentNames, Agreement, Start};
@@ -22,7 +23,7 @@ use x5_memory::NoMemory;
 use x5_ops::{Fate, Moment, Refreshed, ShadowOperation};
 use x5_refresh as refresh;
 use x5_refresh::{Brought, begins};
-use x5_shadow_wire::{Asked, Problem, Update, carried_asked, carried_problem, carried_update};
+use x5_shadow_wire::{Asked, Problem, SeenEntries, Update, carried_asked, carried_problem};
 
 /// What the consumer reads of what the supplier sends: by which agreement, its stamp, and what it brings.
 #[derive(Debug, Drop)]
@@ -192,11 +193,12 @@ pub(crate) fn answered(
     replied(alloc, start, names, by.push, begun)
 }
 
-/// What the consumer has of what the supplier sends (updateShadow).
+/// What the consumer, which has seen this, has of what the supplier sends (updateShadow).
 pub(crate) fn update_read(
     alloc: Global,
     start: &Start,
     world: &World,
+    seen: &mut Vec<SeenEntries>,
     by: &Way,
     supplied: Supplied,
 ) -> Result<Arrived, NoMemory>
@@ -214,7 +216,7 @@ pub(crate) fn update_read(
         stamp,
         brought,
     };
-    let read = carried_update(alloc, start, world.names(), sent)?;
+    let read = carried_by(alloc, start, world.names(), seen, by.place, sent)?;
     agreed_in(world, read)
 }
 

@@ -41,6 +41,7 @@ use crate::links::Links;
 use crate::naming::copied;
 use crate::refreshing::{Supplied, refreshed};
 use crate::refreshment::Refreshment;
+use crate::seen::nothing_seen;
 use crate::stamps::none_of;
 use std::alloc::Global;
 use std::marker::{Brand, Model};
@@ -53,11 +54,12 @@ use x5_know::{AgentNames, Agreement, AgreementList, Described, Start};
 use x5_memory::NoMemory;
 use x5_ops::{AgentId, Chained, Fate, Journal, Listed, Moment, Outage, Reply, Request};
 use x5_refresh::Brought;
+use x5_shadow_wire::SeenEntries;
 use x5_supply::SupplyFault;
 use x5_typed::Breach;
 
 /// The agents with what each holds, the network between them, and their agreements with the stamp of the last refresh by each that
-/// its supplier knows to be taken.
+/// its supplier knows to be taken; and what each consumer has seen of total refreshes, which changes nothing but how long they take.
 #[derive(Drop)]
 pub struct World {
     names: AgentNames,
@@ -69,6 +71,7 @@ pub struct World {
     agreements: AgreementList,
     acked: Vec<Option<Moment>>,
     line: u32,
+    seen: Vec<SeenEntries>,
 }
 
 impl Model for World {
@@ -112,6 +115,7 @@ impl World {
             agreements: described.agreements.clone()?,
             acked: none_of(alloc, described.agreements.as_slice())?,
             line: 0,
+            seen: nothing_seen(alloc, described.agreements.as_slice())?,
         })
     }
 
@@ -129,6 +133,7 @@ impl World {
             agreements: Listed::new(alloc),
             acked: Vec::new(alloc),
             line: 0,
+            seen: Vec::new(alloc),
         }
     }
 
@@ -513,6 +518,20 @@ impl World {
         Ok(())
     }
 
+    /// What consumers have seen, which the network has no more. No memory.
+    fn take_seen(&mut self, alloc: Global) -> Vec<SeenEntries>
+        ensures { self.new ≡ self.old }
+    {
+        replace(&mut self.seen, Vec::new(alloc))
+    }
+
+    /// Consumers have seen this. No memory.
+    fn keep_seen(&mut self, seen: Vec<SeenEntries>)
+        ensures { self.new ≡ self.old }
+    {
+        self.seen = seen;
+    }
+
     /// Refreshes the consumer's copy by the agreement of this number, pushed by the supplier or pulled by the consumer, wholly or by
     /// the changes since its moment (X.525, sections 9 to 12). Its messages go as octets, in which moments are dates and times from this
     /// start on. Knowledge is consistent. After want of memory the network isn't used again.
@@ -531,7 +550,9 @@ impl World {
         ensures named { IfOk result (λ r. list_all (line_names_agents self.old.names) r.lines ≡ true) }
         ensures room_after { IfOk result (λ _. (lines : ℕ) → HasRoom self.old lines → HasRoom self.new (lines + 1)) }
     {
-        let done = refreshed(alloc, start, self, number, push, total)?;
+        let mut seen = self.take_seen(alloc);
+        let done = refreshed(alloc, start, self, &mut seen, number, push, total)?;
+        self.keep_seen(seen);
         self.count(done.lines.len());
         Ok(done)
     }

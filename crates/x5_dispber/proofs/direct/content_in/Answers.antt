@@ -14,4 +14,4 @@ returns c =
     c.in_ok-first.first.now c.in_ok-second.second.now c.in_ok-third.third.now c.in_ok-first.behind.now
     c.in_ok-second.last.now
     c.in_ok-third.end.now c.in_ok-content.ensures.opens none.0 c.in_ok-first.ensures.opens c.in_ok-second.ensures.opens
-    c.in_ok-third.ensures.opens none.1 c.in_ok-entries.ensures c.in_ok-specific.ensures c.in_ok-nssr.ensures
+    c.in_ok-third.ensures.opens none.1 c.in_ok-entries.ensures.read c.in_ok-specific.ensures c.in_ok-nssr.ensures
