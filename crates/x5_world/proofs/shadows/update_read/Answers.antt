@@ -14,13 +14,13 @@ use Rattle.x5_world.proofs.Arriving.{agreed_there, are_agents}
 use Rattle.x5_world.proofs.Courses.{some_is}
 use Rattle.x5_world.proofs.shadows.update_read.Goals as goal
 
-pub carried_update-requires-clause-within : goal.carried_update-requires-clause-within
-carried_update-requires-clause-within c =
+pub carried_by-requires-clause-within : goal.carried_by-requires-clause-within
+carried_by-requires-clause-within c =
     subst (λ (ns : List (List ℕ)). IsSendable c.args.start.now ns (Sent c.in-Sent.stamp c.in-Sent.brought)) (sym c.names.ensures)
     (subst (IsSendable c.args.start.now c.args.world.now.names) c.in-Sent.is c.requires.sendable)
 
-pub carried_update-requires-clause-agents : goal.carried_update-requires-clause-agents
-carried_update-requires-clause-agents c =
+pub carried_by-requires-clause-agents : goal.carried_by-requires-clause-agents
+carried_by-requires-clause-agents c =
     subst (λ (ns : List (List ℕ)). AreAgents (world c.args.start.now ns) ns) (sym c.names.ensures)
     (are_agents c.args.world.now c.args.start.now c.requires.sound)
 
