@@ -1,13 +1,14 @@
 //! What is looked up of a world: who masters, refers to and consumes what, by keys.
 
 ghost use Rattle.std.specs.Prelude.{◌≡◌, ◌++◌, map, IfOk};
+ghost use Rattle.std.specs.List.Sorted.{IsPermutation};
 ghost use Rattle.x5_model_tree.specs.Masters.{numbered, mastered, masters, consumes};
 ghost use Rattle.x5_model_tree.specs.Consistent.{masters_below};
 ghost use Rattle.x5_model_tree.specs.Tree.{keys_of};
 ghost use Rattle.x5_ops.specs.KnowledgeViews.{specific_view};
 ghost use Rattle.x5_know.specs.WorldView.{world_view};
 ghost use Rattle.x5_check.specs.Rows.{numbers_of, IsNext};
-ghost use Rattle.x5_check.specs.Numbers.{keyed, pins_of, prefix_places, entry_places, masters_in, owners_in, masters_below_in, referrers_in, consumers_in};
+ghost use Rattle.x5_check.specs.Numbers.{keyed, pins_of, prefix_places, entry_places, entry_rows, master_by, masters_in, owners_in, masters_below_in, referrers_in, consumers_in};
 
 use crate::agents::Numbered;
 use crate::contexts::Held;
@@ -71,23 +72,52 @@ fn with_entries<'a>(
 
 /// The entries of the contexts, with the contexts' places.
 fn entries_by_place<'h>(alloc: Global, held: &'h [Held<'_>]) -> Result<Table<'h>, NoMemory>
-    ensures { IfOk result (λ t. numbers_of t ≡ entry_places held.now) }
+    ensures rows { IfOk result (λ t. IsPermutation (entry_rows held.now) t) }
+    ensures numbers { IfOk result (λ t. numbers_of t ≡ entry_places held.now) }
 {
     let mut rows = Vec::new(alloc);
     for (place, context) in held.iter().enumerate() {
         rows = with_entries(rows, context.entries(), place)?;
     }
-    Table::sorted(rows)
+    Table::of(rows)
 }
 
-/// The entries of the contexts, with the contexts' masters.
-fn entries_by_master<'h>(alloc: Global, held: &'h [Held<'_>]) -> Result<Table<'h>, NoMemory>
+/// The master of the context that has the place, as a number. No memory.
+fn master_at(held: &[Held<'_>], place: usize) -> usize
+    ensures { result ≡ master_by held.now place }
+{
+    match held.get(place) {
+        Some(context) => context.master().0 as usize,
+        None => 0,
+    }
+}
+
+/// The rows, each with the master of the context whose place it has.
+fn rows_by_master<'h>(
+    alloc: Global,
+    held: &[Held<'_>],
+    rows: &[Row<'h>],
+) -> Result<Vec<Row<'h>>, NoMemory>
+    ensures { IfOk result (λ v. v.items ≡ map (λ row. (row.0, master_by held.now row.1)) rows.now) }
+{
+    let mut owned = Vec::with_capacity(alloc, rows.len())?;
+    for row in rows {
+        owned.push(Row::new(row.key(), master_at(held, row.number())))?;
+    }
+    Ok(owned)
+}
+
+/// The entries of the contexts, with the contexts' masters. The table of entries has them in their order, so that a sort has little to
+/// do.
+fn entries_by_master<'h>(
+    alloc: Global,
+    held: &[Held<'_>],
+    entries: &Table<'h>,
+) -> Result<Table<'h>, NoMemory>
+    requires { IsPermutation (entry_rows held.now) entries.now }
     ensures { IfOk result (λ t. numbers_of t ≡ owners_in held.now) }
 {
-    let mut rows = Vec::new(alloc);
-    for context in held {
-        rows = with_entries(rows, context.entries(), context.master().0 as usize)?;
-    }
+    let rows = rows_by_master(alloc, held, entries.rows())?;
     Table::sorted(rows)
 }
 
@@ -173,14 +203,16 @@ impl<'w, 'g, 'h> Known<'w, 'g, 'h> {
         requires held { held.now ≡ mastered (world_view world.now) }
         ensures { IfOk result (λ known. known ≡ world_view world.now) }
     {
+        let entries = entries_by_place(alloc, held)?;
+        let owners = entries_by_master(alloc, held, &entries)?;
         Ok(Known {
             world,
             agents,
             held,
             prefixes: prefixes_by_place(alloc, held)?,
-            entries: entries_by_place(alloc, held)?,
+            entries,
             masters: prefixes_by_master(alloc, held)?,
-            owners: entries_by_master(alloc, held)?,
+            owners,
             above: parents_by_master(alloc, held)?,
             referrers: references_by_agent(alloc, agents)?,
             consumers: contexts_by_consumer(alloc, world.agreements.as_slice())?,

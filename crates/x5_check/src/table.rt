@@ -1,6 +1,7 @@
 //! Keys with numbers, found without a walk: a list in order, in which a key is looked for by halves.
 
 ghost use Rattle.std.specs.Prelude.{◌≡◌, ◌≤◌, ◌<◌, ℕ, Bool, true, false, IfOk};
+ghost use Rattle.std.specs.List.Sorted.{IsPermutation};
 ghost use Rattle.std.specs.Ordering.{as_partial_cmp};
 ghost use Rattle.std.proofs.Common.{refl};
 ghost use Rattle.x5_check.specs.Rows as keyed;
@@ -31,6 +32,20 @@ impl<'a> Row<'a> {
         ensures { result ≡ (key.now, number) }
     {
         Row { key, number }
+    }
+
+    /// Its key. No memory.
+    pub(crate) fn key(&self) -> &'a Key
+        ensures { result.now ≡ self.now.0 }
+    {
+        self.key
+    }
+
+    /// Its number. No memory.
+    pub(crate) fn number(&self) -> usize
+        ensures { result ≡ self.now.1 }
+    {
+        self.number
     }
 }
 
@@ -91,13 +106,27 @@ impl<'a> Model for Table<'a> {
 }
 
 impl<'a> Table<'a> {
-    /// The table of these rows.
-    pub(crate) fn sorted(rows: Vec<Row<'a>>) -> Result<Table<'a>, NoMemory>
-        ensures { IfOk result (λ table. keyed.numbers_of table ≡ keyed.numbers_of rows.entry.items) }
+    /// The table that has each of these rows.
+    pub(crate) fn of(rows: Vec<Row<'a>>) -> Result<Table<'a>, NoMemory>
+        ensures { IfOk result (λ table. IsPermutation rows.entry.items table) }
     {
         let mut rows = rows;
         rows.sort()?;
         Ok(Table { rows })
+    }
+
+    /// The table of these rows.
+    pub(crate) fn sorted(rows: Vec<Row<'a>>) -> Result<Table<'a>, NoMemory>
+        ensures { IfOk result (λ table. keyed.numbers_of table ≡ keyed.numbers_of rows.entry.items) }
+    {
+        Table::of(rows)
+    }
+
+    /// Its rows, in their order. No memory.
+    pub(crate) fn rows(&self) -> &[Row<'a>]
+        ensures { result.now ≡ self.now }
+    {
+        self.rows.as_slice()
     }
 
     /// The least number of the key from this one on. No memory.

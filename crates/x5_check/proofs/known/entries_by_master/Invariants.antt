@@ -1,9 +1,0 @@
--- The rows so far, followed by those of the contexts that are left, are the rows of all contexts: each entry's key with
--- the context's master.
-use Rattle.std.proofs.Common.{◌≡◌, ◌++◌, drop}
-use Rattle.x5_check.specs.Numbers.{rows_by, entry_keys}
-use Rattle.x5_check.proofs.known.entries_by_master.Given as goal
-
-abbrev pub invariant-loop-context : goal.invariant-loop-context
-invariant-loop-context l =
-    l.rows.items ++ rows_by (λ m. m.master) entry_keys (drop l.context-index l.held) ≡ rows_by (λ m. m.master) entry_keys l.held
