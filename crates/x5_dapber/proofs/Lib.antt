@@ -24,4 +24,5 @@ pub mod Rooms
 mod Selections
 pub mod Sets
 pub mod Tags
+mod UsualFilters
 mod UsualSelections

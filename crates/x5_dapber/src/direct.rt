@@ -27,6 +27,7 @@ ghost use Rattle.x5_types.specs.NodeView.{node_view};
 use crate::read_arguments::{argument_in, controls_in, selection_in};
 use crate::read_filters::filter_in;
 use crate::read_values::asserted_in;
+use crate::usual_filters::usual_filter;
 use crate::usual_selections::usual_selection;
 use std::alloc::Global;
 use x5_direct::Unread;
@@ -171,6 +172,24 @@ fn subset_at(octets: &[u8]) -> Result<(Subset, &[u8]), Unread>
     Ok((subset, rest))
 }
 
+/// The filter that is all of the octets, by the table of types.
+fn filter_by_table(alloc: Global, octets: &[u8]) -> Result<Filter, Unread>
+    ensures { IfOk result (λ f. Reads 48 (named.Filter 16) filters.filter_in (filter_view f) octets.now []) }
+{
+    let node = part(alloc, Named::Filter(16), octets)?;
+    Ok(filter_in(alloc, &node)?)
+}
+
+/// The filter that is all of the octets.
+fn filter_of(alloc: Global, octets: &[u8]) -> Result<Filter, Unread>
+    ensures { IfOk result (λ f. Reads 48 (named.Filter 16) filters.filter_in (filter_view f) octets.now []) }
+{
+    match usual_filter(alloc, octets) {
+        Err(Unread::Unusual) => filter_by_table(alloc, octets),
+        read => read,
+    }
+}
+
 /// The filter of a search, and the octets behind it. Everything matches where it's missing.
 fn filter_at(alloc: Global, octets: &[u8]) -> Result<(Filter, &[u8]), Unread>
     ensures { IfOk result (λ r. ReadsNext 49 2 (forms.or layouts.everything (forms.at 2 (named.Filter 16))) filters.filter_in (filter_view r.0) octets.now r.1.now) }
@@ -179,8 +198,7 @@ fn filter_at(alloc: Global, octets: &[u8]) -> Result<(Filter, &[u8]), Unread>
         return Ok((Filter::And(Vec::new(alloc)), octets));
     };
     let (content, rest) = opened(0xA2, octets)?;
-    let node = part(alloc, Named::Filter(16), content)?;
-    Ok((filter_in(alloc, &node)?, rest))
+    Ok((filter_of(alloc, content)?, rest))
 }
 
 /// The type and the value of the assertion of a compare, and the octets behind it.

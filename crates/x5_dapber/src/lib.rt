@@ -15,6 +15,7 @@ mod read_attributes;
 mod read_filters;
 pub mod read_parts;
 pub mod read_values;
+mod usual_filters;
 mod usual_selections;
 pub mod values;
 pub mod write_arguments;

@@ -1,4 +1,4 @@
-//! Selections of attributes (X.511, section 7.6) that name types of the table, read straight from octets.
+//! Types of the table, and selections of attributes that name these (X.511, section 7.6), read straight from octets.
 ghost use Rattle.std.specs.Prelude.{[], IfOk, map};
 ghost use Rattle.x5_direct.specs.Spelled.{ReadEach, Reads};
 ghost use Rattle.x5_model_messages.specs.Requests as requests;
@@ -13,6 +13,17 @@ use x5_direct::Unread;
 use x5_direct::names::{SHORT_OID, type_at};
 use x5_ops::{Selection, TypeList};
 use x5_syntax::TypeRef;
+
+/// The type of the table that is all of the octets.
+pub(crate) fn known_type_in(octets: &[u8]) -> Result<TypeRef, Unread>
+    ensures { IfOk result (λ t. Reads 0 named.AnyOid terms.type_in (type_view t) octets.now []) }
+{
+    let kind = type_at(octets)?;
+    if octets.len() != SHORT_OID {
+        return Err(Unread::Unusual);
+    }
+    Ok(TypeRef::Known(kind))
+}
 
 /// The types of the table that are all of the octets.
 fn known_types_in(alloc: Global, octets: &[u8]) -> Result<TypeList, Unread>

@@ -7,14 +7,9 @@ use Rattle.x5_model_typed.specs.Forms.{Default}
 use Rattle.x5_model_typed.specs.Layouts.{everything}
 use Rattle.x5_model_typed.specs.Named as named
 use Rattle.x5_model_typed.specs.Nodes.{Many, Nil}
-use Rattle.x5_types.specs.NodeView.{node_view}
 use Rattle.x5_dapber.proofs.FilterMembers.{and_said}
-use Rattle.x5_dapber.proofs.ReadIsSayable.{filter_fits}
 use Rattle.x5_dapber.proofs.Sets.{next_given, next_missing}
 use Rattle.x5_dapber.proofs.direct.filter_at.Goals as goal
-
-pub filter_in-requires : goal.filter_in-requires
-filter_in-requires c = record { said = filter_fits (node_view c.in_ok-node.node) c.in_ok-node.ensures.fits }
 
 pub returns-in_default : goal.returns-in_default
 returns-in_default c =
@@ -23,7 +18,6 @@ returns-in_default c =
 
 pub returns : goal.returns
 returns c =
-    next_given 48 162 (named.Filter 16) (Default everything) filter_in (filter_view c.in_ok-filter_in.field-0)
+    next_given 48 162 (named.Filter 16) (Default everything) filter_in (filter_view c.in_ok-filter_of.field-0)
     c.in_ok-content.content.now c.args.octets.now c.in_ok-content.rest.now (lit≤ tt) (lit< tt)
-    c.in_ok-content.ensures.opens
-    (node_view c.in_ok-node.node, c.in_ok-node.ensures.is, c.in_ok-filter_in.ensures.filter)
+    c.in_ok-content.ensures.opens c.in_ok-filter_of.ensures
