@@ -5,10 +5,10 @@ use Rattle.x5_world.specs.Answered.{line_names_agents}
 use Rattle.x5_world.specs.Refreshes.{IsSound}
 use Rattle.x5_ops.specs.RefreshViews.{shadows_view}
 use Rattle.x5_world.specs.Refreshing.{IsDoneBy, IsInvalid}
-use Rattle.x5_world.specs.State.{HasRoom, Net}
+use Rattle.x5_world.specs.State.{Net}
 use Rattle.x5_world.specs.declared.refreshment.Refreshment.{Refreshment}
 use Rattle.x5_world.proofs.Concluding.{is_done, is_invalid}
-use Rattle.x5_world.proofs.Worlds.{few_lines}
+use Rattle.x5_world.proofs.Worlds.{few_lines, one_line_more}
 use Rattle.x5_world.proofs.world.World.refresh.Goals as goal
 
 pub refreshed-requires-clause-few : goal.refreshed-requires-clause-few
@@ -38,22 +38,22 @@ returns-clause-named c =
 pub returns-clause-room_after : goal.returns-clause-room_after
 returns-clause-room_after c =
     let few : length c.in_ok-done.done.lines ≤ 2 = c.in_ok-done.ensures.messages.few in
-    λ lines h.
     let kept : c.keep_seen.new.self ≡ c.refreshed.new.world = c.keep_seen.ensures in
-    let line = ap (λ (n : Net). n.line) c.count.ensures ∙ ap (λ (n : Net). n.line + 1) kept
+    let len : c.len.result ≡ length c.in_ok-done.done.lines = c.len.ensures in
+    let line : c.count.new.self.line ≡ c.args.self.now.line + 1 =
+    ap (λ (n : Net). n.line) c.count.ensures ∙ ap (λ (n : Net). n.line + 1) kept
     ∙ ap (λ (n : Net). n.line + 1) c.in_ok-done.ensures.only ∙ ap (λ (n : Net). n.line + 1) c.take_seen.ensures in
-    let sent = ap (λ (n : Net). n.sent) c.count.ensures ∙ ap (λ (n : Net). n.sent + c.len.result) kept
+    let sent : c.count.new.self.sent ≡ c.args.self.now.sent + c.len.result =
+    ap (λ (n : Net). n.sent) c.count.ensures ∙ ap (λ (n : Net). n.sent + c.len.result) kept
     ∙ ap (λ (n : Net). n.sent + c.len.result) c.in_ok-done.ensures.only
     ∙ ap (λ (n : Net). n.sent + c.len.result) c.take_seen.ensures in
-    let lost = ap (λ (n : Net). length n.network.lost_replies) c.count.ensures
+    let lost : length c.count.new.self.network.lost_replies ≡ length c.args.self.now.network.lost_replies =
+    ap (λ (n : Net). length n.network.lost_replies) c.count.ensures
     ∙ ap (λ (n : Net). length n.network.lost_replies) kept
     ∙ ap (λ (n : Net). length n.network.lost_replies) c.in_ok-done.ensures.only
     ∙ ap (λ (n : Net). length n.network.lost_replies) c.take_seen.ensures in
-    record {
-      line = (let a = h.line in omega (arith, line, a));
-      sent = (let a = h.sent in let b = c.len.ensures in omega (arith, sent, a, b, few));
-      lost = (let a = h.lost in omega (arith, lost, a));
-    }
+    λ lines h.
+    one_line_more c.args.self.now c.count.new.self lines (omega (arith, sent, len, few)) (omega (arith, lost)) line h
 
 pub returns-clause-refreshed : goal.returns-clause-refreshed
 returns-clause-refreshed c =
