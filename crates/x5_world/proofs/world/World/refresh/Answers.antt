@@ -14,25 +14,25 @@ use Rattle.x5_world.proofs.world.World.refresh.Goals as goal
 pub refreshed-requires-clause-few : goal.refreshed-requires-clause-few
 refreshed-requires-clause-few c =
     let few = few_lines c.args.self.now c.requires.room in
-    let same = ap (λ (n : Net). n.line) c.take_seen.ensures in omega (arith, few, same)
+    let same = ap (λ (n : Net). n.line) c.take_seen-seen.ensures in omega (arith, few, same)
 
 pub refreshed-requires-clause-room : goal.refreshed-requires-clause-room
 refreshed-requires-clause-room c =
     let sent = c.requires.room.1.0.sent in
     let few = c.requires.room.1.1 in
-    let same = ap (λ (n : Net). n.sent) c.take_seen.ensures in omega (arith, sent, few, same)
+    let same = ap (λ (n : Net). n.sent) c.take_seen-seen.ensures in omega (arith, sent, few, same)
 
 pub refreshed-requires-clause-sound : goal.refreshed-requires-clause-sound
-refreshed-requires-clause-sound c = subst IsSound (sym c.take_seen.ensures) c.requires.sound
+refreshed-requires-clause-sound c = subst IsSound (sym c.take_seen-seen.ensures) c.requires.sound
 
 pub returns-clause-names : goal.returns-clause-names
 returns-clause-names c =
     ap (λ (n : Net). n.names) c.count.ensures ∙ ap (λ (n : Net). n.names) c.keep_seen.ensures
-    ∙ ap (λ (n : Net). n.names) c.in_ok-done.ensures.only ∙ ap (λ (n : Net). n.names) c.take_seen.ensures
+    ∙ ap (λ (n : Net). n.names) c.in_ok-done.ensures.only ∙ ap (λ (n : Net). n.names) c.take_seen-seen.ensures
 
 pub returns-clause-named : goal.returns-clause-named
 returns-clause-named c =
-    subst (λ (n : Net). list_all (line_names_agents n.names) c.in_ok-done.done.lines ≡ true) c.take_seen.ensures
+    subst (λ (n : Net). list_all (line_names_agents n.names) c.in_ok-done.done.lines ≡ true) c.take_seen-seen.ensures
     c.in_ok-done.ensures.messages.named
 
 pub returns-clause-room_after : goal.returns-clause-room_after
@@ -42,16 +42,16 @@ returns-clause-room_after c =
     let len : c.len.result ≡ length c.in_ok-done.done.lines = c.len.ensures in
     let line : c.count.new.self.line ≡ c.args.self.now.line + 1 =
     ap (λ (n : Net). n.line) c.count.ensures ∙ ap (λ (n : Net). n.line + 1) kept
-    ∙ ap (λ (n : Net). n.line + 1) c.in_ok-done.ensures.only ∙ ap (λ (n : Net). n.line + 1) c.take_seen.ensures in
+    ∙ ap (λ (n : Net). n.line + 1) c.in_ok-done.ensures.only ∙ ap (λ (n : Net). n.line + 1) c.take_seen-seen.ensures in
     let sent : c.count.new.self.sent ≡ c.args.self.now.sent + c.len.result =
     ap (λ (n : Net). n.sent) c.count.ensures ∙ ap (λ (n : Net). n.sent + c.len.result) kept
     ∙ ap (λ (n : Net). n.sent + c.len.result) c.in_ok-done.ensures.only
-    ∙ ap (λ (n : Net). n.sent + c.len.result) c.take_seen.ensures in
+    ∙ ap (λ (n : Net). n.sent + c.len.result) c.take_seen-seen.ensures in
     let lost : length c.count.new.self.network.lost_replies ≡ length c.args.self.now.network.lost_replies =
     ap (λ (n : Net). length n.network.lost_replies) c.count.ensures
     ∙ ap (λ (n : Net). length n.network.lost_replies) kept
     ∙ ap (λ (n : Net). length n.network.lost_replies) c.in_ok-done.ensures.only
-    ∙ ap (λ (n : Net). length n.network.lost_replies) c.take_seen.ensures in
+    ∙ ap (λ (n : Net). length n.network.lost_replies) c.take_seen-seen.ensures in
     λ lines h.
     one_line_more c.args.self.now c.count.new.self lines (omega (arith, sent, len, few)) (omega (arith, lost)) line h
 
@@ -68,9 +68,9 @@ returns-clause-refreshed c =
     λ p s consistent. elim c.in_ok-done.ensures.done [
       | inl x ↦
           is_invalid old mid new p c.args.number c.args.push c.args.total r s consistent
-              (subst (λ (n : Net). IsInvalid n c.args.number r mid) c.take_seen.ensures x) next
+              (subst (λ (n : Net). IsInvalid n c.args.number r mid) c.take_seen-seen.ensures x) next
       | inr x ↦
           is_done old mid new p c.args.number c.args.push c.args.total r s consistent
-              (subst (λ (n : Net). IsDoneBy n c.args.number c.args.push c.args.total r mid) c.take_seen.ensures x)
-              (subst (λ (n : Net). length (shadows_view n.names r.lines) ≡ length r.lines) c.take_seen.ensures c.in_ok-done.ensures.messages.all) next
+              (subst (λ (n : Net). IsDoneBy n c.args.number c.args.push c.args.total r mid) c.take_seen-seen.ensures x)
+              (subst (λ (n : Net). length (shadows_view n.names r.lines) ≡ length r.lines) c.take_seen-seen.ensures c.in_ok-done.ensures.messages.all) next
     ]
