@@ -68,9 +68,9 @@ returns-clause-refreshed c =
     λ p s consistent. elim c.in_ok-done.ensures.done [
       | inl x ↦
           is_invalid old mid new p c.args.number c.args.push c.args.total r s consistent
-              (subst (λ (n : Net). IsInvalid n c.args.number r mid) c.take_seen-seen.ensures x) next
+          (subst (λ (n : Net). IsInvalid n c.args.number r mid) c.take_seen-seen.ensures x) next
       | inr x ↦
           is_done old mid new p c.args.number c.args.push c.args.total r s consistent
-              (subst (λ (n : Net). IsDoneBy n c.args.number c.args.push c.args.total r mid) c.take_seen-seen.ensures x)
-              (subst (λ (n : Net). length (shadows_view n.names r.lines) ≡ length r.lines) c.take_seen-seen.ensures c.in_ok-done.ensures.messages.all) next
+          (subst (λ (n : Net). IsDoneBy n c.args.number c.args.push c.args.total r mid) c.take_seen-seen.ensures x)
+          (subst (λ (n : Net). length (shadows_view n.names r.lines) ≡ length r.lines) c.take_seen-seen.ensures c.in_ok-done.ensures.messages.all) next
     ]
