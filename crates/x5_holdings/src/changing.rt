@@ -56,7 +56,6 @@ impl Held {
     {
         let entry = self.tree.remove(node)?;
         self.postings.drop_node(node.0, &entry);
-        self.listing = None;
         Ok(entry)
     }
 
@@ -73,7 +72,6 @@ impl Held {
     {
         let before = self.tree.replace(node, entry);
         self.postings.change(node.0, &before, room);
-        self.listing = None;
         before
     }
 
@@ -101,7 +99,6 @@ impl Held {
     {
         let before = self.tree.rename(node, rdn, entry)?;
         self.postings.change(node.0, &before, room);
-        self.listing = None;
         Ok(before)
     }
 

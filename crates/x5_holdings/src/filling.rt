@@ -108,7 +108,6 @@ impl Filling {
             nssrs: self.nssrs,
             below: self.below,
             wide: self.wide,
-            listing: None,
         }
     }
 }

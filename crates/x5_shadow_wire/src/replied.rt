@@ -7,10 +7,9 @@ ghost use Rattle.x5_ops.specs.RefreshViews.{operation_view};
 ghost use Rattle.x5_shadow_wire.specs.Carried.{code_of, problem_of, replying};
 
 use crate::counts;
-use crate::last::LastTotal;
 use crate::shadows::carried_shadow;
 use std::alloc::Global;
-use x5_dispber::Shadow;
+use x5_dispber::{SeenEntries, Shadow};
 use x5_know::{AgentNames, Start};
 use x5_memory::NoMemory;
 use x5_ops::{Moment, ShadowOperation};
@@ -97,8 +96,8 @@ pub fn carried_problem(
 {
     counted(&problem);
     let message = reply(operation, problem);
-    let mut last = LastTotal::none(alloc);
-    let taken = carried_shadow(alloc, start, names, &mut last, &message)?;
+    let mut seen = SeenEntries::none(alloc);
+    let taken = carried_shadow(alloc, start, names, &mut seen, &message)?;
     match problem_in(&taken) {
         Some(problem) => Ok(problem),
         None => unreachable!(),

@@ -11,7 +11,6 @@ mod standing;
 mod steps;
 
 pub use content::total;
-pub use entries::list_entries;
 pub use fault::{FULL_UPDATE_REQUIRED, INACTIVE_AGREEMENT, SupplyFault};
 pub use sources::stamp;
 pub use standing::supplying;

@@ -12,5 +12,4 @@ invariant_of-result c = record {
   };
   below = c.self.invariant.below;
   wide = c.self.invariant.wide;
-  listed = tt;
 }

@@ -14,5 +14,4 @@ invariant_of-self c = record {
   };
   below = c.self.invariant.below;
   wide = c.self.invariant.wide;
-  listed = tt;
 }
