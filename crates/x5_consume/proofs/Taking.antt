@@ -1,7 +1,7 @@
 -- The copy of the context changes, and nothing else of what is held; after want of memory nothing does.
 use Rattle.std.proofs.Common.{◌≡◌, ℕ, true, List, [], ◌∷◌, ◌++◌, length, map, refl, sym, ap, subst, ◌∙◌, Option, Some, None, Result, Ok, Err}
 use Rattle.std.proofs.lemmas.List.{length-map}
-use Rattle.std.specs.Prelude.{IsTrue, OnErr, slice_get, slice_set}
+use Rattle.std.specs.Prelude.{IsTrue, OnErr, OnOk, slice_get, slice_set}
 use Rattle.std.specs.Option.{is_some, option_map}
 use Rattle.x5_model.specs.Keys.{Key}
 use Rattle.x5_model.specs.Values.{key_of}
@@ -9,6 +9,8 @@ use Rattle.x5_model.specs.Entries.{Named}
 use Rattle.x5_model_run.specs.Holdings.{Copy}
 use Rattle.x5_model_refreshed.specs.Steps.{replay}
 use Rattle.x5_ops.specs.declared.knowledge.Content.{Content}
+use Rattle.x5_ops.specs.declared.knowledge.Nssr.{Nssr}
+use Rattle.x5_ops.specs.declared.knowledge.Specific.{Specific}
 use Rattle.x5_ops.specs.declared.knowledge.Step.{Step}
 use Rattle.x5_ops.specs.KnowledgeViews.{nssr_view, specific_view}
 use Rattle.x5_dse.specs.Linked.{entries_of}
@@ -16,7 +18,7 @@ use Rattle.x5_holdings.specs.declared.log.Logged.{Logged}
 use Rattle.x5_holdings.specs.Logs.{IsLogged, Log, base_after, latest}
 use Rattle.x5_holdings.specs.Making.{IsSame}
 use Rattle.x5_holdings.specs.Making.{HasRoomFor}
-use Rattle.x5_holdings.specs.Placed.{IsBroughtChanged, IsCopyChanged}
+use Rattle.x5_holdings.specs.Placed.{IsBroughtChanged, IsCopyChanged, IsRenewed}
 use Rattle.x5_holdings.specs.State.{CopyKept, Kept, State, brought_entries, copy_view, holdings_view, stamp_of}
 use Rattle.x5_consume.specs.declared.ready.Prepared.{Prepared}
 use Rattle.x5_consume.specs.Ready.{ArePrepared, CanGoOn, CopyStands, steps_in, values_in}
@@ -39,21 +41,58 @@ got_changed s t place how x =
 
 -- ---- a total refresh
 
-pub replaced : (s t : State) (pin : Key) (place : ℕ) (at : At s pin place) (content : Content) (stamp : ℕ) (held : Kept)
-    → IsContent content stamp held
-    → IsCopyChanged s place (λ before after. after ≡ record before { refreshed = Some (held, stamp) }) t
-    → IsTaken s pin (IsReplaced content stamp) t
-replaced s t pin place at content stamp held is x = record {
+pub on_ok : {T E : Type 0} {P Q : Type 0} (r : Result T E) → (P → Q) → OnOk r P → OnOk r Q
+on_ok (Ok x) f p = f p
+on_ok (Err e) f p = tt
+
+-- what changed is the copy of the context, since that stands at the place
+pub taken : (s t : State) (pin : Key) (place : ℕ) (at : At s pin place) (content : Content) (stamp : ℕ)
+    → IsCopyChanged s place (IsReplaced content stamp) t → IsTaken s pin (IsReplaced content stamp) t
+taken s t pin place at content stamp x = record {
   place = place;
-  copied = record {
-    before = x.before;
-    after = x.after;
-    was = x.was;
-    changed = record { kept = held; content_is = is; after_is = x.changed };
-    new_is = x.new_is;
-  };
+  copied = x;
   at = ap (λ (c : CopyKept). key_of c.prefix) (copy_inside (sym x.was ∙ at.got)) ∙ at.key;
 }
+
+-- all of it is put there
+pub replaced : (s t : State) (place : ℕ) (content : Content) (stamp : ℕ) (held : Kept) → IsContent content stamp held
+    → IsCopyChanged s place (λ before after. after ≡ record before { refreshed = Some (held, stamp) }) t
+    → IsCopyChanged s place (IsReplaced content stamp) t
+replaced s t place content stamp held is x = record {
+  before = x.before;
+  after = x.after;
+  was = x.was;
+  changed = record { kept = held; content_is = is; after_is = x.changed };
+  new_is = x.new_is;
+}
+
+-- its entries are there already
+pub renewed : (s t : State) (place : ℕ) (content : Content) (stamp : ℕ) (log : Log) (specific : List Specific) (nssrs : List Nssr)
+    → CopyStands s place (λ copy kept. entries_of kept.nodes.nodes ≡ content.entries) → specific ≡ content.specific
+    → nssrs ≡ content.nssr → log.base ≡ stamp → log.changes ≡ [] → IsCopyChanged s place (IsRenewed log specific nssrs stamp) t
+    → IsCopyChanged s place (IsReplaced content stamp) t
+renewed s t place content stamp log specific nssrs w sub wide base changes x =
+    let r = x.changed in
+    let copy : x.before ≡ w.copy = copy_inside (sym x.was ∙ w.there) in
+    let kept : r.before ≡ w.kept =
+    ap (λ (p : Kept × ℕ). p.0) (some_inside (sym r.was ∙ ap (λ (c : CopyKept). c.refreshed) copy ∙ w.refreshed)) in
+    record {
+      before = x.before;
+      after = x.after;
+      was = x.was;
+      changed = record {
+        kept = record r.before { log = log; subordinate = specific; nssrs = nssrs };
+        content_is = record {
+          entries = ap (λ (k : Kept). entries_of k.nodes.nodes) kept ∙ w.is;
+          subordinate = sub;
+          nssrs = wide;
+          base = base;
+          changes = changes;
+        };
+        after_is = r.after_is;
+      };
+      new_is = x.new_is;
+    }
 
 -- ---- an incremental refresh
 

@@ -14,7 +14,7 @@ use std::alloc::Global;
 use x5_holdings::{ChangeLog, Filling, Held};
 use x5_index::Room;
 use x5_memory::NoMemory;
-use x5_ops::{Content, Moment, Named, NamedList};
+use x5_ops::{Content, Listed, Moment, Named, NamedList};
 
 /// The context with this entry more, behind all others.
 fn with_entry(alloc: Global, filling: Filling, named: Named) -> Result<Filling, NoMemory>
@@ -59,8 +59,8 @@ fn parted(entries: NamedList) -> Option<(Named, Vec<Named>)>
     Some((first, others))
 }
 
-/// What the content is as a context that is held, with no changes since the stamp.
-pub(crate) fn held_of(alloc: Global, content: Content, stamp: Moment) -> Result<Held, NoMemory>
+/// What the content is as a context that is held, with no changes since the stamp. Its entries aren't listed.
+fn unlisted(alloc: Global, content: Content, stamp: Moment) -> Result<Held, NoMemory>
     requires { (pin : Key) × AreWhole pin content.entries }
     ensures content { IfOk result (λ held. IsContent content stamp held) }
     ensures prefix { IfOk result (λ held. (pin : Key) → AreWhole pin content.entries → key_of held.prefix ≡ pin) }
@@ -77,4 +77,17 @@ pub(crate) fn held_of(alloc: Global, content: Content, stamp: Moment) -> Result<
     let Named { name, entry } = first;
     let held = Held::new(alloc, name, entry, log, specific, nssr)?;
     with_entries(alloc, held, rest)
+}
+
+/// What the content is as a context that is held, with no changes since the stamp. Its entries are listed, so that the next total
+/// refresh is seen to bring the same, if it does.
+pub(crate) fn held_of(alloc: Global, content: Content, stamp: Moment) -> Result<Held, NoMemory>
+    requires { (pin : Key) × AreWhole pin content.entries }
+    ensures content { IfOk result (λ held. IsContent content stamp held) }
+    ensures prefix { IfOk result (λ held. (pin : Key) → AreWhole pin content.entries → key_of held.prefix ≡ pin) }
+{
+    let listing = Listed::from_vec(Vec::from_clones(alloc, content.entries.as_slice())?);
+    let mut held = unlisted(alloc, content, stamp)?;
+    held.list(listing);
+    Ok(held)
 }

@@ -1,9 +1,15 @@
 -- What is written of a total refresh, part by part.
-use Rattle.std.specs.Prelude.{ℕ, List, [], ◌∷◌, map}
+use Rattle.std.specs.Prelude.{◌≡◌, ℕ, List, [], ◌∷◌, map}
+use Rattle.std.specs.declared.option.Option.{Option}
+use Rattle.std.specs.declared.option.Option.TheVariants.{Some}
+use Rattle.x5_model.specs.Entries as model
 use Rattle.x5_model.specs.Values.{Text}
 use Rattle.x5_model_messages.specs.Shadows as shadows
 use Rattle.x5_model_messages.specs.Terms.{node_of}
+use Rattle.x5_model_typed.specs.Layouts.{Surroundings, layout}
+use Rattle.x5_model_typed.specs.Named as named
 use Rattle.x5_model_typed.specs.Nodes.{Node, Chosen, whole}
+use Rattle.x5_model_typed.specs.Written.{canonical_octets}
 use Rattle.x5_ops.specs.declared.knowledge.Content.{Content}
 use Rattle.x5_dispber.specs.ShadowViews.{told_known, told_other}
 
@@ -14,3 +20,11 @@ total_node names c =
 
 abbrev pub sent_total : List Text → ℕ → ℕ → Content → Node
 sent_total names agreement stamp c = node_of (whole agreement ∷ whole stamp ∷ Chosen 0 (total_node names c) ∷ [])
+
+-- The canonical octets (X.690, section 10) of entries as a total refresh brings them (X.525, section 10), or that they have none.
+abbrev pub entries_octets : Surroundings → List model.Named → Option (List ℕ)
+entries_octets w es = canonical_octets (layout w) named.Entries (node_of (map shadows.entry_node es))
+
+-- The octets are theirs, in all surroundings.
+abbrev pub AreOctetsOf : List model.Named → List ℕ → Type 0
+AreOctetsOf es octets = (w : Surroundings) → entries_octets w es ≡ Some octets

@@ -13,11 +13,11 @@ ghost use Rattle.x5_types.specs.FormView.{world};
 ghost use Rattle.x5_types.specs.NodeView.{node_view};
 
 use crate::direct_references::{all_known_at, all_others_at, leaf_at};
+use crate::read_again::ReadEntries;
 use crate::shadow::{Refresh, Shadow};
 use std::alloc::Global;
 use x5_direct::Unread;
 use x5_direct::element::opened;
-use x5_direct::seen::SeenEntries;
 use x5_know::{AgentNames, Start};
 use x5_ops::{Content, Moment};
 use x5_types::{Leaf, Node, Numbers, Surroundings};
@@ -68,7 +68,7 @@ fn content_in(
     alloc: Global,
     start: &Start,
     names: &AgentNames,
-    seen: &mut SeenEntries,
+    seen: &mut ReadEntries,
     octets: &[u8],
 ) -> Result<Content, Unread>
     ensures { IfOk result (λ c. ReadsHere (world start.now names.now) 9 named.Total shadows.total_in
@@ -96,7 +96,7 @@ fn sent_in(
     alloc: Global,
     start: &Start,
     names: &AgentNames,
-    seen: &mut SeenEntries,
+    seen: &mut ReadEntries,
     octets: &[u8],
 ) -> Result<Shadow, Unread>
     ensures { IfOk result (λ m. ReadsHere (world start.now names.now) 11 named.UpdateArgument (shadows.argument_in 2) (told_shadow names.now m) octets.now []) }
@@ -136,7 +136,7 @@ pub(crate) fn update_in(
     alloc: Global,
     start: &Start,
     names: &AgentNames,
-    seen: &mut SeenEntries,
+    seen: &mut ReadEntries,
     octets: &[u8],
 ) -> Result<(u32, Shadow), Unread>
     ensures { IfOk result (λ r. ReadsHere (world start.now names.now) 12 named.DispMessage shadows.shadow_in (r.0, told_shadow names.now r.1) octets.now []) }

@@ -16,14 +16,15 @@ ghost use Rattle.x5_types.specs.FormView.{world_table};
 ghost use Rattle.x5_types.specs.NodeView.{node_view};
 
 use crate::direct::update_in;
+use crate::read_again::ReadEntries;
 use crate::read_shadows::shadow_in;
 use crate::refreshes::refresh_node;
 use crate::shadow::{Refresh, Shadow};
 use crate::total::write_shadow;
+use crate::written::WrittenEntries;
 use std::alloc::Global;
 use x5_dapber::WireFault;
 use x5_dapber::parts::{chosen, number, three, two};
-use x5_direct::seen::SeenEntries;
 use x5_know::{AgentNames, Start};
 use x5_memory::NoMemory;
 use x5_ops::Moment;
@@ -156,7 +157,8 @@ pub(crate) fn shadow_node<'a>(
 }
 
 /// The canonical octets of a message of shadowing with the id, in a world with that start and these agents (X.519, section 7; X.690,
-/// section 10).
+/// section 10). Entries of a total refresh that are those which were written last aren't written again; nothing that is answered depends
+/// on what was written.
 ///
 /// # Errors
 /// `Misfit` exactly where there are none: an agent that the message names isn't one of the world's, or another part of it is none of
@@ -165,6 +167,7 @@ pub fn encode_shadow(
     alloc: Global,
     start: &Start,
     names: &AgentNames,
+    last: &mut WrittenEntries,
     id: u32,
     message: &Shadow,
 ) -> Result<Octets, WriteFault>
@@ -175,7 +178,7 @@ pub fn encode_shadow(
         → IfOk result (λ octets. Spells (world_table start.now names.now) named.DispMessage octets (shadows.shadow_node id (told_shadow names.now message.now))) }
 {
     start.reads_back();
-    Ok(Octets::new(write_shadow(alloc, start, names, id, message)?))
+    Ok(Octets::new(write_shadow(alloc, start, names, last, id, message)?))
 }
 
 /// What the octets say, which are read by the table of types.
@@ -207,7 +210,7 @@ pub fn decode_shadow(
     alloc: Global,
     start: &Start,
     names: &AgentNames,
-    seen: &mut SeenEntries,
+    seen: &mut ReadEntries,
     octets: &[u8],
 ) -> Result<(u32, Shadow), WireFault>
     // What the value says, or the breach, that reading comes to; and it comes to exactly one.

@@ -15,10 +15,10 @@ ghost use Rattle.x5_writer.specs.Puts.{Puts, Writes};
 use crate::messages::shadow_node;
 use crate::refreshes::{all_known_node, others_node};
 use crate::shadow::{Refresh, Shadow};
+use crate::written::WrittenEntries;
 use std::alloc::Global;
 use x5_dapber::parts::number;
 use x5_direct_writer::enclose;
-use x5_direct_writer::entries::put_entry_list;
 use x5_know::{AgentNames, Start};
 use x5_ops::{Content, Moment, Nssr, Specific};
 use x5_types::{Named, Surroundings};
@@ -58,6 +58,7 @@ fn put_total(
     out: &mut Backwards,
     start: &Start,
     names: &AgentNames,
+    last: &mut WrittenEntries,
     content: &Content,
 ) -> Result<(), WriteFault>
     ensures { Puts canonical (written.written (world_table start.now names.now) (world_table start.now names.now named.Total) (total_node names.now content.now)) out.old out.new result }
@@ -65,7 +66,7 @@ fn put_total(
     let behind = out.len();
     put_others(alloc, out, start, names, content.nssr.as_slice())?;
     put_known(alloc, out, start, names, content.specific.as_slice())?;
-    put_entry_list(alloc, out, content.entries.as_slice())?;
+    last.put(alloc, out, content.entries.as_slice())?;
     enclose(out, 0, 16, behind)?;
     Ok(())
 }
@@ -76,12 +77,13 @@ fn put_refresh(
     out: &mut Backwards,
     start: &Start,
     names: &AgentNames,
+    last: &mut WrittenEntries,
     content: &Content,
 ) -> Result<(), WriteFault>
     ensures { Puts canonical (written.written (world_table start.now names.now) (world_table start.now names.now named.Refresh) (nodes.Chosen 0 (total_node names.now content.now))) out.old out.new result }
 {
     let behind = out.len();
-    put_total(alloc, out, start, names, content)?;
+    put_total(alloc, out, start, names, last, content)?;
     enclose(out, 2, 0, behind)?;
     Ok(())
 }
@@ -108,6 +110,7 @@ fn put_sent(
     out: &mut Backwards,
     start: &Start,
     names: &AgentNames,
+    last: &mut WrittenEntries,
     agreement: u32,
     stamp: Moment,
     content: &Content,
@@ -115,7 +118,7 @@ fn put_sent(
     ensures { Puts canonical (written.written (world_table start.now names.now) (world_table start.now names.now named.UpdateArgument) (sent_total names.now agreement stamp content.now)) out.old out.new result }
 {
     let behind = out.len();
-    put_refresh(alloc, out, start, names, content)?;
+    put_refresh(alloc, out, start, names, last, content)?;
     put_number(alloc, out, start, names, Named::Time, stamp.0)?;
     put_number(alloc, out, start, names, Named::Agreement, agreement)?;
     enclose(out, 0, 16, behind)?;
@@ -128,6 +131,7 @@ fn put_update(
     out: &mut Backwards,
     start: &Start,
     names: &AgentNames,
+    last: &mut WrittenEntries,
     id: u32,
     agreement: u32,
     stamp: Moment,
@@ -136,7 +140,7 @@ fn put_update(
     ensures { Puts canonical (written.written (world_table start.now names.now) (world_table start.now names.now named.DispMessage) (shadows.invoke_node id 2 (sent_total names.now agreement stamp content.now))) out.old out.new result }
 {
     let behind = out.len();
-    put_sent(alloc, out, start, names, agreement, stamp, content)?;
+    put_sent(alloc, out, start, names, last, agreement, stamp, content)?;
     out.put_all(&[2, 1, 2])?;
     put_number(
         alloc,
@@ -154,6 +158,7 @@ fn write_update(
     alloc: Global,
     start: &Start,
     names: &AgentNames,
+    last: &mut WrittenEntries,
     id: u32,
     agreement: u32,
     stamp: Moment,
@@ -162,7 +167,9 @@ fn write_update(
     ensures { Writes (written.canonical_octets (world_table start.now names.now) named.DispMessage (shadows.invoke_node id 2 (sent_total names.now agreement stamp content.now))) result }
 {
     let mut out = Backwards::new(alloc);
-    put_update(alloc, &mut out, start, names, id, agreement, stamp, content)?;
+    put_update(
+        alloc, &mut out, start, names, last, id, agreement, stamp, content,
+    )?;
     Ok(out.into_octets())
 }
 
@@ -185,6 +192,7 @@ pub(crate) fn write_shadow(
     alloc: Global,
     start: &Start,
     names: &AgentNames,
+    last: &mut WrittenEntries,
     id: u32,
     message: &Shadow,
 ) -> Result<Vec<u8>, WriteFault>
@@ -195,7 +203,7 @@ pub(crate) fn write_shadow(
             agreement,
             stamp,
             refresh: Refresh::Total(content),
-        } => write_update(alloc, start, names, id, *agreement, *stamp, content),
+        } => write_update(alloc, start, names, last, id, *agreement, *stamp, content),
         _ => write_other(alloc, start, names, id, message),
     }
 }

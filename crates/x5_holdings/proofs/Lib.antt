@@ -10,5 +10,6 @@ pub mod Filled
 pub mod Changed
 pub mod Placing
 pub mod Replacing
+pub mod Unchanged
 pub mod Under
 pub mod Standing

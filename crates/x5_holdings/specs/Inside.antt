@@ -1,5 +1,6 @@
 -- What is kept of a context, and of all that an agent holds.
-use Rattle.std.specs.Prelude.{◌≡◌, true, map}
+use Rattle.std.specs.Prelude.{◌≡◌, true, map, IfSome}
+use Rattle.x5_dse.specs.Linked.{entries_of}
 use Rattle.x5_model.specs.Values.{key_of}
 use Rattle.x5_holdings.specs.Rows.{AreRowsOf}
 use Rattle.x5_holdings.specs.State.{Kept, CopyKept, State, IsKept, IsBrought, are_once, are_apart}
@@ -23,6 +24,7 @@ pub record IsHeld (h : held.Inside) : Type 0 where
   pub kept : IsKept (kept_view h)
   pub below : AreRowsOf h.below (map (λ k. key_of k.pin) h.subordinate)
   pub wide : AreRowsOf h.wide (map (λ n. key_of n.at) h.nssrs)
+  pub listed : IfSome h.listing (λ l. l ≡ entries_of h.tree.nodes)
 
 -- a context that is being filled, its postings as they came
 abbrev pub filling_view : filling.Inside → Kept

@@ -1,7 +1,10 @@
 -- One of the contexts that an agent masters, or one of its copies, changes, by its place among them; nothing else of
 -- what the agent holds does.
-use Rattle.std.specs.Prelude.{◌≡◌, ℕ, slice_get, slice_set}
+use Rattle.std.specs.Prelude.{◌≡◌, ℕ, List, slice_get, slice_set}
 use Rattle.std.specs.declared.option.Option.TheVariants.{Some}
+use Rattle.x5_ops.specs.declared.knowledge.Specific.{Specific}
+use Rattle.x5_ops.specs.declared.knowledge.Nssr.{Nssr}
+use Rattle.x5_holdings.specs.Logs.{Log}
 use Rattle.x5_holdings.specs.State.{Kept, CopyKept, State}
 
 pub record IsOwnChanged (old : State) (place : ℕ) (how : Kept → Kept → Type 0) (new : State) : Type 0 where
@@ -26,3 +29,11 @@ pub record IsBroughtChanged (how : Kept → Kept → Type 0) (old after : CopyKe
   pub was : old.refreshed ≡ Some (before, stamp)
   pub changed : how before now
   pub after_is : after ≡ record old { refreshed = Some (now, stamp) }
+
+-- a copy keeps the entries that refreshes brought, and has this log, these references and this stamp (X.525, section 11.3)
+pub record IsRenewed (log : Log) (subordinate : List Specific) (nssrs : List Nssr) (stamp : ℕ) (old after : CopyKept) : Type 0 where
+  pub last : ℕ
+  pub before : Kept
+  pub was : old.refreshed ≡ Some (before, last)
+  pub after_is :
+      after ≡ record old { refreshed = Some (record before { log = log; subordinate = subordinate; nssrs = nssrs }, stamp) }

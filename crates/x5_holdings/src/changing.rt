@@ -56,6 +56,7 @@ impl Held {
     {
         let entry = self.tree.remove(node)?;
         self.postings.drop_node(node.0, &entry);
+        self.listing = None;
         Ok(entry)
     }
 
@@ -72,6 +73,7 @@ impl Held {
     {
         let before = self.tree.replace(node, entry);
         self.postings.change(node.0, &before, room);
+        self.listing = None;
         before
     }
 
@@ -99,6 +101,7 @@ impl Held {
     {
         let before = self.tree.rename(node, rdn, entry)?;
         self.postings.change(node.0, &before, room);
+        self.listing = None;
         Ok(before)
     }
 

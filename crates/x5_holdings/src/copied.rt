@@ -4,16 +4,17 @@ ghost use Rattle.std.specs.Prelude.{◌≡◌, ◌<◌, IsSomeAnd, IsTrue, lengt
 ghost use Rattle.std.specs.Option.{is_some, option_map};
 ghost use Rattle.x5_model.specs.Values.{key_of};
 ghost use Rattle.x5_holdings.specs.Making.{HasRoomFor, IsChanged, IsLeft, IsReady, IsSame};
-ghost use Rattle.x5_holdings.specs.Placed.{IsBroughtChanged, IsCopyChanged};
+ghost use Rattle.x5_holdings.specs.Placed.{IsBroughtChanged, IsCopyChanged, IsRenewed};
 ghost use Rattle.x5_holdings.specs.State.{CopyKept};
 
 use crate::below::Below;
 use crate::changing::EntryChange;
 use crate::held::{Copied, Held};
 use crate::holdings::Holdings;
-use crate::log::Logged;
+use crate::log::{ChangeLog, Logged};
+use std::alloc::Global;
 use x5_memory::NoMemory;
-use x5_ops::Moment;
+use x5_ops::{Moment, NssrList, SpecificList};
 
 impl Copied {
     /// Takes what a refresh brought in place of what was there, with its stamp. No memory.
@@ -22,6 +23,30 @@ impl Copied {
         ensures { self.new ≡ record self.old { refreshed = Some (held, stamp) } }
     {
         self.refreshed = Some((held, stamp));
+    }
+
+    /// Keeps the entries that refreshes brought, with this log and these references, and a stamp. After want of memory all is as it
+    /// was.
+    fn renew(
+        &mut self,
+        alloc: Global,
+        log: ChangeLog,
+        subordinate: SpecificList,
+        nssrs: NssrList,
+        stamp: Moment,
+    ) -> Result<(), NoMemory>
+        requires { IsTrue (is_some self.old.refreshed) }
+        ensures ok { OnOk result (IsRenewed log subordinate nssrs stamp self.old self.new) }
+        ensures err { OnErr result (self.new ≡ self.old) }
+    {
+        match &mut self.refreshed {
+            Some((held, last)) => {
+                held.renew(alloc, log, subordinate, nssrs)?;
+                *last = stamp;
+                Ok(())
+            }
+            None => unreachable!(),
+        }
     }
 
     /// Makes room for so many entries with so many values, and for so many changes in the log. After want of memory all is as it
@@ -76,6 +101,28 @@ impl Holdings {
         )?;
         self.copies[copy].take(held, stamp);
         self.tables.below_copies = below;
+        Ok(())
+    }
+
+    /// Keeps the entries that refreshes brought of its copy of this place, and has this log, these references and this stamp for it: so
+    /// it takes a total refresh that brings the same entries again (X.525, section 11.3). After want of memory all is as it was.
+    pub fn renew_copy(
+        &mut self,
+        alloc: Global,
+        copy: usize,
+        log: ChangeLog,
+        subordinate: SpecificList,
+        nssrs: NssrList,
+        stamp: Moment,
+    ) -> Result<(), NoMemory>
+        requires there { copy < length self.old.copies }
+        requires refreshed { (c : CopyKept) → slice_get self.old.copies copy ≡ Some c → IsTrue (is_some c.refreshed) }
+        ensures ok { OnOk result (IsCopyChanged self.old copy (IsRenewed log subordinate nssrs stamp) self.new) }
+        ensures err { OnErr result (self.new ≡ self.old) }
+    {
+        let references = Below::with_copy(alloc, &self.copies, copy, subordinate.as_slice())?;
+        self.copies[copy].renew(alloc, log, subordinate, nssrs, stamp)?;
+        self.tables.below_copies = references;
         Ok(())
     }
 

@@ -108,6 +108,7 @@ impl Filling {
             nssrs: self.nssrs,
             below: self.below,
             wide: self.wide,
+            listing: None,
         }
     }
 }

@@ -1,6 +1,6 @@
 //! Contexts that an agent holds, with their entries and the knowledge that goes with them.
 
-ghost use Rattle.std.specs.Prelude.{◌≡◌, ◌+◌, ◌<◌, ◌≤◌, ◌∷◌, [], IfOk, IfErr, OnOk, OnErr, IsTrue, length, map, option_map};
+ghost use Rattle.std.specs.Prelude.{◌≡◌, ◌+◌, ◌<◌, ◌≤◌, ◌∷◌, [], IfOk, IfErr, IfSome, OnOk, OnErr, IsTrue, length, map, option_map};
 ghost use Rattle.x5_model.specs.Attributes.{is_ordered};
 ghost use Rattle.x5_model.specs.Values.{key_of};
 ghost use Rattle.x5_model_run.specs.Holdings.{may_copy};
@@ -22,10 +22,11 @@ use x5_index::{Postings, Room};
 use x5_match::Entry;
 use x5_memory::NoMemory;
 use x5_names::{Name, Rdn};
-use x5_ops::{AgentId, Moment, Nssr, NssrList, Request, Specific, SpecificList};
+use x5_ops::{AgentId, Moment, Named, NamedList, Nssr, NssrList, Request, Specific, SpecificList};
 
 /// A naming context: its entries, among them its prefix's, an index of their values, the log of its changes, and the subordinate
-/// references and NSSRs that belong to it (X.501, section 22).
+/// references and NSSRs that belong to it (X.501, section 22). Its entries may stand in a list besides, in which refreshes send them and
+/// bring them, until they change.
 #[derive(Debug, Drop)]
 pub struct Held {
     pub(crate) prefix: Name,
@@ -36,6 +37,7 @@ pub struct Held {
     pub(crate) nssrs: NssrList,
     pub(crate) below: Pins,
     pub(crate) wide: Pins,
+    pub(crate) listing: Option<NamedList>,
 }
 
 impl Model for Held {
@@ -82,6 +84,7 @@ impl Held {
             nssrs,
             below,
             wide,
+            listing: None,
         })
     }
 
@@ -152,6 +155,28 @@ impl Held {
         self.nssrs.as_slice().get(place)
     }
 
+    /// Keeps its entries with their index, and has this log and these references from now on, as after a refresh that brings the same
+    /// entries (X.525, section 11.3). After want of memory the context is as it was.
+    pub(crate) fn renew(
+        &mut self,
+        alloc: Global,
+        log: ChangeLog,
+        subordinate: SpecificList,
+        nssrs: NssrList,
+    ) -> Result<(), NoMemory>
+        ensures ok { OnOk result (self.new ≡ record self.old { log = log; subordinate = subordinate; nssrs = nssrs }) }
+        ensures err { OnErr result (self.new ≡ self.old) }
+    {
+        let below = pins_of_references(alloc, subordinate.as_slice())?;
+        let wide = entries_of_nssrs(alloc, nssrs.as_slice())?;
+        self.log = log;
+        self.subordinate = subordinate;
+        self.nssrs = nssrs;
+        self.below = below;
+        self.wide = wide;
+        Ok(())
+    }
+
     /// Makes room for so many entries with so many values. After want of memory the context is as it was.
     pub fn reserve(&mut self, entries: usize, values: usize) -> Result<(), NoMemory>
         ensures nodes { self.new.nodes.nodes ≡ self.old.nodes.nodes }
@@ -182,7 +207,26 @@ impl Held {
     {
         let node = self.tree.insert(name, entry)?;
         self.postings.put(node.0, room);
+        self.listing = None;
         Ok(node)
+    }
+
+    /// The entries in the order of their names' keys, if they are listed. No memory.
+    pub fn listing(&self) -> Option<&[Named]>
+        ensures { IfSome result (λ l. l.now ≡ entries_of self.now.nodes.nodes) }
+    {
+        match &self.listing {
+            Some(entries) => Some(entries.as_slice()),
+            None => None,
+        }
+    }
+
+    /// These are its entries in the order of their names' keys: they are listed from now on, until they change. No memory.
+    pub fn list(&mut self, entries: NamedList)
+        requires { entries ≡ entries_of self.old.nodes.nodes }
+        ensures { self.new ≡ self.old }
+    {
+        self.listing = Some(entries);
     }
 }
 

@@ -1,6 +1,7 @@
 //! Changes of one of the contexts that an agent masters.
 
 ghost use Rattle.std.specs.Prelude.{◌≡◌, ◌<◌, length, slice_get, OnOk, Some};
+ghost use Rattle.x5_dse.specs.Linked.{entries_of};
 ghost use Rattle.x5_holdings.specs.Making.{HasRoom, IsChanged, IsReady, IsSame};
 ghost use Rattle.x5_holdings.specs.Placed.{IsOwnChanged};
 ghost use Rattle.x5_holdings.specs.State.{Kept};
@@ -9,8 +10,19 @@ use crate::changing::EntryChange;
 use crate::holdings::Holdings;
 use crate::log::Logged;
 use x5_memory::NoMemory;
+use x5_ops::NamedList;
 
 impl Holdings {
+    /// These are the entries of the context of this place that it masters, in the order of their names' keys: they are listed from now
+    /// on, until they change. No memory.
+    pub fn list_own(&mut self, own: usize, entries: NamedList)
+        requires there { own < length self.old.own }
+        requires listed { (c : Kept) → slice_get self.old.own own ≡ Some c → entries ≡ entries_of c.nodes.nodes }
+        ensures { self.new ≡ self.old }
+    {
+        self.own[own].list(entries);
+    }
+
     /// Makes room at the context of this place that it masters, for so many entries with so many values and a change in the
     /// context's log. After want of memory all is as it was.
     pub fn make_room(&mut self, own: usize, entries: usize, values: usize) -> Result<(), NoMemory>

@@ -4,9 +4,10 @@ ghost use Rattle.x5_dispber.specs.ShadowViews.{told_shadow};
 ghost use Rattle.x5_shadow_wire.specs.Carried.{asked_of, asking};
 
 use crate::counts;
+use crate::last::LastTotal;
 use crate::shadows::carried_shadow;
 use std::alloc::Global;
-use x5_dispber::{SeenEntries, Shadow};
+use x5_dispber::Shadow;
 use x5_know::{AgentNames, Start};
 use x5_memory::NoMemory;
 use x5_ops::Moment;
@@ -81,8 +82,8 @@ pub fn carried_asked(
     counts::number(asked.agreement);
     counts::moment(asked.last);
     let message = opening(push, asked);
-    let mut seen = SeenEntries::none(alloc);
-    let taken = carried_shadow(alloc, start, names, &mut seen, &message)?;
+    let mut last = LastTotal::none(alloc);
+    let taken = carried_shadow(alloc, start, names, &mut last, &message)?;
     match asked_in(&taken) {
         Some(asked) => Ok(asked),
         None => unreachable!(),

@@ -5,13 +5,14 @@
 
 mod asked;
 mod counts;
+mod last;
 mod replied;
 mod shadows;
 mod updates;
 
 pub use crate::asked::{Asked, carried_asked};
+pub use crate::last::LastTotal;
 pub use crate::replied::{Problem, carried_problem};
 pub use crate::shadows::carried_shadow;
 pub use crate::updates::{Update, carried_update};
-pub use x5_dispber::SeenEntries;
 pub use x5_memory::NoMemory;

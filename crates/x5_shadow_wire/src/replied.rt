@@ -7,9 +7,10 @@ ghost use Rattle.x5_ops.specs.RefreshViews.{operation_view};
 ghost use Rattle.x5_shadow_wire.specs.Carried.{code_of, problem_of, replying};
 
 use crate::counts;
+use crate::last::LastTotal;
 use crate::shadows::carried_shadow;
 use std::alloc::Global;
-use x5_dispber::{SeenEntries, Shadow};
+use x5_dispber::Shadow;
 use x5_know::{AgentNames, Start};
 use x5_memory::NoMemory;
 use x5_ops::{Moment, ShadowOperation};
@@ -96,8 +97,8 @@ pub fn carried_problem(
 {
     counted(&problem);
     let message = reply(operation, problem);
-    let mut seen = SeenEntries::none(alloc);
-    let taken = carried_shadow(alloc, start, names, &mut seen, &message)?;
+    let mut last = LastTotal::none(alloc);
+    let taken = carried_shadow(alloc, start, names, &mut last, &message)?;
     match problem_in(&taken) {
         Some(problem) => Ok(problem),
         None => unreachable!(),

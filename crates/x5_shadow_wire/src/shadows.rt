@@ -7,8 +7,11 @@ ghost use Rattle.x5_model_typed.specs.Named as named;
 ghost use Rattle.x5_model_typed.specs.Typed.{Spells};
 ghost use Rattle.x5_types.specs.FormView.{world, world_table};
 
+use crate::last::LastTotal;
 use std::alloc::Global;
-use x5_dispber::{SeenEntries, Shadow, WireFault, WriteFault, decode_shadow, encode_shadow};
+use x5_dispber::{
+    ReadEntries, Shadow, WireFault, WriteFault, WrittenEntries, decode_shadow, encode_shadow,
+};
 use x5_know::{AgentNames, Start};
 use x5_memory::NoMemory;
 use x5_syntax::Octets;
@@ -21,13 +24,14 @@ fn octets_of(
     alloc: Global,
     start: &Start,
     names: &AgentNames,
+    last: &mut WrittenEntries,
     message: &Shadow,
 ) -> Result<Octets, NoMemory>
     requires { ShadowWithin (world start.now names.now) (told_shadow names.now message.now) }
     ensures { IfOk result (λ octets. Spells (world_table start.now names.now) named.DispMessage octets (shadows.shadow_node 1 (told_shadow names.now message.now))) }
 {
     start.reads_back();
-    match encode_shadow(alloc, start, names, ID, message) {
+    match encode_shadow(alloc, start, names, last, ID, message) {
         Ok(octets) => Ok(octets),
         Err(WriteFault::NoMemory) => Err(NoMemory),
         Err(WriteFault::Misfit) => unreachable!(),
@@ -39,7 +43,7 @@ fn read(
     alloc: Global,
     start: &Start,
     names: &AgentNames,
-    seen: &mut SeenEntries,
+    seen: &mut ReadEntries,
     octets: &[u8],
 ) -> Result<Shadow, NoMemory>
     requires spelled { (id : ℕ) × (m : shadows.Shadow) × ShadowWithin (world start.now names.now) m × Spells (world_table start.now names.now) named.DispMessage octets.now (shadows.shadow_node id m) }
@@ -55,17 +59,17 @@ fn read(
 }
 
 /// A message of shadowing as its receiver has it, in a world whose start and agents both ends share: what is read in the octets that
-/// it's written as (X.519, section 7: DISP). It tells just what was sent, whatever entries of refreshes the receiver has seen.
+/// it's written as (X.519, section 7: DISP). It tells just what was sent, whatever entries of refreshes were written and seen before.
 pub fn carried_shadow(
     alloc: Global,
     start: &Start,
     names: &AgentNames,
-    seen: &mut SeenEntries,
+    last: &mut LastTotal,
     message: &Shadow,
 ) -> Result<Shadow, NoMemory>
     requires { ShadowWithin (world start.now names.now) (told_shadow names.now message.now) }
     ensures { IfOk result (λ taken. told_shadow names.now taken ≡ told_shadow names.now message.now) }
 {
-    let octets = octets_of(alloc, start, names, message)?;
-    read(alloc, start, names, seen, octets.as_slice())
+    let octets = octets_of(alloc, start, names, &mut last.written, message)?;
+    read(alloc, start, names, &mut last.seen, octets.as_slice())
 }

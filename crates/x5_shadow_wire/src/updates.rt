@@ -10,9 +10,10 @@ ghost use Rattle.x5_shadow_wire.specs.Carried.{IsSame, IsUpdate, bringing};
 ghost use Rattle.x5_types.specs.FormView.{world};
 
 use crate::counts;
+use crate::last::LastTotal;
 use crate::shadows::carried_shadow;
 use std::alloc::Global;
-use x5_dispber::{Refresh, SeenEntries, Shadow};
+use x5_dispber::{Refresh, Shadow};
 use x5_know::{AgentNames, Start};
 use x5_memory::NoMemory;
 use x5_ops::{Moment, StepList};
@@ -91,12 +92,12 @@ fn update_in(alloc: Global, message: Shadow) -> Option<Update>
 
 /// What a supplier sends as the consumer has it: what is read in the octets that it's written as. It is just what was sent, but for the
 /// contexts to which references belong. What it brings is within the limits of messages, and the names are those of the
-/// world's agents. Entries that come again as the consumer has seen them it doesn't read again.
+/// world's agents. Entries that come again are neither written nor read again.
 pub fn carried_update(
     alloc: Global,
     start: &Start,
     names: &AgentNames,
-    seen: &mut SeenEntries,
+    last: &mut LastTotal,
     update: Update,
 ) -> Result<Update, NoMemory>
     requires within { RefreshWithin (world start.now names.now) (bringing names.now update.brought) }
@@ -106,7 +107,7 @@ pub fn carried_update(
     counts::number(update.agreement);
     counts::moment(Some(update.stamp));
     let message = message_of(update);
-    let taken = carried_shadow(alloc, start, names, seen, &message)?;
+    let taken = carried_shadow(alloc, start, names, last, &message)?;
     match update_in(alloc, taken) {
         Some(update) => Ok(update),
         None => unreachable!(),

@@ -1,6 +1,6 @@
 -- What stands at the place that a table gives is the one context, or copy, of the prefix: no two have one prefix.
-use Rattle.std.proofs.Common.{◌≡◌, ℕ, zero, suc, Bool, true, List, [], ◌∷◌, map, refl, sym, ap, subst, ◌∙◌, Option, Some, None, Bor}
-use Rattle.std.specs.Prelude.{slice_get}
+use Rattle.std.proofs.Common.{◌≡◌, ◌<◌, ℕ, zero, suc, Bool, true, List, [], ◌∷◌, length, map, refl, sym, ap, subst, ◌∙◌, Option, Some, None, Bor}
+use Rattle.std.specs.Prelude.{slice_get, slice_index_or}
 use Rattle.std.specs.List.{find}
 use Rattle.std.specs.Option.{option_map}
 use Rattle.std.specs.Slice.{IsItemAt}
@@ -12,7 +12,7 @@ use Rattle.x5_model.proofs.Lists.{of_find, once_map}
 use Rattle.x5_model.proofs.Decide.{once_decides}
 use Rattle.x5_holdings.specs.Known.{IsPlaceOf}
 use Rattle.x5_holdings.proofs.Finding.{find_map}
-use Rattle.x5_holdings.proofs.Holding.{item_got}
+use Rattle.x5_holdings.proofs.Holding.{got, item_got}
 
 in_got : {A : Type 0} (xs : List A) (n : ℕ) (x : A) → slice_get xs n ≡ Some x → In x xs
 in_got {A} [] n x e = cc
@@ -61,3 +61,11 @@ module _ {A B : Type 0} (view : A → B) (of : B → Key) (pin : Key) (xs : List
     pub got_at : (r : Option (Bor A)) → IsItemAt xs n r
         → option_map (λ (x : Bor A). x.now) r ≡ find (λ x. same_key (of (view x)) pin) xs
     got_at r i = item_got xs n r i ∙ sym found_at
+
+-- what is indexed is what is got
+pub one_there : {A : Type 0} (xs : List A) (n : ℕ) (x y : A) → n < length xs → x ≡ slice_index_or xs n x
+    → slice_get xs n ≡ Some y → x ≡ y
+one_there xs n x y lt is e = inside (sym (got xs n x lt is) ∙ e)
+  where
+    inside : Some x ≡ Some y → x ≡ y
+    inside q = cc

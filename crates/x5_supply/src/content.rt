@@ -20,7 +20,7 @@ fn master_content(alloc: Global, state: &Holdings, held: &Held) -> Result<Conten
     ensures { IfOk result (λ content. content ≡ content_of_master state.now held.now) }
 {
     Ok(Content {
-        entries: entries(alloc, held.tree())?,
+        entries: entries(alloc, held)?,
         specific: of_master(alloc, state, held)?,
         nssr: nssrs(alloc, held.nssrs())?,
     })
@@ -31,7 +31,7 @@ fn copy_content(alloc: Global, held: &Held) -> Result<Content, NoMemory>
     ensures { IfOk result (λ content. content ≡ content_of_copy held.now) }
 {
     Ok(Content {
-        entries: entries(alloc, held.tree())?,
+        entries: entries(alloc, held)?,
         specific: all(alloc, held.subordinate())?,
         nssr: nssrs(alloc, held.nssrs())?,
     })

@@ -11,6 +11,7 @@ mod standing;
 mod steps;
 
 pub use content::total;
+pub use entries::list_entries;
 pub use fault::{FULL_UPDATE_REQUIRED, INACTIVE_AGREEMENT, SupplyFault};
 pub use sources::stamp;
 pub use standing::supplying;

@@ -4,7 +4,9 @@ use crate::spelled::{front, octets};
 use jiff::civil::Date;
 use std::alloc::Global;
 use std::test::Fail;
-use x5_dispber::{BerFault, SeenEntries, Shadow, WireFault, decode_shadow, encode_shadow};
+use x5_dispber::{
+    BerFault, ReadEntries, Shadow, WireFault, WrittenEntries, decode_shadow, encode_shadow,
+};
 use x5_know::{AgentNames, Start};
 use x5_ops::AgentName;
 use x5_syntax::Text;
@@ -58,6 +60,9 @@ const TIME: usize = 15;
 
 const MASTER: usize = 94;
 
+/// The last letter of the entry's name in `TOTAL`.
+const LETTER: usize = 52;
+
 /// Where the entry of `PART` begins, and the reference of `NO_MASTER`.
 const ENTRY: usize = 36;
 
@@ -77,18 +82,28 @@ fn agents(alloc: Global) -> Result<AgentNames, Fail> {
     Ok(names)
 }
 
-/// Whether the octets are read as a message with the id, which is written as them again.
-fn message_comes_back(alloc: Global, digits: &str, wanted: u32) -> Result<bool, Fail> {
-    let octets = octets(alloc, digits)?;
+/// Whether the octets are read as a message with the id, which is written as them again, whatever was written last.
+fn octets_come_back(
+    alloc: Global,
+    last: &mut WrittenEntries,
+    octets: &[u8],
+    wanted: u32,
+) -> Result<bool, Fail> {
     let names = agents(alloc)?;
     let Some(start) = start() else {
         return Ok(false);
     };
-    let mut seen = SeenEntries::none(alloc);
-    let (id, message) = decode_shadow(alloc, &start, &names, &mut seen, &octets)?;
-    let written = encode_shadow(alloc, &start, &names, id, &message);
+    let mut seen = ReadEntries::none(alloc);
+    let (id, message) = decode_shadow(alloc, &start, &names, &mut seen, octets)?;
+    let written = encode_shadow(alloc, &start, &names, last, id, &message);
     drop(message);
-    Ok(id == wanted && written?.as_slice() == octets.as_slice())
+    Ok(id == wanted && written?.as_slice() == octets)
+}
+
+/// The same of octets by their digits, where nothing was written before.
+fn message_comes_back(alloc: Global, digits: &str, wanted: u32) -> Result<bool, Fail> {
+    let octets = octets(alloc, digits)?;
+    octets_come_back(alloc, &mut WrittenEntries::none(), &octets, wanted)
 }
 
 #[test]
@@ -112,7 +127,7 @@ fn fault(alloc: Global, octets: &[u8]) -> Result<Option<WireFault>, Fail> {
     let names = agents(alloc)?;
     match start() {
         Some(start) => {
-            let mut seen = SeenEntries::none(alloc);
+            let mut seen = ReadEntries::none(alloc);
             Ok(decode_shadow(alloc, &start, &names, &mut seen, octets).err())
         }
         None => Ok(None),
@@ -126,6 +141,18 @@ fn changed(alloc: Global, digits: &str, place: usize, octet: u8) -> Result<Vec<u
         other[place] = octet;
     }
     Ok(other)
+}
+
+#[test]
+fn refreshes_come_back_whatever_was_written_last(rt: HostRuntime) -> Result<(), Fail> {
+    let alloc = rt.alloc();
+    let mut last = WrittenEntries::none();
+    // C=NL twice, then C=NO, and C=NL again
+    for letter in [0x4c, 0x4c, 0x4f, 0x4c] {
+        let octets = changed(alloc, TOTAL, LETTER, letter)?;
+        assert!(rt; octets_come_back(alloc, &mut last, &octets, 3)?);
+    }
+    Ok(())
 }
 
 #[test]

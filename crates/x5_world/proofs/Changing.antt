@@ -107,6 +107,10 @@ of_states n items = record n { agents = map holdings_view items; logs = map logs
 abbrev pub IsLike : State → State → Type 0
 IsLike s t = (holdings_view t ≡ holdings_view s) × (logs_view t ≡ logs_view s)
 
+-- where nothing that contracts see changed
+pub unchanged : (s t : State) → t ≡ s → IsLike s t
+unchanged s t e = (ap holdings_view e, ap logs_view e)
+
 -- as with another moment
 pub later : (s t : State) (moment : ℕ) → t ≡ record s { moment = moment } → IsLike s t
 later s t moment e = (ap holdings_view e, ap logs_view e)

@@ -25,7 +25,7 @@ use x5_memory::NoMemory;
 use x5_ops::{Fate, Line, LineList, Listed, Moment, Refreshed, ShadowOperation};
 use x5_refresh as refresh;
 use x5_refresh::{Brought, ended, opens};
-use x5_shadow_wire::SeenEntries;
+use x5_shadow_wire::LastTotal;
 
 /// invalidAgreementID (X.525, section 12): there is no agreement of this number.
 const INVALID_AGREEMENT_ID: u8 = 1;
@@ -178,7 +178,7 @@ fn updated(
     alloc: Global,
     start: &Start,
     world: &mut World,
-    seen: &mut Vec<SeenEntries>,
+    seen: &mut Vec<LastTotal>,
     by: &Way,
     lines: LineList,
     supplied: Supplied,
@@ -230,7 +230,7 @@ fn opened(
     alloc: Global,
     start: &Start,
     world: &mut World,
-    seen: &mut Vec<SeenEntries>,
+    seen: &mut Vec<LastTotal>,
     by: &Way,
     supplied: Supplied,
 ) -> Result<Refreshment, NoMemory>
@@ -295,7 +295,7 @@ fn by_place(
     alloc: Global,
     start: &Start,
     world: &mut World,
-    seen: &mut Vec<SeenEntries>,
+    seen: &mut Vec<LastTotal>,
     place: usize,
     push: bool,
     total: bool,
@@ -320,12 +320,12 @@ fn by_place(
     }
 }
 
-/// A refresh by the agreement of this number, or its problem where there is none. Consumers have seen this.
+/// A refresh by the agreement of this number, or its problem where there is none. The ends of agreements have seen this.
 pub(crate) fn refreshed(
     alloc: Global,
     start: &Start,
     world: &mut World,
-    seen: &mut Vec<SeenEntries>,
+    seen: &mut Vec<LastTotal>,
     number: u32,
     push: bool,
     total: bool,

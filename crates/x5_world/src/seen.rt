@@ -1,4 +1,4 @@
-//! What consumers have seen of total refreshes, agreement by agreement: entries that come again from the same octets aren't read again.
+//! What both ends of each agreement have seen of its last total refresh: entries that come again are neither written nor read again.
 
 ghost use Rattle.std.specs.Prelude.{◌≡◌, IfOk, length};
 ghost use Rattle.x5_model_shadowed.specs.Agents.{AreAgents};
@@ -9,28 +9,29 @@ ghost use Rattle.x5_types.specs.FormView.{world};
 use std::alloc::Global;
 use x5_know::{AgentNames, Agreement, Start};
 use x5_memory::NoMemory;
-use x5_shadow_wire::{SeenEntries, Update, carried_update};
+use x5_shadow_wire::{LastTotal, Update, carried_update};
 
 /// Before the first refresh: nothing by any agreement.
 pub(crate) fn nothing_seen(
     alloc: Global,
     agreements: &[Agreement],
-) -> Result<Vec<SeenEntries>, NoMemory>
+) -> Result<Vec<LastTotal>, NoMemory>
     ensures { IfOk result (λ seen. length seen.items ≡ length agreements.now) }
 {
     let mut seen = Vec::new(alloc);
     for _ in agreements {
-        seen.push(SeenEntries::none(alloc))?;
+        seen.push(LastTotal::none(alloc))?;
     }
     Ok(seen)
 }
 
-/// What a supplier sends by the agreement of a place, as the consumer has it, which has seen this (X.525, section 11.3).
+/// What a supplier sends by the agreement of a place, as the consumer has it, where both ends of the agreements have seen this (X.525,
+/// section 11.3).
 pub(crate) fn carried_by(
     alloc: Global,
     start: &Start,
     names: &AgentNames,
-    seen: &mut Vec<SeenEntries>,
+    seen: &mut Vec<LastTotal>,
     place: usize,
     update: Update,
 ) -> Result<Update, NoMemory>
@@ -40,6 +41,6 @@ pub(crate) fn carried_by(
 {
     match seen.get_mut(place) {
         Some(entries) => carried_update(alloc, start, names, entries, update),
-        None => carried_update(alloc, start, names, &mut SeenEntries::none(alloc), update),
+        None => carried_update(alloc, start, names, &mut LastTotal::none(alloc), update),
     }
 }

@@ -23,7 +23,7 @@ use x5_memory::NoMemory;
 use x5_ops::{Fate, Moment, Refreshed, ShadowOperation};
 use x5_refresh as refresh;
 use x5_refresh::{Brought, begins};
-use x5_shadow_wire::{Asked, Problem, SeenEntries, Update, carried_asked, carried_problem};
+use x5_shadow_wire::{Asked, LastTotal, Problem, Update, carried_asked, carried_problem};
 
 /// What the consumer reads of what the supplier sends: by which agreement, its stamp, and what it brings.
 #[derive(Debug, Drop)]
@@ -193,12 +193,12 @@ pub(crate) fn answered(
     replied(alloc, start, names, by.push, begun)
 }
 
-/// What the consumer, which has seen this, has of what the supplier sends (updateShadow).
+/// What the consumer has of what the supplier sends (updateShadow), where both ends have seen this.
 pub(crate) fn update_read(
     alloc: Global,
     start: &Start,
     world: &World,
-    seen: &mut Vec<SeenEntries>,
+    seen: &mut Vec<LastTotal>,
     by: &Way,
     supplied: Supplied,
 ) -> Result<Arrived, NoMemory>

@@ -54,12 +54,13 @@ use x5_know::{AgentNames, Agreement, AgreementList, Described, Start};
 use x5_memory::NoMemory;
 use x5_ops::{AgentId, Chained, Fate, Journal, Listed, Moment, Outage, Reply, Request};
 use x5_refresh::Brought;
-use x5_shadow_wire::SeenEntries;
-use x5_supply::SupplyFault;
+use x5_shadow_wire::LastTotal;
+use x5_supply::{SupplyFault, list_entries};
 use x5_typed::Breach;
 
 /// The agents with what each holds, the network between them, and their agreements with the stamp of the last refresh by each that
-/// its supplier knows to be taken; and what each consumer has seen of total refreshes, which changes nothing but how long they take.
+/// its supplier knows to be taken; and what both ends of each agreement have seen of total refreshes, which changes nothing but how long
+/// they take.
 #[derive(Drop)]
 pub struct World {
     names: AgentNames,
@@ -71,7 +72,7 @@ pub struct World {
     agreements: AgreementList,
     acked: Vec<Option<Moment>>,
     line: u32,
-    seen: Vec<SeenEntries>,
+    seen: Vec<LastTotal>,
 }
 
 impl Model for World {
@@ -222,9 +223,22 @@ impl World {
         self.acked[place]
     }
 
-    /// What the agreement's supplier sends at this line, from the moment that it goes on from, or its problem (X.525, section 11.2).
-    /// It is within the limits of messages.
-    pub(crate) fn supply(
+    /// The agreement's supplier lists the entries of its context, if it masters that, so that a total refresh needs not go through its
+    /// tree again. The network is the same.
+    fn list_entries(&mut self, alloc: Global, agreement: &Agreement) -> Result<(), NoMemory>
+        requires { agreement.now.supplier < length self.old.names }
+        ensures { self.new ≡ self.old }
+    {
+        let agent = agreement.supplier;
+        list_entries(
+            alloc,
+            &mut self.agents[agent.0 as usize],
+            &agreement.context,
+        )
+    }
+
+    /// What the agreement's supplier sends, or its problem, from its tree or from the list that it has made of its entries.
+    fn sent_by(
         &mut self,
         alloc: Global,
         agreement: &Agreement,
@@ -247,6 +261,28 @@ impl World {
             Err(SupplyFault::Shadow(problem)) => Ok(Supplied::Refused(problem)),
             Err(SupplyFault::NoMemory) => Err(NoMemory),
         }
+    }
+
+    /// What the agreement's supplier sends at this line, from the moment that it goes on from, or its problem (X.525, section 11.2).
+    /// It is within the limits of messages.
+    pub(crate) fn supply(
+        &mut self,
+        alloc: Global,
+        agreement: &Agreement,
+        total: bool,
+        last: Option<Moment>,
+    ) -> Result<Supplied, NoMemory>
+        requires { agreement.now.supplier < length self.old.names }
+        ensures same { self.new ≡ self.old }
+        ensures supplied { IfOk result (λ sent. IsSupplied self.old agreement.now total last sent) }
+        ensures known { IfOk result (λ sent. IsKnown (length self.old.names) sent) }
+        ensures bounded { IfOk result (λ sent. IsBounded sent) }
+        ensures told { IfOk result (λ sent. is_of_supplier (problem_in sent) ≡ true) }
+    {
+        if total {
+            self.list_entries(alloc, agreement)?;
+        }
+        self.sent_by(alloc, agreement, total, last)
     }
 
     /// The agreement's consumer takes what was brought, at this line; it can be taken, names agents, and is within the limits of
@@ -518,15 +554,15 @@ impl World {
         Ok(())
     }
 
-    /// What consumers have seen, which the network has no more. No memory.
-    fn take_seen(&mut self, alloc: Global) -> Vec<SeenEntries>
+    /// What the ends of agreements have seen, which the network has no more. No memory.
+    fn take_seen(&mut self, alloc: Global) -> Vec<LastTotal>
         ensures { self.new ≡ self.old }
     {
         replace(&mut self.seen, Vec::new(alloc))
     }
 
-    /// Consumers have seen this. No memory.
-    fn keep_seen(&mut self, seen: Vec<SeenEntries>)
+    /// The ends of agreements have seen this. No memory.
+    fn keep_seen(&mut self, seen: Vec<LastTotal>)
         ensures { self.new ≡ self.old }
     {
         self.seen = seen;

@@ -34,18 +34,18 @@ returns-in_err-put_known c =
     (subst (λ (ks : List Specific). IsLost (knowns w names ks) c.put_others.new.out c.put_known.new.out fault)
     c.as_slice-2.ensures c.in_err-put_known.ensures)
 
-pub returns-in_err-put_entry_list : goal.returns-in_err-put_entry_list
-returns-in_err-put_entry_list c =
+pub returns-in_err-put : goal.returns-in_err-put
+returns-in_err-put c =
     let w = world c.args.start.now c.args.names.now in
     let names = c.args.names.now in
     let t = c.args.content.now in
-    let fault = c.in_err-put_entry_list.field-0.0 in
+    let fault = c.in_err-put.field-0.0 in
     first_lost 0 16 (total w names t)
     (entries w t.entries) (knowns w names t.specific) (others w names t.nssr)
-    fault c.put_known.new.out c.put_entry_list.new.out c.args.out.now c.put_entry_list.new.out
-    c.from_residual-in_err-put_entry_list.result (total_is w names t) c.from_residual-in_err-put_entry_list.ensures.1
-    (subst (λ (es : List model.Named). IsLost (entries w es) c.put_known.new.out c.put_entry_list.new.out fault)
-    c.as_slice-3.ensures (c.in_err-put_entry_list.ensures w))
+    fault c.put_known.new.out c.put.new.out c.args.out.now c.put.new.out
+    c.from_residual-in_err-put.result (total_is w names t) c.from_residual-in_err-put.ensures.1
+    (subst (λ (es : List model.Named). IsLost (entries w es) c.put_known.new.out c.put.new.out fault)
+    c.as_slice-3.ensures (c.in_err-put.ensures.puts w))
 
 pub returns : goal.returns
 returns c =
@@ -54,11 +54,11 @@ returns c =
     let t = c.args.content.now in
     three_put 0 16 c.len-behind.result (total w names t)
     (entries w t.entries) (knowns w names t.specific) (others w names t.nssr)
-    c.args.out.now c.put_others.new.out c.put_known.new.out c.put_entry_list.new.out c.enclose.new.out
+    c.args.out.now c.put_others.new.out c.put_known.new.out c.put.new.out c.enclose.new.out
     (total_is w names t) c.len-behind.ensures c.in_ok-enclose.ensures
     (subst (λ (ns : List Nssr). IsPut (others w names ns) c.args.out.now c.put_others.new.out)
     c.as_slice.ensures c.in_ok-put_others.ensures)
     (subst (λ (ks : List Specific). IsPut (knowns w names ks) c.put_others.new.out c.put_known.new.out)
     c.as_slice-2.ensures c.in_ok-put_known.ensures)
-    (subst (λ (es : List model.Named). IsPut (entries w es) c.put_known.new.out c.put_entry_list.new.out)
-    c.as_slice-3.ensures (c.in_ok-put_entry_list.ensures w))
+    (subst (λ (es : List model.Named). IsPut (entries w es) c.put_known.new.out c.put.new.out)
+    c.as_slice-3.ensures (c.in_ok-put.ensures.puts w))

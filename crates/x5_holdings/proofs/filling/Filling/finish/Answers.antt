@@ -12,4 +12,5 @@ invariant_of-result c = record {
   };
   below = c.self.invariant.below;
   wide = c.self.invariant.wide;
+  listed = tt;
 }

@@ -30,4 +30,5 @@ invariant_of-self-2 c =
       };
       below = c.self.invariant.below;
       wide = c.self.invariant.wide;
+      listed = tt;
     }

@@ -29,4 +29,5 @@ invariant_of-result c =
           c.as_slice.ensures c.in_ok-below.ensures;
       wide = subst (λ (l : List Nssr). AreRowsOf c.in_ok-wide.wide (map (λ (n : Nssr). key_of n.at) l))
           c.as_slice-2.ensures c.in_ok-wide.ensures;
+      listed = tt;
     }

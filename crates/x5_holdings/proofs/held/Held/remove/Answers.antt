@@ -16,4 +16,5 @@ invariant_of-self-2 c = record {
   };
   below = c.self.invariant.below;
   wide = c.self.invariant.wide;
+  listed = tt;
 }

@@ -14,4 +14,5 @@ invariant_of-self c = record {
   };
   below = c.self.invariant.below;
   wide = c.self.invariant.wide;
+  listed = tt;
 }

@@ -15,8 +15,8 @@ use Rattle.x5_world.specs.declared.refreshing.Supplied.TheVariants.{Sent, Refuse
 use Rattle.x5_world.proofs.Agents.{is_bounded, is_known, is_supplied, net_same, same_with}
 use Rattle.x5_world.proofs.Changing.{later}
 use Rattle.x5_world.proofs.Holders.{got_place}
-use Rattle.x5_world.proofs.world.World.supply.Goals.{in-Ok, in-Err-Shadow, in-Err-NoMemory}
-use Rattle.x5_world.proofs.world.World.supply.Goals as goal
+use Rattle.x5_world.proofs.world.World.sent_by.Goals.{in-Ok, in-Err-Shadow, in-Err-NoMemory}
+use Rattle.x5_world.proofs.world.World.sent_by.Goals as goal
 
 carried : {T E : Type 0} (P : T → Type 0) (r q : Result T E) → r ≡ q → IfOk q P → IfOk r P
 carried {T} {E} P r q e h = subst (λ (x : Result T E). IfOk x P) (sym e) h

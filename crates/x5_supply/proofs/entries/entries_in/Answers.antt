@@ -6,7 +6,7 @@ use Rattle.x5_dse.specs.declared.node.NodeId.{NodeId}
 use Rattle.x5_dse.specs.Linked.{entries_of, named_of, node_with}
 use Rattle.x5_holdings.proofs.Posted.{top_live}
 use Rattle.x5_supply.proofs.Nodes.{all_live, all_named, all_inside}
-use Rattle.x5_supply.proofs.entries.entries.Goals as goal
+use Rattle.x5_supply.proofs.entries.entries_in.Goals as goal
 
 pub entry-requires : goal.entry-requires
 entry-requires c = top_live c.args.tree.now.nodes c.top.result c.top.ensures
