@@ -9,7 +9,6 @@ mod plain;
 mod refreshes;
 mod replies;
 mod report;
-mod targets;
 mod totals;
 mod words;
 
