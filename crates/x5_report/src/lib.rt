@@ -9,6 +9,7 @@ mod plain;
 mod refreshes;
 mod replies;
 mod report;
+mod targets;
 mod totals;
 mod words;
 

@@ -11,6 +11,7 @@ ghost use Rattle.x5_report.specs.Order as order;
 ghost use Rattle.x5_report.specs.Spelled as spelled;
 
 use crate::order::sorted_rdns;
+use crate::targets::{Target, with_text};
 use crate::words::{fate_word, kind_word, operation_word, shadow_operation, tried_mark, wide_mark};
 use std::alloc::{AllocError, Global};
 use x5_memory::NoMemory;
@@ -65,8 +66,8 @@ fn tail(alloc: Global, t: u32, target: &str, fate: &str) -> Result<String, Alloc
     format!(in alloc; " t={t} {target} {fate}\n")
 }
 
-/// The line of a message of a request; nothing of another.
-fn message(alloc: Global, line: &Line) -> Result<String, NoMemory>
+/// The line of a message of a request; nothing of another. It takes the text of the last message's name where that's its own.
+fn message(alloc: Global, last: &mut Option<Target>, line: &Line) -> Result<String, NoMemory>
     ensures { IfOk result (λ text. string_bytes text ≡ spelled.message_text line.now) }
 {
     match line {
@@ -76,18 +77,19 @@ fn message(alloc: Global, line: &Line) -> Result<String, NoMemory>
             operation,
             progress: resolved,
             t,
-            target,
+            target: name,
             fate,
         } => {
             let from = sender(from);
             let to = to.as_str();
             let operation = operation_word(*operation);
             let resolved = progress(alloc, *resolved)?;
-            let target = target.text(alloc)?;
+            let target = with_text(alloc, last.take(), name)?;
             let fate = fate_word(*fate);
             let mut text = head(alloc, from, to, operation, resolved.as_str())?;
-            let tail = tail(alloc, *t, target.as_str(), fate)?;
+            let tail = tail(alloc, *t, target.text(), fate)?;
             text.push_str(tail.as_str())?;
+            *last = Some(target);
             Ok(text)
         }
         Line::Dis { .. } | Line::Raw { .. } => Ok(String::new(alloc)),
@@ -121,8 +123,9 @@ pub(crate) fn messages(alloc: Global, lines: &[Line]) -> Result<String, NoMemory
     ensures { IfOk result (λ text. string_bytes text ≡ flat_map spelled.message_text lines.now) }
 {
     let mut text = String::new(alloc);
+    let mut last = None;
     for line in lines {
-        let message = message(alloc, line)?;
+        let message = message(alloc, &mut last, line)?;
         text.push_str(message.as_str())?;
     }
     Ok(text)
