@@ -1,7 +1,5 @@
 -- What is written of a total refresh is what is written of its parts, one in another.
 use Rattle.std.proofs.Common.{◌≡◌, ℕ, List, [], ◌∷◌, ◌++◌, length, map, refl, ap, subst, sym, ◌∙◌, append-nil}
-use Rattle.std.specs.Global.{Global}
-use Rattle.std.specs.Prelude.{Vec}
 use Rattle.std.specs.Result.{IsErrAnd}
 use Rattle.std.specs.declared.option.Option.{Option}
 use Rattle.std.specs.declared.option.Option.TheVariants.{None, Some}
@@ -22,14 +20,14 @@ use Rattle.x5_model_typed.specs.Written.{one_before, single, written}
 use Rattle.x5_ops.specs.declared.knowledge.Content.{Content}
 use Rattle.x5_ops.specs.declared.knowledge.Nssr.{Nssr}
 use Rattle.x5_ops.specs.declared.knowledge.Specific.{Specific}
-use Rattle.x5_writer.specs.Puts.{Puts, Writes}
+use Rattle.x5_writer.specs.Puts.{Puts}
 use Rattle.x5_writer.specs.declared.fault.WriteFault.{WriteFault}
 use Rattle.x5_writer.specs.declared.fault.WriteFault.TheVariants.{Misfit, NoMemory}
 use Rattle.x5_direct_writer.specs.PutsOf.{Encloses, PutsOf}
 use Rattle.x5_direct_writer.proofs.Putting.{around, enclosed_put, one_put}
 use Rattle.x5_direct_writer.proofs.Wholes.{first_fault, inner_fault, last_put, later_fault, passed_on}
 use Rattle.x5_dispber.specs.ShadowViews.{told_known, told_other, told_shadow}
-use Rattle.x5_dispber.specs.Totals.{AreOctetsOf, entries_octets, sent_total, total_node}
+use Rattle.x5_dispber.specs.Totals.{AreOctetsOf, PutsAlone, entries_octets, sent_total, total_node}
 use Rattle.x5_dispber.specs.declared.shadow.Refresh.{Refresh}
 use Rattle.x5_dispber.specs.declared.shadow.Refresh.TheVariants as brings
 use Rattle.x5_dispber.specs.declared.shadow.Shadow.{Shadow}
@@ -178,28 +176,27 @@ tells_total names m agreement stamp brought t is all =
 
 -- ---- entries as they were written
 
--- what was put before nothing is all that is written
-pub put_alone : (es : List model.Named) (old new : List ℕ) (octets : Vec ℕ Global) → old ≡ [] → octets.items ≡ new
+-- what was put before nothing is all that there is
+pub put_alone : (es : List model.Named) (old new : List ℕ) → old ≡ []
     → PutsOf {Y = Unit {0}} named.Entries (node_of (map shadows.entry_node es)) old new (Ok tt) → (w : Surroundings)
-    → Writes (entries_octets w es) (Ok octets)
-put_alone es old new octets none is put w =
+    → PutsAlone (entries_octets w es) (Ok new)
+put_alone es old new none put w =
     let p = put w in
     ap (in_option None (λ (e : Element). Some (canonical e))) p.1
-    ∙ ap (λ (l : List ℕ). Some l)
-    (sym (is ∙ p.2 ∙ ap (λ (l : List ℕ). canonical p.0 ++ l) none ∙ append-nil (canonical p.0)))
+    ∙ ap (λ (l : List ℕ). Some l) (sym (p.2 ∙ ap (λ (l : List ℕ). canonical p.0 ++ l) none ∙ append-nil (canonical p.0)))
 
 unwritten : (o : Option Element) (old new : List ℕ) (fault : WriteFault) → IsLost o old new fault
-    → Writes (in_option None (λ (e : Element). Some (canonical e)) o) (Err fault)
+    → PutsAlone (in_option None (λ (e : Element). Some (canonical e)) o) (Err fault)
 unwritten o old new Misfit put = ap (in_option None (λ (e : Element). Some (canonical e))) put
 unwritten o old new NoMemory put = tt
 
-pub lost_alone : (es : List model.Named) (old new : List ℕ) (fault : WriteFault) (r : Result (Vec ℕ Global) WriteFault)
+pub lost_alone : (es : List model.Named) (old new : List ℕ) (fault : WriteFault) (r : Result (List ℕ) WriteFault)
     → IsErrAnd r (λ x. x ≡ fault)
     → PutsOf {Y = Unit {0}} named.Entries (node_of (map shadows.entry_node es)) old new (Err fault) → (w : Surroundings)
-    → Writes (entries_octets w es) r
+    → PutsAlone (entries_octets w es) r
 lost_alone es old new fault (Ok octets) is put w = elim is [ ]
 lost_alone es old new fault (Err x) is put w =
-    subst (λ (f : WriteFault). Writes (entries_octets w es) (Err f)) (sym is)
+    subst (λ (f : WriteFault). PutsAlone (entries_octets w es) (Err f)) (sym is)
     (unwritten (entries w es) old new fault (put w))
 
 -- octets that are theirs are put as what is written of them
@@ -220,12 +217,12 @@ none_is None h = refl
 none_is (Some e) h = absurd (cc h)
 
 unput : (o : Option Element) (old new : List ℕ) (fault : WriteFault)
-    → Writes (in_option None (λ (e : Element). Some (canonical e)) o) (Err fault) → IsLost o old new fault
+    → PutsAlone (in_option None (λ (e : Element). Some (canonical e)) o) (Err fault) → IsLost o old new fault
 unput o old new Misfit h = none_is o h
 unput o old new NoMemory h = tt
 
 pub none_put : (es : List model.Named) (old new : List ℕ) (fault : WriteFault) (r : Result (Unit {0}) WriteFault)
-    → IsErrAnd r (λ x. x ≡ fault) → ((w : Surroundings) → Writes (entries_octets w es) (Err fault))
+    → IsErrAnd r (λ x. x ≡ fault) → ((w : Surroundings) → PutsAlone (entries_octets w es) (Err fault))
     → PutsOf named.Entries (node_of (map shadows.entry_node es)) old new r
 none_put es old new fault r is h w =
     passed_on canonical (entries w es) old new fault r is (unput (entries w es) old new fault (h w))

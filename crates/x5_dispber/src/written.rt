@@ -3,12 +3,11 @@
 ghost use Rattle.std.specs.Prelude.{◌≡◌, IfOk, IfSome, None, OnErr, OnOk, Some, map};
 ghost use Rattle.std.specs.Bool.{MatchBool};
 ghost use Rattle.x5_direct_writer.specs.PutsOf.{PutsOf};
-ghost use Rattle.x5_dispber.specs.Totals.{AreOctetsOf, entries_octets};
+ghost use Rattle.x5_dispber.specs.Totals.{AreOctetsOf, PutsAlone, entries_octets};
 ghost use Rattle.x5_model_messages.specs.Shadows as shadows;
 ghost use Rattle.x5_model_messages.specs.Terms.{node_of};
 ghost use Rattle.x5_model_typed.specs.Layouts.{Surroundings};
 ghost use Rattle.x5_model_typed.specs.Named as named;
-ghost use Rattle.x5_writer.specs.Puts.{Writes};
 
 use std::alloc::Global;
 use std::marker::Model;
@@ -22,7 +21,7 @@ use x5_writer::{Backwards, WriteFault};
 #[derive(Drop)]
 struct Written {
     entries: NamedList,
-    octets: Vec<u8>,
+    octets: Backwards,
 }
 
 impl Model for Written {
@@ -34,16 +33,16 @@ impl Model for Written {
 
     ghost view = { λ w. w.entries };
 
-    ghost invariant = { λ w. AreOctetsOf w.entries w.octets.items };
+    ghost invariant = { λ w. AreOctetsOf w.entries w.octets };
 }
 
-/// The canonical octets of the list of entries.
-fn octets_of(alloc: Global, entries: &[Named]) -> Result<Vec<u8>, WriteFault>
-    ensures { (w : Surroundings) → Writes (entries_octets w entries.now) result }
+/// The canonical octets of the list of entries, written apart.
+fn octets_of(alloc: Global, entries: &[Named]) -> Result<Backwards, WriteFault>
+    ensures { (w : Surroundings) → PutsAlone (entries_octets w entries.now) result }
 {
     let mut out = Backwards::new(alloc);
     put_entry_list(alloc, &mut out, entries)?;
-    Ok(out.into_octets())
+    Ok(out)
 }
 
 /// Copies of the entries.
@@ -55,8 +54,8 @@ pub(crate) fn copies(alloc: Global, entries: &[Named]) -> Result<NamedList, NoMe
 
 impl Written {
     /// The entries with their octets.
-    fn new(alloc: Global, entries: &[Named], octets: Vec<u8>) -> Result<Written, NoMemory>
-        requires { AreOctetsOf entries.now octets.items }
+    fn new(alloc: Global, entries: &[Named], octets: Backwards) -> Result<Written, NoMemory>
+        requires { AreOctetsOf entries.now octets }
         ensures { IfOk result (λ written. written ≡ entries.now) }
     {
         let entries = copies(alloc, entries)?;
@@ -74,7 +73,7 @@ impl Written {
     fn put(&self, out: &mut Backwards) -> Result<(), WriteFault>
         ensures { PutsOf named.Entries (node_of (map shadows.entry_node self.now)) out.old out.new result }
     {
-        out.put_all(self.octets.as_slice())?;
+        out.put_written(&self.octets)?;
         Ok(())
     }
 }

@@ -7,8 +7,9 @@ use std::alloc::Global;
 use std::marker::Model;
 use x5_memory::NoMemory;
 
-/// Room is taken for so many octets at once, or for more: most messages have fewer, and take room only once.
-const LEAST_ROOM: usize = 512;
+/// Room is taken for so many octets at once, or for more: most messages have fewer, and take room only once. The C library gives back
+/// a piece of a thousand octets or more with much more work.
+const LEAST_ROOM: usize = 960;
 
 /// Octets, each put before those that are there: so the length of a content is known where its header is put.
 #[derive(Drop)]
@@ -57,6 +58,14 @@ impl Backwards {
         ensures { OnOk result (self.new ≡ octets.now ++ self.old) }
     {
         push_reversed(&mut self.octets, octets)
+    }
+
+    /// Puts those that were written apart.
+    pub fn put_written(&mut self, written: &Backwards) -> Result<(), NoMemory>
+        ensures { OnOk result (self.new ≡ written.now ++ self.old) }
+    {
+        self.octets.extend_from_slice(written.octets.as_slice())?;
+        Ok(())
     }
 
     /// The octets, from the first to the last.

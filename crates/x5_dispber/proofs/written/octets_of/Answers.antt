@@ -1,4 +1,4 @@
--- What is put before nothing is all that is written.
+-- What is put before nothing is all that there is.
 use Rattle.x5_dispber.proofs.Totals.{lost_alone, put_alone}
 use Rattle.x5_dispber.proofs.written.octets_of.Goals as goal
 
@@ -9,5 +9,5 @@ returns-in_err-put_entry_list c =
 
 pub returns : goal.returns
 returns c =
-    put_alone c.args.entries.now c.new-out.result c.put_entry_list.new.out c.into_octets.result c.new-out.ensures
-    c.into_octets.ensures c.in_ok-put_entry_list.ensures
+    put_alone c.args.entries.now c.new-out.result c.put_entry_list.new.out c.new-out.ensures
+    c.in_ok-put_entry_list.ensures

@@ -6,4 +6,4 @@ use Rattle.x5_dispber.proofs.written.Written.new.Goals as goal
 
 pub invariant_of-result : goal.invariant_of-result
 invariant_of-result c =
-    subst (λ (es : List model.Named). AreOctetsOf es c.args.octets.items) (sym c.in_ok-entries.ensures) c.requires
+    subst (λ (es : List model.Named). AreOctetsOf es c.args.octets) (sym c.in_ok-entries.ensures) c.requires

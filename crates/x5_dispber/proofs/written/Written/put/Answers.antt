@@ -1,5 +1,5 @@
 -- The octets are those of the entries.
-use Rattle.std.proofs.Common.{ℕ, List, ◌++◌, ap, subst, ◌∙◌}
+use Rattle.std.proofs.Common.{List, subst}
 use Rattle.x5_model.specs.Entries as model
 use Rattle.x5_dispber.specs.Totals.{AreOctetsOf}
 use Rattle.x5_dispber.proofs.Totals.{theirs_put}
@@ -7,6 +7,6 @@ use Rattle.x5_dispber.proofs.written.Written.put.Goals as goal
 
 pub returns : goal.returns
 returns c =
-    theirs_put c.args.self.now c.self.inside.octets.items c.args.out.now c.put_all.new.self
-    (subst (λ (es : List model.Named). AreOctetsOf es c.self.inside.octets.items) c.self.view_is c.self.invariant)
-    (c.in_ok-put_all.ensures ∙ ap (λ (l : List ℕ). l ++ c.args.out.now) c.as_slice.ensures.value)
+    theirs_put c.args.self.now c.self.inside.octets c.args.out.now c.put_written.new.self
+    (subst (λ (es : List model.Named). AreOctetsOf es c.self.inside.octets) c.self.view_is c.self.invariant)
+    c.in_ok-put_written.ensures
