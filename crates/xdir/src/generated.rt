@@ -16,6 +16,7 @@ use crate::refusals::refuse_world;
 use crate::run::Printed;
 use crate::top::{Status, run_octets};
 use std::alloc::Global;
+use std::mem::forget;
 use x5_gen::{script_of, world_of};
 use x5_know::Described;
 use x5_load::load;
@@ -55,7 +56,13 @@ fn run_made_over<K: Sink>(alloc: Global, world: Described, number: u32, out: &mu
     ensures sums { SumsScriptFile result (Some (made_files number)) script_name (file_view world) (K.octets out.old) (K.octets out.new) (K.fault_count out.old) (K.fault_count out.new) }
 {
     match World::new(alloc, &world) {
-        Ok(mut network) => run_made_script(alloc, &world, &mut network, number, out),
+        Ok(mut network) => {
+            let status = run_made_script(alloc, &world, &mut network, number, out);
+            // The program ends here, and the system takes back its memory at once, not entry by entry.
+            forget(network);
+            forget(world);
+            status
+        }
         Err(NoMemory) => Status::NoMemory,
     }
 }

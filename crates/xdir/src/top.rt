@@ -22,6 +22,7 @@ use crate::run::{Printed, run_commands};
 use crate::show::show_file;
 use crate::tree::tree_files;
 use std::alloc::Global;
+use std::mem::forget;
 use x5_know::Described;
 use x5_load::load;
 use x5_memory::NoMemory;
@@ -152,7 +153,13 @@ fn run_world<F: Files, K: Sink>(
     ensures sums { printed ≡ Printed.Summary → SumsScriptFile result (F.contents files.old) script.now (file_view world) (K.octets out.old) (K.octets out.new) (K.fault_count out.old) (K.fault_count out.new) }
 {
     match World::new(alloc, &world) {
-        Ok(mut network) => run_script(alloc, printed, &world, &mut network, script, files, out),
+        Ok(mut network) => {
+            let status = run_script(alloc, printed, &world, &mut network, script, files, out);
+            // The program ends here, and the system takes back its memory at once, not entry by entry.
+            forget(network);
+            forget(world);
+            status
+        }
         Err(NoMemory) => Status::NoMemory,
     }
 }

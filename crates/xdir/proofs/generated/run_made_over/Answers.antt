@@ -12,4 +12,4 @@ pub returns-in-Ok-clause-sums : goal.returns-in-Ok-clause-sums
 returns-in-Ok-clause-sums g c =
     let told = Some (made_files c.args.number) in
     let f = file_view c.args.world in
-    sums_of_file told script_name (script_text c.args.number) f (script_made c.args.number) c.run_made_script.result (g.K.Sink.octets c.args.out.now) (g.K.Sink.octets c.run_made_script.new.out) (g.K.Sink.fault_count c.args.out.now) (g.K.Sink.fault_count c.run_made_script.new.out) c.run_made_script.ensures.sums
+    sums_of_file told script_name (script_text c.args.number) f (script_made c.args.number) c.run_made_script-status.result (g.K.Sink.octets c.args.out.now) (g.K.Sink.octets c.run_made_script-status.new.out) (g.K.Sink.fault_count c.args.out.now) (g.K.Sink.fault_count c.run_made_script-status.new.out) c.run_made_script-status.ensures.sums
