@@ -8,3 +8,5 @@ pub mod Unfit
 pub mod Longer
 pub mod Below
 pub mod Whole
+pub mod Indexes
+pub mod Owning

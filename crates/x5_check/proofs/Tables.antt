@@ -4,12 +4,11 @@ use Rattle.std.proofs.Common.{◌≡◌, ℕ, zero, suc, ◌+◌, ◌<◌, Bool,
 use Rattle.std.specs.Cmp.{both_ways}
 use Rattle.std.specs.declared.result.Result.{Result}
 use Rattle.std.specs.Result.{IfOk}
-use Rattle.std.proofs.lemmas.List.{drop_all, map-append}
-use Rattle.std.proofs.lemmas.Simd.{map-map}
+use Rattle.std.proofs.lemmas.List.{drop_all}
 use Rattle.std.specs.Prelude.{slice_get}
 use Rattle.std.specs.List.{list_any, flat_map, enumerate_from}
 use Rattle.std.proofs.lemmas.List.Folds.{list_any-append}
-use Rattle.x5_model.specs.Words.{has, in_option, some_and, is_empty, when}
+use Rattle.x5_model.specs.Words.{has, some_and, is_empty, when}
 use Rattle.x5_model.specs.Keys.{Key, same_key, parent, is_child}
 use Rattle.x5_model.specs.Values.{key_of}
 use Rattle.x5_model.proofs.KeyLaws.{key_decides}
@@ -19,7 +18,7 @@ use Rattle.x5_model_tree.specs.Tree.{key_at, is_there}
 use Rattle.x5_model_tree.specs.Masters.{Mastered, pin_of, is_consumer}
 use Rattle.x5_model_tree.specs.Consistent.{refers_to}
 use Rattle.x5_check.specs.Rows.{KeyRow, same_row, Numbers, numbers_of}
-use Rattle.x5_check.specs.Numbers.{keyed, rows_by, numbers_by, prefix_key, entry_keys, above_key, reference_keys, agreement_key, prefix_places, entry_places, entry_rows, master_by, masters_in, owners_in, masters_below_in, referrers_in, consumers_in, members_of, member_rows}
+use Rattle.x5_check.specs.Numbers.{keyed, rows_by, numbers_by, prefix_key, entry_keys, above_key, reference_keys, agreement_key, prefix_places, entry_places, masters_in, masters_below_in, referrers_in, consumers_in, members_of, member_rows}
 use Rattle.x5_check.proofs.Steps.{append_nothing}
 
 -- ---- whether some member passes
@@ -117,29 +116,6 @@ pub prefixes_by_master : (ms : List Mastered) → numbers_of (rows_by (λ m. m.m
 prefixes_by_master ms =
     rows_are (λ (m : Mastered). m.master) prefix_key ms
     ∙ (λ i key n. any_same (λ (m : Mastered). (m.master == n) && (same_key (pin_of m) key || false)) (λ m. (m.master == n) && same_key (pin_of m) key) ms (λ m. ap (λ (b : Bool). (m.master == n) && b) (or_nothing (same_key (pin_of m) key))) i)
-
-pub entries_by_master : (ms : List Mastered) → numbers_of (rows_by (λ m. m.master) entry_keys ms) ≡ owners_in ms
-entries_by_master ms =
-    rows_are (λ (m : Mastered). m.master) entry_keys ms
-    ∙ (λ i key n. any_same (λ (m : Mastered). (m.master == n) && list_any (λ k. same_key k key) (entry_keys m)) (λ m. (m.master == n) && is_there m.context.entries key) ms (λ m. ap (λ (b : Bool). (m.master == n) && b) (keys_there m key)) i)
-
--- the rows by place, each with its context's master in its place, are those by master
-abbrev with_master : List Mastered → KeyRow → KeyRow
-with_master ms row = (row.0, master_by ms row.1)
-
-mastered_from : (ms xs : List Mastered) (i : ℕ) → ((n place : ℕ) → place ≡ i + n → slice_get ms place ≡ slice_get xs n)
-    → map (with_master ms) (rows_by (λ p. p.0) (λ p. entry_keys p.1) (enumerate_from i xs)) ≡ rows_by (λ m. m.master) entry_keys xs
-mastered_from ms [] i at = refl
-mastered_from ms (m ∷ xs) i at =
-    let master : master_by ms i ≡ m.master = ap (in_option 0 (λ (x : Mastered). x.master)) (at 0 i (omega arith)) in
-    map-append (with_master ms) (keyed i (entry_keys m)) (rows_by (λ p. p.0) (λ p. entry_keys p.1) (enumerate_from (i + 1) xs))
-    ∙ (λ j. (map-map (with_master ms) (λ (k : Key). (k, i)) (entry_keys m) ∙ ap (λ (n : ℕ). keyed n (entry_keys m)) master) j
-    ++ mastered_from ms xs (i + 1) (λ n place e. at (suc n) place (omega (arith, e))) j)
-
-pub mastered_rows : (ms : List Mastered)
-    → map (λ row. (row.0, master_by ms row.1)) (entry_rows ms) ≡ rows_by (λ m. m.master) entry_keys ms
-mastered_rows ms =
-    mastered_from ms ms 0 (λ n place e. (let same : place ≡ n = omega (arith, e) in ap (slice_get ms) same))
 
 -- a key is just below where it isn't the root's and that is its parent
 child_by_parent : (key pin : Key) → list_any (λ k. same_key k key) (when (not (is_empty pin)) (parent pin)) ≡ is_child key pin

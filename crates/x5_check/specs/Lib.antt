@@ -4,3 +4,4 @@ pub mod Views
 pub mod Numbers
 pub mod Kinds
 pub mod Parts
+pub mod Indexed

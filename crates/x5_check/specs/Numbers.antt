@@ -2,7 +2,7 @@
 -- of a list, with the member's number; and what the tables say of a world.
 use Rattle.std.specs.Prelude.{ℕ, not, ◌&&◌, ◌==◌, List, [], ◌∷◌, map, slice_get}
 use Rattle.std.specs.List.{list_any, flat_map, enumerate_from}
-use Rattle.x5_model.specs.Words.{in_option, some_and, is_empty, when}
+use Rattle.x5_model.specs.Words.{some_and, is_empty, when}
 use Rattle.x5_model.specs.Keys.{Key, same_key, parent, is_child}
 use Rattle.x5_model.specs.Values.{key_of}
 use Rattle.x5_model_tree.specs.World.{Specific, Nssr, Context, Agent, Agreement}
@@ -52,13 +52,6 @@ prefix_places ms key place = some_and (λ m. same_key (pin_of m) key) (slice_get
 
 abbrev pub entry_places : List Mastered → Numbers
 entry_places ms key place = some_and (λ m. is_there m.context.entries key) (slice_get ms place)
-
--- the entries' keys with the contexts' places, as rows; and the master of the context that has a place
-abbrev pub entry_rows : List Mastered → List KeyRow
-entry_rows ms = rows_by (λ p. p.0) (λ p. entry_keys p.1) (enumerate_from 0 ms)
-
-abbrev pub master_by : List Mastered → ℕ → ℕ
-master_by ms place = in_option 0 (λ m. m.master) (slice_get ms place)
 
 -- agents, with the prefixes and the entries that they master, and with what they master something just below of
 abbrev pub masters_in : List Mastered → Numbers

@@ -1,17 +1,19 @@
 //! What is looked up of a world: who masters, refers to and consumes what, by keys.
 
-ghost use Rattle.std.specs.Prelude.{◌≡◌, ◌++◌, map, IfOk};
-ghost use Rattle.std.specs.List.Sorted.{IsPermutation};
+ghost use Rattle.std.specs.Prelude.{◌≡◌, ◌==◌, ◌++◌, map, slice_get, IfOk};
+ghost use Rattle.x5_model.specs.Words.{some_and};
 ghost use Rattle.x5_model_tree.specs.Masters.{numbered, mastered, masters, consumes};
 ghost use Rattle.x5_model_tree.specs.Consistent.{masters_below};
 ghost use Rattle.x5_model_tree.specs.Tree.{keys_of};
 ghost use Rattle.x5_ops.specs.KnowledgeViews.{specific_view};
 ghost use Rattle.x5_know.specs.WorldView.{world_view};
 ghost use Rattle.x5_check.specs.Rows.{numbers_of, IsNext};
-ghost use Rattle.x5_check.specs.Numbers.{keyed, pins_of, prefix_places, entry_places, entry_rows, master_by, masters_in, owners_in, masters_below_in, referrers_in, consumers_in};
+ghost use Rattle.x5_check.specs.Indexed.{indexed};
+ghost use Rattle.x5_check.specs.Numbers.{keyed, pins_of, prefix_places, entry_places, masters_in, owners_in, masters_below_in, referrers_in, consumers_in};
 
 use crate::agents::Numbered;
 use crate::contexts::Held;
+use crate::index::Index;
 use crate::table::{Row, Table};
 use std::alloc::Global;
 use std::marker::Model;
@@ -21,14 +23,14 @@ use x5_names::Key;
 use x5_ops::{AgentId, Named, Specific};
 
 /// The prefixes of the contexts, with the contexts' places.
-fn prefixes_by_place<'h>(alloc: Global, held: &'h [Held<'_>]) -> Result<Table<'h>, NoMemory>
-    ensures { IfOk result (λ t. numbers_of t ≡ prefix_places held.now) }
+fn prefixes_by_place<'h>(alloc: Global, held: &'h [Held<'_>]) -> Result<Index<'h>, NoMemory>
+    ensures { IfOk result (λ i. indexed i.firsts i.more ≡ prefix_places held.now) }
 {
     let mut rows = Vec::new(alloc);
     for (place, context) in held.iter().enumerate() {
         rows.push(Row::new(context.pin(), place))?;
     }
-    Table::sorted(rows)
+    Index::of(alloc, rows.as_slice())
 }
 
 /// The prefixes of the contexts, with their masters.
@@ -71,54 +73,14 @@ fn with_entries<'a>(
 }
 
 /// The entries of the contexts, with the contexts' places.
-fn entries_by_place<'h>(alloc: Global, held: &'h [Held<'_>]) -> Result<Table<'h>, NoMemory>
-    ensures rows { IfOk result (λ t. IsPermutation (entry_rows held.now) t) }
-    ensures numbers { IfOk result (λ t. numbers_of t ≡ entry_places held.now) }
+fn entries_by_place<'h>(alloc: Global, held: &'h [Held<'_>]) -> Result<Index<'h>, NoMemory>
+    ensures { IfOk result (λ i. indexed i.firsts i.more ≡ entry_places held.now) }
 {
     let mut rows = Vec::new(alloc);
     for (place, context) in held.iter().enumerate() {
         rows = with_entries(rows, context.entries(), place)?;
     }
-    Table::of(rows)
-}
-
-/// The master of the context that has the place, as a number. No memory.
-fn master_at(held: &[Held<'_>], place: usize) -> usize
-    ensures { result ≡ master_by held.now place }
-{
-    match held.get(place) {
-        Some(context) => context.master().0 as usize,
-        None => 0,
-    }
-}
-
-/// The rows, each with the master of the context whose place it has.
-fn rows_by_master<'h>(
-    alloc: Global,
-    held: &[Held<'_>],
-    rows: &[Row<'h>],
-) -> Result<Vec<Row<'h>>, NoMemory>
-    ensures { IfOk result (λ v. v.items ≡ map (λ row. (row.0, master_by held.now row.1)) rows.now) }
-{
-    let mut owned = Vec::with_capacity(alloc, rows.len())?;
-    for row in rows {
-        owned.push(Row::new(row.key(), master_at(held, row.number())))?;
-    }
-    Ok(owned)
-}
-
-/// The entries of the contexts, with the contexts' masters. The table of entries has them in their order, so that a sort has little to
-/// do.
-fn entries_by_master<'h>(
-    alloc: Global,
-    held: &[Held<'_>],
-    entries: &Table<'h>,
-) -> Result<Table<'h>, NoMemory>
-    requires { IsPermutation (entry_rows held.now) entries.now }
-    ensures { IfOk result (λ t. numbers_of t ≡ owners_in held.now) }
-{
-    let rows = rows_by_master(alloc, held, entries.rows())?;
-    Table::sorted(rows)
+    Index::of(alloc, rows.as_slice())
 }
 
 /// All these rows, and the names that the references give with the number.
@@ -167,10 +129,9 @@ pub(crate) struct Known<'w, 'g, 'h> {
     world: &'w Described,
     agents: &'g [Numbered<'w>],
     held: &'h [Held<'w>],
-    prefixes: Table<'h>,
-    entries: Table<'h>,
+    prefixes: Index<'h>,
+    entries: Index<'h>,
     masters: Table<'h>,
-    owners: Table<'h>,
     above: Table<'h>,
     referrers: Table<'g>,
     consumers: Table<'w>,
@@ -182,13 +143,14 @@ impl<'w, 'g, 'h> Model for Known<'w, 'g, 'h> {
     ghost use Rattle.x5_model_tree.specs.Masters.{numbered, mastered};
     ghost use Rattle.x5_know.specs.WorldView.{world_view};
     ghost use Rattle.x5_check.specs.Rows.{numbers_of};
-    ghost use Rattle.x5_check.specs.Numbers.{prefix_places, entry_places, masters_in, owners_in, masters_below_in, referrers_in, consumers_in};
+    ghost use Rattle.x5_check.specs.Indexed.{indexed};
+    ghost use Rattle.x5_check.specs.Numbers.{prefix_places, entry_places, masters_in, masters_below_in, referrers_in, consumers_in};
 
     ghost Value = { model.World };
 
     ghost view = { λ k. world_view k.world.now };
 
-    ghost invariant = { λ k. (k.agents.now ≡ numbered (world_view k.world.now)) × (k.held.now ≡ mastered (world_view k.world.now)) × (numbers_of k.prefixes ≡ prefix_places (mastered (world_view k.world.now))) × (numbers_of k.entries ≡ entry_places (mastered (world_view k.world.now))) × (numbers_of k.masters ≡ masters_in (mastered (world_view k.world.now))) × (numbers_of k.owners ≡ owners_in (mastered (world_view k.world.now))) × (numbers_of k.above ≡ masters_below_in (mastered (world_view k.world.now))) × (numbers_of k.referrers ≡ referrers_in (numbered (world_view k.world.now))) × (numbers_of k.consumers ≡ consumers_in (world_view k.world.now).agreements) };
+    ghost invariant = { λ k. (k.agents.now ≡ numbered (world_view k.world.now)) × (k.held.now ≡ mastered (world_view k.world.now)) × (indexed k.prefixes.firsts k.prefixes.more ≡ prefix_places (mastered (world_view k.world.now))) × (indexed k.entries.firsts k.entries.more ≡ entry_places (mastered (world_view k.world.now))) × (numbers_of k.masters ≡ masters_in (mastered (world_view k.world.now))) × (numbers_of k.above ≡ masters_below_in (mastered (world_view k.world.now))) × (numbers_of k.referrers ≡ referrers_in (numbered (world_view k.world.now))) × (numbers_of k.consumers ≡ consumers_in (world_view k.world.now).agreements) };
 }
 
 impl<'w, 'g, 'h> Known<'w, 'g, 'h> {
@@ -203,16 +165,13 @@ impl<'w, 'g, 'h> Known<'w, 'g, 'h> {
         requires held { held.now ≡ mastered (world_view world.now) }
         ensures { IfOk result (λ known. known ≡ world_view world.now) }
     {
-        let entries = entries_by_place(alloc, held)?;
-        let owners = entries_by_master(alloc, held, &entries)?;
         Ok(Known {
             world,
             agents,
             held,
             prefixes: prefixes_by_place(alloc, held)?,
-            entries,
+            entries: entries_by_place(alloc, held)?,
             masters: prefixes_by_master(alloc, held)?,
-            owners,
             above: parents_by_master(alloc, held)?,
             referrers: references_by_agent(alloc, agents)?,
             consumers: contexts_by_consumer(alloc, world.agreements.as_slice())?,
@@ -265,7 +224,26 @@ impl<'w, 'g, 'h> Known<'w, 'g, 'h> {
     pub(crate) fn owns(&self, agent: AgentId, entry: &Key) -> bool
         ensures { result ≡ owners_in (mastered self.now) entry.now agent }
     {
-        self.owners.has(entry, agent.0 as usize)
+        let count = self.held().len();
+        let mut from = 0;
+        while let Some(place) = self.next_with_entry(entry, from) {
+            prove!(place < count);
+            if self.is_master(place, agent) {
+                return true;
+            }
+            from = place + 1;
+        }
+        false
+    }
+
+    /// Whether the agent masters the context at the place. No memory.
+    fn is_master(&self, place: usize, agent: AgentId) -> bool
+        ensures { result ≡ some_and (λ m. m.master == agent) (slice_get (mastered self.now) place) }
+    {
+        match self.held.get(place) {
+            Some(context) => context.master() == agent,
+            None => false,
+        }
     }
 
     /// Whether the agent masters a context just below. No memory.

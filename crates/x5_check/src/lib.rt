@@ -10,6 +10,7 @@ mod false_member;
 mod false_reference;
 mod false_shadow;
 mod inconsistency;
+mod index;
 mod known;
 mod longer_pin;
 mod missing_parent;

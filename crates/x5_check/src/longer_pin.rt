@@ -5,25 +5,15 @@ ghost use Rattle.std.specs.List.{flat_map};
 ghost use Rattle.x5_model_tree.specs.Masters.{mastered};
 ghost use Rattle.x5_model_tree.specs.Consistent as model;
 ghost use Rattle.x5_check.specs.Views.{Tells};
-ghost use Rattle.x5_check.specs.Parts.{IsPlace, is_longer, earlier};
+ghost use Rattle.x5_check.specs.Parts.{IsPlace, is_longer};
 
 use crate::contexts::Held;
 use crate::inconsistency::{Inconsistency, Shown};
+use crate::index::earlier_of;
 use crate::known::Known;
 use std::alloc::Global;
 use x5_memory::NoMemory;
 use x5_ops::Named;
-
-/// The earlier of two places, if there are any. No memory.
-fn earlier_of(a: Option<usize>, b: Option<usize>) -> Option<usize>
-    ensures { result ≡ earlier a b }
-{
-    match (a, b) {
-        (Some(a), Some(b)) => Some(if b < a { b } else { a }),
-        (Some(a), None) => Some(a),
-        (None, b) => b,
-    }
-}
 
 /// The place of the first context whose prefix is a prefix of the entry's name, and longer than that of the entry's own context.
 fn first_longer(

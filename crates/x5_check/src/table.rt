@@ -107,7 +107,7 @@ impl<'a> Model for Table<'a> {
 
 impl<'a> Table<'a> {
     /// The table that has each of these rows.
-    pub(crate) fn of(rows: Vec<Row<'a>>) -> Result<Table<'a>, NoMemory>
+    fn of(rows: Vec<Row<'a>>) -> Result<Table<'a>, NoMemory>
         ensures { IfOk result (λ table. IsPermutation rows.entry.items table) }
     {
         let mut rows = rows;
@@ -120,13 +120,6 @@ impl<'a> Table<'a> {
         ensures { IfOk result (λ table. keyed.numbers_of table ≡ keyed.numbers_of rows.entry.items) }
     {
         Table::of(rows)
-    }
-
-    /// Its rows, in their order. No memory.
-    pub(crate) fn rows(&self) -> &[Row<'a>]
-        ensures { result.now ≡ self.now }
-    {
-        self.rows.as_slice()
     }
 
     /// The least number of the key from this one on. No memory.

@@ -6,4 +6,4 @@ use Rattle.x5_check.proofs.known.Known.consumes.Goals as goal
 
 pub returns : goal.returns
 returns c =
-    c.has.ensures ∙ ap (λ (f : Numbers). f c.args.context.now c.agent.inside.0) c.self.invariant.8 ∙ (λ i. consumes (c.self.view_is i) (c.agent.view_is i) c.args.context.now)
+    c.has.ensures ∙ ap (λ (f : Numbers). f c.args.context.now c.agent.inside.0) c.self.invariant.7 ∙ (λ i. consumes (c.self.view_is i) (c.agent.view_is i) c.args.context.now)

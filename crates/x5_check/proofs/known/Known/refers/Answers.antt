@@ -7,4 +7,4 @@ use Rattle.x5_check.proofs.known.Known.refers.Goals as goal
 
 pub returns : goal.returns
 returns c =
-    c.has.ensures ∙ ap (λ (f : Numbers). f c.args.pin.now c.agent.inside.0) c.self.invariant.7 ∙ (λ i. referrers_in (numbered (c.self.view_is i)) c.args.pin.now (c.agent.view_is i))
+    c.has.ensures ∙ ap (λ (f : Numbers). f c.args.pin.now c.agent.inside.0) c.self.invariant.6 ∙ (λ i. referrers_in (numbered (c.self.view_is i)) c.args.pin.now (c.agent.view_is i))
