@@ -3,5 +3,6 @@ pub mod Mapped
 pub mod Sorting
 pub mod Comparing
 pub mod Naming
+pub mod Below
 pub mod Blocks
 mod Counting

@@ -18,8 +18,9 @@ fn entries(alloc: Global, entries: &[EntryInfo]) -> Result<String, NoMemory>
     ensures { IfOk result (λ text. string_bytes text ≡ flat_map spelled.plain_entry_text entries.now) }
 {
     let mut text = String::new(alloc);
+    let mut last = None;
     for one in entries {
-        let lines = entry_with(alloc, "", one)?;
+        let lines = entry_with(alloc, &mut last, "", one)?;
         text.push_str(lines.as_str())?;
     }
     Ok(text)
@@ -69,7 +70,7 @@ fn answer(alloc: Global, start: &Start, answer: &Answer) -> Result<String, NoMem
     ensures { IfOk result (λ text. string_bytes text ≡ spelled.plain_answer_text start.now answer.now) }
 {
     match answer {
-        Answer::Entry { entry, .. } => entry_with(alloc, "", entry),
+        Answer::Entry { entry, .. } => entry_with(alloc, &mut None, "", entry),
         Answer::Match { matched, .. } => {
             let equal = truth_word(*matched);
             Ok(format!(in alloc; "match {equal}\n")?)

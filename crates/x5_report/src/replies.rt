@@ -8,6 +8,7 @@ ghost use Rattle.x5_report.specs.Spelled as spelled;
 
 use crate::lines::{item, reference};
 use crate::order::{sorted_references, sorted_sources};
+use crate::targets::{Target, name_text};
 use crate::words::{
     attribute_problem, copy_mark, limit_line, service_problem, truth_word, update_problem,
 };
@@ -54,11 +55,16 @@ fn attributes(alloc: Global, attributes: &[Attribute]) -> Result<String, NoMemor
     Ok(text)
 }
 
-/// The lines of an entry, the first of which ends so.
-pub(crate) fn entry_with(alloc: Global, copy: &str, entry: &EntryInfo) -> Result<String, NoMemory>
+/// The lines of an entry, the first of which ends so. What stands above is taken from the last one's name, where it's the same.
+pub(crate) fn entry_with(
+    alloc: Global,
+    last: &mut Option<Target>,
+    copy: &str,
+    entry: &EntryInfo,
+) -> Result<String, NoMemory>
     ensures { IfOk result (λ text. string_bytes text ≡ spelled.entry_with copy.now entry.now) }
 {
-    let name = entry.name.text(alloc)?;
+    let name = name_text(alloc, last, &entry.name)?;
     let name = name.as_str();
     let mut text = format!(in alloc; "entry {name}{copy}\n")?;
     let attributes = attributes(alloc, entry.attributes.as_slice())?;
@@ -67,10 +73,10 @@ pub(crate) fn entry_with(alloc: Global, copy: &str, entry: &EntryInfo) -> Result
 }
 
 /// The lines of an entry.
-fn entry(alloc: Global, entry: &EntryInfo) -> Result<String, NoMemory>
+fn entry(alloc: Global, last: &mut Option<Target>, entry: &EntryInfo) -> Result<String, NoMemory>
     ensures { IfOk result (λ text. string_bytes text ≡ spelled.entry_text entry.now) }
 {
-    entry_with(alloc, copy_mark(entry.copy), entry)
+    entry_with(alloc, last, copy_mark(entry.copy), entry)
 }
 
 /// The lines of entries.
@@ -78,8 +84,9 @@ fn entries(alloc: Global, entries: &[EntryInfo]) -> Result<String, NoMemory>
     ensures { IfOk result (λ text. string_bytes text ≡ flat_map spelled.entry_text entries.now) }
 {
     let mut text = String::new(alloc);
+    let mut last = None;
     for one in entries {
-        let lines = entry(alloc, one)?;
+        let lines = entry(alloc, &mut last, one)?;
         text.push_str(lines.as_str())?;
     }
     Ok(text)
@@ -188,7 +195,7 @@ pub(crate) fn outcome(
 fn read(alloc: Global, start: &Start, found: &EntryInfo, from: &Source) -> Result<String, NoMemory>
     ensures { IfOk result (λ text. string_bytes text ≡ spelled.entry_text found.now ++ spelled.source_text start.now from.now) }
 {
-    let mut text = entry(alloc, found)?;
+    let mut text = entry(alloc, &mut None, found)?;
     let source = source(alloc, start, from)?;
     text.push_str(source.as_str())?;
     Ok(text)

@@ -1,9 +1,11 @@
-//! The text of the name that a message is for. Most messages of a request are for one name, which isn't written again for each.
+//! The texts of names that share much. Most messages of a request are for one name, which isn't written again for each, and most entries
+//! of an answer stand below one, whose text the next one begins with.
 
-ghost use Rattle.std.specs.Prelude.{◌≡◌, IfOk};
+ghost use Rattle.std.specs.Prelude.{◌≡◌, IfOk, string_bytes};
 ghost use Rattle.x5_model_text.specs.NameText.{text_of_name};
+ghost use Rattle.x5_report.specs.Below.{text_below};
 
-use std::alloc::Global;
+use std::alloc::{AllocError, Global};
 use std::marker::Model;
 use x5_alike::Alike;
 use x5_memory::NoMemory;
@@ -45,6 +47,17 @@ impl Target {
     {
         self.text.as_str()
     }
+
+    /// The text of the name that stands below by an RDN of this text; the root's own text isn't its beginning.
+    fn below(&self, alloc: Global, rdn: &str) -> Result<String, AllocError>
+        ensures { IfOk result (λ text. string_bytes text ≡ text_below self.now rdn.now) }
+    {
+        if self.name.rdns().is_empty() {
+            return format!(in alloc; "/{rdn}");
+        }
+        let above = self.text();
+        format!(in alloc; "{above}/{rdn}")
+    }
 }
 
 /// The name with its text: the last one, where that's the same name.
@@ -59,4 +72,24 @@ pub(crate) fn with_text(
         Some(target) if target.name.is_alike(name) => Ok(target),
         _ => Target::new(alloc, name),
     }
+}
+
+/// The text of the name. What stands above is taken from the last name, where that stood below the same.
+#[tactic(auto, using(crate::proofs::Below::is_below))]
+pub(crate) fn name_text(
+    alloc: Global,
+    last: &mut Option<Target>,
+    name: &Name,
+) -> Result<String, NoMemory>
+    ensures { IfOk result (λ text. string_bytes text ≡ text_of_name name.now) }
+{
+    let Some(rdn) = name.last() else {
+        return Ok(name.text(alloc)?.into_string());
+    };
+    let rdn = rdn.text(alloc)?;
+    let above = name.parent(alloc)?;
+    let above = with_text(alloc, last.take(), &above)?;
+    let text = above.below(alloc, rdn.as_str())?;
+    *last = Some(above);
+    Ok(text)
 }
