@@ -31,7 +31,7 @@ use crate::usual_filters::usual_filter;
 use crate::usual_selections::usual_selection;
 use std::alloc::Global;
 use x5_direct::Unread;
-use x5_direct::element::opened;
+use x5_direct::element::{opened, whole};
 use x5_direct::names::name_at;
 use x5_direct::part::part_at;
 use x5_match::Filter;
@@ -40,22 +40,9 @@ use x5_ops::{Body, Controls, Request, Selection, Subset};
 use x5_syntax::{TypeRef, Value};
 use x5_types::{Content, Leaf, Named, Node, Numbers, Operation, Surroundings, leaf_node};
 
-/// The content of the one element that the octets are, if that octet identifies it.
-#[inline]
-pub(crate) fn whole(first: u8, octets: &[u8]) -> Result<&[u8], Unread>
-    requires { first % 32 < 31 }
-    ensures { IfOk result (λ content. Opens first content.now octets.now []) }
-{
-    let (content, rest) = opened(first, octets)?;
-    if !rest.is_empty() {
-        return Err(Unread::Unusual);
-    }
-    Ok(content)
-}
-
 /// The number below 128 in an element of that identifier and of one octet, which the octets begin with, and the octets behind it.
 #[inline]
-pub fn small_at(first: u8, octets: &[u8]) -> Option<(u8, &[u8])>
+fn small_at(first: u8, octets: &[u8]) -> Option<(u8, &[u8])>
     ensures is { IfSome result (λ r. octets.now ≡ first ∷ 1 ∷ r.0 ∷ r.1.now) }
     ensures small { IfSome result (λ r. r.0 < 128) }
 {

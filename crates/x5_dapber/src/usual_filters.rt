@@ -10,11 +10,10 @@ ghost use Rattle.x5_model_typed.specs.Named as named;
 ghost use Rattle.x5_syntax.specs.TypeView.{type_view};
 ghost use Rattle.x5_syntax.specs.ValueView.{value_view};
 
-use crate::direct::whole;
 use crate::usual_selections::known_type_in;
 use std::alloc::Global;
 use x5_direct::Unread;
-use x5_direct::element::opened;
+use x5_direct::element::{opened, whole};
 use x5_direct::names::{SHORT_OID, type_at};
 use x5_direct::values::value_at;
 use x5_match::{Assertion, Filter, Item};

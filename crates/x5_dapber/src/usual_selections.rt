@@ -7,9 +7,9 @@ ghost use Rattle.x5_model_typed.specs.Named as named;
 ghost use Rattle.x5_ops.specs.RequestViews.{selection_view};
 ghost use Rattle.x5_syntax.specs.TypeView.{type_view};
 
-use crate::direct::whole;
 use std::alloc::Global;
 use x5_direct::Unread;
+use x5_direct::element::whole;
 use x5_direct::names::{SHORT_OID, type_at};
 use x5_ops::{Selection, TypeList};
 use x5_syntax::TypeRef;

@@ -13,11 +13,10 @@ ghost use Rattle.x5_dapreply.specs.Components.{ReadsInside};
 
 use crate::direct_parts::{
     after, behind, count_at, flag_or, last_opened, name_in, outcome_if, source_of, sources_in,
-    whole,
 };
 use std::alloc::Global;
 use x5_direct::Unread;
-use x5_direct::element::opened;
+use x5_direct::element::{opened, whole};
 use x5_direct::infos::{info_at, infos_in};
 use x5_direct::names::rdn_at;
 use x5_ops::{Answer, DirError, EntryInfo, EntryList, Reply, Source, Sub, SubList};

@@ -17,7 +17,7 @@ ghost use Rattle.x5_dapreply.specs.Said.{accesses_in as accesses_said, limited_i
 
 use std::alloc::Global;
 use x5_direct::Unread;
-use x5_direct::element::opened;
+use x5_direct::element::{opened, whole};
 use x5_direct::names::{name_at, rdns_in};
 use x5_names::Name;
 use x5_ops::{
@@ -45,19 +45,6 @@ pub(crate) fn behind(octets: &[u8], taken: usize) -> &[u8]
     ensures { result.now ≡ drop taken octets.entry.now }
 {
     &octets[taken..]
-}
-
-/// The content of the one element that the octets are, if that octet identifies it.
-#[inline]
-pub(crate) fn whole(first: u8, octets: &[u8]) -> Result<&[u8], Unread>
-    requires { first % 32 < 31 }
-    ensures { IfOk result (λ content. Opens first content.now octets.now []) }
-{
-    let (content, rest) = opened(first, octets)?;
-    if rest.len() > 0 {
-        return Err(Unread::Unusual);
-    }
-    Ok(content)
 }
 
 /// The content of the element that the octets begin with, if that octet identifies one, and the octets behind it.
@@ -190,8 +177,8 @@ fn proceeding_at(octets: &[u8]) -> Result<(Progress, &[u8]), Unread>
     }
 }
 
-/// How far a name is resolved, as the octets say.
-fn progress_in(octets: &[u8]) -> Result<Progress, Unread>
+/// How far a name is resolved, as the octets say, all of them (X.518, section 10.5).
+pub fn progress_in(octets: &[u8]) -> Result<Progress, Unread>
     ensures { IfOk result (λ p. Reads 1 named.Progress replies.progress_in (progress_view p) octets.now []) }
 {
     let (progress, rest) = progress_at(octets)?;
@@ -201,8 +188,8 @@ fn progress_in(octets: &[u8]) -> Result<Progress, Unread>
     Ok(progress)
 }
 
-/// The kind of reference that the octets say (X.518, section 10.7).
-fn kind_in(octets: &[u8]) -> Result<RefType, Unread>
+/// The kind of reference that the octets say, all of them (X.518, section 10.7).
+pub fn kind_in(octets: &[u8]) -> Result<RefType, Unread>
     ensures { IfOk result (λ k. Reads 0 named.RefType replies.kind_in (kind_view k) octets.now []) }
 {
     let Some(rest) = after(octets, &[2, 1]) else {
@@ -231,8 +218,8 @@ fn agent_of(alloc: Global, text: &[u8]) -> Result<AgentName, Unread>
     }
 }
 
-/// The name that the octets are.
-pub(crate) fn name_in(alloc: Global, octets: &[u8]) -> Result<Name, Unread>
+/// The name that the octets are, all of them (X.501, section 9).
+pub fn name_in(alloc: Global, octets: &[u8]) -> Result<Name, Unread>
     ensures { IfOk result (λ n. Reads 3 named.Name terms.name_of n octets.now []) }
 {
     let (name, taken) = name_at(alloc, octets)?;

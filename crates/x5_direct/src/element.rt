@@ -1,5 +1,5 @@
 //! Elements as they're usually spelled: an identifier of one octet and a definite length (X.690, 8.1).
-ghost use Rattle.std.specs.Prelude.{◌<◌, ◌≤◌, ◌%◌, ◌∷◌, IfOk, IfSome, length};
+ghost use Rattle.std.specs.Prelude.{◌<◌, ◌≤◌, ◌%◌, [], ◌∷◌, IfOk, IfSome, length};
 ghost use Rattle.x5_direct.specs.Spelled.{HasLength, Opens};
 
 use crate::unread::Unread;
@@ -87,4 +87,17 @@ pub fn opened(first: u8, octets: &[u8]) -> Result<(&[u8], &[u8]), Unread>
         return Err(Unread::Unusual);
     }
     Ok((&behind[..count], &behind[count..]))
+}
+
+/// The content of the one element that the octets are, if that octet identifies it.
+#[inline]
+pub fn whole(first: u8, octets: &[u8]) -> Result<&[u8], Unread>
+    requires { first % 32 < 31 }
+    ensures { IfOk result (λ content. Opens first content.now octets.now []) }
+{
+    let (content, rest) = opened(first, octets)?;
+    if !rest.is_empty() {
+        return Err(Unread::Unusual);
+    }
+    Ok(content)
 }

@@ -1,11 +1,7 @@
 -- Messages between agents, each from what is found of its parts.
-use Rattle.std.proofs.Common.{◌≡◌, ℕ, ◌+◌, ◌≤◌, ◌<◌, ◌==◌, Bool, true, false, List, [], ◌∷◌, length, map}
-use Rattle.std.proofs.Common.{refl, ap, sym, ◌∙◌, subst, arith, lit<, lit≤, append-nil, if◌then◌else◌, inl, inr, ◌⊎◌}
-use Rattle.std.specs.Prelude.{ℤ, pos}
-use Rattle.std.proofs.lemmas.Bool.Decides.{Decides-eqb}
-use Rattle.std.specs.declared.option.Option.{Option}
-use Rattle.std.specs.declared.option.Option.TheVariants.{Some}
-use Rattle.x5_model.specs.References.{Progress, RefType, Superior, Subordinate, Cross, NonSpecific, Supplier, Own}
+use Rattle.std.proofs.Common.{◌≡◌, ℕ, ◌≤◌, ◌<◌, true, List, [], ◌∷◌, length, map}
+use Rattle.std.proofs.Common.{refl, ap, sym, ◌∙◌, subst, arith, lit<, lit≤}
+use Rattle.x5_model.specs.References.{Progress, RefType}
 use Rattle.x5_model.specs.Requests.{Request}
 use Rattle.x5_model.specs.Values.{Name, Rdn}
 use Rattle.x5_model.specs.Words.{distinct}
@@ -14,35 +10,27 @@ use Rattle.x5_model_messages.specs.Chained as chains
 use Rattle.x5_model_messages.specs.Chained.{chaining_in, carried_in, chained_in}
 use Rattle.x5_model_messages.specs.Replies.{TraceItem, item_in, progress_in, kind_in}
 use Rattle.x5_model_messages.specs.Requests.{argument_in}
-use Rattle.x5_model_messages.specs.Terms.{name_of, rdn_of}
-use Rattle.x5_model_octets.specs.Elements.{deepest}
-use Rattle.x5_model_run.specs.Journal.{kind_number}
+use Rattle.x5_model_messages.specs.Terms.{name_of}
 use Rattle.x5_model_typed.specs.Named as named
 use Rattle.x5_model_typed.specs.Nodes.{Node, Many, Nil, Chosen, row, list, parts, whole}
-use Rattle.x5_model_typed.specs.Forms.{Primitive, plain, at, code, ruled}
-use Rattle.x5_model_typed.specs.Judged.{leaf_node}
-use Rattle.x5_model_typed.specs.Leaves.{number, one_of, from_to, any_number}
-use Rattle.x5_model_typed.specs.Layouts.{layout, integer, sequence, sequence_of, set, invoke, named_by}
-use Rattle.x5_model_typed.specs.Layouts.{operation_codes, id}
+use Rattle.x5_model_typed.specs.Forms.{plain, ruled}
+use Rattle.x5_model_typed.specs.Layouts.{sequence, sequence_of, set}
 use Rattle.x5_model_typed.specs.Rules.{trace_rule}
-use Rattle.x5_model_typed.specs.Typed as typed
 use Rattle.x5_model_typed.specs.Typed.{Spells}
-use Rattle.x5_model_typed.specs.Trees.{Row, Lies}
 use Rattle.x5_model_typed.proofs.Laws.{list_row}
-use Rattle.x5_ops.specs.ReferenceViews.{kind_of_number}
-use Rattle.x5_types.specs.FormView.{nowhere, table}
+use Rattle.x5_types.specs.FormView.{table}
 use Rattle.x5_dspber.specs.Direct.{AreFour, ReadLast, ReadsChaining, chaining_parts, items_of, last_part}
-use Rattle.x5_dspber.specs.Direct.{rdns_of}
-use Rattle.x5_direct.specs.Spelled.{Opens, Spelled, SpelledInOrder, Reads, ReadEach}
+use Rattle.x5_dapreply.specs.Said.{rdns_in}
+use Rattle.x5_direct.specs.Spelled.{Opens, Reads, ReadEach}
 use Rattle.x5_dapber.specs.Direct.{Invokes, SpelledInSet}
 use Rattle.x5_dapber.proofs.Coming.{whole_spelled}
-use Rattle.x5_dapber.proofs.Invoking.{invoke_spelled, number_reads, one_octet}
+use Rattle.x5_dapber.proofs.Invoking.{invoke_spelled}
 use Rattle.x5_dapber.proofs.Sets.{tagged, set_given, set_missing, set_over, set_in}
 use Rattle.x5_dspber.proofs.DirectTrace.{so_ruled}
-use Rattle.x5_direct.proofs.Spelling.{branch_spelled, leaf_spelled, each_in, order_in, order_next, order_over}
-use Rattle.x5_direct.proofs.Spelling.{has_tag, spelled_higher}
+use Rattle.x5_direct.proofs.Spelling.{branch_spelled, each_in, order_in, order_next, order_over}
+use Rattle.x5_direct.proofs.Spelling.{spelled_higher}
 
--- ---- a trace, RDNs and kinds
+-- ---- a trace
 
 listed : {X : Type 0} (says : Node → X) (ns : List Node) → map says ns ≡ map says (list (row ns))
 listed says ns = ap (λ (l : List Node). map says l) (sym (list_row ns))
@@ -66,82 +54,6 @@ trace_read items content octets rest o each few once =
       each.2 ∙ listed item_in ns,
     )
 
-pub rdns_read : (rdns : List Rdn) (content octets rest : List ℕ) → Opens 48 content octets rest
-    → ReadEach 2 named.Rdn rdn_of rdns content → Reads 3 named.Rdns rdns_of rdns octets rest
-rdns_read rdns content octets rest o each =
-    let ns = each.0 in
-    let n : Node = Many (row ns) in (
-      n,
-      branch_spelled 2 named.Rdns 48 0 16 (sequence_of named.Rdn) n n content octets rest o refl (λ w. refl)
-          (each_in 2 named.Rdn ns content each.1) refl,
-      each.2 ∙ listed rdn_of ns,
-    )
-
-kind_reads : (k : RefType) → leaf_node (Primitive (number (one_of (1 ∷ 2 ∷ 3 ∷ 4 ∷ 5 ∷ 8 ∷ [])))) (kind_number k ∷ [])
-    ≡ Some (whole (kind_number k))
-kind_reads Superior = refl
-kind_reads Subordinate = refl
-kind_reads Cross = refl
-kind_reads NonSpecific = refl
-kind_reads Supplier = refl
-kind_reads Own = refl
-
-kind_said : (k : RefType) → k ≡ kind_in (whole (kind_number k))
-kind_said Superior = refl
-kind_said Subordinate = refl
-kind_said Cross = refl
-kind_said NonSpecific = refl
-kind_said Supplier = refl
-kind_said Own = refl
-
-kind_read : (k : RefType) (rest : List ℕ)
-    → Reads 0 named.RefType kind_in k (2 ∷ 1 ∷ kind_number k ∷ rest) rest
-kind_read k rest =
-    let j = kind_number k in (
-      whole j,
-      leaf_spelled named.RefType 2 0 2 (integer (one_of (1 ∷ 2 ∷ 3 ∷ 4 ∷ 5 ∷ 8 ∷ []))) (whole j) (whole j) (j ∷ [])
-          (2 ∷ 1 ∷ j ∷ rest) rest (one_octet 2 j rest (lit< tt) (lit< tt)) refl (lit< tt) (λ w. refl) (kind_reads k)
-          refl,
-      kind_said k,
-    )
-
--- one test of a row
-tested : (b : Bool) (n m : ℕ) (x k : RefType) (others : Option RefType) → (n == m) ≡ b
-    → (if b then Some x else others) ≡ Some k → ((n ≡ m) × (x ≡ k)) ⊎ (others ≡ Some k)
-tested true n m x k others e f = inl ((Decides-eqb n m).0 e, cc f)
-tested false n m x k others e f = inr f
-
-numbered : (n m : ℕ) (x k : RefType) → (n ≡ m) × (x ≡ k) → m ≡ kind_number x → n ≡ kind_number k
-numbered n m x k both e = both.0 ∙ e ∙ ap kind_number both.1
-
-kind_found : (n : ℕ) (k : RefType) → kind_of_number n ≡ Some k → n ≡ kind_number k
-kind_found n k e = elim (tested (n == 1) n 1 Superior k _ refl e) [
-  | inl h ↦ numbered n 1 Superior k h refl
-  | inr e2 ↦ elim (tested (n == 2) n 2 Subordinate k _ refl e2) [
-    | inl h ↦ numbered n 2 Subordinate k h refl
-    | inr e3 ↦ elim (tested (n == 3) n 3 Cross k _ refl e3) [
-      | inl h ↦ numbered n 3 Cross k h refl
-      | inr e4 ↦ elim (tested (n == 4) n 4 NonSpecific k _ refl e4) [
-        | inl h ↦ numbered n 4 NonSpecific k h refl
-        | inr e5 ↦ elim (tested (n == 5) n 5 Supplier k _ refl e5) [
-          | inl h ↦ numbered n 5 Supplier k h refl
-          | inr e8 ↦ elim (tested (n == 8) n 8 Own k _ refl e8) [
-            | inl h ↦ numbered n 8 Own k h refl
-            | inr none ↦ absurd (cc none)
-          ]
-        ]
-      ]
-    ]
-  ]
-]
-
-pub kind_here : (n : ℕ) (k : RefType) (octets rest : List ℕ) → octets ≡ 2 ∷ 1 ∷ n ∷ rest → rest ≡ []
-    → kind_of_number n ≡ Some k → Reads 0 named.RefType kind_in k octets []
-kind_here n k octets rest is over found =
-    let one : octets ≡ 2 ∷ 1 ∷ kind_number k ∷ [] =
-    is ∙ ap (λ (l : List ℕ). 2 ∷ 1 ∷ n ∷ l) over ∙ ap (λ (j : ℕ). 2 ∷ 1 ∷ j ∷ []) (kind_found n k found) in
-    subst (λ (l : List ℕ). Reads 0 named.RefType kind_in k l []) (sym one) (kind_read k [])
-
 -- ---- chaining arguments
 
 pub none_left_out : (octets : List ℕ) → octets ≡ [] → ReadLast [] octets
@@ -153,7 +65,7 @@ none_left_out octets is = record {
 }
 
 pub some_left_out : (rdns : List Rdn) (content octets : List ℕ) → Opens 164 content octets []
-    → Reads 3 named.Rdns rdns_of rdns content [] → ReadLast rdns octets
+    → Reads 3 named.Rdns rdns_in rdns content [] → ReadLast rdns octets
 some_left_out rdns content octets o r = record {
   node = r.0;
   spelled = set_given 6 4 5 named.Rdns _ [] r.0 [] octets [] (lit< tt) refl
@@ -164,7 +76,7 @@ some_left_out rdns content octets o r = record {
 
 said_of : (target : Name) (progress : Progress) (kind : RefType) (exclusions : List Rdn) (trace : List TraceItem)
     (r : Request) (a b c d e : Node) → target ≡ name_of a → progress ≡ progress_in b → trace ≡ items_of c
-    → kind ≡ kind_in d → exclusions ≡ rdns_of e
+    → kind ≡ kind_in d → exclusions ≡ rdns_in e
     → record { target = target; progress = progress; kind = kind; exclusions = exclusions; trace = trace; request = r }
     ≡ chaining_in r (Many (row (a ∷ b ∷ c ∷ d ∷ e ∷ [])))
 said_of target progress kind exclusions trace r a b c d e f g h i j = cc (f, g, h, i, j)

@@ -1,33 +1,24 @@
 -- What octets in their usual spelling hold of a message between agents.
-use Rattle.std.specs.Prelude.{◌≡◌, ℕ, ◌≤◌, Bool, true, false, List, [], ◌∷◌, map}
-use Rattle.x5_model.specs.References.{Progress, Start, Next, Done, RefType}
+use Rattle.std.specs.Prelude.{◌≡◌, ℕ, Bool, true, false, List, [], ◌∷◌, map}
+use Rattle.x5_model.specs.References.{Progress, RefType}
 use Rattle.x5_model.specs.Requests.{Request}
 use Rattle.x5_model.specs.Values.{Name, Rdn}
 use Rattle.x5_model_messages.specs.Chained.{chaining_in}
 use Rattle.x5_model_messages.specs.Replies.{TraceItem, item_in}
-use Rattle.x5_model_messages.specs.Terms.{rdn_of}
 use Rattle.x5_model_typed.specs.Forms.{Component, Set, at}
 use Rattle.x5_model_typed.specs.Layouts.{or_nothing}
 use Rattle.x5_model_typed.specs.Named as named
 use Rattle.x5_model_typed.specs.Nodes.{Node, parts}
 use Rattle.x5_direct.specs.Spelled.{Opens, SpelledIn}
 use Rattle.x5_dapber.specs.Direct.{SpelledInSet}
+use Rattle.x5_dapreply.specs.Said.{rdns_in}
 
 -- ---- what the members of nodes say
 
 abbrev pub items_of : Node → List TraceItem
 items_of n = map item_in (parts n)
 
-abbrev pub rdns_of : Node → List Rdn
-rdns_of n = map rdn_of (parts n)
-
 -- ---- short contents
-
--- How far a name is resolved (X.518, section 10.5): a phase, and in the second the next RDN.
-abbrev pub IsResolved : Progress → List ℕ → Type 0
-IsResolved Start octets = octets ≡ 10 ∷ 1 ∷ 1 ∷ []
-IsResolved (Next k) octets = (octets ≡ 10 ∷ 1 ∷ 2 ∷ 2 ∷ 1 ∷ k ∷ []) × (1 ≤ k) × (k ≤ 16)
-IsResolved Done octets = octets ≡ 10 ∷ 1 ∷ 3 ∷ []
 
 -- The mark of an item that a message of the type nonSpecific was received: it's true, or it's missing and so false
 -- (X.518, section 10.6).
@@ -57,7 +48,7 @@ chaining_parts = at 0 named.Name ∷ at 1 named.Progress ∷ at 2 named.Trace �
 pub record ReadLast (rdns : List Rdn) (octets : List ℕ) : Type 0 where
   pub node : Node
   pub spelled : SpelledInSet 6 4 last_part (node ∷ []) octets
-  pub says : rdns ≡ rdns_of node
+  pub says : rdns ≡ rdns_in node
 
 -- What chaining arguments say, whatever the request beside them.
 abbrev pub ReadsChaining : Name → Progress → RefType → List Rdn → List TraceItem → List ℕ → Type 0

@@ -12,11 +12,12 @@ ghost use Rattle.x5_model_typed.specs.Typed.{Spells};
 ghost use Rattle.x5_ops.specs.ReferenceViews.{kind_view, progress_view};
 ghost use Rattle.x5_types.specs.FormView.{operation_view, table};
 
-use crate::direct_parts::{exclusions_in, kind_in, progress_in, target_in, trace_in};
+use crate::direct_parts::{exclusions_in, trace_in};
 use std::alloc::Global;
 use x5_dapber::direct::{argument_of, invoke_in};
+use x5_dapreply::direct_parts::{kind_in, name_in, progress_in};
 use x5_direct::Unread;
-use x5_direct::element::opened;
+use x5_direct::element::{opened, whole};
 use x5_names::Name;
 use x5_ops::{Chained, Progress, RdnList, RefType, Trace};
 use x5_types::Operation;
@@ -50,7 +51,7 @@ fn chaining_in(alloc: Global, octets: &[u8]) -> Result<Chaining, Unread>
     let (target_part, progress_part, trace_part, kind_part, rest) = four_in(octets)?;
     let progress = progress_in(progress_part)?;
     let kind = kind_in(kind_part)?;
-    let target = target_in(alloc, target_part)?;
+    let target = name_in(alloc, target_part)?;
     let exclusions = exclusions_in(alloc, rest)?;
     let trace = trace_in(alloc, &target, target_part, trace_part)?;
     Ok(Chaining {
@@ -72,10 +73,7 @@ fn carried_in(
     requires { code ≡ code_of (operation_view operation) }
     ensures { IfOk result (λ m. Reads 51 (named.Chained (operation_view operation)) (chains.carried_in code) (told_chained m) octets.now []) }
 {
-    let (content, rest) = opened(0x30, octets)?;
-    if !rest.is_empty() {
-        return Err(Unread::Unusual);
-    }
+    let content = whole(0x30, octets)?;
     let (arguments, behind) = opened(0x31, content)?;
     let chaining = chaining_in(alloc, arguments)?;
     let request = argument_of(alloc, code, operation, behind)?;

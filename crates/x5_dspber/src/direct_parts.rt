@@ -2,7 +2,7 @@
 ghost use Rattle.std.specs.Prelude.{◌≡◌, ◌<◌, ◌≤◌, ◌%◌, ◌∷◌, ◌++◌, [], IfOk, IfSome, OnOk, drop, false, if◌then◌else◌, length, map, true};
 ghost use Rattle.x5_dapreply.specs.ReplyViews.{told_item};
 ghost use Rattle.x5_direct.specs.Spelled.{ReadEach, Reads, Spelled};
-ghost use Rattle.x5_dspber.specs.Direct.{IsResolved, IsWide, ReadLast, items_of, rdns_of};
+ghost use Rattle.x5_dspber.specs.Direct.{IsWide, ReadLast, items_of};
 ghost use Rattle.x5_model.specs.Words.{distinct};
 ghost use Rattle.x5_model_messages.specs.Replies as replies;
 ghost use Rattle.x5_model_messages.specs.Terms as terms;
@@ -10,61 +10,18 @@ ghost use Rattle.x5_model_typed.specs.Layouts as layouts;
 ghost use Rattle.x5_model_typed.specs.Leaves as leaves;
 ghost use Rattle.x5_model_typed.specs.Named as named;
 ghost use Rattle.x5_model_typed.specs.Nodes as nodes;
-ghost use Rattle.x5_ops.specs.ReferenceViews.{kind_view, progress_view};
 ghost use Rattle.x5_trace.specs.Items.{same_named};
 
 use std::alloc::Global;
-use x5_dapber::direct::small_at;
+use x5_dapreply::direct_parts::{progress_at, rdns_if};
 use x5_direct::Unread;
-use x5_direct::element::opened;
-use x5_direct::names::{name_at, name_like, rdns_in};
+use x5_direct::element::{opened, whole};
+use x5_direct::names::name_like;
 use x5_names::Name;
-use x5_ops::{AgentName, Progress, RdnList, RefType, Trace, TraceItem};
+use x5_ops::{AgentName, RdnList, Trace, TraceItem};
 use x5_syntax::Text;
 use x5_trace::{MOST_ITEMS, push, repeats};
 use x5_types::{Letters, Surroundings, is_text};
-
-/// How far a name is resolved, as the content says.
-fn progress_of(content: &[u8]) -> Option<Progress>
-    ensures { IfSome result (λ p. IsResolved (progress_view p) content.now) }
-{
-    let (phase, rest) = small_at(10, content)?;
-    if rest.is_empty() {
-        return match phase {
-            1 => Some(Progress::NotStarted),
-            3 => Some(Progress::Completed),
-            _ => None,
-        };
-    }
-    let (next, end) = small_at(2, rest)?;
-    if phase != 2 || !end.is_empty() || next < 1 || next > 16 {
-        return None;
-    }
-    Some(Progress::Proceeding(next))
-}
-
-/// How far a name is resolved, as the octets begin with it, and the octets behind it.
-fn progress_at(octets: &[u8]) -> Result<(Progress, &[u8]), Unread>
-    ensures reads { IfOk result (λ r. Reads 1 named.Progress replies.progress_in (progress_view r.0) octets.now r.1.now) }
-    ensures less { IfOk result (λ r. length r.1.now < length octets.now) }
-{
-    let (content, rest) = opened(0x30, octets)?;
-    let Some(progress) = progress_of(content) else {
-        return Err(Unread::Unusual);
-    };
-    Ok((progress, rest))
-}
-
-/// How far a name is resolved, as all of the octets say.
-pub(crate) fn progress_in(octets: &[u8]) -> Result<Progress, Unread>
-    ensures { IfOk result (λ p. Reads 1 named.Progress replies.progress_in (progress_view p) octets.now []) }
-{
-    let (progress, rest) = progress_at(octets)?;
-    if !rest.is_empty() {
-        return Err(Unread::Unusual);
-    }
-    Ok(progress)
-}
 
 /// The octets as a text, if they may be the name of an agent.
 fn agent_text(octets: &[u8]) -> Option<&str>
@@ -173,50 +130,9 @@ pub(crate) fn trace_in(
     requires { Reads 3 named.Name terms.name_of known.now spelled.now [] }
     ensures { IfOk result (λ t. Reads 5 named.Trace items_of (map told_item t) octets.now []) }
 {
-    let (content, rest) = opened(0x30, octets)?;
-    if !rest.is_empty() {
-        return Err(Unread::Unusual);
-    }
+    let content = whole(0x30, octets)?;
     let trace = items_in(alloc, known, spelled, content)?;
     Ok(trace)
-}
-
-/// The kind of reference that all of the octets say.
-pub(crate) fn kind_in(octets: &[u8]) -> Result<RefType, Unread>
-    ensures { IfOk result (λ k. Reads 0 named.RefType replies.kind_in (kind_view k) octets.now []) }
-{
-    let Some((number, rest)) = small_at(2, octets) else {
-        return Err(Unread::Unusual);
-    };
-    if !rest.is_empty() {
-        return Err(Unread::Unusual);
-    }
-    let Some(kind) = RefType::from_number(number) else {
-        return Err(Unread::Unusual);
-    };
-    Ok(kind)
-}
-
-/// The name that is all of the octets.
-pub(crate) fn target_in(alloc: Global, octets: &[u8]) -> Result<Name, Unread>
-    ensures { IfOk result (λ n. Reads 3 named.Name terms.name_of n octets.now []) }
-{
-    let (name, taken) = name_at(alloc, octets)?;
-    if taken != octets.len() {
-        return Err(Unread::Unusual);
-    }
-    Ok(name)
-}
-
-/// The RDNs in the SEQUENCE that is all of the octets.
-fn rdn_list_in(alloc: Global, octets: &[u8]) -> Result<RdnList, Unread>
-    ensures { IfOk result (λ l. Reads 3 named.Rdns rdns_of l octets.now []) }
-{
-    let (content, rest) = opened(0x30, octets)?;
-    if !rest.is_empty() {
-        return Err(Unread::Unusual);
-    }
-    Ok(RdnList::from_vec(rdns_in(alloc, content)?))
 }
 
 /// The RDNs that are left out, in the last component of chaining arguments or where it's missing.
@@ -226,10 +142,7 @@ pub(crate) fn exclusions_in(alloc: Global, octets: &[u8]) -> Result<RdnList, Unr
     if octets.is_empty() {
         return Ok(RdnList::new(alloc));
     }
-    let (content, rest) = opened(0xA4, octets)?;
-    if !rest.is_empty() {
-        return Err(Unread::Unusual);
-    }
-    let rdns = rdn_list_in(alloc, content)?;
+    let content = whole(0xA4, octets)?;
+    let rdns = rdns_if(alloc, true, content)?;
     Ok(rdns)
 }

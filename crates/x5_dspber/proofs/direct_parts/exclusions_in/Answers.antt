@@ -1,7 +1,6 @@
 -- The component is missing, or holds the RDNs.
-use Rattle.std.proofs.Common.{List, ℕ, [], sym, subst, ◌∙◌}
+use Rattle.std.proofs.Common.{List, sym, subst, ◌∙◌}
 use Rattle.x5_model.specs.Values as values
-use Rattle.x5_direct.specs.Spelled.{Opens}
 use Rattle.x5_direct.proofs.Heads.{nothing}
 use Rattle.x5_dspber.specs.Direct.{ReadLast}
 use Rattle.x5_dspber.proofs.DirectWhole.{none_left_out, some_left_out}
@@ -14,10 +13,5 @@ returns-then-is_empty c =
 
 pub returns : goal.returns
 returns c =
-    let octets = c.args.octets.now in
-    let content = c.in_ok-content.content.now in
-    let opens : Opens 164 content octets [] =
-    subst (λ (l : List ℕ). Opens 164 content octets l)
-    (nothing c.in_ok-content.rest.now (sym c.is_empty-2.ensures ∙ c.if-not-is_empty.false))
-    c.in_ok-content.ensures.opens in
-    some_left_out c.in_ok-rdns.rdns content octets opens c.in_ok-rdns.ensures
+    some_left_out c.in_ok-rdns.rdns c.in_ok-content.content.now c.args.octets.now c.in_ok-content.ensures
+    c.in_ok-rdns.ensures

@@ -19,7 +19,7 @@ returns-clause-reads c =
     let p = progress_view c.in_ok-progress.progress in
     let progress : Reads 1 named.Progress replies.progress_in p (drop size behind) c.in_ok-progress.end.now =
     subst (λ (l : List ℕ). Reads 1 named.Progress replies.progress_in p l c.in_ok-progress.end.now)
-    (rest_here behind size) c.in_ok-progress.ensures.reads in
+    (rest_here behind size) c.in_ok-progress.ensures in
     subst (λ (a : List ℕ). Reads 4 named.TraceItem replies.item_in
     (record { agent = a; target = target; progress = p; wide = c.in-Some.wide }) octets
     (drop (length octets - length rest) octets)) (sym (c.new-2.ensures ∙ c.in_ok-new.ensures))

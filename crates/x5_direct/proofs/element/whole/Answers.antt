@@ -2,7 +2,7 @@
 use Rattle.std.proofs.Common.{List, ℕ, sym, subst, ◌∙◌}
 use Rattle.x5_direct.specs.Spelled.{Opens}
 use Rattle.x5_direct.proofs.Heads.{nothing}
-use Rattle.x5_dapber.proofs.direct.whole.Goals as goal
+use Rattle.x5_direct.proofs.element.whole.Goals as goal
 
 pub returns : goal.returns
 returns c =
