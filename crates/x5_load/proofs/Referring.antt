@@ -8,28 +8,15 @@ use Rattle.x5_model_tree.specs.World.{Access}
 use Rattle.x5_model_world.specs.AgentText.{References, with_reference, of_kind, pin_keys, is_cross, reference_members, reference_behind}
 use Rattle.x5_model_world.specs.ContextText.{has_key, agent_of, agents_behind}
 use Rattle.x5_model_world.specs.Reading.{Read, ◌>>=◌, at, needed, if_fit, if_few, members_at, text_at, list_if_any, entry_name_at, only, unlisted, first_other}
+use Rattle.x5_model_world.proofs.InTurn.{three_in_turn}
 use Rattle.x5_load.specs.Parts.{access_at}
 
--- what one to four readings in turn give, and what is then made of it
-one : {E P Z : Type 0} (m : Read E) (made : E → P) (k : P → Read Z) → (m >>= λ e. k (made e)) ≡ ((m >>= λ e. Ok (made e)) >>= k)
-one (Ok e) made k = refl
-one (Err fault) made k = refl
-
-two : {G E P Z : Type 0} (m : Read G) (f : G → Read E) (made : E → P) (k : P → Read Z) →
-    (m >>= λ g. f g >>= λ e. k (made e)) ≡ ((m >>= λ g. f g >>= λ e. Ok (made e)) >>= k)
-two (Ok g) f made k = one (f g) made k
-two (Err fault) f made k = refl
-
-three : {T G E P Z : Type 0} (m : Read T) (h : T → Read G) (f : G → Read E) (made : E → P) (k : P → Read Z) →
-    (m >>= λ t. h t >>= λ g. f g >>= λ e. k (made e)) ≡ ((m >>= λ t. h t >>= λ g. f g >>= λ e. Ok (made e)) >>= k)
-three (Ok t) h f made k = two (h t) f made k
-three (Err fault) h f made k = refl
-
-four : {N T G E P Z : Type 0} (n : Read N) (m : Read T) (h : T → Read G) (f : G → Read E) (made : N → E → P) (k : P → Read Z) →
+-- what a reading gives beside what three others come to, and what is then made of both
+both : {N T G E P Z : Type 0} (n : Read N) (m : Read T) (h : T → Read G) (f : G → Read E) (made : N → E → P) (k : P → Read Z) →
     (n >>= λ x. m >>= λ t. h t >>= λ g. f g >>= λ e. k (made x e))
     ≡ ((n >>= λ x. m >>= λ t. h t >>= λ g. f g >>= λ e. Ok (made x e)) >>= k)
-four (Ok x) m h f made k = three m h f (made x) k
-four (Err fault) m h f made k = refl
+both (Ok x) m h f made k = three_in_turn m h f (λ e. Ok (made x e)) k
+both (Err fault) m h f made k = refl
 
 -- the agents, and what else the object has
 abbrev rest : List Text → Text → References → Data → Members → Bool → Name → Read References
@@ -56,7 +43,7 @@ by_access names path before d ms word cross pin members said kind read new =
     ∙ ap (λ (o : Option Bool). needed (at path (codes "kind")) o >>= λ c. entry_name_at path (codes "name") d >>= λ n. fit path before c n >>= λ p. rest names path before d ms c p) kind
     ∙ ap (λ (r : Read Name). r >>= λ n. fit path before cross n >>= λ p. rest names path before d ms cross p) read
     ∙ ap (λ (b : Bool). if_fit (at path (codes "name")) (not b) pin >>= λ p. rest names path before d ms cross p) new
-    ∙ four (text_at path (codes "master") d) (list_if_any path (codes "shadows") d)
+    ∙ both (text_at path (codes "master") d) (list_if_any path (codes "shadows") d)
     (λ texts. if_few (at path (codes "shadows")) most_shadows (items_len texts) texts)
     (λ few. agents_behind names (at path (codes "shadows")) 0 [] few)
     (λ master shadows. record { master = agent_of names master; shadows = shadows })

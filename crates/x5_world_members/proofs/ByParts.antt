@@ -9,30 +9,17 @@ use Rattle.x5_model_world.specs.ContextText.{context_members, with_context}
 use Rattle.x5_model_world.specs.EntryTexts.{given_behind, entry_given}
 use Rattle.x5_model_world.specs.Reading.{Read, ◌>>=◌, at, needed, if_fit, members_at, list_at, list_if_any}
 use Rattle.x5_model_world.specs.Reading.{entry_name_at, only}
+use Rattle.x5_model_world.proofs.InTurn.{in_turn, two_in_turn}
 use Rattle.x5_world_members.specs.Parts.{whole_name_at, named_at, nssrs_at, with_entries_read}
 
--- what one to four readings in turn give, and what is then made of it
-one : {E P Z : Type 0} (m : Read E) (made : E → P) (k : P → Read Z) → (m >>= λ e. k (made e))
-    ≡ ((m >>= λ e. Ok (made e)) >>= k)
-one (Ok e) made k = refl
-one (Err fault) made k = refl
-
-two : {G E P Z : Type 0} (m : Read G) (f : G → Read E) (made : E → P) (k : P → Read Z) →
-    (m >>= λ g. f g >>= λ e. k (made e)) ≡ (((m >>= f) >>= λ e. Ok (made e)) >>= k)
-two (Ok g) f made k = one (f g) made k
-two (Err fault) f made k = refl
-
-three : {T G E P Z : Type 0} (m : Read T) (h : T → Read G) (f : G → Read E) (made : E → P) (k : P → Read Z) →
-    (m >>= λ t. h t >>= λ g. f g >>= λ e. k (made e)) ≡ (((m >>= λ t. h t >>= f) >>= λ e. Ok (made e)) >>= k)
-three (Ok t) h f made k = two (h t) f made k
-three (Err fault) h f made k = refl
-
-four : {N T G E P Z : Type 0} (n : Read N) (m : Read T) (h : T → Read G) (f : G → Read E) (made : N → E
+-- what a reading gives beside what three others come to, and what is then made of both
+both : {N T G E P Z : Type 0} (n : Read N) (m : Read T) (h : T → Read G) (f : G → Read E) (made : N → E
     → P) (k : P → Read Z) →
     (n >>= λ x. m >>= λ t. h t >>= λ g. f g >>= λ e. k (made x e))
     ≡ ((n >>= λ x. (m >>= λ t. h t >>= f) >>= λ e. Ok (made x e)) >>= k)
-four (Ok x) m h f made k = three m h f (made x) k
-four (Err fault) m h f made k = refl
+both (Ok x) m h f made k =
+    two_in_turn m h f (λ e. k (made x e)) ∙ in_turn (m >>= λ t. h t >>= f) (λ e. Ok (made x e)) k
+both (Err fault) m h f made k = refl
 
 -- what follows once the members and the entry's own name are read
 abbrev rest : Text → Name → List Named → Data → Members → Name → Read (List Named)
@@ -58,14 +45,10 @@ entry_by_parts path prefix before d ms own members read new =
     (codes "name") d >>= λ o. fit path before o >>= λ n. rest path prefix before d m n) members
     ∙ ap (λ (r : Read Name). r >>= λ o. fit path before o >>= λ n. rest path prefix before d ms n) read
     ∙ ap (λ (b : Bool). if_fit (at path (codes "name")) (not b) own >>= λ n. rest path prefix before d ms n) new
-    ∙ four (whole_name_at path prefix before own) (list_at path (codes "attrs") d)
+    ∙ both (whole_name_at path prefix before own) (list_at path (codes "attrs") d)
     (λ texts. given_behind (at path (codes "attrs")) 0 [] texts)
     (λ given. needed path (entry_given (last_rdn own) given)) (λ name entry. record { name = name; entry = entry })
     (λ n. only path entry_members ms (before ++ n ∷ []))
-
-in_turn : {A B C : Type 0} (m : Read A) (f : A → Read B) (g : B → Read C) → (m >>= λ a. f a >>= g) ≡ ((m >>= f) >>= g)
-in_turn (Ok a) f g = refl
-in_turn (Err fault) f g = refl
 
 -- the contexts with one more, behind its non-specific references
 pub context_by_parts : (names : List Text) (path : Text) (before : Contexts) (prefix : Name) (entries : List Named)
