@@ -7,8 +7,8 @@ use std::alloc::Global;
 use std::marker::Model;
 use x5_memory::NoMemory;
 
-/// Room is taken for so many octets at once, or for more: most messages have fewer, and take room only once. The C library gives back
-/// a piece of a thousand octets or more with much more work.
+/// Room is taken for so many octets at once, or for more: most messages have fewer, and take room only once. Before the C library
+/// takes a piece of more than about a thousand octets it joins all small ones that were given back, which is much more work.
 const LEAST_ROOM: usize = 960;
 
 /// Octets, each put before those that are there: so the length of a content is known where its header is put.
