@@ -1,4 +1,5 @@
--- One agent of the network sends what is supplied, or takes it: nothing else of the network changes.
+-- One agent of the network sends what is supplied, or takes it, or holds what it's given: nothing else of the network
+-- changes.
 use Rattle.std.proofs.Common.{◌≡◌, ℕ, zero, suc, ◌+◌, ◌<◌, ◌⊎◌, inl, inr, Bool, true, List, [], ◌∷◌, length, map, slice_get, slice_set, refl, sym, ap, subst, ◌∙◌, Option, Some, Result, Ok, OnOk, arith}
 use Rattle.std.proofs.lemmas.List.{length-map, length-set, map-set}
 use Rattle.x5_model.specs.Words.{in_option}
@@ -16,6 +17,7 @@ use Rattle.x5_refresh.specs.Sent.{IsRefreshed, supply_of}
 use Rattle.x5_world.specs.Logs.{Logs, no_logs}
 use Rattle.x5_world.specs.LogLimits.{BoundedLogs}
 use Rattle.x5_world.specs.LogViews.{logs_view}
+use Rattle.x5_world.specs.Places.{FitsPlace}
 use Rattle.x5_world.specs.State.{Net, holdings_in, logs_in}
 use Rattle.x5_world.specs.Sent.{IsHolder, IsNet}
 use Rattle.x5_world.specs.Refreshing.{IsBoundedIn, IsSupplied, IsTakenAt, is_known_in, sent_view}
@@ -83,6 +85,32 @@ module _ (n : Net) (items : List State) (i : ℕ) (s : State) (at : slice_get it
     pairs = net.pairs;
     lines = net.lines;
   }
+
+  -- what it holds can be held at its place of any network with as many agents
+  pub fits : IsNet old → FitsPlace (length n.names) i s
+  fits net =
+      let h = holder_of net in
+      record { me = h.me; known = h.known; counted = h.counted; bounded = h.bounded; noted = noted_of net }
+
+  -- and what can be held there may stand for it
+  pub net_put : (t : State) → IsNet old → FitsPlace (length n.names) i t → IsNet (with_state t)
+  net_put t net f =
+      net_with t net (record { me = f.me; known = f.known; counted = f.counted; bounded = f.bounded }) f.noted
+
+  pub put_is : (t : State) (now : Net) → old ≡ now
+      → with_state t ≡ record now { agents = slice_set now.agents i (holdings_view t); logs = slice_set now.logs i (logs_view t) }
+  put_is t now same =
+      (λ j. record n { agents = map-set holdings_view items i t j; logs = map-set logs_view items i t j })
+      ∙ ap (λ (x : Net). record x {
+        agents = slice_set x.agents i (holdings_view t);
+        logs = slice_set x.logs i (logs_view t);
+      }) same
+
+  pub held_there : slice_get (map holdings_view items) i ≡ Some (holdings_view s)
+  held_there = map_at holdings_view items i s at
+
+  pub kept_there : slice_get (map logs_view items) i ≡ Some (logs_view s)
+  kept_there = map_at logs_view items i s at
 
   -- an agent that is like it leaves the network as it was
   pub same_with : (t : State) → IsLike s t → with_state t ≡ old

@@ -1,6 +1,7 @@
 pub mod Logs
 pub mod LogViews
 pub mod LogLimits
+pub mod Places
 pub mod State
 pub mod Answered
 pub mod Counts

@@ -1,6 +1,6 @@
 //! The network of a run.
 
-ghost use Rattle.std.specs.Prelude.{◌≡◌, ℕ, ◌<◌, ◌+◌, ◌≤◌, ◌*◌, ◌==◌, [], true, nat_lt, length, List, IfOk, OnErr, slice_get, Some, None, Err};
+ghost use Rattle.std.specs.Prelude.{◌≡◌, ℕ, ◌<◌, ◌+◌, ◌≤◌, ◌*◌, ◌==◌, [], true, nat_lt, length, List, IfOk, OnErr, slice_get, slice_set, Some, None, Err};
 ghost use Rattle.std.specs.List.{filter, list_all, position};
 ghost use Rattle.std.specs.Option.{option_map};
 ghost use Rattle.x5_know.specs.WorldView.{world_view};
@@ -27,6 +27,8 @@ ghost use Rattle.x5_world.specs.Answered.{IsAnswered, NamesAgents, line_names_ag
 ghost use Rattle.x5_typed.specs.Breaches.{breach_view};
 ghost use Rattle.x5_typed.specs.declared.fault.Breach as typed;
 ghost use Rattle.x5_world.specs.Delivered.{IsDelivered, IsDeliveredAt, NamesAgentsIn, breach_in};
+ghost use Rattle.x5_world.specs.LogViews.{logs_view};
+ghost use Rattle.x5_world.specs.Places.{FitsPlace};
 ghost use Rattle.x5_world.specs.Refreshes.{IsRefreshedAt, IsSound};
 ghost use Rattle.x5_world.specs.Refreshing.{IsBounded, IsBoundedIn, IsKnown, IsSupplied, IsTakenAt, acknowledging, is_known_in, problem_in};
 ghost use Rattle.x5_world.specs.Sent.{IsCommittedAt, IsHolder, no_net};
@@ -173,6 +175,21 @@ impl World {
         ensures holder { IsHolder self.now.names agent (holdings_view result.now) }
     {
         &self.agents[agent.0 as usize]
+    }
+
+    /// Puts these holdings in the place of what the agent holds, and gives that back: so an agent answers from the holdings that
+    /// another world's file describes. They are the agent's own, name agents of the network and are within the limits of messages, as
+    /// are those of the same agent in any network with as many agents. Nothing else changes: agreements with their stamps, links, and
+    /// how many messages a request may take stay as they are. No memory.
+    pub fn swap_holdings(&mut self, agent: AgentId, holdings: Holdings) -> Holdings
+        requires there { agent < length self.old.names }
+        requires fits { FitsPlace (length self.old.names) agent holdings }
+        ensures fits { FitsPlace (length self.old.names) agent result }
+        ensures held { slice_get self.old.agents agent ≡ Some (holdings_view result) }
+        ensures kept { slice_get self.old.logs agent ≡ Some (logs_view result) }
+        ensures swapped { self.new ≡ record self.old { agents = slice_set self.old.agents agent (holdings_view holdings); logs = slice_set self.old.logs agent (logs_view holdings) } }
+    {
+        replace(&mut self.agents[agent.0 as usize], holdings)
     }
 
     /// Does an update that the agent passes, as the master of its target: it's made ready, and then the agent holds the change, and
