@@ -37,6 +37,7 @@ plain number keyword kind = record { number = number; keyword = keyword; kind = 
 abbrev pub table : List Row
 table =
     plain 0 (codes "objectClass") OidKind
+    ∷ record { number = 1; keyword = codes "aliasedEntryName"; kind = NameKind; names = false; single = true }
     ∷ naming 3 (codes "CN") TextKind
     ∷ naming 4 (codes "SN") TextKind
     ∷ naming 5 (codes "serialNumber") PrintableKind

@@ -176,6 +176,9 @@ abbrev BeginsAt : ℕ → List Node → Type 0
 BeginsAt least [] = Unit {0}
 BeginsAt least (p ∷ ps) = least ≤ (pair_in p).0
 
+above : (m n : ℕ) → nat_lt m n ≡ false → (m == n) ≡ false → n + 1 ≤ m
+above m n h k = grind arith
+
 next_above : (p : Node) (ps : List Node) → ((y : Node) (rest : List Node) → ps ≡ y ∷ rest → pair_below y p ≡ false)
     → has same_type ps p ≡ false → BeginsAt ((pair_in p).0 + 1) ps
 next_above p [] free apart = tt
@@ -185,9 +188,6 @@ next_above p (q ∷ ps) free apart =
     first_not : (a b : Bool) → (a || b) ≡ false → a ≡ false
     first_not true b h = absurd (cc h)
     first_not false b h = refl
-
-    above : (m n : ℕ) → nat_lt m n ≡ false → (m == n) ≡ false → n + 1 ≤ m
-    above m n h k = grind arith
 
 is_false : (b : Bool) → not b ≡ true → b ≡ false
 is_false true h = absurd (cc h)

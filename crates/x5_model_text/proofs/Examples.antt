@@ -18,7 +18,7 @@ keyword = refl
 dotted_keyword : type_of_text (codes "2.5.4.3") ≡ Some (Known 3)
 dotted_keyword = refl
 
-unknown_type : type_of_text (codes "2.5.4.1") ≡ Some (Unknown (2 ∷ 5 ∷ 4 ∷ 1 ∷ []))
+unknown_type : type_of_text (codes "2.5.4.2") ≡ Some (Unknown (2 ∷ 5 ∷ 4 ∷ 2 ∷ []))
 unknown_type = refl
 
 leading_zero : type_of_text (codes "2.05") ≡ None

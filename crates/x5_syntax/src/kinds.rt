@@ -14,7 +14,7 @@ use std::marker::Model;
 use x5_memory::NoMemory;
 
 /// What the values of a type are.
-#[derive(Clone, Copy, Debug, PartialEq, Eq)]
+#[derive(Clone, Copy, PartialEq, Eq)]
 pub enum Kind {
     Text,
     Printable,
@@ -77,7 +77,7 @@ fn is_known(number: u8) -> bool
 {
     matches!(
         number,
-        0 | 3 | 4 | 5 | 6 | 7 | 8 | 10 | 11 | 12 | 13 | 17 | 20 | 24 | 31 | 32 | 34 | 35
+        0 | 1 | 3 | 4 | 5 | 6 | 7 | 8 | 10 | 11 | 12 | 13 | 17 | 20 | 24 | 31 | 32 | 34 | 35
     )
 }
 
@@ -101,6 +101,8 @@ impl TypeId {
     {
         let number = if is_same(word, "objectClass") {
             0
+        } else if is_same(word, "aliasedEntryName") {
+            1
         } else if is_same(word, "CN") {
             3
         } else if is_same(word, "SN") {
@@ -155,6 +157,7 @@ impl TypeId {
     {
         match self.0 {
             0 => "objectClass",
+            1 => "aliasedEntryName",
             3 => "CN",
             4 => "SN",
             5 => "serialNumber",
@@ -187,7 +190,7 @@ impl TypeId {
             6 => Kind::Country,
             20 => Kind::Telephone,
             24 => Kind::Numeric,
-            31 | 32 | 34 => Kind::Name,
+            1 | 31 | 32 | 34 => Kind::Name,
             _ => Kind::Octets,
         }
     }
@@ -206,7 +209,7 @@ impl TypeId {
     pub fn is_single(self) -> bool
         ensures { result ≡ model.is_single self }
     {
-        self.0 == 6
+        self.0 == 1 || self.0 == 6
     }
 }
 
