@@ -5,14 +5,14 @@ use Rattle.x5_model.specs.Words.{is_empty}
 use Rattle.x5_model.specs.Members.{In, here}
 use Rattle.x5_model.specs.References.{Progress, Start, Next, Done, Reference, Chained}
 use Rattle.x5_model.specs.Answers.{ServiceProblem, Reply, Answered, Failed, Referred}
-use Rattle.x5_model.specs.Problems.{unable_to_proceed, invalid_reference}
+use Rattle.x5_model.specs.Problems.{unable_to_proceed, invalid_reference, loop_detected}
 use Rattle.x5_model.proofs.Lists.{in_right}
-use Rattle.x5_model_run.specs.Journal.{Journal, is_done, is_wide}
+use Rattle.x5_model_run.specs.Journal.{Journal, is_done, is_wide, item_of}
 use Rattle.x5_model_run.specs.Holdings.{Holdings, ground_at}
 use Rattle.x5_model_run.specs.Chain.{Scene}
 use Rattle.x5_model_serve.specs.Finding.{Below, Stuck, completed, found_by, find}
 use Rattle.x5_model_serve.specs.Answering.{own_source, copy_source, to_follow, is_unavailable, in_vain}
-use Rattle.x5_model_serve.specs.Serving.{Hand, asked_by, stuck_problem, next_line, holds_now, parts_refs, gathered_reply, heard_or, is_final, Heard, Unheard, Hears, Gathered, Whole, Broken, Act, Does, loops, is_long, done_before, refused, unfit, stuck, nowhere, refers, goes, casts, reads, reads_copy, gives_parts, asks_parts, updates, not_done, does, probes_all, misses, taken, breaks, no_probe, clear, unsure, silent, spent, lost, dropped, sends, final, referral, wide_referral, unexplored, none_yet, in_vain_too, heard, unheard, none_asked, unable_too, silent_too, answered, nobody_has, some_silent, no_part, part_unheard, part_unavailable, part_answered, part_breaks}
+use Rattle.x5_model_serve.specs.Serving.{Hand, hand, carried_for, is_looped, limit_reply, held_back, asked_by, stuck_problem, next_line, holds_now, parts_refs, gathered_reply, heard_or, is_final, Heard, Unheard, Hears, Gathered, Whole, Broken, Act, Does, loops, is_long, done_before, refused, unfit, stuck, nowhere, refers, goes, casts, reads, reads_copy, gives_parts, asks_parts, updates, not_done, does, probes_all, misses, taken, breaks, no_probe, clear, unsure, silent, holds_back, spent, lost, dropped, sends, final, referral, wide_referral, unexplored, none_yet, in_vain_too, heard, unheard, none_asked, unable_too, silent_too, answered, nobody_has, some_silent, no_part, part_unheard, part_unavailable, part_answered, part_breaks}
 use Rattle.x5_model_serve.specs.Following.{IsFinalHeard}
 use Rattle.x5_model_serve.proofs.Finals.{leaves}
 use Rattle.x5_model_bounds.specs.Unable.{IsUnable, AllDone, LeavesParts, HeardUnable, NeverBroken, Unables, RepliesAble, UnableSendsNothing}
@@ -21,6 +21,14 @@ use Rattle.x5_model_bounds.proofs.Parting.{rest_part, local_whole, left_parts, t
 
 pub false_true : false ≡ true → ⊥
 false_true e = cc
+
+-- a user tells himself no such thing
+held_able : (k : Hand) → IsUnable (held_back k) → ⊥
+held_able k = by (is_looped k)
+  where
+    by : (b : Bool) → IsUnable (cond b (Failed (ServiceProblem loop_detected None (Some (item_of k.receiver k.message)))) limit_reply) → ⊥
+    by true u = false_true u
+    by false u = false_true u
 
 -- ---- stuck
 
@@ -114,10 +122,11 @@ module _ (able : RepliesAble) (s : Scene) (most : ℕ) where
   unables _ _ _ (clear a y e d u) = tt
   unables _ _ _ (unsure a y e d u) = tt
   unables _ _ _ (silent a d u) = tt
-  unables _ _ _ (spent a e) = λ u. absurd (false_true u)
-  unables _ _ _ (lost a e f) = tt
-  unables _ _ _ (dropped a y e f d) = tt
-  unables _ _ _ (sends {from} {o} {r} {i} {j} {l} a y z e f d u) =
+  unables _ _ _ (holds_back {from} {o} {r} a e) = λ u. absurd (held_able (hand a (carried_for from o r)) u)
+  unables _ _ _ (spent a hb e) = λ u. absurd (false_true u)
+  unables _ _ _ (lost a hb e f) = tt
+  unables _ _ _ (dropped a y hb e f d) = tt
+  unables _ _ _ (sends {from} {o} {r} {i} {j} {l} a y z hb e f d u) =
       let first = unables _ _ _ d in
       let then = unables _ _ _ u in
       λ v.

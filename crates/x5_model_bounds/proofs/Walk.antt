@@ -21,7 +21,7 @@ use Rattle.x5_model_run.specs.Chain.{Scene}
 use Rattle.x5_model_run.specs.Right.{master_at}
 use Rattle.x5_model_serve.specs.Finding.{Here, Onward, Stuck, Found, find, IsLooked}
 use Rattle.x5_model_serve.specs.Answering.{rest_of_parts, own_source, copy_source, is_unavailable, in_vain, to_follow}
-use Rattle.x5_model_serve.specs.Serving.{Hand, holds_now, found_at, begins_parts, Arrives, line_for, carried_for, next_line, line_of, with_line, with_accepted, parts_refs, heard_or, is_final, Heard, Unheard, Hears, Act, Does, loops, is_long, done_before, refused, unfit, stuck, nowhere, refers, goes, casts, reads, reads_copy, gives_parts, asks_parts, updates, not_done, does, probes_all, misses, taken, breaks, no_probe, clear, unsure, silent, spent, lost, dropped, sends, final, referral, wide_referral, unexplored, none_yet, in_vain_too, heard, unheard, none_asked, unable_too, silent_too, answered, nobody_has, some_silent, no_part, part_unheard, part_unavailable, part_answered, part_breaks}
+use Rattle.x5_model_serve.specs.Serving.{Hand, holds_now, found_at, begins_parts, Arrives, line_for, carried_for, next_line, line_of, with_line, with_accepted, parts_refs, heard_or, is_final, Heard, Unheard, Hears, Act, Does, loops, is_long, done_before, refused, unfit, stuck, nowhere, refers, goes, casts, reads, reads_copy, gives_parts, asks_parts, updates, not_done, does, probes_all, misses, taken, breaks, no_probe, clear, unsure, silent, holds_back, spent, lost, dropped, sends, final, referral, wide_referral, unexplored, none_yet, in_vain_too, heard, unheard, none_asked, unable_too, silent_too, answered, nobody_has, some_silent, no_part, part_unheard, part_unavailable, part_answered, part_breaks}
 use Rattle.x5_model_serve.specs.Committed.{committed}
 use Rattle.x5_model_serve.specs.Claims.{Setting}
 use Rattle.x5_model_serve.specs.Following.{IsFinalHeard}
@@ -268,9 +268,10 @@ module _ (resolution : ResolutionPays) (parts : PartsPay) (probes : ProbesPay) (
   pays _ _ _ (clear {k} {r} {i} {j} {l} {before} {noted} a y e d u) = (let first = pays _ _ _ d in let next = pays _ _ _ u in λ carries le st. probed k r i j l before a (Hears y) first next carries st)
   pays _ _ _ (unsure {k} {r} {i} {j} {l} {before} {noted} a y e d u) = (let first = pays _ _ _ d in let next = pays _ _ _ u in λ carries le st. probed k r i j l before a (Hears y) first next carries st)
   pays _ _ _ (silent {k} {r} {i} {j} {l} {before} {noted} a d u) = (let first = pays _ _ _ d in let next = pays _ _ _ u in λ carries le st. probed k r i j l before a Unheard first next carries st)
-  pays _ _ _ (spent {from} {o} {r} {j} a e) = λ n asks carries le st. after_none p s asks j (1 + n) st
-  pays _ _ _ (lost {from} {o} {r} {j} a e f) = λ n asks carries le st. after_line p s asks (next_line s j from o r a) j st
-  pays _ _ _ (dropped {from} {o} {r} {i} {j} a y e f d) =
+  pays _ _ _ (holds_back {from} {o} {r} {j} a e) = λ n asks carries le st. after_none p s asks j (1 + n) st
+  pays _ _ _ (spent {from} {o} {r} {j} a hb e) = λ n asks carries le st. after_none p s asks j (1 + n) st
+  pays _ _ _ (lost {from} {o} {r} {j} a hb e f) = λ n asks carries le st. after_line p s asks (next_line s j from o r a) j st
+  pays _ _ _ (dropped {from} {o} {r} {i} {j} a y hb e f d) =
       let m : Chained = carried_for from o r in
       let c = is_carried from (line_for o) r in
       let first = pays _ _ _ d in
@@ -289,7 +290,7 @@ module _ (resolution : ResolutionPays) (parts : PartsPay) (probes : ProbesPay) (
               costs = subst (λ (l : Journal). Costs s (whole_cost p) i l 1) (sym x.1) (costs_line s (whole_cost p) (line_of s i from a m) i);
             }
       ]
-  pays _ _ _ (sends {from} {o} {r} {i} {j} {l} a y z e f d u) =
+  pays _ _ _ (sends {from} {o} {r} {i} {j} {l} a y z hb e f d u) =
       let m : Chained = carried_for from o r in
       let c = is_carried from (line_for o) r in
       let first = pays _ _ _ d in

@@ -11,11 +11,11 @@ use Rattle.x5_model_run.specs.Journal.{Journal, is_wide}
 use Rattle.x5_model_run.specs.Needs.{due_probes}
 use Rattle.x5_model_run.specs.Chain.{Scene}
 use Rattle.x5_model_serve.specs.Answering.{reply_in_own, reply_in_copy, only_unexplored, to_follow, passed_by, is_service, in_vain, is_unavailable}
-use Rattle.x5_model_serve.specs.Serving.{Hand, hand, Heard, Unheard, Hears, Gathered, Whole, Broken, Act, Serves, Follows, Sends, Tries, Takes, Spreads, Casts, Gathers, Probes, Updates, Does, carried_for, next_line, with_line, with_accepted, is_spent, holds_now, parts_refs, gathered_reply, limit_reply, heard_or, judged, is_final, user_line, user_in_vain, nothing_yet, IsRequest, not_heard, not_told, answers, loops, is_long, done_before, refused, unfit, stuck, nowhere, refers, goes, casts, reads, reads_copy, gives_parts, asks_parts, updates, not_done, does, probes_all, misses, taken, breaks, no_probe, clear, unsure, silent, spent, lost, dropped, sends, final, referral, wide_referral, unexplored, none_yet, in_vain_too, heard, unheard, none_asked, unable_too, silent_too, answered, nobody_has, some_silent, no_part, part_unheard, part_unavailable, part_answered, part_breaks}
+use Rattle.x5_model_serve.specs.Serving.{Hand, hand, is_held_back, Heard, Unheard, Hears, Gathered, Whole, Broken, Act, Serves, Follows, Sends, Tries, Takes, Spreads, Casts, Gathers, Probes, Updates, Does, carried_for, next_line, with_line, with_accepted, is_spent, holds_now, parts_refs, gathered_reply, limit_reply, heard_or, judged, is_final, user_line, user_in_vain, nothing_yet, IsRequest, not_heard, not_told, answers, loops, is_long, done_before, refused, unfit, stuck, nowhere, refers, goes, casts, reads, reads_copy, gives_parts, asks_parts, updates, not_done, does, probes_all, misses, taken, breaks, no_probe, clear, unsure, silent, holds_back, spent, lost, dropped, sends, final, referral, wide_referral, unexplored, none_yet, in_vain_too, heard, unheard, none_asked, unable_too, silent_too, answered, nobody_has, some_silent, no_part, part_unheard, part_unavailable, part_answered, part_breaks}
 use Rattle.x5_model_determined.specs.Determined.{SameOutcome, ActsAreDetermined, RequestIsDetermined}
 use Rattle.x5_model_determined.proofs.Loops.{LoopOnce, loop_none, loop_step, not_stopped, not_through, stop_same}
 use Rattle.x5_model_determined.proofs.Courses.{Says, Asks, Multicasts, Joins, Commits, loop_reply, unfit_reply, stuck_reply, parts_reply, course, on_loop, on_long, on_done, on_fault, on_unfit, on_stuck, on_nowhere, on_referral, on_onward, on_read, on_copy, on_parts, on_update, same_course}
-use Rattle.x5_model_determined.proofs.Views.{apart_problems, noting, none_noted, passes_tried, passes_cast, passes_probe, passes_part, gathering, SendsOne, TakesOne, TriesLoop, SpreadsLoop, ProbesLoop, GathersLoop, tries_view, spreads_view, probes_view, gathers_view, took, cast_reply, noted_reply, cast, probed_reply, probed_journal, missed_reply, missed_journal, stopped_reply, UpdatesAs, updates_at, gathered_by, SentAs, at_fate, sent_at, ReferredAs, AnsweredAs, followed_as, Probed}
+use Rattle.x5_model_determined.proofs.Views.{apart_problems, noting, none_noted, passes_tried, passes_cast, passes_probe, passes_part, gathering, SendsOne, TakesOne, TriesLoop, SpreadsLoop, ProbesLoop, GathersLoop, tries_view, spreads_view, probes_view, gathers_view, took, cast_reply, noted_reply, cast, probed_reply, probed_journal, missed_reply, missed_journal, stopped_reply, UpdatesAs, updates_at, gathered_by, SentAs, SentBy, at_fate, sent_at, ReferredAs, AnsweredAs, followed_as, Probed}
 
 module _ (s : Scene) (most : ℕ) where
   -- ---- what is claimed
@@ -64,30 +64,30 @@ module _ (s : Scene) (most : ℕ) where
 
   -- ---- messages
 
-  on_lost : (from : Option ℕ) (o : Hand) (r : Reference) (a : ℕ) (i : Journal) → is_spent most i ≡ false
+  on_lost : (from : Option ℕ) (o : Hand) (r : Reference) (a : ℕ) (i : Journal) → is_held_back from (hand a (carried_for from o r)) ≡ false → is_spent most i ≡ false
       → (next_line s i from o r a).fate ≡ Lost
       → Claim (Sends from o r a Unheard) i (with_line (next_line s i from o r a) i)
-  on_lost from o r a i e f other l d =
+  on_lost from o r a i hb e f other l d =
       at_fate s most from o r a other i l (is_spent most i) false (next_line s i from o r a).fate Lost e f
-      (sent_at s most from o r a other i l d)
+      (subst (λ (z : Bool). SentBy s most from o r a other i l z) hb (sent_at s most from o r a other i l d))
 
-  on_dropped : (from : Option ℕ) (o : Hand) (r : Reference) (a : ℕ) (reply : Reply) (i j : Journal) → is_spent most i ≡ false
+  on_dropped : (from : Option ℕ) (o : Hand) (r : Reference) (a : ℕ) (reply : Reply) (i j : Journal) → is_held_back from (hand a (carried_for from o r)) ≡ false → is_spent most i ≡ false
       → (next_line s i from o r a).fate ≡ NoReply
       → Claim (Serves (hand a (carried_for from o r)) reply) (with_line (next_line s i from o r a) i) j
       → Claim (Sends from o r a Unheard) i j
-  on_dropped from o r a reply i j e f c other l d =
+  on_dropped from o r a reply i j hb e f c other l d =
       let w = at_fate s most from o r a other i l (is_spent most i) false (next_line s i from o r a).fate NoReply e f
-      (sent_at s most from o r a other i l d) in
+      (subst (λ (z : Bool). SentBy s most from o r a other i l z) hb (sent_at s most from o r a other i l d)) in
       (w.2, (c w.0 l w.1).1)
 
-  on_sent : (from : Option ℕ) (o : Hand) (r : Reference) (a : ℕ) (reply end : Reply) (i m j : Journal) → is_spent most i ≡ false
+  on_sent : (from : Option ℕ) (o : Hand) (r : Reference) (a : ℕ) (reply end : Reply) (i m j : Journal) → is_held_back from (hand a (carried_for from o r)) ≡ false → is_spent most i ≡ false
       → (next_line s i from o r a).fate ≡ Sent
       → Claim (Serves (hand a (carried_for from o r)) reply) (with_line (next_line s i from o r a) i) m
       → Claim (Follows from (hand a (carried_for from o r)) reply end) m j
       → Claim (Sends from o r a (Hears end)) i j
-  on_sent from o r a reply end i m j e f c b other l d =
+  on_sent from o r a reply end i m j hb e f c b other l d =
       let w = at_fate s most from o r a other i l (is_spent most i) false (next_line s i from o r a).fate Sent e f
-      (sent_at s most from o r a other i l d) in
+      (subst (λ (z : Bool). SentBy s most from o r a other i l z) hb (sent_at s most from o r a other i l d)) in
       let p = c w.0 w.2 w.3 in
       let u = subst (λ (z : Reply). Does s most (Follows from (hand a (carried_for from o r)) z w.1) m l) p.0
       (subst (λ (z : Journal). Does s most (Follows from (hand a (carried_for from o r)) w.0 w.1) z l) p.1 w.4) in
@@ -327,11 +327,13 @@ module _ (s : Scene) (most : ℕ) where
       (ap (λ (z : Bool). if z then noted else (noted ++ a ∷ [])) (apart_problems y e)) (once _ _ _ d) (once _ _ _ u)
   once _ _ _ (silent {k} {r} {i} {j} {l} {before} {noted} a d u) = on_probe k r before noted a Unheard i j l refl refl (once _ _ _ d)
       (once _ _ _ u)
-  once _ _ _ (spent {from} {o} {r} {j} a e) = λ other l d. subst
-      (λ (z : Bool). SentAs s most from o r a other j l z (next_line s j from o r a).fate) e (sent_at s most from o r a other j l d)
-  once _ _ _ (lost {from} {o} {r} {j} a e f) = on_lost from o r a j e f
-  once _ _ _ (dropped {from} {o} {r} {i} {j} a y e f d) = on_dropped from o r a y i j e f (once _ _ _ d)
-  once _ _ _ (sends {from} {o} {r} {i} {j} {l} a y z e f d u) = on_sent from o r a y z i j l e f (once _ _ _ d) (once _ _ _ u)
+  once _ _ _ (holds_back {from} {o} {r} {j} a e) = λ other l d. subst (λ (z : Bool). SentBy s most from o r a other j l z) e (sent_at s most from o r a other j l d)
+  once _ _ _ (spent {from} {o} {r} {j} a hb e) = λ other l d. subst
+      (λ (z : Bool). SentAs s most from o r a other j l z (next_line s j from o r a).fate) e
+      (subst (λ (z : Bool). SentBy s most from o r a other j l z) hb (sent_at s most from o r a other j l d))
+  once _ _ _ (lost {from} {o} {r} {j} a hb e f) = on_lost from o r a j hb e f
+  once _ _ _ (dropped {from} {o} {r} {i} {j} a y hb e f d) = on_dropped from o r a y i j hb e f (once _ _ _ d)
+  once _ _ _ (sends {from} {o} {r} {i} {j} {l} a y z hb e f d u) = on_sent from o r a y z i j l hb e f (once _ _ _ d) (once _ _ _ u)
   once _ _ _ (final {from} {k} {j} y e) = on_final from k y j e
   once _ _ _ (referral {from} {k} {i} {j} r h e d) = on_referred from k r h i j e (once _ _ _ d)
   once _ _ _ (wide_referral {from} {k} {i} {j} r y e d) = on_wide from k r y i j e (once _ _ _ d)

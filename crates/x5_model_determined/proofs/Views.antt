@@ -13,7 +13,7 @@ use Rattle.x5_model_run.specs.Journal.{Journal, is_wide}
 use Rattle.x5_model_run.specs.Needs.{due_probes}
 use Rattle.x5_model_run.specs.Chain.{Scene}
 use Rattle.x5_model_serve.specs.Answering.{merged, with_unexplored, only_unexplored, to_follow, passed_by, is_service, in_vain, of_these, is_unavailable, above_next}
-use Rattle.x5_model_serve.specs.Serving.{Hand, hand, Heard, Unheard, Hears, Gathered, Whole, Broken, Does, Serves, Follows, Sends, Tries, Takes, Spreads, Casts, Gathers, Probes, Updates, carried_for, next_line, with_line, with_accepted, is_spent, holds_now, gathered_reply, limit_reply, heard_or, judged, is_final, not_done, does, probes_all, misses, taken, breaks, no_probe, clear, unsure, silent, spent, lost, dropped, sends, final, referral, wide_referral, unexplored, none_yet, in_vain_too, heard, unheard, none_asked, unable_too, silent_too, answered, nobody_has, some_silent, no_part, part_unheard, part_unavailable, part_answered, part_breaks}
+use Rattle.x5_model_serve.specs.Serving.{Hand, hand, is_held_back, held_back, Heard, Unheard, Hears, Gathered, Whole, Broken, Does, Serves, Follows, Sends, Tries, Takes, Spreads, Casts, Gathers, Probes, Updates, carried_for, next_line, with_line, with_accepted, is_spent, holds_now, gathered_reply, limit_reply, heard_or, judged, is_final, not_done, does, probes_all, misses, taken, breaks, no_probe, clear, unsure, silent, holds_back, spent, lost, dropped, sends, final, referral, wide_referral, unexplored, none_yet, in_vain_too, heard, unheard, none_asked, unable_too, silent_too, answered, nobody_has, some_silent, no_part, part_unheard, part_unavailable, part_answered, part_breaks}
 use Rattle.x5_model_determined.proofs.Loops.{Stop, LoopView}
 
 -- ---- what is heard, and whether a loop goes on
@@ -430,8 +430,12 @@ module _ (s : Scene) (most : ℕ) where
       (next_line s i from o r a) i) m
       × Does s most (Follows from (hand a (carried_for from o r)) reply last) m l × (g ≡ Hears last)
 
+  abbrev pub SentBy : Option ℕ → Hand → Reference → ℕ → Heard → Journal → Journal → Bool → Type 0
+  SentBy from o r a g i l true = (g ≡ Hears (held_back (hand a (carried_for from o r)))) × (l ≡ i)
+  SentBy from o r a g i l false = SentAs from o r a g i l (is_spent most i) (next_line s i from o r a).fate
+
   abbrev pub SentAt : Option ℕ → Hand → Reference → ℕ → Heard → Journal → Journal → Type 0
-  SentAt from o r a g i l = SentAs from o r a g i l (is_spent most i) (next_line s i from o r a).fate
+  SentAt from o r a g i l = SentBy from o r a g i l (is_held_back from (hand a (carried_for from o r)))
 
   pub at_fate : (from : Option ℕ) (o : Hand) (r : Reference) (a : ℕ) (g : Heard) (i l : Journal) (b c : Bool) (f h : Fate)
       → b ≡ c → f ≡ h → SentAs from o r a g i l b f → SentAs from o r a g i l c h
@@ -440,15 +444,21 @@ module _ (s : Scene) (most : ℕ) where
 
   pub sent_at : (from : Option ℕ) (o : Hand) (r : Reference) (a : ℕ) (g : Heard) (i l : Journal) → Does s most (Sends from o r a g) i l
       → SentAt from o r a g i l
-  sent_at _ _ _ _ _ _ _ (spent {from} {o} {r} {j} a e) =
-      subst (λ (z : Bool). SentAs from o r a (Hears limit_reply) j j z (next_line s j from o r a).fate) (sym e) (refl, refl)
-  sent_at _ _ _ _ _ _ _ (lost {from} {o} {r} {j} a e f) =
-      at_fate from o r a Unheard j (with_line (next_line s j from o r a) j) false (is_spent most j) Lost (next_line s j from o r a).fate
-      (sym e) (sym f) (refl, refl)
-  sent_at _ _ _ _ _ _ _ (dropped {from} {o} {r} {i} {j} a y e f d) =
-      at_fate from o r a Unheard i j false (is_spent most i) NoReply (next_line s i from o r a).fate (sym e) (sym f) (y, d, refl)
-  sent_at _ _ _ _ _ _ _ (sends {from} {o} {r} {i} {j} {l} a y z e f d u) =
-      at_fate from o r a (Hears z) i l false (is_spent most i) Sent (next_line s i from o r a).fate (sym e) (sym f) (y, z, j, d, u, refl)
+  sent_at _ _ _ _ _ _ _ (holds_back {from} {o} {r} {j} a e) =
+      subst (λ (z : Bool). SentBy from o r a (Hears (held_back (hand a (carried_for from o r)))) j j z) (sym e) (refl, refl)
+  sent_at _ _ _ _ _ _ _ (spent {from} {o} {r} {j} a hb e) =
+      subst (λ (z : Bool). SentBy from o r a (Hears limit_reply) j j z) (sym hb)
+      (subst (λ (z : Bool). SentAs from o r a (Hears limit_reply) j j z (next_line s j from o r a).fate) (sym e) (refl, refl))
+  sent_at _ _ _ _ _ _ _ (lost {from} {o} {r} {j} a hb e f) =
+      subst (λ (z : Bool). SentBy from o r a Unheard j (with_line (next_line s j from o r a) j) z) (sym hb)
+      (at_fate from o r a Unheard j (with_line (next_line s j from o r a) j) false (is_spent most j) Lost (next_line s j from o r a).fate
+      (sym e) (sym f) (refl, refl))
+  sent_at _ _ _ _ _ _ _ (dropped {from} {o} {r} {i} {j} a y hb e f d) =
+      subst (λ (z : Bool). SentBy from o r a Unheard i j z) (sym hb)
+      (at_fate from o r a Unheard i j false (is_spent most i) NoReply (next_line s i from o r a).fate (sym e) (sym f) (y, d, refl))
+  sent_at _ _ _ _ _ _ _ (sends {from} {o} {r} {i} {j} {l} a y z hb e f d u) =
+      subst (λ (w : Bool). SentBy from o r a (Hears z) i l w) (sym hb)
+      (at_fate from o r a (Hears z) i l false (is_spent most i) Sent (next_line s i from o r a).fate (sym e) (sym f) (y, z, j, d, u, refl))
 
   abbrev pub ReferredAs : Option ℕ → Hand → Reference → Reply → Journal → Journal → Bool → Type 0
   ReferredAs from k r y i l false = (h : Heard) × Does s most (Takes from k r h) i l × (y ≡ heard_or (is_unavailable (in_vain r)) h)

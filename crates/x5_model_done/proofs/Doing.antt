@@ -29,7 +29,7 @@ use Rattle.x5_model_theory.proofs.Following.{query_of}
 use Rattle.x5_model_serve.specs.Finding as finding
 use Rattle.x5_model_serve.specs.Finding.{IsLooked, find}
 use Rattle.x5_model_serve.specs.Answering.{reply_from, reply_in_own, reply_in_copy, own_source, copy_source, local_part, with_unexplored, merged, only_unexplored, to_follow, passed_by, is_service, in_vain, of_these, is_unavailable, above_next}
-use Rattle.x5_model_serve.specs.Serving.{Hand, hand, Heard, Unheard, Hears, Gathered, Whole, Broken, Act, Serves, Follows, Sends, Tries, Takes, Spreads, Casts, Gathers, Probes, Updates, Does, Arrives, carried_for, next_line, with_line, with_accepted, is_spent, is_idle, is_looped, is_too_long, holds_now, is_done_here, found_at, asked_by, begins_parts, stuck_problem, parts_refs, at_limit, gathered_reply, limit_reply, heard_or, judged, is_final, nothing_yet, user_line, user_in_vain, IsRequest, not_heard, not_told, answers, loops, is_long, done_before, refused, unfit, stuck, nowhere, refers, goes, casts, reads, reads_copy, gives_parts, asks_parts, updates, not_done, does, probes_all, misses, taken, breaks, no_probe, clear, unsure, silent, spent, lost, dropped, sends, final, referral, wide_referral, unexplored, none_yet, in_vain_too, heard, unheard, none_asked, unable_too, silent_too, answered, nobody_has, some_silent, no_part, part_unheard, part_unavailable, part_answered, part_breaks}
+use Rattle.x5_model_serve.specs.Serving.{Hand, hand, is_looped, is_held_back, held_back, Heard, Unheard, Hears, Gathered, Whole, Broken, Act, Serves, Follows, Sends, Tries, Takes, Spreads, Casts, Gathers, Probes, Updates, Does, Arrives, carried_for, next_line, with_line, with_accepted, is_spent, is_idle, is_looped, is_too_long, holds_now, is_done_here, found_at, asked_by, begins_parts, stuck_problem, parts_refs, at_limit, gathered_reply, limit_reply, heard_or, judged, is_final, nothing_yet, user_line, user_in_vain, IsRequest, not_heard, not_told, answers, loops, is_long, done_before, refused, unfit, stuck, nowhere, refers, goes, casts, reads, reads_copy, gives_parts, asks_parts, updates, not_done, does, probes_all, misses, taken, breaks, no_probe, clear, unsure, silent, holds_back, spent, lost, dropped, sends, final, referral, wide_referral, unexplored, none_yet, in_vain_too, heard, unheard, none_asked, unable_too, silent_too, answered, nobody_has, some_silent, no_part, part_unheard, part_unavailable, part_answered, part_breaks}
 use Rattle.x5_model_serve.proofs.Finals.{idle_is_followed}
 use Rattle.x5_model_find.proofs.Needing.{false_true}
 use Rattle.x5_model_verdicts.proofs.Lines.{grown}
@@ -51,6 +51,14 @@ IsNamedHeard (Hears y) = IsNamed y
 abbrev IsNamedWhole : Gathered → Type 0
 IsNamedWhole (Whole a) = Unit {0}
 IsNamedWhole (Broken y) = IsNamed y
+
+-- what a user tells himself
+held_named : (k : Hand) → IsNamed (held_back k)
+held_named k = by (is_looped k)
+  where
+    by : (b : Bool) → IsNamed (cond b (Failed (ServiceProblem loop_detected None (Some (item_of k.receiver k.message)))) limit_reply)
+    by true = inl refl
+    by false = inl refl
 
 named_error : (x : DirError) → is_tree_error x ≡ true → IsNamed (Failed x)
 named_error x e = inl (no_service unavailable x e)
@@ -542,7 +550,11 @@ module _ (s : Scene) (most : ℕ) where
 
   send_none : (from : Option ℕ) (o : Hand) (r : Reference) (a : ℕ) (i : Journal) → Room 0 i
       → SendsSome from o r a i
-  send_none from o r a i room = (Hears limit_reply, i, spent a (at_most most (length i.lines) room), inl refl)
+  send_none from o r a i room = by (is_held_back from (hand a (carried_for from o r))) refl
+    where
+      by : (b : Bool) → is_held_back from (hand a (carried_for from o r)) ≡ b → SendsSome from o r a i
+      by true h = (Hears (held_back (hand a (carried_for from o r))), i, holds_back a h, held_named (hand a (carried_for from o r)))
+      by false h = (Hears limit_reply, i, spent a h (at_most most (length i.lines) room), inl refl)
 
   module _ (n : ℕ) (able : Able n) (from : Option ℕ) (o : Hand) (r : Reference) (a : ℕ) (i : Journal) (room : Room
       (suc n) i) where
@@ -555,21 +567,25 @@ module _ (s : Scene) (most : ℕ) where
     served_one : ServesSome to after
     served_one = able.serves_one to after (omega arith)
 
-    fated : is_spent most i ≡ false → (f : Fate) → (next_line s i from o r a).fate ≡ f → SendsSome from o r a i
-    fated e Lost f = (Unheard, after, lost a e f, tt)
-    fated e NoReply f = (let w = served_one in (Unheard, w.1, dropped a w.0 e f w.2, tt))
-    fated e Sent f =
+    fated : is_held_back from (hand a (carried_for from o r)) ≡ false → is_spent most i ≡ false → (f : Fate) → (next_line s i from o r a).fate ≡ f → SendsSome from o r a i
+    fated hb e Lost f = (Unheard, after, lost a hb e f, tt)
+    fated hb e NoReply f = (let w = served_one in (Unheard, w.1, dropped a w.0 hb e f w.2, tt))
+    fated hb e Sent f =
         let w = served_one in
         let v = able.follows_one from to w.0 w.1
         (room_after n (Serves to w.0) after w.1 w.2 (omega arith)) w.3 in
-        (Hears v.0, v.1, sends a w.0 v.0 e f w.2 v.2, v.3)
+        (Hears v.0, v.1, sends a w.0 v.0 hb e f w.2 v.2, v.3)
 
     send_one : SendsSome from o r a i
-    send_one = by (is_spent most i) refl
+    send_one = look (is_held_back from (hand a (carried_for from o r))) refl
       where
-        by : (b : Bool) → is_spent most i ≡ b → SendsSome from o r a i
-        by true e = (Hears limit_reply, i, spent a e, inl refl)
-        by false e = fated e (next_line s i from o r a).fate refl
+        by : is_held_back from (hand a (carried_for from o r)) ≡ false → (b : Bool) → is_spent most i ≡ b → SendsSome from o r a i
+        by hb true e = (Hears limit_reply, i, spent a hb e, inl refl)
+        by hb false e = fated hb e (next_line s i from o r a).fate refl
+
+        look : (b : Bool) → is_held_back from (hand a (carried_for from o r)) ≡ b → SendsSome from o r a i
+        look true h = (Hears (held_back (hand a (carried_for from o r))), i, holds_back a h, held_named (hand a (carried_for from o r)))
+        look false h = by h (is_spent most i) refl
 
   able_at : (n : ℕ) → Able n
   able_at zero = able_by zero send_none

@@ -148,7 +148,7 @@ module _ (p : Point) (s : updates.StandsWhole p) (o : ℕ) where
           no_reference = λ k r on. free k (subst (λ (x : Key). In x known) r.2 (refers_known m.request a r.0 ia r.1)) on;
         } in
         let low : NoLower (world_at p) name 0 = nothing_there (world_at p) (stands_good p s) o (now_agent (tree_at p) a) name highest knows in
-        let none : lowest (tree_at p).entries name ≡ None = subst (λ (t : Tree). lowest t.entries name ≡ None) (tree_is_union p s) (none_there (world_at p) (stands_good p s) (pins_once (world_at p) s.coherent) name low) in
+        let none : lowest (tree_at p).entries name ≡ None = subst (λ (es : List Named). lowest es name ≡ None) (tree_is_union p s).0 (none_there (world_at p) (stands_good p s) (pins_once (world_at p) s.coherent) name low) in
         let first : first_level_at (knowledge_at p) o ≡ true = ap (λ (x : Option Agent). in_option false is_first_level x) (at_place (knowledge_at p) o a ia) ∙ ap (λ (x : Option ℕ). is_none x) highest in
         (absent None none (long (key_of m.target) filled) (λ e z. cc), at_none first none)
       where
@@ -207,7 +207,7 @@ module _ (p : Point) (s : updates.StandsWhole p) (o : ℕ) where
       in_tree : lowest (tree_at p).entries (key_of m.target) ≡ Some e
       in_tree =
           let no : NoLower (world_at p) (key_of m.target) (length (key_at e)) = lowest_of_all (world_at p) (stands_good p s) (now_mastered (tree_at p) c) (now_agent (tree_at p) a) (key_of m.target) e reached longer in
-          subst (λ (t : Tree). lowest t.entries (key_of m.target) ≡ Some e) (tree_is_union p s)
+          subst (λ (es : List Named). lowest es (key_of m.target) ≡ Some e) (tree_is_union p s).0
           (lowest_there (world_at p) (stands_good p s) (pins_once (world_at p) s.coherent) (now_mastered (tree_at p) c) e (key_of m.target) c_in lowest_here.0 lowest_here.1.0 no)
 
       master_is : master_at p (key_at e) ≡ Some o

@@ -25,15 +25,14 @@ module _ (p : Point) (s : updates.StandsWhole p) where
   pub coherent_now : Coherent (with_entries (λ c. keys_of (part (tree_at p) c.prefix)) (knowledge_of (knowledge_at p)))
   coherent_now = subst (λ (k : Knowledge). Coherent k) now s.coherent
 
-  pub same_pins : (tree_at p).pins ≡ pins (knowledge_at p)
-  same_pins =
-      s.tree.pins
-      ∙ ap (λ (k : Knowledge). map (λ (c : Area). c.prefix) k.areas) now
+  prefixes_are : map (λ (c : Area). c.prefix) (knowledge_of (world_at p)).areas ≡ pins (knowledge_at p)
+  prefixes_are =
+      ap (λ (k : Knowledge). map (λ (c : Area). c.prefix) k.areas) now
       ∙ map_map (holding (keys_in (tree_at p))) (λ (c : Area). c.prefix) (map area_of (mastered (knowledge_at p)))
       ∙ map_map area_of (λ (c : Area). c.prefix) (mastered (knowledge_at p))
 
   pub pins_are : (q : Key) → In q (tree_at p).pins ↔ In q (pins (knowledge_at p))
-  pins_are q = (λ i. subst (λ (ks : List Key). In q ks) same_pins i, λ i. subst (λ (ks : List Key). In q ks) (sym same_pins) i)
+  pins_are q = (λ i. subst (λ (ks : List Key). In q ks) prefixes_are ((s.tree.pins q).0 i), λ i. (s.tree.pins q).1 (subst (λ (ks : List Key). In q ks) (sym prefixes_are) i))
 
 pub stand_alike : StandAlike
 stand_alike p s = record {

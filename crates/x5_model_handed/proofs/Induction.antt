@@ -21,7 +21,7 @@ use Rattle.x5_model_serve.specs.Serving.{not_heard, not_told, answers, Act, Serv
 use Rattle.x5_model_serve.specs.Serving.{Spreads, Casts, Gathers, Probes, Updates, Does, loops, is_long, done_before}
 use Rattle.x5_model_serve.specs.Serving.{refused, unfit, stuck, nowhere, refers, goes, casts, reads, reads_copy}
 use Rattle.x5_model_serve.specs.Serving.{gives_parts, asks_parts, updates, not_done, does, probes_all, misses, taken}
-use Rattle.x5_model_serve.specs.Serving.{breaks, no_probe, clear, unsure, silent, spent, lost, dropped, sends, final}
+use Rattle.x5_model_serve.specs.Serving.{breaks, no_probe, clear, unsure, silent, holds_back, spent, lost, dropped, sends, final}
 use Rattle.x5_model_serve.specs.Serving.{referral, wide_referral, unexplored, none_yet, in_vain_too, heard, unheard}
 use Rattle.x5_model_serve.specs.Serving.{none_asked, unable_too, silent_too, answered, nobody_has, some_silent, no_part}
 use Rattle.x5_model_serve.specs.Serving.{part_unheard, part_unavailable, part_answered, part_breaks}
@@ -146,15 +146,16 @@ module _ (p : Point) (s : Scene) (most : ℕ) (whole : StandsWhole p) (held : s.
           | inr new ↦ absurd (n (in_right b noted (a ∷ []) new))
         ],
       )
-  safe _ _ _ (spent a e) of may good = (good, tt)
-  safe _ _ _ (lost {from} {o} {r} {j} a e f) of may good = (line_good p s (next_line s j from o r a) j good, tt)
-  safe _ _ _ (dropped {from} {o} {r} {i} {j} a y e f d) of may good =
+  safe _ _ _ (holds_back a e) of may good = (good, tt)
+  safe _ _ _ (spent a hb e) of may good = (good, tt)
+  safe _ _ _ (lost {from} {o} {r} {j} a hb e f) of may good = (line_good p s (next_line s j from o r a) j good, tt)
+  safe _ _ _ (dropped {from} {o} {r} {i} {j} a y hb e f d) of may good =
       let l = next_line s i from o r a in (
         (safe _ _ _ d (updates_are_carried s from o r of) (reached_now l i _ f refl, λ q. may)
             (line_good p s l i good)).0,
         tt,
       )
-  safe _ _ _ (sends {from} {o} {r} {i} {j} {l} a y z e f d u) of may good =
+  safe _ _ _ (sends {from} {o} {r} {i} {j} {l} a y z hb e f d u) of may good =
       let line = next_line s i from o r a in
       let carried = updates_are_carried s from o r of in
       let served = safe _ _ _ d carried (reached_now line i _ f refl, λ q. may) (line_good p s line i good) in

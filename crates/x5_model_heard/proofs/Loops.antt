@@ -14,7 +14,7 @@ use Rattle.x5_model_run.specs.Journal.{Journal}
 use Rattle.x5_model_run.specs.Needs.{due_probes}
 use Rattle.x5_model_run.specs.Chain.{Scene}
 use Rattle.x5_model_serve.specs.Answering.{is_service, is_unavailable, of_these, above_next, merged, with_unexplored, in_vain}
-use Rattle.x5_model_serve.specs.Serving.{Hand, hand, Heard, Hears, Unheard, Whole, Broken, Act, Serves, Follows, Sends, Tries, Takes, Spreads, Casts, Gathers, Probes, Updates, Does, carried_for, is_spent, line_of, with_line, with_accepted, limit_reply, holds_now, judged, spent, lost, dropped, sends, in_vain_too, heard, unheard, unable_too, silent_too, answered, nobody_has, some_silent, no_part, part_unheard, part_unavailable, part_answered, part_breaks, clear, unsure, silent, taken, breaks, misses, probes_all}
+use Rattle.x5_model_serve.specs.Serving.{Hand, hand, is_held_back, Heard, Hears, Unheard, Whole, Broken, Act, Serves, Follows, Sends, Tries, Takes, Spreads, Casts, Gathers, Probes, Updates, Does, carried_for, is_spent, line_of, with_line, with_accepted, limit_reply, holds_now, judged, spent, lost, dropped, sends, in_vain_too, heard, unheard, unable_too, silent_too, answered, nobody_has, some_silent, no_part, part_unheard, part_unavailable, part_answered, part_breaks, clear, unsure, silent, taken, breaks, misses, probes_all}
 use Rattle.x5_model_heard.specs.Told.{are_agents, name_agents}
 
 -- ---- lists at a place
@@ -63,39 +63,39 @@ agent_at n f xs i x h e t = (less_decides (f x) n).0 (test_at (λ a. nat_lt a n)
 -- ---- a message
 
 module _ {s : Scene} {most : ℕ} {from : Option ℕ} {o : Hand} {r : Reference} {i j : Journal} where
-  pub spent_does : (a : ℕ) (y : Reply) → is_spent most i ≡ true → j ≡ i → y ≡ limit_reply
+  pub spent_does : (a : ℕ) (y : Reply) → is_held_back from (hand a (carried_for from o r)) ≡ false → is_spent most i ≡ true → j ≡ i → y ≡ limit_reply
       → Does s most (Sends from o r a (Hears y)) i j
-  spent_does a y e same is =
+  spent_does a y hb e same is =
       subst (λ (z : Reply). Does s most (Sends from o r a (Hears z)) i j) (sym is)
-      (subst (λ (l : Journal). Does s most (Sends from o r a (Hears limit_reply)) i l) (sym same) (spent a e))
+      (subst (λ (l : Journal). Does s most (Sends from o r a (Hears limit_reply)) i l) (sym same) (spent a hb e))
 
-  pub lost_does : (a : ℕ) (m : Chained) → m ≡ carried_for from o r → is_spent most i ≡ false
+  pub lost_does : (a : ℕ) (m : Chained) → is_held_back from (hand a (carried_for from o r)) ≡ false → m ≡ carried_for from o r → is_spent most i ≡ false
       → (line_of s i from a m).fate ≡ Lost → j ≡ with_line (line_of s i from a m) i
       → Does s most (Sends from o r a Unheard) i j
-  lost_does a m c e f same = by (carried_for from o r) (sym c)
+  lost_does a m hb c e f same = by (carried_for from o r) (sym c)
     where
       by : (x : Chained) → x ≡ m → Does s most (Sends from o r a Unheard) i j
       by x q =
           subst (λ (l : Journal). Does s most (Sends from o r a Unheard) i l)
           (ap (λ (z : Chained). with_line (line_of s i from a z) i) (sym c) ∙ sym same)
-          (lost a e (ap (λ (z : Chained). (line_of s i from a z).fate) (sym c) ∙ f))
+          (lost a hb e (ap (λ (z : Chained). (line_of s i from a z).fate) (sym c) ∙ f))
 
-  pub dropped_does : (a : ℕ) (m : Chained) (y : Reply) → m ≡ carried_for from o r → is_spent most i ≡ false
+  pub dropped_does : (a : ℕ) (m : Chained) (y : Reply) → is_held_back from (hand a (carried_for from o r)) ≡ false → m ≡ carried_for from o r → is_spent most i ≡ false
       → (line_of s i from a m).fate ≡ NoReply
       → Does s most (Serves (hand a m) y) (with_line (line_of s i from a m) i) j
       → Does s most (Sends from o r a Unheard) i j
-  dropped_does a m y c e f d =
-      dropped a y e (ap (λ (z : Chained). (line_of s i from a z).fate) (sym c) ∙ f)
+  dropped_does a m y hb c e f d =
+      dropped a y hb e (ap (λ (z : Chained). (line_of s i from a z).fate) (sym c) ∙ f)
       (subst (λ (z : Chained). Does s most (Serves (hand a z) y) (with_line (line_of s i from a z) i) j) c d)
 
-  pub sends_does : {l : Journal} (a : ℕ) (m : Chained) (y last : Reply) → m ≡ carried_for from o r → is_spent most i
+  pub sends_does : {l : Journal} (a : ℕ) (m : Chained) (y last : Reply) → is_held_back from (hand a (carried_for from o r)) ≡ false → m ≡ carried_for from o r → is_spent most i
       ≡ false
       → (line_of s i from a m).fate ≡ Sent
       → Does s most (Serves (hand a m) y) (with_line (line_of s i from a m) i) j
       → Does s most (Follows from (hand a m) y last) j l
       → Does s most (Sends from o r a (Hears last)) i l
-  sends_does {l} a m y last c e f d u =
-      sends a y last e (ap (λ (z : Chained). (line_of s i from a z).fate) (sym c) ∙ f)
+  sends_does {l} a m y last hb c e f d u =
+      sends a y last hb e (ap (λ (z : Chained). (line_of s i from a z).fate) (sym c) ∙ f)
       (subst (λ (z : Chained). Does s most (Serves (hand a z) y) (with_line (line_of s i from a z) i) j) c d)
       (subst (λ (z : Chained). Does s most (Follows from (hand a z) y last) j l) c u)
 

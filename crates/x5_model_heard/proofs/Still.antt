@@ -27,7 +27,7 @@ use Rattle.x5_model_run.specs.Chain.{Scene, probe_request, is_probe, part_body, 
 use Rattle.x5_model_theory.proofs.Tests.{false_true}
 use Rattle.x5_model_theory.proofs.Stages.{key_length}
 use Rattle.x5_model_theory.proofs.Longest.{respelled_key}
-use Rattle.x5_model_serve.specs.Serving.{Hand, Act, Serves, Follows, Sends, Tries, Takes, Spreads, Casts, Gathers, Probes, Updates, Does, carried_for, loops, is_long, done_before, refused, unfit, stuck, nowhere, refers, goes, casts, reads, reads_copy, gives_parts, asks_parts, updates, not_done, does, probes_all, misses, taken, breaks, no_probe, clear, unsure, silent, spent, lost, dropped, sends, final, referral, wide_referral, unexplored, none_yet, in_vain_too, heard, unheard, none_asked, unable_too, silent_too, answered, nobody_has, some_silent, no_part, part_unheard, part_unavailable, part_answered, part_breaks}
+use Rattle.x5_model_serve.specs.Serving.{Hand, Act, Serves, Follows, Sends, Tries, Takes, Spreads, Casts, Gathers, Probes, Updates, Does, carried_for, loops, is_long, done_before, refused, unfit, stuck, nowhere, refers, goes, casts, reads, reads_copy, gives_parts, asks_parts, updates, not_done, does, probes_all, misses, taken, breaks, no_probe, clear, unsure, silent, holds_back, spent, lost, dropped, sends, final, referral, wide_referral, unexplored, none_yet, in_vain_too, heard, unheard, none_asked, unable_too, silent_too, answered, nobody_has, some_silent, no_part, part_unheard, part_unavailable, part_answered, part_breaks}
 use Rattle.x5_model_heard.specs.Kept.{ProbesAcceptNone}
 
 -- ---- what is due is a probe
@@ -255,10 +255,11 @@ module _ (s : Scene) (most : ℕ) where
   still _ _ _ (clear a y e d u) ho = still _ _ _ u ho ∙ still _ _ _ d ho
   still _ _ _ (unsure a y e d u) ho = still _ _ _ u ho ∙ still _ _ _ d ho
   still _ _ _ (silent a d u) ho = still _ _ _ u ho ∙ still _ _ _ d ho
-  still _ _ _ (spent a e) ho = refl
-  still _ _ _ (lost a e f) ho = refl
-  still _ _ _ (dropped a y e f d) ho = still _ _ _ d ho
-  still _ _ _ (sends a y z e f d u) ho = still _ _ _ u ho ∙ still _ _ _ d ho
+  still _ _ _ (holds_back a e) ho = refl
+  still _ _ _ (spent a hb e) ho = refl
+  still _ _ _ (lost a hb e f) ho = refl
+  still _ _ _ (dropped a y hb e f d) ho = still _ _ _ d ho
+  still _ _ _ (sends a y z hb e f d u) ho = still _ _ _ u ho ∙ still _ _ _ d ho
   still _ _ _ (final y e) ho = refl
   still _ _ _ (referral {from} {k} r h e d) ho = still _ _ _ d (carries from k ho r)
   still _ _ _ (wide_referral {from} {k} r y e d) ho = still _ _ _ d (carries from k ho r)

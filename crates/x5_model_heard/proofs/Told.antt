@@ -4,18 +4,26 @@ use Rattle.std.proofs.Common.{◌≡◌, ℕ, nat_lt, Bool, true, false, not, in
 use Rattle.std.specs.List.{list_all, filter}
 use Rattle.x5_model.specs.References.{Reference, Chained}
 use Rattle.x5_model.specs.Answers.{Source, Answer, EntryFound, Matched, Listed, Found, Changed, DirError, NoSuchObject, AttributeProblem, UpdateProblem, ServiceProblem, Reply, Answered, Failed}
-use Rattle.x5_model.specs.Problems.{unavailable}
+use Rattle.x5_model.specs.Problems.{unavailable, loop_detected}
 use Rattle.x5_model.proofs.Lists.{both_true, and_true}
 use Rattle.x5_model_tree.specs.Tree.{tree_of}
 use Rattle.x5_model_tree.specs.Ask.{Told, Shows, Compares, Lists, Finds, Changes, Refuses, unexplored_of, ask_marked}
-use Rattle.x5_model_run.specs.Journal.{Journal, is_wide}
+use Rattle.x5_model_run.specs.Journal.{Journal, is_wide, item_of}
 use Rattle.x5_model_run.specs.Holdings.{Holdings, ground_at}
 use Rattle.x5_model_run.specs.Chain.{Scene}
 use Rattle.x5_model_theory.proofs.Tests.{false_true}
 use Rattle.x5_model_serve.specs.Answering.{own_source, copy_source, reply_from, local_part, with_unexplored, only_unexplored, limited_answer, merged, passed_by, in_vain, of_these, is_unavailable}
-use Rattle.x5_model_serve.specs.Serving.{Hand, Heard, Unheard, Hears, Gathered, Whole, Broken, Act, Does, holds_now, at_limit, gathered_reply, heard_or, parts_refs, stuck_problem, loops, is_long, done_before, refused, unfit, stuck, nowhere, refers, goes, casts, reads, reads_copy, gives_parts, asks_parts, updates, not_done, does, probes_all, misses, taken, breaks, no_probe, clear, unsure, silent, spent, lost, dropped, sends, final, referral, wide_referral, unexplored, none_yet, in_vain_too, heard, unheard, none_asked, unable_too, silent_too, answered, nobody_has, some_silent, no_part, part_unheard, part_unavailable, part_answered, part_breaks}
+use Rattle.x5_model_serve.specs.Serving.{Hand, hand, carried_for, is_looped, limit_reply, held_back, Heard, Unheard, Hears, Gathered, Whole, Broken, Act, Does, holds_now, at_limit, gathered_reply, heard_or, parts_refs, stuck_problem, loops, is_long, done_before, refused, unfit, stuck, nowhere, refers, goes, casts, reads, reads_copy, gives_parts, asks_parts, updates, not_done, does, probes_all, misses, taken, breaks, no_probe, clear, unsure, silent, holds_back, spent, lost, dropped, sends, final, referral, wide_referral, unexplored, none_yet, in_vain_too, heard, unheard, none_asked, unable_too, silent_too, answered, nobody_has, some_silent, no_part, part_unheard, part_unavailable, part_answered, part_breaks}
 use Rattle.x5_model_heard.specs.Told.{are_agents, name_agents, reply_names, error_names, KnowsAgents, IsTold, IsToldHeard, IsToldWhole, Tells, RepliesAreTold}
 use Rattle.x5_model_heard.proofs.Errors.{is_tree_error, fault_plain, over_plain, asked_plain, no_service}
+
+-- a user tells himself no reference, and is unavailable by none
+held_told : (n : ℕ) (k : Hand) → IsTold n (held_back k)
+held_told n k = by (is_looped k)
+  where
+    by : (b : Bool) → IsTold n (cond b (Failed (ServiceProblem loop_detected None (Some (item_of k.receiver k.message)))) limit_reply)
+    by true = record { agents = refl; reference = inl refl }
+    by false = record { agents = refl; reference = inl refl }
 
 all_both : {A : Type 0} (test : A → Bool) (xs ys : List A) → list_all test xs ≡ true → list_all test ys ≡ true
     → list_all test (xs ++ ys) ≡ true
@@ -219,10 +227,11 @@ module _ (n : ℕ) (s : Scene) (most : ℕ) (knows : KnowsAgents n s) where
       let next = tells _ _ _ d in
       λ all. all_both (λ x. nat_lt x n) m (a ∷ []) (next (all_left (λ x. nat_lt x n) b (a ∷ []) all))
       (all_right (λ x. nat_lt x n) b (a ∷ []) all)
-  tells _ _ _ (spent a e) = λ there. record { agents = refl; reference = inl refl }
-  tells _ _ _ (lost a e f) = λ there. tt
-  tells _ _ _ (dropped a y e f d) = λ there. tt
-  tells _ _ _ (sends a y z e f d u) =
+  tells _ _ _ (holds_back {from} {o} {r} a e) = λ there. held_told n (hand a (carried_for from o r))
+  tells _ _ _ (spent a hb e) = λ there. record { agents = refl; reference = inl refl }
+  tells _ _ _ (lost a hb e f) = λ there. tt
+  tells _ _ _ (dropped a y hb e f d) = λ there. tt
+  tells _ _ _ (sends a y z hb e f d u) =
       (let first = tells _ _ _ d in let next = tells _ _ _ u in λ there. next (first there))
   tells _ _ _ (final y e) = λ told. told
   tells _ _ _ (referral r h e d) =

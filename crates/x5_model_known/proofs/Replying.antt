@@ -1,16 +1,17 @@
 -- The sources of an answer are at agents that served, and an item is the receiver's own: by one induction over all that
 -- is done, beside that of the references (`RepliesAreTold`).
-use Rattle.std.proofs.Common.{◌≡◌, ℕ, ◌==◌, nat_lt, Bool, true, false, not, ◌&&◌, List, [], ◌∷◌, ◌++◌, refl, ap, subst, ◌∙◌, Option, if◌then◌else◌}
+use Rattle.std.proofs.Common.{◌≡◌, ℕ, ◌==◌, nat_lt, Bool, true, false, not, ◌&&◌, List, [], ◌∷◌, ◌++◌, refl, ap, subst, ◌∙◌, Option, Some, None, if◌then◌else◌}
 use Rattle.std.specs.Bool.{⊤}
 use Rattle.std.specs.List.{list_all, filter}
 use Rattle.x5_model.specs.Words.{has}
 use Rattle.x5_model.specs.Members.{In, here, there}
 use Rattle.x5_model.specs.References.{Reference, Chained}
-use Rattle.x5_model.specs.Answers.{Source, Answer, EntryFound, Matched, Listed, Found, Changed, DirError, NoSuchObject, AttributeProblem, UpdateProblem, ServiceProblem, Reply, Answered}
+use Rattle.x5_model.specs.Answers.{Source, Answer, EntryFound, Matched, Listed, Found, Changed, DirError, NoSuchObject, AttributeProblem, UpdateProblem, ServiceProblem, Reply, Answered, Failed}
 use Rattle.x5_model.proofs.Lists.{and_true, in_left, in_right, of_map, of_filter, of_all, all_in}
 use Rattle.x5_model_tree.specs.Tree.{tree_of}
 use Rattle.x5_model_tree.specs.Ask.{Told, Shows, Compares, Lists, Finds, Changes, Refuses, unexplored_of, ask_marked}
-use Rattle.x5_model_run.specs.Journal.{Journal}
+use Rattle.x5_model.specs.Problems.{loop_detected}
+use Rattle.x5_model_run.specs.Journal.{Journal, item_of}
 use Rattle.x5_model_run.specs.Holdings.{Held, Holdings, ground_at}
 use Rattle.x5_model_run.specs.Needs.{due_probes}
 use Rattle.x5_model_run.specs.Chain.{Scene}
@@ -18,7 +19,7 @@ use Rattle.x5_model_theory.proofs.Tests.{false_true}
 use Rattle.x5_model_serve.specs.Committed.{committed}
 use Rattle.x5_model_serve.specs.Walking.{entered}
 use Rattle.x5_model_serve.specs.Answering.{own_source, copy_source, reply_from, stamp_at, local_sources, local_told, local_part, with_unexplored, only_unexplored, limited_answer, merged, passed_by, in_vain, is_unavailable}
-use Rattle.x5_model_serve.specs.Serving.{Hand, hand, Heard, Unheard, Hears, Gathered, Whole, Broken, Act, Serves, Follows, Sends, Tries, Takes, Spreads, Casts, Gathers, Probes, Updates, Does, holds_now, gathered_reply, heard_or, parts_refs, user_in_vain, IsRequest, not_heard, not_told, answers, loops, is_long, done_before, refused, unfit, stuck, nowhere, refers, goes, casts, reads, reads_copy, gives_parts, asks_parts, updates, not_done, does, probes_all, misses, taken, breaks, no_probe, clear, unsure, silent, spent, lost, dropped, sends, final, referral, wide_referral, unexplored, none_yet, in_vain_too, heard, unheard, none_asked, unable_too, silent_too, answered, nobody_has, some_silent, no_part, part_unheard, part_unavailable, part_answered, part_breaks}
+use Rattle.x5_model_serve.specs.Serving.{Hand, hand, carried_for, is_looped, limit_reply, held_back, Heard, Unheard, Hears, Gathered, Whole, Broken, Act, Serves, Follows, Sends, Tries, Takes, Spreads, Casts, Gathers, Probes, Updates, Does, holds_now, gathered_reply, heard_or, parts_refs, user_in_vain, IsRequest, not_heard, not_told, answers, loops, is_long, done_before, refused, unfit, stuck, nowhere, refers, goes, casts, reads, reads_copy, gives_parts, asks_parts, updates, not_done, does, probes_all, misses, taken, breaks, no_probe, clear, unsure, silent, holds_back, spent, lost, dropped, sends, final, referral, wide_referral, unexplored, none_yet, in_vain_too, heard, unheard, none_asked, unable_too, silent_too, answered, nobody_has, some_silent, no_part, part_unheard, part_unavailable, part_answered, part_breaks}
 use Rattle.x5_model_heard.specs.Told.{are_agents, name_agents, reply_names, KnowsAgents, IsTold}
 use Rattle.x5_model_heard.proofs.Errors.{is_tree_error, fault_plain, over_plain, asked_plain}
 use Rattle.x5_model_heard.proofs.Told.{replies_are_told}
@@ -130,6 +131,14 @@ module _ (n : ℕ) where
   limited_there size (Found infos sources o) = refl
   limited_there size Changed = refl
 
+  -- a user tells himself of nobody but the agent that he would ask
+  held_names : (k : Hand) → nat_lt k.receiver n ≡ true → reply_sources n (held_back k) ≡ true
+  held_names k t = by (is_looped k)
+    where
+      by : (b : Bool) → reply_sources n (if b then Failed (ServiceProblem loop_detected None (Some (item_of k.receiver k.message))) else limit_reply) ≡ true
+      by true = t
+      by false = refl
+
   merged_there : (a b : Answer) → answer_sources n a ≡ true → answer_sources n b ≡ true
       → answer_sources n (merged a b) ≡ true
   merged_there (Listed subs sources o) (Listed more others q) e f = all_both is_source sources others e f
@@ -230,10 +239,11 @@ module _ (n : ℕ) where
     comes _ _ _ (clear a y e d u) = tt
     comes _ _ _ (unsure a y e d u) = tt
     comes _ _ _ (silent a d u) = tt
-    comes _ _ _ (spent a e) = λ t. refl
-    comes _ _ _ (lost a e f) = λ t. tt
-    comes _ _ _ (dropped a y e f d) = λ t. tt
-    comes _ _ _ (sends {from} {o} {r} a y z e f d u) =
+    comes _ _ _ (holds_back {from} {o} {r} a e) = λ t. held_names (hand a (carried_for from o r)) t
+    comes _ _ _ (spent a hb e) = λ t. refl
+    comes _ _ _ (lost a hb e f) = λ t. tt
+    comes _ _ _ (dropped a y hb e f d) = λ t. tt
+    comes _ _ _ (sends {from} {o} {r} a y z hb e f d u) =
         let first = comes _ _ _ d in
         let next = comes _ _ _ u in
         λ t. (let told : IsTold n y = replies_are_told n s most _ _ _ knows d t in next told.agents (first t))

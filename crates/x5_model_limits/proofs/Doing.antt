@@ -1,22 +1,23 @@
 -- By one induction over all that is done: what is told is what the agent found, answered or heard, and each message
 -- that is sent is carried by a reference of its own or of a reply that it follows.
-use Rattle.std.proofs.Common.{◌≡◌, ℕ, ◌-◌, ◌==◌, nat_lt, Bool, true, false, not, inl, inr, List, [], ◌∷◌, ◌++◌, refl, sym, subst, ◌∙◌, arith, Option, Err, if◌then◌else◌}
+use Rattle.std.proofs.Common.{◌≡◌, ℕ, ◌-◌, ◌==◌, nat_lt, Bool, true, false, not, inl, inr, List, [], ◌∷◌, ◌++◌, refl, sym, subst, ◌∙◌, arith, Option, Some, None, Err, if◌then◌else◌}
 use Rattle.std.specs.List.{list_all, filter}
 use Rattle.x5_model.specs.Words.{has}
 use Rattle.x5_model.specs.Members.{here}
 use Rattle.x5_model.specs.References.{Progress, Start, Next, Done, Reference}
-use Rattle.x5_model.specs.Answers.{Answer, DirError, Reply, Answered, Failed}
+use Rattle.x5_model.specs.Answers.{Answer, DirError, ServiceProblem, Reply, Answered, Failed}
+use Rattle.x5_model.specs.Problems.{loop_detected}
 use Rattle.x5_model.proofs.Lists.{in_first, in_left, in_right, of_filter, of_all, all_in}
 use Rattle.x5_model_tree.specs.Ask.{unexplored_of}
 use Rattle.x5_model_run.specs.Holdings.{ground_at}
-use Rattle.x5_model_run.specs.Journal.{Line, Journal, is_wide}
+use Rattle.x5_model_run.specs.Journal.{Line, Journal, is_wide, item_of}
 use Rattle.x5_model_run.specs.Needs.{due_probes}
 use Rattle.x5_model_run.specs.Chain.{Scene}
 use Rattle.x5_model_theory.proofs.Tests.{false_true}
 use Rattle.x5_model_serve.specs.Committed.{committed}
 use Rattle.x5_model_serve.specs.Finding as finding
 use Rattle.x5_model_serve.specs.Answering.{local_part, with_unexplored, passed_by, in_vain, is_unavailable, above_next}
-use Rattle.x5_model_serve.specs.Serving.{Hand, hand, hand_of, Heard, Unheard, Hears, Gathered, Whole, Broken, Act, Does, asked_by, holds_now, found_at, gathered_reply, heard_or, is_final, is_too_long, judged, limit_reply, parts_refs, stuck_problem, carried_for, next_line, with_line, user_line, user_in_vain, nothing_yet, IsRequest, not_heard, not_told, answers, loops, is_long, done_before, refused, unfit, stuck, nowhere, refers, goes, casts, reads, reads_copy, gives_parts, asks_parts, updates, not_done, does, probes_all, misses, taken, breaks, no_probe, clear, unsure, silent, spent, lost, dropped, sends, final, referral, wide_referral, unexplored, none_yet, in_vain_too, heard, unheard, none_asked, unable_too, silent_too, answered, nobody_has, some_silent, no_part, part_unheard, part_unavailable, part_answered, part_breaks}
+use Rattle.x5_model_serve.specs.Serving.{Hand, hand, hand_of, is_looped, held_back, Heard, Unheard, Hears, Gathered, Whole, Broken, Act, Does, asked_by, holds_now, found_at, gathered_reply, heard_or, is_final, is_too_long, judged, limit_reply, parts_refs, stuck_problem, carried_for, next_line, with_line, user_line, user_in_vain, nothing_yet, IsRequest, not_heard, not_told, answers, loops, is_long, done_before, refused, unfit, stuck, nowhere, refers, goes, casts, reads, reads_copy, gives_parts, asks_parts, updates, not_done, does, probes_all, misses, taken, breaks, no_probe, clear, unsure, silent, holds_back, spent, lost, dropped, sends, final, referral, wide_referral, unexplored, none_yet, in_vain_too, heard, unheard, none_asked, unable_too, silent_too, answered, nobody_has, some_silent, no_part, part_unheard, part_unavailable, part_answered, part_breaks}
 use Rattle.x5_model_heard.specs.Told.{are_agents, name_agents, KnowsAgents, IsTold}
 use Rattle.x5_model_heard.proofs.Told.{replies_are_told}
 use Rattle.x5_model_known.proofs.Finding.{knowledge_names_agents}
@@ -122,6 +123,14 @@ module _ (n : ℕ) where
     receiver = t;
     message = carried_bounded from o r g.opener.hand.message g.reference g.opener.short;
   }
+
+  -- what a user tells himself
+  held_bounded : (k : Hand) → BoundedHand n k → BoundedReply (held_back k)
+  held_bounded k g = by (is_looped k)
+    where
+      by : (b : Bool) → BoundedReply (if b then Failed (ServiceProblem loop_detected None (Some (item_of k.receiver k.message))) else limit_reply)
+      by true = ((omega arith, omega arith), tt, item_within k.receiver k.message g.message)
+      by false = limit_bounded
 
   whole_bounded : (k : Hand) (w : Gathered) → BoundedWhole w → BoundedReply (gathered_reply k w)
   whole_bounded k (Whole a) t = answers_are_bounded.limited k.message.request.controls.size a t
@@ -282,15 +291,16 @@ module _ (n : ℕ) where
         λ g f.
         let x = first (g.0, all_left is_there b (a ∷ []) g.1) f in
         (tt, (next (g.0, middle is_there a b [] g.1) x.1).1)
-    comes _ _ _ (spent a e) = λ g f. (limit_bounded, f)
-    comes _ _ _ (lost {from} {o} {r} {j} a e t) = λ g f.
+    comes _ _ _ (holds_back {from} {o} {r} a e) = λ g f. (held_bounded (hand a (carried_for from o r)) (sent from o r a g.0 g.1), f)
+    comes _ _ _ (spent a hb e) = λ g f. (limit_bounded, f)
+    comes _ _ _ (lost {from} {o} {r} {j} a hb e t) = λ g f.
         (tt, one_line (next_line s j from o r a) j (sent from o r a g.0 g.1) f)
-    comes _ _ _ (dropped {from} {o} {r} {i} a y e t d) =
+    comes _ _ _ (dropped {from} {o} {r} {i} a y hb e t d) =
         let next = comes _ _ _ d in
         λ g f.
         let k = sent from o r a g.0 g.1 in
         (tt, (next k (one_line (next_line s i from o r a) i k f)).1)
-    comes _ _ _ (sends {from} {o} {r} {i} a y z e t d u) =
+    comes _ _ _ (sends {from} {o} {r} {i} a y z hb e t d u) =
         let first = comes _ _ _ d in
         let next = comes _ _ _ u in
         λ g f.

@@ -9,21 +9,30 @@ use Rattle.x5_model.specs.Entries.{Named}
 use Rattle.x5_model.specs.Selections.{selection_fault}
 use Rattle.x5_model.specs.Requests.{Selection, Body, Read, Compare, ListBelow, Search, AddEntry, RemoveEntry, ModifyEntry, ModifyDn, Request}
 use Rattle.x5_model.specs.References.{Reference, Chained}
-use Rattle.x5_model.specs.Answers.{Source, Answer, EntryFound, Matched, Listed, Found, Changed, DirError, Reply, Answered, Failed, Referred}
+use Rattle.x5_model.specs.Answers.{Source, Answer, EntryFound, Matched, Listed, Found, Changed, DirError, ServiceProblem, Reply, Answered, Failed, Referred}
 use Rattle.x5_model.specs.Statics.{fault_of}
 use Rattle.x5_model.proofs.Lists.{both_true}
 use Rattle.x5_model_tree.specs.Tree.{Tree, entry_at, is_there_or_root, tree_of}
 use Rattle.x5_model_tree.specs.Apply.{Applied, apply}
 use Rattle.x5_model_tree.specs.Ask as ask
 use Rattle.x5_model_tree.specs.Ask.{Told, Shows, Compares, Lists, Finds, Changes, Refuses, is_update, at_object, has_type, limited_list, limited_found, just_below, searched, updated, ask_body, ask_marked}
-use Rattle.x5_model_run.specs.Journal.{Journal, operation_of, is_wide}
+use Rattle.x5_model.specs.Problems.{loop_detected}
+use Rattle.x5_model_run.specs.Journal.{Journal, operation_of, is_wide, item_of}
 use Rattle.x5_model_run.specs.Holdings.{Holdings}
 use Rattle.x5_model_run.specs.Chain.{Scene, is_probe, part_body, part_request, probe_request, asks_part, is_user}
 use Rattle.x5_model_theory.proofs.Tests.{false_true}
 use Rattle.x5_model_serve.specs.Answering.{reply_from, own_source, copy_source, local_sources, local_told, told_in, local_part, merged, with_unexplored, only_unexplored, limited_answer, passed_by, in_vain, is_unavailable}
-use Rattle.x5_model_serve.specs.Serving.{Hand, Heard, Unheard, Hears, Gathered, Whole, Broken, Act, Does, carried_for, gathered_reply, heard_or, holds_now, parts_refs, IsRequest, not_heard, not_told, answers, loops, is_long, done_before, refused, unfit, stuck, nowhere, refers, goes, casts, reads, reads_copy, gives_parts, asks_parts, updates, not_done, does, probes_all, misses, taken, breaks, no_probe, clear, unsure, silent, spent, lost, dropped, sends, final, referral, wide_referral, unexplored, none_yet, in_vain_too, heard, unheard, none_asked, unable_too, silent_too, answered, nobody_has, some_silent, no_part, part_unheard, part_unavailable, part_answered, part_breaks}
+use Rattle.x5_model_serve.specs.Serving.{Hand, hand, is_looped, limit_reply, held_back, Heard, Unheard, Hears, Gathered, Whole, Broken, Act, Does, carried_for, gathered_reply, heard_or, holds_now, parts_refs, IsRequest, not_heard, not_told, answers, loops, is_long, done_before, refused, unfit, stuck, nowhere, refers, goes, casts, reads, reads_copy, gives_parts, asks_parts, updates, not_done, does, probes_all, misses, taken, breaks, no_probe, clear, unsure, silent, holds_back, spent, lost, dropped, sends, final, referral, wide_referral, unexplored, none_yet, in_vain_too, heard, unheard, none_asked, unable_too, silent_too, answered, nobody_has, some_silent, no_part, part_unheard, part_unavailable, part_answered, part_breaks}
 use Rattle.x5_model_limits.specs.Operations.{answered_by, IsAnswerTo, IsReplyTo, IsHeardTo, IsWholeTo, GivenAsked, ToldAsked, RepliesToAsked, RequestsAnswered}
 use Rattle.x5_model_limits.proofs.Onward.{onward_is_no_probe}
+
+-- what a user tells himself replies to any operation
+held_replies : (b : Body) (k : Hand) → IsReplyTo b (held_back k)
+held_replies b k = by (is_looped k)
+  where
+    by : (c : Bool) → IsReplyTo b (if c then Failed (ServiceProblem loop_detected None (Some (item_of k.receiver k.message))) else limit_reply)
+    by true = tt
+    by false = tt
 
 -- ---- operations by their codes
 
@@ -279,10 +288,11 @@ module _ (s : Scene) (most : ℕ) where
   comes _ _ _ (clear a y e d u) = λ g. tt
   comes _ _ _ (unsure a y e d u) = λ g. tt
   comes _ _ _ (silent a d u) = λ g. tt
-  comes _ _ _ (spent a e) = λ g. tt
-  comes _ _ _ (lost a e t) = λ g. tt
-  comes _ _ _ (dropped a y e t d) = λ g. tt
-  comes _ _ _ (sends a y z e t d u) =
+  comes _ _ _ (holds_back {from} {o} {r} a e) = λ g. held_replies (carried_for from o r).request.body (hand a (carried_for from o r))
+  comes _ _ _ (spent a hb e) = λ g. tt
+  comes _ _ _ (lost a hb e t) = λ g. tt
+  comes _ _ _ (dropped a y hb e t d) = λ g. tt
+  comes _ _ _ (sends a y z hb e t d u) =
       let first = comes _ _ _ d in
       let next = comes _ _ _ u in
       λ g. next (first tt)

@@ -27,7 +27,7 @@ use Rattle.x5_model_serve.specs.Finding as finding
 use Rattle.x5_model_serve.specs.Finding.{Found, by_first, in_own, in_copy, at_pin, resolved, found_by, find}
 use Rattle.x5_model_serve.specs.Answering.{is_service, reply_from, reply_in_copy, is_unavailable, in_vain, copy_source}
 use Rattle.x5_model_serve.specs.Claims.{Grows}
-use Rattle.x5_model_serve.specs.Serving.{Hand, Heard, Unheard, Hears, Act, Takes, Does, holds_now, begins_parts, heard_or, is_final, with_line, next_line, carried_for, loops, is_long, done_before, refused, unfit, stuck, nowhere, refers, goes, casts, reads, reads_copy, gives_parts, asks_parts, updates, not_done, does, probes_all, misses, taken, breaks, no_probe, clear, unsure, silent, spent, lost, dropped, sends, final, referral, wide_referral, unexplored, none_yet, in_vain_too, heard, unheard, none_asked, unable_too, silent_too, answered, nobody_has, some_silent, no_part, part_unheard, part_unavailable, part_answered, part_breaks}
+use Rattle.x5_model_serve.specs.Serving.{Hand, Heard, Unheard, Hears, Act, Takes, Does, holds_now, begins_parts, heard_or, is_final, with_line, next_line, carried_for, loops, is_long, done_before, refused, unfit, stuck, nowhere, refers, goes, casts, reads, reads_copy, gives_parts, asks_parts, updates, not_done, does, probes_all, misses, taken, breaks, no_probe, clear, unsure, silent, holds_back, spent, lost, dropped, sends, final, referral, wide_referral, unexplored, none_yet, in_vain_too, heard, unheard, none_asked, unable_too, silent_too, answered, nobody_has, some_silent, no_part, part_unheard, part_unavailable, part_answered, part_breaks}
 use Rattle.x5_model_serve.proofs.Finals.{idle_is_followed}
 use Rattle.x5_model_find.proofs.Needing.{false_true}
 use Rattle.x5_model_joins.proofs.Following.{no_update_below}
@@ -206,14 +206,15 @@ module _ (s : Scene) (most : ℕ) where
   quiet _ _ _ (unsure {k} {r} {i} {j} {l} a y e d u) = both i j l (grown s most _ _ _ u) (quiet _ _ _ d)
       (quiet _ _ _ u (or_left (is_service unavailable y) _ e))
   quiet _ _ _ (silent {k} {r} {i} {j} {l} a d u) = both i j l (grown s most _ _ _ u) (quiet _ _ _ d) (quiet _ _ _ u)
-  quiet _ _ _ (spent a e) = λ u. inl refl
-  quiet _ _ _ (lost a e f) = inl refl
-  quiet _ _ _ (dropped {from} {o} {r} {i} {j} a y e f d) =
+  quiet _ _ _ (holds_back a e) = λ u. inl refl
+  quiet _ _ _ (spent a hb e) = λ u. inl refl
+  quiet _ _ _ (lost a hb e f) = inl refl
+  quiet _ _ _ (dropped {from} {o} {r} {i} {j} a y hb e f d) =
       let g = grown s most _ _ _ d in
       inr (ap not (any_in (λ (l : Line). is_noreply l.fate) (next_line s i from o r a) j.lines
       (subst (λ (xs : List Line). In (next_line s i from o r a) xs) (sym g.1)
       (in_right (next_line s i from o r a) g.0 (next_line s i from o r a ∷ i.lines) here)) (ap is_noreply f)))
-  quiet _ _ _ (sends {from} {o} {r} {i} {j} {l} a y z e f d u) = by (is_final y) refl (quiet _ _ _ d) (quiet _ _ _ u)
+  quiet _ _ _ (sends {from} {o} {r} {i} {j} {l} a y z hb e f d u) = by (is_final y) refl (quiet _ _ _ d) (quiet _ _ _ u)
     where
       by : (b : Bool) → is_final y ≡ b
           → (is_off y ≡ true → IsSilent (with_line (next_line s i from o r a) i) j)

@@ -1,6 +1,6 @@
 -- What each line of a run over consistent knowledge finds: no context was moved, so the knowledge is that of the described
 -- world, and the tree has its pins; and what a line did is told by the updates that it accepted.
-use Rattle.std.proofs.Common.{◌≡◌, ℕ, suc, ◌-◌, ◌≤◌, ◌==◌, ◌&&◌, true, List, [], ◌∷◌, map, length, drop, refl, ap, subst, ◌∙◌, arith}
+use Rattle.std.proofs.Common.{◌≡◌, ℕ, suc, ◌-◌, ◌≤◌, ◌==◌, ◌&&◌, true, List, [], ◌∷◌, map, length, drop, refl, ap, subst, ◌∙◌, arith, inl, inr, Ok, Err}
 use Rattle.x5_model.specs.Members.{In}
 use Rattle.x5_model.specs.Keys.{Key, same_key}
 use Rattle.x5_model.proofs.KeyLaws.{key_decides}
@@ -10,7 +10,10 @@ use Rattle.x5_model_tree.specs.Tree.{Tree}
 use Rattle.x5_model_tree.specs.Masters.{Mastered, pin_of, mastered, masters, pins}
 use Rattle.x5_model_tree.specs.Consistent.{IsConsistent}
 use Rattle.x5_model_tree.specs.Described.{IsDescribed}
-use Rattle.x5_model_run.specs.History.{Deed, Nothing, Outs, Loses, Accepts, Refreshes, Splits, Unsplits, Did, Point, tree_accepting, tree_after, tree_by, tree_at, knowledge_by, knowledge_after}
+use Rattle.x5_model_run.specs.History.{Deed, Nothing, Outs, Loses, Accepts, Refreshes, Splits, Unsplits, Did, Point, Acceptance, tree_with, tree_accepting, tree_after, tree_by, tree_at, knowledge_by, knowledge_after}
+use Rattle.x5_model.specs.Requests.{Request}
+use Rattle.x5_model_tree.specs.Apply.{Applied, apply}
+use Rattle.x5_model_updates.proofs.Outcomes.{ok_or_err, tree_made}
 use Rattle.x5_model_run.specs.Refresh.{accepted_in}
 use Rattle.x5_model_theory.specs.Knowledge.{Area}
 use Rattle.x5_model_theory.specs.Described.{area_of}
@@ -63,6 +66,10 @@ tree_before w d before m l =
 pub tree_now : (w : World) (past : List Did) (m : ℕ) → m ≡ length past → tree_by w (drop (length past - m) past) ≡ tree_by w past
 tree_now w past m s = (let e : length past - m ≡ 0 = omega arith in ap (λ (n : ℕ). tree_by w (drop n past)) e)
 
+abbrev as_left : Tree → Applied → Tree
+as_left t (Ok u) = u
+as_left t (Err x) = t
+
 module _ (w : World) where
   pub none_moved : (past : List Did) → AllHappen w past → NoneMoved past
   none_moved [] h = tt
@@ -88,14 +95,33 @@ module _ (w : World) where
       let s = both_true (m.0.master == a) (same_key (pin_of m.0) pin) m.2 in
       subst (λ (x : Key). In x (pins w)) ((key_decides (pin_of m.0) pin).0 s.1) (in_map pin_of m.0 (mastered w) m.1)
 
+  with_pins : (t : Tree) (r : Request) → (tree_with t r).pins ≡ t.pins
+  with_pins t r =
+      elim (ok_or_err (apply t r)) [
+        | inl u ↦ ap (λ (x : Applied). (as_left t x).pins) u.1 ∙ ap (λ (y : Tree). y.pins) (tree_made t u.0 r u.1).1
+        | inr x ↦ ap (λ (y : Applied). (as_left t y).pins) x.1
+      ]
+
+  accepted_pins : (accepted : List Acceptance) (t : Tree) → (tree_accepting accepted t).pins ≡ t.pins
+  accepted_pins [] t = refl
+  accepted_pins (a ∷ more) t = accepted_pins more (tree_with t a.request) ∙ with_pins t a.request
+
+  pins_by : (past : List Did) → AllHappen w past → (tree_by w past).pins ≡ pins w
+  pins_by [] h = refl
+  pins_by (d ∷ before) h = by d.deed h.0 (tree_by w before) (pins_by before h.1)
+    where
+      by : (x : Deed) → Happens (at_line w before) x → (t : Tree) → t.pins ≡ pins w → (tree_after x t).pins ≡ pins w
+      by Nothing m t q = q
+      by (Outs o) m t q = q
+      by (Loses reply j) m t q = q
+      by (Accepts accepted) m t q = accepted_pins accepted t ∙ q
+      by (Refreshes f) m t q = q
+      by (Splits name a) m t q = absurd m
+      by (Unsplits name) m t q = absurd m
+
   module _ (described : IsDescribed w) (consistent : IsConsistent w) (past : List Did) (h : AllHappen w past) where
     pub stands : StandsWhole (at_line w past)
     stands = lines_stand w past described consistent (none_moved past h)
 
     pub pins_stay : (tree_by w past).pins ≡ pins w
-    pins_stay =
-        stands.tree.pins
-        ∙ map_map area_of (λ (c : Area). c.prefix) (mastered (with_tree (tree_by w past) (knowledge_by w past)))
-        ∙ ap (map pin_of) (mastered_now (tree_by w past) (knowledge_by w past))
-        ∙ map_map (now_mastered (tree_by w past)) pin_of (mastered (knowledge_by w past))
-        ∙ ap pins (knowledge_stays past h)
+    pins_stay = pins_by past h

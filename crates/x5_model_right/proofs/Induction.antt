@@ -3,7 +3,7 @@ use Rattle.std.proofs.Common.{ℕ}
 use Rattle.x5_model_run.specs.Journal.{Journal}
 use Rattle.x5_model_run.specs.History.{Point}
 use Rattle.x5_model_run.specs.Chain.{Scene}
-use Rattle.x5_model_serve.specs.Serving.{Act, Does, loops, is_long, done_before, refused, unfit, stuck, nowhere, refers, goes, casts, reads, reads_copy, gives_parts, asks_parts, updates, not_done, does, probes_all, misses, taken, breaks, no_probe, clear, unsure, silent, spent, lost, dropped, sends, final, referral, wide_referral, unexplored, none_yet, in_vain_too, heard, unheard, none_asked, unable_too, silent_too, answered, nobody_has, some_silent, no_part, part_unheard, part_unavailable, part_answered, part_breaks}
+use Rattle.x5_model_serve.specs.Serving.{Act, Does, loops, is_long, done_before, refused, unfit, stuck, nowhere, refers, goes, casts, reads, reads_copy, gives_parts, asks_parts, updates, not_done, does, probes_all, misses, taken, breaks, no_probe, clear, unsure, silent, holds_back, spent, lost, dropped, sends, final, referral, wide_referral, unexplored, none_yet, in_vain_too, heard, unheard, none_asked, unable_too, silent_too, answered, nobody_has, some_silent, no_part, part_unheard, part_unavailable, part_answered, part_breaks}
 use Rattle.x5_model_right.specs.Kept.{Ground}
 use Rattle.x5_model_right.specs.Claim.{Claim}
 use Rattle.x5_model_right.specs.Right.{Constructors, ServingIsRight}
@@ -56,11 +56,12 @@ module _ (c : Constructors) (p : Point) (s : Scene) (most : ℕ) (g : Ground p s
       let q = claimed _ _ _ d in
       let t = claimed _ _ _ u in
       c.updating.silent p s most k r i j l b n a g d q u t
-  claimed _ _ _ (spent {from} {o} {r} {j} a e) = c.sending.spent p s most from o r j a g e
-  claimed _ _ _ (lost {from} {o} {r} {j} a e f) = c.sending.is_lost p s most from o r j a g e f
-  claimed _ _ _ (dropped {from} {o} {r} {i} {j} a y e f d) =
+  claimed _ _ _ (holds_back {from} {o} {r} {j} a e) = c.sending.holds_back p s most from o r j a g e
+  claimed _ _ _ (spent {from} {o} {r} {j} a hb e) = c.sending.spent p s most from o r j a g e
+  claimed _ _ _ (lost {from} {o} {r} {j} a hb e f) = c.sending.is_lost p s most from o r j a g e f
+  claimed _ _ _ (dropped {from} {o} {r} {i} {j} a y hb e f d) =
       let q = claimed _ _ _ d in c.sending.dropped p s most from o r i j a y g e f d q
-  claimed _ _ _ (sends {from} {o} {r} {i} {j} {l} a y z e f d u) =
+  claimed _ _ _ (sends {from} {o} {r} {i} {j} {l} a y z hb e f d u) =
       let q = claimed _ _ _ d in
       let t = claimed _ _ _ u in
       c.sending.is_heard p s most from o r i j l a y z g e f d q u t

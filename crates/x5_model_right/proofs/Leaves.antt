@@ -57,7 +57,7 @@ use Rattle.x5_model_right.proofs.Finding.{looked, found_same, found_is, able}
 
 -- ---- what can't be
 
-item_there : (xs : List TraceItem) (x : TraceItem) → has same_item xs x ≡ true → (y : TraceItem) × In y xs × (same_item y x ≡ true)
+pub item_there : (xs : List TraceItem) (x : TraceItem) → has same_item xs x ≡ true → (y : TraceItem) × In y xs × (same_item y x ≡ true)
 item_there [] x e = cc
 item_there (y ∷ ys) x e = elim (either_true (same_item y x) _ e) [
   | inl same ↦ (y, here, same)

@@ -10,6 +10,7 @@ pub mod Able
 pub mod Casting
 pub mod Gathering
 pub mod Leaves
+pub mod Held
 pub mod Staying
 pub mod Probing
 pub mod Updates

@@ -136,7 +136,7 @@ module _ (p : Point) (s : Scene) (j : Journal) (n : ℕ) (all : AllLicensed s j.
       and_true (hears_master p (by_user s) j.lines (lowest (tree_at p).entries (key_of s.message.target))) _ (master_too _ a.0)
       (and_true (hears_nssr p s (by_user s) j.lines (lowest (tree_at p).entries (key_of s.message.target))) _ (nssr_too _ b.0) (taken_too x b.1))) h
 
-  right_too : (reply : Reply) → Right p s (at_agent s n) j reply → Right p s (by_user s) j reply
+  pub right_too : (reply : Reply) → Right p s (at_agent s n) j reply → Right p s (by_user s) j reply
   right_too _ (right.result {a} on res up none) = right.result come (result_too a res) up none
   right_too _ (right.changed on up h) = right.changed come up (heard (λ l. has ◌==◌ j.accepted l.receiver && carries_update s l) h)
   right_too _ (right.error {x} on t h none) = right.error come t (told_too x h) none
@@ -231,7 +231,7 @@ module _ (p : Point) (s : Scene) (j : Journal) (acc : Accepted p s j) (calm : li
       at None e f = cc
       at (Some y) e f = ap (λ (n : ℕ). is_some (accepting s j.lines n)) ((nat_same_decides y a).0 e) ∙ f
 
-  due_is : is_due p s j.lines ≡ not (is_empty j.accepted)
+  pub due_is : is_due p s j.lines ≡ not (is_empty j.accepted)
   due_is = elim (true_or_false (is_due p s j.lines)) [
     | inl t ↦ t ∙ sym (filled_by t)
     | inr f ↦ f ∙ sym (by j.accepted refl f)
@@ -241,7 +241,7 @@ module _ (p : Point) (s : Scene) (j : Journal) (acc : Accepted p s j) (calm : li
       by [] e f = ap (λ (ys : List ℕ). not (is_empty ys)) e
       by (a ∷ xs) e f = (let t = due_by a (subst (λ (ys : List ℕ). In a ys) (sym e) here) in absurd (let z : true ≡ false = sym t ∙ f in cc))
 
-accepts_of : (p : Point) (s : Scene) (j : Journal) → Accepted p s j → Accepts p s j
+pub accepts_of : (p : Point) (s : Scene) (j : Journal) → Accepted p s j → Accepts p s j
 accepts_of p s j acc = record { one = at_most (length j.accepted) 1 acc.one; right = acc.right; probed = acc.probed }
 
 -- ---- the three fates

@@ -5,6 +5,7 @@ use Rattle.x5_model_right.proofs.Broken.{unsure_right}
 use Rattle.x5_model_right.proofs.Casting.{none_asked_right, unable_too_right, silent_too_right, is_answered_right, nobody_has_right, some_silent_right}
 use Rattle.x5_model_right.proofs.Copying.{reads_copy_right}
 use Rattle.x5_model_right.proofs.Gathering.{no_part_right, part_unheard_right, part_unavailable_right, part_answered_right, part_breaks_right}
+use Rattle.x5_model_right.proofs.Held.{holds_back_right}
 use Rattle.x5_model_right.proofs.Induction.{serving_is_right}
 use Rattle.x5_model_right.proofs.Leaves.{loops_right, long_right, unfit_right, refused_right, nowhere_right}
 use Rattle.x5_model_right.proofs.Messages.{spent_right, lost_right, dropped_right, heard_right}
@@ -50,6 +51,7 @@ all_cases = record {
     silent = silent_right;
   };
   sending = record {
+    holds_back = holds_back_right needed_agents;
     spent = spent_right;
     is_lost = lost_right needed_agents;
     dropped = dropped_right needed_agents;

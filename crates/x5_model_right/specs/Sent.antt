@@ -12,9 +12,16 @@ use Rattle.x5_model_run.specs.Network.{Lost, NoReply, Sent}
 use Rattle.x5_model_run.specs.Journal.{is_wide}
 use Rattle.x5_model_serve.specs.Answering.{only_unexplored, to_follow, passed_by, in_vain, is_unavailable}
 use Rattle.x5_model_serve.specs.Serving.{Hand, hand, Heard, Unheard, Hears, Gathered, Serves, Follows, Takes, Casts}
-use Rattle.x5_model_serve.specs.Serving.{Gathers, Does, carried_for, next_line, with_line, is_spent, is_final}
+use Rattle.x5_model_serve.specs.Serving.{Gathers, Does, carried_for, next_line, with_line, is_spent, is_final, is_held_back, held_back}
 use Rattle.x5_model_serve.specs.Serving.{gathered_reply, limit_reply, heard_or}
 use Rattle.x5_model_right.specs.Claim.{ServesRight, FollowsRight, SendsRight, TakesRight, CastsRight, GathersRight}
+
+-- a user holds his own message back
+abbrev pub HoldsBack : Type 0
+HoldsBack =
+    (p : Point) (s : Scene) (most : ℕ) (from : Option ℕ) (o : Hand) (r : Reference) (j : Journal) (a : ℕ)
+    → Ground p s → is_held_back from (hand a (carried_for from o r)) ≡ true
+    → SendsRight p s most from o r a (Hears (held_back (hand a (carried_for from o r)))) j j
 
 -- no message is left
 abbrev pub Spent : Type 0
@@ -85,6 +92,7 @@ Unexplored =
     → FollowsRight p s most from k (Answered a) (gathered_reply k whole) i j
 
 pub record SendingCases : Type 0 where
+  pub holds_back : HoldsBack
   pub spent : Spent
   pub is_lost : IsLost
   pub dropped : Dropped

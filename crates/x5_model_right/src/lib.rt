@@ -4,7 +4,7 @@
 
 ghost use Rattle.x5_model_right.specs.Journeys.{NeededAgents};
 ghost use Rattle.x5_model_right.specs.Served.{Loops, IsLong, Unfit, Refused, IsNowhere, DoneBefore, IsStuck, Refers, CarriesOut, Goes, GoesWide, ReadsOwn, ReadsCopy, GivesParts, AsksParts};
-ghost use Rattle.x5_model_right.specs.Sent.{Spent, IsLost, Dropped, IsHeard, IsFinal, Referral, WideReferral, Unexplored};
+ghost use Rattle.x5_model_right.specs.Sent.{HoldsBack, Spent, IsLost, Dropped, IsHeard, IsFinal, Referral, WideReferral, Unexplored};
 ghost use Rattle.x5_model_right.specs.Taken.{NoneYet, InVainToo, NextIsHeard, NoneIsHeard};
 ghost use Rattle.x5_model_right.specs.Cast.{NoneAsked, UnableToo, SilentToo, IsAnswered, NobodyHas, SomeSilent};
 ghost use Rattle.x5_model_right.specs.Gathered.{NoPart, PartUnheard, PartUnavailable, PartAnswered, PartBreaks};
@@ -51,8 +51,9 @@ pub fn parting()
     ensures asks { AsksParts }
 {}
 
-/// One message: none is left; it is lost; its reply is lost; or it is heard, and followed (X.518, section 20).
+/// One message: a user holds it back; none is left; it is lost; its reply is lost; or it is heard, and followed (X.518, section 20).
 pub fn one_message()
+    ensures held { HoldsBack }
     ensures spent { Spent }
     ensures lost { IsLost }
     ensures dropped { Dropped }

@@ -200,14 +200,14 @@ lost_put_served =
     refl refl refl
     (answered (2 ∷ []) [] (2 ∷ []) 3 limit_reply refl refl
     (silent_too 2 none_asked
-    (dropped 2 (Answered Changed) refl refl
+    (dropped 2 (Answered Changed) refl refl refl
     (updates _ _ (record { unlooped = refl; short = refl; fresh = refl; unrefused = refl; fit = refl }) refl refl
     (does _ refl refl))))
-    (sends 3 limit_reply limit_reply refl refl
+    (sends 3 limit_reply limit_reply refl refl refl
     (goes to_supplier (Hears limit_reply)
     (record { unlooped = refl; short = refl; fresh = refl; unrefused = refl; fit = refl }) refl refl refl
     (heard [] [] 2 limit_reply refl none_yet
-    (sends 2 limit_reply limit_reply refl refl (is_long refl refl) (final limit_reply refl))))
+    (sends 2 limit_reply limit_reply refl refl refl (is_long refl refl) (final limit_reply refl))))
     (final limit_reply refl))))
 
 -- ---- what is sent again

@@ -71,8 +71,8 @@ third_stands = lines_stand base_world third_line.past described consistent (tt, 
 pub third_consistent : IsConsistent (world_at third_line)
 third_consistent = stands_consistent third_line third_stands
 
-pub third_union : whole (world_at third_line) ≡ tree_at third_line
-third_union = tree_is_union third_line third_stands
+pub third_union : (whole (world_at third_line)).entries ≡ (tree_at third_line).entries
+third_union = (tree_is_union third_line third_stands).0
 
 pub desk_refused : apply (tree_at third_line) remove_desk ≡ Err (UpdateProblem not_allowed_on_non_leaf)
 desk_refused =

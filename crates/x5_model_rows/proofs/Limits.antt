@@ -106,7 +106,7 @@ longer_served =
     (casts lab_nssr limit_reply (record { unlooped = refl; short = refl; fresh = refl; unrefused = refl; fit = refl })
     refl refl refl
     (answered [] (3 ∷ []) [] 2 limit_reply refl refl none_asked
-    (sends 2 limit_reply limit_reply refl refl (is_long refl refl) (final limit_reply refl))))
+    (sends 2 limit_reply limit_reply refl refl refl (is_long refl refl) (final limit_reply refl))))
 
 -- 126 agents had it: no trace is too long, and Gamma answers. Refused: the limit, with the line to Gamma; and without
 -- it also where 127 had it.
@@ -153,7 +153,7 @@ pub spent_served : IsRequest (scene_at at_first 3 read_jan) 1 (journal (jan_at_d
 spent_served =
     answers limit_reply refl
     (goes up (Hears limit_reply) (record { unlooped = refl; short = refl; fresh = refl; unrefused = refl; fit = refl })
-    refl refl refl (heard [] [] 1 limit_reply refl none_yet (spent 1 refl)))
+    refl refl refl (heard [] [] 1 limit_reply refl none_yet (spent 1 refl refl)))
 
 abbrev pub jan_scene : Scene
 jan_scene = scene_at at_first 3 read_jan
@@ -209,7 +209,7 @@ longer_add_served =
     (updates _ _ (record { unlooped = refl; short = refl; fresh = refl; unrefused = refl; fit = refl }) refl refl
     (breaks _ (reference new_name (Next 3) NonSpecific (2 ∷ 3 ∷ [])) 2 [] (3 ∷ []) []
     (ServiceProblem administrative_limit_exceeded None None) refl refl refl refl refl no_probe
-    (sends 2 limit_reply limit_reply refl refl (is_long refl refl) (final limit_reply refl))))
+    (sends 2 limit_reply limit_reply refl refl refl (is_long refl refl) (final limit_reply refl))))
 
 -- Refused: that it was done.
 pub no_change_at_limit : RightReply at_first (adding 127) (by_user (adding 127)) add_journal false (Answered Changed)

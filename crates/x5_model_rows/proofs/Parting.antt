@@ -70,14 +70,14 @@ less_served =
     (record { unlooped = refl; short = refl; fresh = refl; unrefused = refl; fit = refl }) refl refl refl
     (part_answered to_shop shop_itself
     (part_answered (less_by 3) nothing_more
-    (part_unheard (less_by 2) no_part (unheard (in_vain_too 2 none_yet (lost 2 refl refl))))
+    (part_unheard (less_by 2) no_part (unheard (in_vain_too 2 none_yet (lost 2 refl refl refl))))
     (heard [] [] 3 (Answered nothing_more) refl none_yet
-    (sends 3 (Answered nothing_more) (Answered nothing_more) refl refl
+    (sends 3 (Answered nothing_more) (Answered nothing_more) refl refl refl
     (asks_parts nothing_more (Whole nothing_more)
     (record { unlooped = refl; short = refl; fresh = refl; unrefused = refl; fit = refl }) refl refl refl no_part)
     (final (Answered nothing_more) refl))))
     (heard [] [] 3 (Answered shop_itself) refl none_yet
-    (sends 3 (Answered shop_itself) (Answered shop_itself) refl refl
+    (sends 3 (Answered shop_itself) (Answered shop_itself) refl refl refl
     (asks_parts shop_itself (Whole shop_itself)
     (record { unlooped = refl; short = refl; fresh = refl; unrefused = refl; fit = refl }) refl refl refl no_part)
     (final (Answered shop_itself) refl)))))
@@ -110,23 +110,23 @@ twice_served =
     (asks_parts of_alpha (Whole of_all)
     (record { unlooped = refl; short = refl; fresh = refl; unrefused = refl; fit = refl }) refl refl refl
     (part_answered to_acme stepping.below_acme no_part
-    (heard (1 ∷ []) [] 2 (Answered stepping.below_acme) refl (in_vain_too 1 none_yet (lost 1 refl refl))
-    (sends 2 (Answered stepping.below_acme) (Answered stepping.below_acme) refl refl
+    (heard (1 ∷ []) [] 2 (Answered stepping.below_acme) refl (in_vain_too 1 none_yet (lost 1 refl refl refl))
+    (sends 2 (Answered stepping.below_acme) (Answered stepping.below_acme) refl refl refl
     (goes acme_supplier (Hears (Answered stepping.below_acme))
     (record { unlooped = refl; short = refl; fresh = refl; unrefused = refl; fit = refl }) refl refl refl
     (heard [] [] 1 (Answered stepping.below_acme) refl none_yet
-    (sends 1 (Answered stepping.below_acme) (Answered stepping.below_acme) refl refl
+    (sends 1 (Answered stepping.below_acme) (Answered stepping.below_acme) refl refl refl
     (asks_parts of_beta (Whole stepping.below_acme)
     (record { unlooped = refl; short = refl; fresh = refl; unrefused = refl; fit = refl }) refl refl refl
     (part_answered (by_agent 3) of_delta
     (part_answered (by_agent 2) of_gamma no_part
     (heard [] [] 2 (Answered of_gamma) refl none_yet
-    (sends 2 (Answered of_gamma) (Answered of_gamma) refl refl
+    (sends 2 (Answered of_gamma) (Answered of_gamma) refl refl refl
     (asks_parts of_gamma (Whole of_gamma)
     (record { unlooped = refl; short = refl; fresh = refl; unrefused = refl; fit = refl }) refl refl refl no_part)
     (final (Answered of_gamma) refl))))
     (heard [] [] 3 (Answered of_delta) refl none_yet
-    (sends 3 (Answered of_delta) (Answered of_delta) refl refl
+    (sends 3 (Answered of_delta) (Answered of_delta) refl refl refl
     (asks_parts of_delta (Whole of_delta)
     (record { unlooped = refl; short = refl; fresh = refl; unrefused = refl; fit = refl }) refl refl refl no_part)
     (final (Answered of_delta) refl)))))
@@ -170,12 +170,12 @@ list_served =
     (part_answered (by_agent 3) (names_of 3 shop shop)
     (part_answered (by_agent 2) (names_of 2 lab lab) no_part
     (heard [] [] 2 (Answered (names_of 2 lab lab)) refl none_yet
-    (sends 2 (Answered (names_of 2 lab lab)) (Answered (names_of 2 lab lab)) refl refl
+    (sends 2 (Answered (names_of 2 lab lab)) (Answered (names_of 2 lab lab)) refl refl refl
     (asks_parts (names_of 2 lab lab) (Whole (names_of 2 lab lab))
     (record { unlooped = refl; short = refl; fresh = refl; unrefused = refl; fit = refl }) refl refl refl no_part)
     (final (Answered (names_of 2 lab lab)) refl))))
     (heard [] [] 3 (Answered (names_of 3 shop shop)) refl none_yet
-    (sends 3 (Answered (names_of 3 shop shop)) (Answered (names_of 3 shop shop)) refl refl
+    (sends 3 (Answered (names_of 3 shop shop)) (Answered (names_of 3 shop shop)) refl refl refl
     (asks_parts (names_of 3 shop shop) (Whole (names_of 3 shop shop))
     (record { unlooped = refl; short = refl; fresh = refl; unrefused = refl; fit = refl }) refl refl refl no_part)
     (final (Answered (names_of 3 shop shop)) refl)))))
@@ -218,23 +218,23 @@ smit_served =
     (goes (to_superior 0) (Hears (Answered jan_of_all))
     (record { unlooped = refl; short = refl; fresh = refl; unrefused = refl; fit = refl }) refl refl refl
     (heard [] [] 0 (Answered jan_of_all) refl none_yet
-    (sends 0 (Answered jan_of_all) (Answered jan_of_all) refl refl
+    (sends 0 (Answered jan_of_all) (Answered jan_of_all) refl refl refl
     (asks_parts (found_nobody 0 nl) (Whole jan_of_all)
     (record { unlooped = refl; short = refl; fresh = refl; unrefused = refl; fit = refl }) refl refl refl
     (part_answered acme_reference jan_of_beta no_part
     (heard [] (4 ∷ []) 1 (Answered jan_of_beta) refl none_yet
-    (sends 1 (Answered jan_of_beta) (Answered jan_of_beta) refl refl
+    (sends 1 (Answered jan_of_beta) (Answered jan_of_beta) refl refl refl
     (asks_parts (found_nobody 1 acme) (Whole jan_of_beta)
     (record { unlooped = refl; short = refl; fresh = refl; unrefused = refl; fit = refl }) refl refl refl
     (part_answered (by_agent 3) (found_nobody 3 shop)
     (part_answered (by_agent 2) jan_of_gamma no_part
     (heard [] [] 2 (Answered jan_of_gamma) refl none_yet
-    (sends 2 (Answered jan_of_gamma) (Answered jan_of_gamma) refl refl
+    (sends 2 (Answered jan_of_gamma) (Answered jan_of_gamma) refl refl refl
     (asks_parts jan_of_gamma (Whole jan_of_gamma)
     (record { unlooped = refl; short = refl; fresh = refl; unrefused = refl; fit = refl }) refl refl refl no_part)
     (final (Answered jan_of_gamma) refl))))
     (heard [] [] 3 (Answered (found_nobody 3 shop)) refl none_yet
-    (sends 3 (Answered (found_nobody 3 shop)) (Answered (found_nobody 3 shop)) refl refl
+    (sends 3 (Answered (found_nobody 3 shop)) (Answered (found_nobody 3 shop)) refl refl refl
     (asks_parts (found_nobody 3 shop) (Whole (found_nobody 3 shop))
     (record { unlooped = refl; short = refl; fresh = refl; unrefused = refl; fit = refl }) refl refl refl no_part)
     (final (Answered (found_nobody 3 shop)) refl)))))
@@ -302,7 +302,7 @@ master_served =
     (goes (to_supplier acme) (Hears new_reply)
     (record { unlooped = refl; short = refl; fresh = refl; unrefused = refl; fit = refl }) refl refl refl
     (heard [] [] 1 new_reply refl none_yet
-    (sends 1 new_reply new_reply refl refl
+    (sends 1 new_reply new_reply refl refl refl
     (reads _ (record { unlooped = refl; short = refl; fresh = refl; unrefused = refl; fit = refl }) refl refl refl)
     (final new_reply refl))))
 
@@ -321,10 +321,10 @@ new_served =
     (probes_all _ new_probe refl refl
     (clear 3 (probed 5 3) refl
     (clear 2 (probed 4 2) refl no_probe
-    (sends 2 (probed 4 2) (probed 4 2) refl refl
+    (sends 2 (probed 4 2) (probed 4 2) refl refl refl
     (stuck (record { unlooped = refl; short = refl; fresh = refl; unrefused = refl; fit = refl }) refl)
     (final _ refl)))
-    (sends 3 (probed 5 3) (probed 5 3) refl refl
+    (sends 3 (probed 5 3) (probed 5 3) refl refl refl
     (stuck (record { unlooped = refl; short = refl; fresh = refl; unrefused = refl; fit = refl }) refl)
     (final _ refl)))))
 
@@ -351,19 +351,19 @@ below_served =
     answers (Answered found_by_copy) refl
     (goes (to_either acme) (Hears (Answered found_by_copy))
     (record { unlooped = refl; short = refl; fresh = refl; unrefused = refl; fit = refl }) refl refl refl
-    (heard (1 ∷ []) [] 4 (Answered found_by_copy) refl (in_vain_too 1 none_yet (lost 1 refl refl))
-    (sends 4 (Answered found_by_copy) (Answered found_by_copy) refl refl
+    (heard (1 ∷ []) [] 4 (Answered found_by_copy) refl (in_vain_too 1 none_yet (lost 1 refl refl refl))
+    (sends 4 (Answered found_by_copy) (Answered found_by_copy) refl refl refl
     (asks_parts desk_of_copy (Whole found_by_copy)
     (record { unlooped = refl; short = refl; fresh = refl; unrefused = refl; fit = refl }) refl refl refl
     (part_answered (by_agent 3) shop_itself
     (part_answered (by_agent 2) lab_itself no_part
     (heard [] [] 2 (Answered lab_itself) refl none_yet
-    (sends 2 (Answered lab_itself) (Answered lab_itself) refl refl
+    (sends 2 (Answered lab_itself) (Answered lab_itself) refl refl refl
     (asks_parts lab_itself (Whole lab_itself)
     (record { unlooped = refl; short = refl; fresh = refl; unrefused = refl; fit = refl }) refl refl refl no_part)
     (final (Answered lab_itself) refl))))
     (heard [] [] 3 (Answered shop_itself) refl none_yet
-    (sends 3 (Answered shop_itself) (Answered shop_itself) refl refl
+    (sends 3 (Answered shop_itself) (Answered shop_itself) refl refl refl
     (asks_parts shop_itself (Whole shop_itself)
     (record { unlooped = refl; short = refl; fresh = refl; unrefused = refl; fit = refl }) refl refl refl no_part)
     (final (Answered shop_itself) refl)))))
@@ -381,11 +381,11 @@ unknown_served =
     answers unknown_reply refl
     (goes (to_either new_name) (Hears unknown_reply)
     (record { unlooped = refl; short = refl; fresh = refl; unrefused = refl; fit = refl }) refl refl refl
-    (heard (1 ∷ []) [] 4 unknown_reply refl (in_vain_too 1 none_yet (lost 1 refl refl))
-    (sends 4 unknown_reply unknown_reply refl refl
+    (heard (1 ∷ []) [] 4 unknown_reply refl (in_vain_too 1 none_yet (lost 1 refl refl refl))
+    (sends 4 unknown_reply unknown_reply refl refl refl
     (goes (to_supplier new_name) Unheard
     (record { unlooped = refl; short = refl; fresh = refl; unrefused = refl; fit = refl }) refl refl refl
-    (unheard (in_vain_too 1 none_yet (lost 1 refl refl))))
+    (unheard (in_vain_too 1 none_yet (lost 1 refl refl refl))))
     (final unknown_reply refl))))
 
 pub not_unknown : (j : Journal) (name : Name) → IsServed after_search 0 read_new j (Failed (NoSuchObject name)) → ⊥
@@ -410,4 +410,4 @@ master_unserved =
     answers unmastered refl
     (goes only_master Unheard
     (record { unlooped = refl; short = refl; fresh = refl; unrefused = refl; fit = refl }) refl refl refl
-    (unheard (in_vain_too 1 none_yet (lost 1 refl refl))))
+    (unheard (in_vain_too 1 none_yet (lost 1 refl refl refl))))

@@ -80,9 +80,9 @@ beta_serves =
     asks_parts of_beta (Whole below_acme)
     (record { unlooped = refl; short = refl; fresh = refl; unrefused = refl; fit = refl }) refl refl refl
     (part_answered by_delta of_delta
-    (part_unheard by_gamma no_part (unheard (in_vain_too 2 none_yet (lost 2 refl refl))))
+    (part_unheard by_gamma no_part (unheard (in_vain_too 2 none_yet (lost 2 refl refl refl))))
     (heard [] [] 3 (Answered of_delta) refl none_yet
-    (sends 3 (Answered of_delta) (Answered of_delta) refl refl delta_serves (final (Answered of_delta) refl))))
+    (sends 3 (Answered of_delta) (Answered of_delta) refl refl refl delta_serves (final (Answered of_delta) refl))))
 
 -- Alpha has the base, and asks Beta
 pub nl_served : IsRequest scene most nl_journal (Answered at_nl)
@@ -92,7 +92,7 @@ nl_served =
     (record { unlooped = refl; short = refl; fresh = refl; unrefused = refl; fit = refl }) refl refl refl
     (part_answered acme_reference below_acme no_part
     (heard [] (4 ∷ []) 1 (Answered below_acme) refl none_yet
-    (sends 1 (Answered below_acme) (Answered below_acme) refl refl beta_serves (final (Answered below_acme) refl)))))
+    (sends 1 (Answered below_acme) (Answered below_acme) refl refl refl beta_serves (final (Answered below_acme) refl)))))
 
 -- Gamma has the new name: it answers the probe with its entry, and nothing is added
 abbrev pub probe_of_gamma : Line
@@ -107,7 +107,7 @@ lab_served =
     answers _ refl
     (updates _ _ (record { unlooped = refl; short = refl; fresh = refl; unrefused = refl; fit = refl }) refl refl
     (taken _ new_lab_probe 2 [] (3 ∷ []) [] _ refl refl refl no_probe
-    (sends 2 _ _ refl refl
+    (sends 2 _ _ refl refl refl
     (reads _ (record { unlooped = refl; short = refl; fresh = refl; unrefused = refl; fit = refl }) refl refl refl)
     (final _ refl))))
 

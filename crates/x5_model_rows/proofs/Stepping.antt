@@ -69,11 +69,11 @@ jan_served =
     (goes up (Hears jan_reply) (record { unlooped = refl; short = refl; fresh = refl; unrefused = refl; fit = refl })
     refl refl refl
     (heard [] [] 1 jan_reply refl none_yet
-    (sends 1 jan_reply jan_reply refl refl
+    (sends 1 jan_reply jan_reply refl refl refl
     (casts jan_nssr jan_reply (record { unlooped = refl; short = refl; fresh = refl; unrefused = refl; fit = refl })
     refl refl refl
     (answered [] (3 ∷ []) [] 2 jan_reply refl refl none_asked
-    (sends 2 jan_reply jan_reply refl refl
+    (sends 2 jan_reply jan_reply refl refl refl
     (reads _ (record { unlooped = refl; short = refl; fresh = refl; unrefused = refl; fit = refl }) refl refl refl)
     (final jan_reply refl))))
     (final jan_reply refl))))
@@ -93,9 +93,9 @@ absent_served =
     (nobody_has
     (unable_too 3 (absent_by 3 3) refl
     (unable_too 2 (absent_by 2 2) refl none_asked
-    (sends 2 (absent_by 2 2) (absent_by 2 2) refl refl
+    (sends 2 (absent_by 2 2) (absent_by 2 2) refl refl refl
     (stuck (record { unlooped = refl; short = refl; fresh = refl; unrefused = refl; fit = refl }) refl) (final _ refl)))
-    (sends 3 (absent_by 3 3) (absent_by 3 3) refl refl
+    (sends 3 (absent_by 3 3) (absent_by 3 3) refl refl refl
     (stuck (record { unlooped = refl; short = refl; fresh = refl; unrefused = refl; fit = refl }) refl)
     (final _ refl)))))
 
@@ -115,13 +115,13 @@ lab_served =
     (goes to_beta (Hears lab_reply)
     (record { unlooped = refl; short = refl; fresh = refl; unrefused = refl; fit = refl }) refl refl refl
     (heard [] (4 ∷ []) 1 lab_reply refl none_yet
-    (sends 1 lab_reply lab_reply refl refl
+    (sends 1 lab_reply lab_reply refl refl refl
     (casts lab_nssr lab_reply (record { unlooped = refl; short = refl; fresh = refl; unrefused = refl; fit = refl })
     refl refl refl
     (some_silent (2 ∷ []) refl
     (unable_too 3 lab_by_delta refl
-    (silent_too 2 none_asked (lost 2 refl refl))
-    (sends 3 lab_by_delta lab_by_delta refl refl
+    (silent_too 2 none_asked (lost 2 refl refl refl))
+    (sends 3 lab_by_delta lab_by_delta refl refl refl
     (stuck (record { unlooped = refl; short = refl; fresh = refl; unrefused = refl; fit = refl }) refl)
     (final _ refl)))))
     (final lab_reply refl))))
@@ -142,12 +142,12 @@ shop_served =
     (goes to_shop (Hears shop_reply)
     (record { unlooped = refl; short = refl; fresh = refl; unrefused = refl; fit = refl }) refl refl refl
     (heard [] (4 ∷ []) 1 shop_reply refl none_yet
-    (sends 1 shop_reply shop_reply refl refl
+    (sends 1 shop_reply shop_reply refl refl refl
     (casts shop_nssr shop_reply (record { unlooped = refl; short = refl; fresh = refl; unrefused = refl; fit = refl })
     refl refl refl
     (answered (2 ∷ []) [] (2 ∷ []) 3 shop_reply refl refl
-    (silent_too 2 none_asked (lost 2 refl refl))
-    (sends 3 shop_reply shop_reply refl refl
+    (silent_too 2 none_asked (lost 2 refl refl refl))
+    (sends 3 shop_reply shop_reply refl refl refl
     (reads _ (record { unlooped = refl; short = refl; fresh = refl; unrefused = refl; fit = refl }) refl refl refl)
     (final shop_reply refl))))
     (final shop_reply refl))))
@@ -162,11 +162,11 @@ followed_served =
     (goes to_beta (Hears name_reply)
     (record { unlooped = refl; short = refl; fresh = refl; unrefused = refl; fit = refl }) refl refl refl
     (heard [] (4 ∷ []) 1 name_reply refl none_yet
-    (sends 1 (Referred lab_nssr) name_reply refl refl
+    (sends 1 (Referred lab_nssr) name_reply refl refl refl
     (refers lab_nssr (record { unlooped = refl; short = refl; fresh = refl; unrefused = refl; fit = refl }) refl refl)
     (wide_referral lab_nssr name_reply refl
     (answered [] (3 ∷ []) [] 2 name_reply refl refl none_asked
-    (sends 2 name_reply name_reply refl refl
+    (sends 2 name_reply name_reply refl refl refl
     (reads _ (record { unlooped = refl; short = refl; fresh = refl; unrefused = refl; fit = refl }) refl refl refl)
     (final name_reply refl)))))))
 
@@ -230,27 +230,27 @@ root_served =
     (goes (to_superior 1) (Hears (Answered of_all))
     (record { unlooped = refl; short = refl; fresh = refl; unrefused = refl; fit = refl }) refl refl refl
     (heard [] [] 1 (Answered of_all) refl none_yet
-    (sends 1 (Answered of_all) (Answered of_all) refl refl
+    (sends 1 (Answered of_all) (Answered of_all) refl refl refl
     (goes (to_superior 0) (Hears (Answered of_all))
     (record { unlooped = refl; short = refl; fresh = refl; unrefused = refl; fit = refl }) refl refl refl
     (heard [] [] 0 (Answered of_all) refl none_yet
-    (sends 0 (Answered of_all) (Answered of_all) refl refl
+    (sends 0 (Answered of_all) (Answered of_all) refl refl refl
     (asks_parts of_alpha (Whole of_all)
     (record { unlooped = refl; short = refl; fresh = refl; unrefused = refl; fit = refl }) refl refl refl
     (part_answered acme_reference below_acme no_part
     (heard [] (4 ∷ []) 1 (Answered below_acme) refl none_yet
-    (sends 1 (Answered below_acme) (Answered below_acme) refl refl
+    (sends 1 (Answered below_acme) (Answered below_acme) refl refl refl
     (asks_parts of_beta (Whole below_acme)
     (record { unlooped = refl; short = refl; fresh = refl; unrefused = refl; fit = refl }) refl refl refl
     (part_answered (by_agent 3) of_delta
     (part_answered (by_agent 2) of_gamma no_part
     (heard [] [] 2 (Answered of_gamma) refl none_yet
-    (sends 2 (Answered of_gamma) (Answered of_gamma) refl refl
+    (sends 2 (Answered of_gamma) (Answered of_gamma) refl refl refl
     (asks_parts of_gamma (Whole of_gamma)
     (record { unlooped = refl; short = refl; fresh = refl; unrefused = refl; fit = refl }) refl refl refl no_part)
     (final (Answered of_gamma) refl))))
     (heard [] [] 3 (Answered of_delta) refl none_yet
-    (sends 3 (Answered of_delta) (Answered of_delta) refl refl
+    (sends 3 (Answered of_delta) (Answered of_delta) refl refl refl
     (asks_parts of_delta (Whole of_delta)
     (record { unlooped = refl; short = refl; fresh = refl; unrefused = refl; fit = refl }) refl refl refl no_part)
     (final (Answered of_delta) refl)))))
@@ -274,8 +274,8 @@ again_served =
     (updates _ _ (record { unlooped = refl; short = refl; fresh = refl; unrefused = refl; fit = refl }) refl refl
     (misses _ new_lab_probe 2 [] refl refl
     (clear 3 probe_by_delta refl
-    (silent 2 no_probe (lost 2 refl refl))
-    (sends 3 probe_by_delta probe_by_delta refl refl
+    (silent 2 no_probe (lost 2 refl refl refl))
+    (sends 3 probe_by_delta probe_by_delta refl refl refl
     (stuck (record { unlooped = refl; short = refl; fresh = refl; unrefused = refl; fit = refl }) refl)
     (final _ refl)))))
 
@@ -299,10 +299,10 @@ put_served =
     (some_silent (2 ∷ []) refl
     (unable_too 3 put_by_delta refl
     (silent_too 2 none_asked
-    (dropped 2 (Answered Changed) refl refl
+    (dropped 2 (Answered Changed) refl refl refl
     (updates _ _ (record { unlooped = refl; short = refl; fresh = refl; unrefused = refl; fit = refl }) refl refl
     (does _ refl refl))))
-    (sends 3 put_by_delta put_by_delta refl refl
+    (sends 3 put_by_delta put_by_delta refl refl refl
     (stuck (record { unlooped = refl; short = refl; fresh = refl; unrefused = refl; fit = refl }) refl)
     (final _ refl)))))
 
@@ -317,14 +317,14 @@ twice_served =
     (record { unlooped = refl; short = refl; fresh = refl; unrefused = refl; fit = refl }) refl refl refl
     (answered (2 ∷ []) [] (2 ∷ []) 3 (Answered Changed) refl refl
     (silent_too 2 none_asked
-    (dropped 2 (Answered Changed) refl refl
+    (dropped 2 (Answered Changed) refl refl refl
     (updates _ _ (record { unlooped = refl; short = refl; fresh = refl; unrefused = refl; fit = refl }) refl refl
     (does _ refl refl))))
-    (sends 3 (Answered Changed) (Answered Changed) refl refl
+    (sends 3 (Answered Changed) (Answered Changed) refl refl refl
     (goes lab_supplier (Hears (Answered Changed))
     (record { unlooped = refl; short = refl; fresh = refl; unrefused = refl; fit = refl }) refl refl refl
     (heard [] [] 2 (Answered Changed) refl none_yet
-    (sends 2 (Answered Changed) (Answered Changed) refl refl (done_before refl refl refl) (final
+    (sends 2 (Answered Changed) (Answered Changed) refl refl refl (done_before refl refl refl) (final
     (Answered Changed) refl))))
     (final (Answered Changed) refl))))
 

@@ -1,18 +1,27 @@
 -- What a sender hears in the end has nothing left to be followed, and who leaves something may not chain and sent
 -- nothing: by one induction over all that is done.
-use Rattle.std.proofs.Common.{◌≡◌, ℕ, Bool, true, false, cond, not, inl, inr, List, [], ◌∷◌, ◌++◌, refl, sym, ap, ◌∙◌, Option}
+use Rattle.std.proofs.Common.{◌≡◌, ℕ, Bool, true, false, cond, not, inl, inr, List, [], ◌∷◌, ◌++◌, refl, sym, ap, ◌∙◌, Option, Some, None, if◌then◌else◌}
 use Rattle.std.specs.List.{filter}
 use Rattle.x5_model.specs.Words.{is_empty}
 use Rattle.x5_model.specs.References.{Reference}
-use Rattle.x5_model.specs.Answers.{Source, Answer, EntryFound, Matched, Listed, Found, Changed, Reply, Answered}
+use Rattle.x5_model.specs.Answers.{Source, Answer, EntryFound, Matched, Listed, Found, Changed, ServiceProblem, Reply, Answered, Failed}
 use Rattle.x5_model_tree.specs.Ask.{Told, Shows, Compares, Lists, Finds, Changes, Refuses}
-use Rattle.x5_model_run.specs.Journal.{Journal}
+use Rattle.x5_model.specs.Problems.{loop_detected}
+use Rattle.x5_model_run.specs.Journal.{Journal, item_of}
 use Rattle.x5_model_run.specs.Holdings.{Holdings}
 use Rattle.x5_model.specs.References.{Chained}
 use Rattle.x5_model_run.specs.Chain.{Scene}
 use Rattle.x5_model_serve.specs.Answering.{own_source, copy_source, to_follow, passed_by, reply_from, local_part, with_unexplored, only_unexplored, limited_answer, merged, in_vain}
 use Rattle.x5_model_serve.specs.Following.{Leaves, IsFinalHeard, IsFinalWhole, IdleIsFollowed}
-use Rattle.x5_model_serve.specs.Serving.{holds_now, Heard, Unheard, Hears, Gathered, Whole, Broken, Hand, Act, Does, is_final, heard_or, gathered_reply, loops, is_long, done_before, refused, unfit, stuck, nowhere, refers, goes, casts, reads, reads_copy, gives_parts, asks_parts, updates, not_done, does, probes_all, misses, taken, breaks, no_probe, clear, unsure, silent, spent, lost, dropped, sends, final, referral, wide_referral, unexplored, none_yet, in_vain_too, heard, unheard, none_asked, unable_too, silent_too, answered, nobody_has, some_silent, no_part, part_unheard, part_unavailable, part_answered, part_breaks}
+use Rattle.x5_model_serve.specs.Serving.{hand, carried_for, is_looped, limit_reply, held_back, holds_now, Heard, Unheard, Hears, Gathered, Whole, Broken, Hand, Act, Does, is_final, heard_or, gathered_reply, loops, is_long, done_before, refused, unfit, stuck, nowhere, refers, goes, casts, reads, reads_copy, gives_parts, asks_parts, updates, not_done, does, probes_all, misses, taken, breaks, no_probe, clear, unsure, silent, holds_back, spent, lost, dropped, sends, final, referral, wide_referral, unexplored, none_yet, in_vain_too, heard, unheard, none_asked, unable_too, silent_too, answered, nobody_has, some_silent, no_part, part_unheard, part_unavailable, part_answered, part_breaks}
+
+-- what a user tells himself is final
+held_final : (k : Hand) → is_final (held_back k) ≡ true
+held_final k = by (is_looped k)
+  where
+    by : (b : Bool) → is_final (if b then Failed (ServiceProblem loop_detected None (Some (item_of k.receiver k.message))) else limit_reply) ≡ true
+    by true = refl
+    by false = refl
 
 abbrev left_in : List Reference → List Reference
 left_in rs = filter (λ r. not r.tried) rs
@@ -127,10 +136,11 @@ module _ (s : Scene) (most : ℕ) where
   leaves _ _ _ (clear a y e d u) = tt
   leaves _ _ _ (unsure a y e d u) = tt
   leaves _ _ _ (silent a d u) = tt
-  leaves _ _ _ (spent a e) = refl
-  leaves _ _ _ (lost a e f) = tt
-  leaves _ _ _ (dropped a y e f d) = tt
-  leaves _ _ _ (sends a y z e f d u) = leaves _ _ _ u
+  leaves _ _ _ (holds_back {from} {o} {r} a e) = held_final (hand a (carried_for from o r))
+  leaves _ _ _ (spent a hb e) = refl
+  leaves _ _ _ (lost a hb e f) = tt
+  leaves _ _ _ (dropped a y hb e f d) = tt
+  leaves _ _ _ (sends a y z hb e f d u) = leaves _ _ _ u
   leaves _ _ _ (final y e) = e
   leaves _ _ _ (referral r h e d) = heard_final _ h refl (leaves _ _ _ d)
   leaves _ _ _ (wide_referral r y e d) = leaves _ _ _ d

@@ -5,7 +5,7 @@ use Rattle.x5_model.specs.References.{Reference}
 use Rattle.x5_model_run.specs.Journal.{Journal, settled, item_of}
 use Rattle.x5_model_run.specs.Chain.{Scene}
 use Rattle.x5_model_run.proofs.Journals.{settled_past, settled_above}
-use Rattle.x5_model_serve.specs.Serving.{Hand, Act, Does, carried_for, next_line, loops, is_long, done_before, refused, unfit, stuck, nowhere, refers, goes, casts, reads, reads_copy, gives_parts, asks_parts, updates, not_done, does, probes_all, misses, taken, breaks, no_probe, clear, unsure, silent, spent, lost, dropped, sends, final, referral, wide_referral, unexplored, none_yet, in_vain_too, heard, unheard, none_asked, unable_too, silent_too, answered, nobody_has, some_silent, no_part, part_unheard, part_unavailable, part_answered, part_breaks}
+use Rattle.x5_model_serve.specs.Serving.{Hand, Act, Does, carried_for, next_line, loops, is_long, done_before, refused, unfit, stuck, nowhere, refers, goes, casts, reads, reads_copy, gives_parts, asks_parts, updates, not_done, does, probes_all, misses, taken, breaks, no_probe, clear, unsure, silent, holds_back, spent, lost, dropped, sends, final, referral, wide_referral, unexplored, none_yet, in_vain_too, heard, unheard, none_asked, unable_too, silent_too, answered, nobody_has, some_silent, no_part, part_unheard, part_unavailable, part_answered, part_breaks}
 use Rattle.x5_model_serve.specs.Framing.{depth_of}
 
 -- a message that is carried for an opener is one deeper
@@ -39,11 +39,12 @@ module _ (s : Scene) (most : ℕ) where
   framed _ _ _ (clear a y e d u) = framed _ _ _ u ∙ framed _ _ _ d
   framed _ _ _ (unsure a y e d u) = framed _ _ _ u ∙ framed _ _ _ d
   framed _ _ _ (silent a d u) = framed _ _ _ u ∙ framed _ _ _ d
-  framed _ _ _ (spent a e) = refl
-  framed _ _ _ (lost {from} {o} {r} {j} a e f) = settled_past (length o.message.trace) (next_line s j from o r a) j.lines (omega (arith, deeper from o r))
-  framed _ _ _ (dropped {from} {o} {r} {i} {j} a y e f d) =
+  framed _ _ _ (holds_back a e) = refl
+  framed _ _ _ (spent a hb e) = refl
+  framed _ _ _ (lost {from} {o} {r} {j} a hb e f) = settled_past (length o.message.trace) (next_line s j from o r a) j.lines (omega (arith, deeper from o r))
+  framed _ _ _ (dropped {from} {o} {r} {i} {j} a y hb e f d) =
       settled_above (length o.message.trace) (next_line s i from o r a) i.lines j.lines (omega (arith, deeper from o r)) (framed _ _ _ d)
-  framed _ _ _ (sends {from} {o} {r} {i} {j} {l} a y z e f d u) =
+  framed _ _ _ (sends {from} {o} {r} {i} {j} {l} a y z hb e f d u) =
       settled_above (length o.message.trace) (next_line s i from o r a) i.lines l.lines (omega (arith, deeper from o r)) (framed _ _ _ u ∙ framed _ _ _ d)
   framed _ _ _ (final y e) = refl
   framed _ _ _ (referral r h e d) = framed _ _ _ d

@@ -183,6 +183,17 @@ gathered_reply k (Broken x) = x
 abbrev pub limit_reply : Reply
 limit_reply = Failed (ServiceProblem administrative_limit_exceeded None None)
 
+-- A user who follows has no item of his own, so his message could come round unseen until its receiver looks at it. He
+-- looks himself, before he sends it, as that one would.
+abbrev pub is_held_back : Option ℕ → Hand → Bool
+is_held_back None k = is_looped k || is_too_long k
+is_held_back (Some a) k = false
+
+abbrev pub held_back : Hand → Reply
+held_back k =
+    if is_looped k then Failed (ServiceProblem loop_detected None (Some (item_of k.receiver k.message)))
+    else limit_reply
+
 abbrev pub heard_or : Reply → Heard → Reply
 heard_or other Unheard = other
 heard_or other (Hears reply) = reply
@@ -323,22 +334,27 @@ pub data Does (s : Scene) (most : ℕ) : Act → Journal → Journal → Type 0 
       → Does s most (Probes k r before noted) i j
       → Does s most (Sends (Some k.receiver) k r a Unheard) j l
       → Does s most (Probes k r (before ++ a ∷ []) (noted ++ a ∷ [])) i l
-  -- A message for the message of an opener (X.518, section 20). None is left, and that is the reply;
+  -- A message for the message of an opener (X.518, section 20). A user holds it back that would be a loop, or too long,
+  -- and that is the reply;
+  holds_back : {from : Option ℕ} {o : Hand} {r : Reference} {j : Journal} (a : ℕ)
+      → is_held_back from (hand a (carried_for from o r)) ≡ true
+      → Does s most (Sends from o r a (Hears (held_back (hand a (carried_for from o r))))) j j
+  -- none is left, and that is the reply;
   spent : {from : Option ℕ} {o : Hand} {r : Reference} {j : Journal} (a : ℕ)
-      → is_spent most j ≡ true
+      → is_held_back from (hand a (carried_for from o r)) ≡ false → is_spent most j ≡ true
       → Does s most (Sends from o r a (Hears limit_reply)) j j
   -- the message is lost;
   lost : {from : Option ℕ} {o : Hand} {r : Reference} {j : Journal} (a : ℕ)
-      → is_spent most j ≡ false → (next_line s j from o r a).fate ≡ Lost
+      → is_held_back from (hand a (carried_for from o r)) ≡ false → is_spent most j ≡ false → (next_line s j from o r a).fate ≡ Lost
       → Does s most (Sends from o r a Unheard) j (with_line (next_line s j from o r a) j)
   -- it is served, and the reply is lost;
   dropped : {from : Option ℕ} {o : Hand} {r : Reference} {i j : Journal} (a : ℕ) (reply : Reply)
-      → is_spent most i ≡ false → (next_line s i from o r a).fate ≡ NoReply
+      → is_held_back from (hand a (carried_for from o r)) ≡ false → is_spent most i ≡ false → (next_line s i from o r a).fate ≡ NoReply
       → Does s most (Serves (hand a (carried_for from o r)) reply) (with_line (next_line s i from o r a) i) j
       → Does s most (Sends from o r a Unheard) i j
   -- or the reply is heard, and what it leaves is followed.
   sends : {from : Option ℕ} {o : Hand} {r : Reference} {i j l : Journal} (a : ℕ) (reply final : Reply)
-      → is_spent most i ≡ false → (next_line s i from o r a).fate ≡ Sent
+      → is_held_back from (hand a (carried_for from o r)) ≡ false → is_spent most i ≡ false → (next_line s i from o r a).fate ≡ Sent
       → Does s most (Serves (hand a (carried_for from o r)) reply) (with_line (next_line s i from o r a) i) j
       → Does s most (Follows from (hand a (carried_for from o r)) reply final) j l
       → Does s most (Sends from o r a (Hears final)) i l

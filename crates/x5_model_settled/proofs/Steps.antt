@@ -13,7 +13,8 @@ use Rattle.x5_model_serve.specs.Serving.{IsRequest}
 use Rattle.x5_model_settled.specs.Judges.{RightAndWhole}
 use Rattle.x5_model_settled.specs.Runs.{ByAgents, IsAskable}
 use Rattle.x5_model_settled.specs.Afterwards.{line_after}
-use Rattle.x5_model_settled.specs.Held.{BySteps, StepsAreAgents, StepsAreRight, StepsPrintRun, Performed, StepsArePerformed, StepsPrintPerformed, PerformedIsRight}
+use Rattle.x5_model_local.proofs.Own.{requests_are_by_their_own}
+use Rattle.x5_model_settled.specs.Held.{scene_held, BySteps, StepsAreAgents, StepsAreRight, StepsPrintRun, Performed, StepsArePerformed, StepsPrintPerformed, PerformedIsRight}
 use Rattle.x5_model_settled.proofs.Settled.{runs_handle_right}
 use Rattle.x5_model_settled.proofs.Held.{scene_is}
 use Rattle.x5_model_settled.proofs.Runs.{before_last, block_more, agents_run_is_run}
@@ -61,6 +62,7 @@ module _ (w : World) (described : IsDescribed w) where
             runs_handle_right BySteps w commands blocks past first m described consistent run may.0 j reply may.1 may.2
             (subst (λ (s : Scene). IsRequest s (budget (line_after w past)) j reply)
             (scene_is (line_after w past) first m consistent) is),
+        requests_are_by_their_own (scene_held (line_after w past) first m) (budget (line_after w past)) j reply is,
       ))
 
   performed : (commands : List Command) (blocks : List Block) (past : List Did) → AllByRecursion (IsAskable w) commands

@@ -26,6 +26,7 @@ use Rattle.x5_model_held.specs.Beginning.{holdings_described}
 use Rattle.x5_model_held.specs.Theorems.{is_still}
 use Rattle.x5_model_serve.specs.Committed.{committed}
 use Rattle.x5_model_serve.specs.Serving.{IsRequest}
+use Rattle.x5_model_local.specs.Local.{ByTheirOwn}
 use Rattle.x5_model_settled.specs.Judges.{RightAndWhole}
 use Rattle.x5_model_settled.specs.Runs.{ByAgents, IsAskable}
 use Rattle.x5_model_settled.specs.Afterwards.{line_after, did_with}
@@ -63,11 +64,17 @@ scene_held p first m = record (scene_with p first m) { holdings = held_at p }
 abbrev pub BySteps : Judge
 BySteps p first m j reply = IsRequest (scene_held p first m) (budget p) j reply
 
+-- So, whatever agents know of each other, each line has its cause, whoever accepts does so by its own ground, and the
+-- answer is that of the own entries of agents that were heard.
+abbrev pub IsByTheirOwn : Judge
+IsByTheirOwn p first m j reply = ByTheirOwn (scene_held p first m) (budget p) j reply
+
 -- And over consistent knowledge what is accepted is also right by the one tree, and so is what a user's request is
 -- answered, and no message that it needs is left out.
 abbrev pub Performed : Judge
 Performed p first m j reply =
     BySteps p first m j reply × (IsConsistent p.described → RightAndWhole p first m j reply)
+    × IsByTheirOwn p first m j reply
 
 -- 1. Over consistent knowledge agents hold their part of the one tree, over other knowledge what each step leaves them;
 abbrev pub HeldIsHoldings : Type 0

@@ -1,13 +1,16 @@
 -- The world with the entries of the moment gives what consistent knowledge gives.
-use Rattle.std.proofs.Common.{◌≡◌, ℕ, inl, inr, List, map, sym, ap, subst, ◌∙◌}
+use Rattle.std.proofs.Common.{◌≡◌, ℕ, inl, inr, List, map, sym, ap, subst, ◌∙◌, true, not, ◌&&◌}
+use Rattle.std.specs.Prelude.{IsTrue}
+use Rattle.std.specs.List.{list_all}
+use Rattle.x5_model.specs.Words.{ascending}
 use Rattle.x5_model.specs.Members.{In, Once}
-use Rattle.x5_model.specs.Keys.{Key, parent}
+use Rattle.x5_model.specs.Keys.{Key, parent, is_root}
 use Rattle.x5_model.specs.Values.{key_of}
 use Rattle.x5_model.specs.Entries.{Named}
 use Rattle.x5_model.specs.Attributes.{is_ordered}
-use Rattle.x5_model.proofs.Lists.{in_map, of_map, of_flat, once_map, of_all}
+use Rattle.x5_model.proofs.Lists.{in_map, of_map, of_flat, once_map, of_all, all_in}
 use Rattle.x5_model_tree.specs.World.{Agent, World}
-use Rattle.x5_model_tree.specs.Tree.{Tree, IsTree, key_at, keys_of, part}
+use Rattle.x5_model_tree.specs.Tree.{Tree, IsTree, key_at, keys_of, named_below, is_there, is_there_or_root, part}
 use Rattle.x5_model_tree.specs.Masters.{Mastered, pin_of, numbered, mastered, pins, whole}
 use Rattle.x5_model_tree.specs.Conditions.{Has, Refers, Masters}
 use Rattle.x5_model_tree.specs.Good.{IsContext, Good}
@@ -134,8 +137,11 @@ module _ (p : Point) (s : StandsWhole p) where
   once_now : Once (pins (world_at p))
   once_now = pins_once (world_at p) s.coherent
 
-  same_pins : (tree_at p).pins ≡ pins (world_at p)
-  same_pins = s.tree.pins ∙ map_map area_of (λ (c : Area). c.prefix) (mastered (world_at p))
+  same_pins : (q : Key) → (In q (tree_at p).pins → In q (pins (world_at p))) × (In q (pins (world_at p)) → In q (tree_at p).pins)
+  same_pins q = (
+    λ i. subst (λ (ks : List Key). In q ks) (map_map area_of (λ (c : Area). c.prefix) (mastered (world_at p))) ((s.tree.pins q).0 i),
+    λ i. (s.tree.pins q).1 (subst (λ (ks : List Key). In q ks) (sym (map_map area_of (λ (c : Area). c.prefix) (mastered (world_at p)))) i),
+  )
 
   union : (whole (world_at p)).entries ≡ (tree_at p).entries
   union =
@@ -148,7 +154,15 @@ module _ (p : Point) (s : StandsWhole p) where
       (subst (λ (es : List Named). In e es) (ap (λ (x : Area). part (tree_at p) x.prefix) m.2 ∙ sym (part_there p s m.0 m.1)) c.3)))
 
 pub tree_is_union : TreeIsUnion
-tree_is_union p s = λ i. record { entries = union p s i; pins = sym (same_pins p s) i }
+tree_is_union p s = (union p s, same_pins p s)
 
 pub stands_as_tree : StandsAsTree
-stands_as_tree p s = subst (λ (t : Tree). IsTree t) (tree_is_union p s) (whole_is_tree (world_at p) (good_now p s) (pins_once (world_at p) s.coherent))
+stands_as_tree p s =
+    let w = whole_is_tree (world_at p) (good_now p s) (pins_once (world_at p) s.coherent) in
+    let e = union p s in
+    record {
+      in_order = subst (λ (es : List Named). IsTrue (ascending named_below es)) e w.in_order;
+      above = subst (λ (es : List Named). IsTrue (list_all (λ (x : Named). not (is_root (key_at x)) && is_there_or_root es (parent (key_at x))) es)) e w.above;
+      pins_there = all_in (is_there (tree_at p).entries) (tree_at p).pins (λ q i. subst (λ (es : List Named). is_there es q ≡ true) e (of_all (is_there (whole (world_at p)).entries) q (pins (world_at p)) w.pins_there ((same_pins p s q).0 i)));
+      ordered = subst (λ (es : List Named). IsTrue (list_all (λ (x : Named). is_ordered x.entry) es)) e w.ordered;
+    }

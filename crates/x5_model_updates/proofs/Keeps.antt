@@ -166,7 +166,7 @@ module _ (k : Knowledge) (t : Tree) (us : List Named) (good : Coherent k) (is : 
   still_tree : (body : Body) (c : Area) → In c k.areas → Made t c.prefix body us → IsTreeOf (with_entries (keys_in U) k) U
   still_tree body c i m = record {
     in_order = m.gives.0;
-    pins = is.pins ∙ sym (map_map (holding (keys_in U)) (λ (d : Area). d.prefix) k.areas);
+    pins = λ q. (λ i. subst (λ (ks : List Key). In q ks) (sym (map_map (holding (keys_in U)) (λ (d : Area). d.prefix) k.areas)) ((is.pins q).0 i), λ i. (is.pins q).1 (subst (λ (ks : List Key). In q ks) (map_map (holding (keys_in U)) (λ (d : Area). d.prefix) k.areas) i));
     parts = λ d j. (let w = of_map (holding (keys_in U)) d k.areas j in ap (λ (x : Area). x.entries) w.2 ∙ ap (λ (x : Key). keys_of (part U x)) (ap (λ (x : Area). x.prefix) (sym w.2)));
     parted = λ e j. in_some e j (m.covered t.entries (λ x y. y) e ((m.gives.1 e).0 j));
   }
@@ -199,7 +199,7 @@ same_stands k t good is = (
       }),
   record {
     in_order = is.in_order;
-    pins = is.pins ∙ sym (map_map (holding (keys_in t)) (λ (d : Area). d.prefix) k.areas);
+    pins = λ q. (λ i. subst (λ (ks : List Key). In q ks) (sym (map_map (holding (keys_in t)) (λ (d : Area). d.prefix) k.areas)) ((is.pins q).0 i), λ i. (is.pins q).1 (subst (λ (ks : List Key). In q ks) (map_map (holding (keys_in t)) (λ (d : Area). d.prefix) k.areas) i));
     parts = λ d j. (let w = of_map (holding (keys_in t)) d k.areas j in ap (λ (x : Area). x.entries) w.2 ∙ ap (λ (x : Key). keys_of (part t x)) (ap (λ (x : Area). x.prefix) (sym w.2)));
     parted = λ e j. (let d = is.parted e j in (holding (keys_in t) d.0, in_map (holding (keys_in t)) d.0 k.areas d.1, d.2));
   },

@@ -69,7 +69,7 @@ module _ (w : World) (described : IsDescribed w) (consistent : IsConsistent w) w
         }),
     record {
       in_order = whole_in_order w good once_pins;
-      pins = sym (map_map (holding (keys_in (whole w))) (λ (d : Area). d.prefix) (map area_of (mastered w)) ∙ map_map area_of (λ (d : Area). d.prefix) (mastered w));
+      pins = λ q. (λ i. subst (λ (ks : List Key). In q ks) (sym (map_map (holding (keys_in (whole w))) (λ (d : Area). d.prefix) (map area_of (mastered w)) ∙ map_map area_of (λ (d : Area). d.prefix) (mastered w))) i, λ i. subst (λ (ks : List Key). In q ks) (map_map (holding (keys_in (whole w))) (λ (d : Area). d.prefix) (map area_of (mastered w)) ∙ map_map area_of (λ (d : Area). d.prefix) (mastered w)) i);
       parts = λ d j. (let v = of_map (holding (keys_in (whole w))) d (map area_of (mastered w)) j in ap (λ (x : Area). x.entries) v.2 ∙ ap (λ (x : Key). keys_of (part (whole w) x)) (ap (λ (x : Area). x.prefix) (sym v.2)));
       parted = λ e j. (let m = of_whole w good once_pins e j in (
         holding (keys_in (whole w)) (area_of m.0),

@@ -93,10 +93,10 @@ module _ (k : Knowledge) (t : Tree) (good : Coherent k) (is : IsTreeOf k t) wher
   tree_one_each = one_each t.entries is.in_order
 
   pub pin_there : (c : Area) → In c k.areas → In c.prefix t.pins
-  pin_there c i = subst (λ (ps : List Key). In c.prefix ps) (sym is.pins) (in_map (λ (x : Area). x.prefix) c k.areas i)
+  pin_there c i = (is.pins c.prefix).1 (in_map (λ (x : Area). x.prefix) c k.areas i)
 
   pub area_of_pin : (q : Key) → In q t.pins → (c : Area) × In c k.areas × (q ≡ c.prefix)
-  area_of_pin q i = of_map (λ (x : Area). x.prefix) q k.areas (subst (λ (ps : List Key). In q ps) is.pins i)
+  area_of_pin q i = of_map (λ (x : Area). x.prefix) q k.areas ((is.pins q).0 i)
 
   -- members of a part
   pub of_part : (pin : Key) (e : Named) → In e (part t pin) → In e t.entries × IsLongest t.pins (key_at e) (Some pin)

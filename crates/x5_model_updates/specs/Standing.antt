@@ -1,13 +1,14 @@
 -- What a line of a run over consistent knowledge finds: knowledge that still meets its conditions, with the entries of
 -- the moment, and the one tree as the union of the masters' parts (X.501, section 22).
-use Rattle.std.specs.Prelude.{◌≡◌, true, map}
+use Rattle.std.specs.Prelude.{◌≡◌, ◌↔◌, true, map}
 use Rattle.std.specs.List.{list_all}
 use Rattle.x5_model.specs.Words.{ascending}
 use Rattle.x5_model.specs.Members.{In}
+use Rattle.x5_model.specs.Keys.{Key}
 use Rattle.x5_model.specs.Entries.{Named}
 use Rattle.x5_model.specs.Attributes.{is_ordered}
 use Rattle.x5_model_tree.specs.Tree.{Tree, IsTree, keys_of, named_below, part}
-use Rattle.x5_model_tree.specs.Masters.{whole}
+use Rattle.x5_model_tree.specs.Masters.{pins, whole}
 use Rattle.x5_model_tree.specs.Consistent.{IsConsistent}
 use Rattle.x5_model_tree.specs.Good.{Good}
 use Rattle.x5_model_tree.specs.Described.{IsDescribed}
@@ -20,7 +21,7 @@ use Rattle.x5_model_theory.specs.Coherent.{Coherent}
 -- and each entry is in the part of some context
 pub record IsTreeOf (k : Knowledge) (t : Tree) : Type 0 where
   pub in_order : ascending named_below t.entries ≡ true
-  pub pins : t.pins ≡ map (λ (c : Area). c.prefix) k.areas
+  pub pins : (q : Key) → In q t.pins ↔ In q (map (λ (c : Area). c.prefix) k.areas)
   pub parts : (c : Area) → In c k.areas → c.entries ≡ keys_of (part t c.prefix)
   pub parted : (e : Named) → In e t.entries → (c : Area) × In c k.areas × In e (part t c.prefix)
 
@@ -35,7 +36,9 @@ pub record StandsWhole (p : Point) : Type 0 where
 
 -- So the tree is what its masters have together, and it is a tree.
 abbrev pub TreeIsUnion : Type 0
-TreeIsUnion = (p : Point) → StandsWhole p → whole (world_at p) ≡ tree_at p
+TreeIsUnion =
+    (p : Point) → StandsWhole p
+    → ((whole (world_at p)).entries ≡ (tree_at p).entries) × ((q : Key) → In q (tree_at p).pins ↔ In q (pins (world_at p)))
 
 abbrev pub StandsAsTree : Type 0
 StandsAsTree = (p : Point) → StandsWhole p → IsTree (tree_at p)

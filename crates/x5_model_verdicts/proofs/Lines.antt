@@ -25,7 +25,7 @@ use Rattle.x5_model_replies.specs.Replies.{RightReply, usual}
 use Rattle.x5_model_updates.proofs.Outcomes.{ok_or_err, accepted_over, tree_made}
 use Rattle.x5_model_serve.specs.Answering.{is_service}
 use Rattle.x5_model_serve.specs.Claims.{Grows}
-use Rattle.x5_model_serve.specs.Serving.{Hand, Act, Does, next_line, Tries, Sends, Unheard, loops, is_long, done_before, refused, unfit, stuck, nowhere, refers, goes, casts, reads, reads_copy, gives_parts, asks_parts, updates, not_done, does, probes_all, misses, taken, breaks, no_probe, clear, unsure, silent, spent, lost, dropped, sends, final, referral, wide_referral, unexplored, none_yet, in_vain_too, heard, unheard, none_asked, unable_too, silent_too, answered, nobody_has, some_silent, no_part, part_unheard, part_unavailable, part_answered, part_breaks}
+use Rattle.x5_model_serve.specs.Serving.{Hand, Act, Does, next_line, Tries, Sends, Unheard, loops, is_long, done_before, refused, unfit, stuck, nowhere, refers, goes, casts, reads, reads_copy, gives_parts, asks_parts, updates, not_done, does, probes_all, misses, taken, breaks, no_probe, clear, unsure, silent, holds_back, holds_back, spent, lost, dropped, sends, final, referral, wide_referral, unexplored, none_yet, in_vain_too, heard, unheard, none_asked, unable_too, silent_too, answered, nobody_has, some_silent, no_part, part_unheard, part_unavailable, part_answered, part_breaks}
 use Rattle.x5_model_verdicts.specs.Growth.{LinesGrow, NoErrorAfter, AcceptedMeanwhile, TriedInVain}
 use Rattle.x5_model_verdicts.proofs.Refused.{told_update}
 
@@ -64,10 +64,11 @@ module _ (s : Scene) (most : ℕ) where
   grown _ _ _ (clear a y e d u) = further _ _ _ (grown _ _ _ d) (grown _ _ _ u)
   grown _ _ _ (unsure a y e d u) = further _ _ _ (grown _ _ _ d) (grown _ _ _ u)
   grown _ _ _ (silent a d u) = further _ _ _ (grown _ _ _ d) (grown _ _ _ u)
-  grown _ _ _ (spent a e) = ([], refl)
-  grown _ _ _ (lost {from} {o} {r} {j} a e f) = (next_line s j from o r a ∷ [], refl)
-  grown _ _ _ (dropped {from} {o} {r} {i} {j} a y e f d) = further i.lines (next_line s i from o r a ∷ i.lines) j.lines (next_line s i from o r a ∷ [], refl) (grown _ _ _ d)
-  grown _ _ _ (sends {from} {o} {r} {i} {j} {l} a y z e f d u) = further i.lines j.lines l.lines (further i.lines (next_line s i from o r a ∷ i.lines) j.lines (next_line s i from o r a ∷ [], refl) (grown _ _ _ d)) (grown _ _ _ u)
+  grown _ _ _ (holds_back a e) = ([], refl)
+  grown _ _ _ (spent a hb e) = ([], refl)
+  grown _ _ _ (lost {from} {o} {r} {j} a hb e f) = (next_line s j from o r a ∷ [], refl)
+  grown _ _ _ (dropped {from} {o} {r} {i} {j} a y hb e f d) = further i.lines (next_line s i from o r a ∷ i.lines) j.lines (next_line s i from o r a ∷ [], refl) (grown _ _ _ d)
+  grown _ _ _ (sends {from} {o} {r} {i} {j} {l} a y z hb e f d u) = further i.lines j.lines l.lines (further i.lines (next_line s i from o r a ∷ i.lines) j.lines (next_line s i from o r a ∷ [], refl) (grown _ _ _ d)) (grown _ _ _ u)
   grown _ _ _ (final y e) = ([], refl)
   grown _ _ _ (referral r h e d) = grown _ _ _ d
   grown _ _ _ (wide_referral r y e d) = grown _ _ _ d
@@ -99,8 +100,8 @@ loss_stays i j g h =
 
 module _ (s : Scene) (most : ℕ) where
   sent_in_vain : (from : Option ℕ) (o : Hand) (r : Reference) (a : ℕ) (i j : Journal) → Does s most (Sends from o r a Unheard) i j → (j.accepted ≡ i.accepted) ⊎ (heard_whole j.lines ≡ false)
-  sent_in_vain _ _ _ _ _ _ (lost a e f) = inl refl
-  sent_in_vain _ _ _ _ _ _ (dropped {from} {o} {r} {i} {j} a y e f d) =
+  sent_in_vain _ _ _ _ _ _ (lost a hb e f) = inl refl
+  sent_in_vain _ _ _ _ _ _ (dropped {from} {o} {r} {i} {j} a y hb e f d) =
       let g = grown s most _ _ _ d in
       inr (ap not (any_in (λ (l : Line). is_noreply l.fate) (next_line s i from o r a) j.lines (subst (λ (xs : List Line). In (next_line s i from o r a) xs) (sym g.1) (in_right (next_line s i from o r a) g.0 (next_line s i from o r a ∷ i.lines) here)) (ap is_noreply f)))
 

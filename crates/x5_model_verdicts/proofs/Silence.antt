@@ -11,7 +11,7 @@ use Rattle.x5_model_tree.specs.Ask.{is_update}
 use Rattle.x5_model_run.specs.Journal.{Journal, same_name, is_wide}
 use Rattle.x5_model_run.specs.Needs.{target_of}
 use Rattle.x5_model_run.specs.Chain.{Scene, IsCarried, is_user, is_probe, asks_part, part_body, request_for}
-use Rattle.x5_model_serve.specs.Serving.{Hand, Act, Does, Serves, Follows, Sends, Tries, Takes, Spreads, Casts, Gathers, Probes, Updates, line_for, carried_for, loops, is_long, done_before, refused, unfit, stuck, nowhere, refers, goes, casts, reads, reads_copy, gives_parts, asks_parts, updates, not_done, does, probes_all, misses, taken, breaks, no_probe, clear, unsure, silent, spent, lost, dropped, sends, final, referral, wide_referral, unexplored, none_yet, in_vain_too, heard, unheard, none_asked, unable_too, silent_too, answered, nobody_has, some_silent, no_part, part_unheard, part_unavailable, part_answered, part_breaks}
+use Rattle.x5_model_serve.specs.Serving.{Hand, Act, Does, Serves, Follows, Sends, Tries, Takes, Spreads, Casts, Gathers, Probes, Updates, line_for, carried_for, loops, is_long, done_before, refused, unfit, stuck, nowhere, refers, goes, casts, reads, reads_copy, gives_parts, asks_parts, updates, not_done, does, probes_all, misses, taken, breaks, no_probe, clear, unsure, silent, holds_back, spent, lost, dropped, sends, final, referral, wide_referral, unexplored, none_yet, in_vain_too, heard, unheard, none_asked, unable_too, silent_too, answered, nobody_has, some_silent, no_part, part_unheard, part_unavailable, part_answered, part_breaks}
 use Rattle.x5_model_run.proofs.Carrying.{is_carried}
 use Rattle.x5_model_verdicts.specs.Verdicts.{ProbesAcceptNone}
 use Rattle.x5_model_verdicts.proofs.At.{form, fit_key}
@@ -82,10 +82,11 @@ module _ (s : Scene) (most : ℕ) where
   still _ _ _ (clear a y e d u) ho = still _ _ _ u ho ∙ still _ _ _ d ho
   still _ _ _ (unsure a y e d u) ho = still _ _ _ u ho ∙ still _ _ _ d ho
   still _ _ _ (silent a d u) ho = still _ _ _ u ho ∙ still _ _ _ d ho
-  still _ _ _ (spent a e) ho = refl
-  still _ _ _ (lost a e f) ho = refl
-  still _ _ _ (dropped {from} {o} {r} a y e f d) ho = still _ _ _ d (ho (carried_for from o r) (is_carried from (line_for o) r))
-  still _ _ _ (sends {from} {o} {r} a y z e f d u) ho = still _ _ _ u (ho (carried_for from o r) (is_carried from (line_for o) r)) ∙ still _ _ _ d (ho (carried_for from o r) (is_carried from (line_for o) r))
+  still _ _ _ (holds_back a e) ho = refl
+  still _ _ _ (spent a hb e) ho = refl
+  still _ _ _ (lost a hb e f) ho = refl
+  still _ _ _ (dropped {from} {o} {r} a y hb e f d) ho = still _ _ _ d (ho (carried_for from o r) (is_carried from (line_for o) r))
+  still _ _ _ (sends {from} {o} {r} a y z hb e f d u) ho = still _ _ _ u (ho (carried_for from o r) (is_carried from (line_for o) r)) ∙ still _ _ _ d (ho (carried_for from o r) (is_carried from (line_for o) r))
   still _ _ _ (final y e) ho = refl
   still _ _ _ (referral r h e d) ho = still _ _ _ d (carries _ _ ho)
   still _ _ _ (wide_referral r y e d) ho = still _ _ _ d (carries _ _ ho)

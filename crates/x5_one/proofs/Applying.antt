@@ -58,7 +58,12 @@ module _ (t : Tree) (r : Request) (none : None ≡ fault_of r.body) (changes : i
       → IsMade made (update (ground_of t) r.body) t.entries after → IsSound t → IsSound (record t { entries = after })
   sound_after (Ok u) after is s =
       let k = updates_keep s.knowledge t (record t { entries = after }) r s.coherent s.tree (accepted after is) in
-      record { knowledge = with_entries (keys_in (record t { entries = after })) s.knowledge; coherent = k.0; tree = k.1 }
+      record {
+        knowledge = with_entries (keys_in (record t { entries = after })) s.knowledge;
+        coherent = k.0;
+        tree = k.1;
+        once = s.once;
+      }
   sound_after (Err f) after is s = subst (λ (es : List Named). IsSound (record t { entries = es })) (sym is.1) s
 
   pub reply_is : (made : Result (Unit {0}) ChangeFault) (result : Result Reply NoMemory) (after : List Named)

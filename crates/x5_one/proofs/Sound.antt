@@ -26,7 +26,7 @@ pins_filled t s q i =
     subst (λ (k : Key). 0 < length k) (sym c.2) (s.coherent.filled c.0 c.1)
 
 pub pins_once : (t : Tree) → IsSound t → Once t.pins
-pins_once t s = subst (λ (ks : List Key). Once ks) (sym s.tree.pins) s.coherent.once
+pins_once t s = s.once
 
 abbrev in_context : List Held → Option Key → Option Held
 in_context held o = in_option None (context_with held) o

@@ -1,16 +1,19 @@
 -- What is gathered of a world, agent by agent, is its whole tree, which is sound where knowledge is consistent.
-use Rattle.std.proofs.Common.{◌≡◌, ℕ, ◌+◌, List, [], ◌∷◌, ◌++◌, map, refl, sym, ap, ◌∙◌}
+use Rattle.std.proofs.Common.{◌≡◌, ℕ, ◌+◌, List, [], ◌∷◌, ◌++◌, map, refl, sym, ap, subst, ◌∙◌}
 use Rattle.std.proofs.lemmas.List.{append_assoc, map-append}
 use Rattle.std.specs.List.{flat_map, enumerate_from}
+use Rattle.x5_model.specs.Members.{Once}
 use Rattle.x5_model.specs.Keys.{Key}
 use Rattle.x5_model.specs.Entries.{Named}
 use Rattle.x5_model_tree.specs.World.{Context, Agent, World}
 use Rattle.x5_model_tree.specs.Tree.{sorted_entries}
-use Rattle.x5_model_tree.specs.Masters.{Mastered, pin_of, all_entries, whole}
+use Rattle.x5_model_tree.specs.Masters.{Mastered, pin_of, mastered, all_entries, whole}
 use Rattle.x5_model_tree.specs.Described.{IsDescribed}
 use Rattle.x5_model_tree.specs.Consistent.{IsConsistent}
-use Rattle.x5_model_theory.specs.Described.{knowledge_of}
-use Rattle.x5_model_theory.specs.Changing.{with_entries}
+use Rattle.x5_model_theory.specs.Knowledge.{Area}
+use Rattle.x5_model_theory.specs.Described.{area_of, knowledge_of}
+use Rattle.x5_model_theory.specs.Changing.{holding, with_entries}
+use Rattle.x5_model_theory.proofs.Cohering.{map_map}
 use Rattle.x5_model_updates.specs.Keeping.{keys_in}
 use Rattle.x5_model_updates.proofs.Stood.{begins}
 use Rattle.x5_one.specs.One.{One, pin_in, tree_in, contexts_by, contexts_of, entries_by, entries_of}
@@ -67,4 +70,10 @@ whole_gathered w o es cs = λ i. record { entries = es i; pins = (ap (map pin_in
 pub whole_sound : (w : World) → IsDescribed w → IsConsistent w → IsSound (whole w)
 whole_sound w described consistent =
     let s = begins w described consistent in
-    record { knowledge = with_entries (keys_in (whole w)) (knowledge_of w); coherent = s.0; tree = s.1 }
+    record {
+      knowledge = with_entries (keys_in (whole w)) (knowledge_of w);
+      coherent = s.0;
+      tree = s.1;
+      once = subst Once (map_map (holding (keys_in (whole w))) (λ (d : Area). d.prefix) (map area_of (mastered w))
+          ∙ map_map area_of (λ (d : Area). d.prefix) (mastered w)) s.0.once;
+    }

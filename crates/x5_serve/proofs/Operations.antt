@@ -8,20 +8,21 @@ use Rattle.x5_model.specs.Entries.{Named}
 use Rattle.x5_model.specs.Filters.{Assertion}
 use Rattle.x5_model.specs.Requests.{Selection, Body, Read, Compare, ListBelow, Search, AddEntry, RemoveEntry, ModifyEntry, ModifyDn, Request}
 use Rattle.x5_model.specs.References.{Reference, Chained}
-use Rattle.x5_model.specs.Answers.{Source, Answer, EntryFound, Matched, Listed, Found, Changed, DirError, Reply, Answered, Failed, Referred}
+use Rattle.x5_model.specs.Answers.{Source, Answer, EntryFound, Matched, Listed, Found, Changed, DirError, ServiceProblem, Reply, Answered, Failed, Referred}
+use Rattle.x5_model.specs.Problems.{loop_detected}
 use Rattle.x5_model.specs.Selections.{selection_fault}
 use Rattle.x5_model.specs.Statics.{fault_of}
 use Rattle.x5_model.proofs.Lists.{both_true}
 use Rattle.x5_model_tree.specs.Tree.{Tree, entry_at, tree_of, is_there_or_root}
 use Rattle.x5_model_tree.specs.Apply.{Applied, apply}
 use Rattle.x5_model_tree.specs.Ask.{Told, Shows, Compares, Lists, Finds, Changes, Refuses, is_update, has_type, absent, limited_list, limited_found, just_below, searched, at_object, read, compare, updated, ask_body, ask_marked}
-use Rattle.x5_model_run.specs.Journal.{Journal, is_wide, operation_of, same_name}
+use Rattle.x5_model_run.specs.Journal.{Journal, item_of, is_wide, operation_of, same_name}
 use Rattle.x5_model_run.specs.Holdings.{Holdings}
 use Rattle.x5_model_run.specs.Needs.{target_of}
 use Rattle.x5_model_run.specs.Chain.{Scene, probe_request, is_probe, part_body, part_request, asks_part, is_user}
 use Rattle.x5_model_theory.proofs.Tests.{false_true}
 use Rattle.x5_model_serve.specs.Answering.{own_source, copy_source, reply_from, local_sources, told_in, local_told, local_part, with_unexplored, only_unexplored, limited_answer, merged, to_follow, passed_by, in_vain, is_unavailable}
-use Rattle.x5_model_serve.specs.Serving.{Hand, hand, Heard, Unheard, Hears, Gathered, Whole, Broken, Act, Serves, Follows, Sends, Tries, Takes, Spreads, Casts, Gathers, Probes, Updates, Does, Arrives, carried_for, holds_now, is_final, at_limit, parts_refs, gathered_reply, heard_or, loops, is_long, done_before, refused, unfit, stuck, nowhere, refers, goes, casts, reads, reads_copy, gives_parts, asks_parts, updates, not_done, does, probes_all, misses, taken, breaks, no_probe, clear, unsure, silent, spent, lost, dropped, sends, final, referral, wide_referral, unexplored, none_yet, in_vain_too, heard, unheard, none_asked, unable_too, silent_too, answered, nobody_has, some_silent, no_part, part_unheard, part_unavailable, part_answered, part_breaks}
+use Rattle.x5_model_serve.specs.Serving.{Hand, hand, is_looped, held_back, limit_reply, Heard, Unheard, Hears, Gathered, Whole, Broken, Act, Serves, Follows, Sends, Tries, Takes, Spreads, Casts, Gathers, Probes, Updates, Does, Arrives, carried_for, holds_now, is_final, at_limit, parts_refs, gathered_reply, heard_or, loops, is_long, done_before, refused, unfit, stuck, nowhere, refers, goes, casts, reads, reads_copy, gives_parts, asks_parts, updates, not_done, does, probes_all, misses, taken, breaks, no_probe, clear, unsure, silent, holds_back, spent, lost, dropped, sends, final, referral, wide_referral, unexplored, none_yet, in_vain_too, heard, unheard, none_asked, unable_too, silent_too, answered, nobody_has, some_silent, no_part, part_unheard, part_unavailable, part_answered, part_breaks}
 use Rattle.x5_model_serve.proofs.Finals.{leaves}
 use Rattle.x5_serve.specs.Sendable.{is_answer_to, replies_to, MayBePassedOn}
 use Rattle.x5_serve.proofs.Onward.{onward_no_probe}
@@ -282,6 +283,13 @@ Replies (Updates k y) = is_update k.message.request.body ≡ true → Suits k y
 error_suits : (k : Hand) (x : DirError) → Suits k (Failed x)
 error_suits k x = record { answers = refl; goes_on = tt }
 
+held_suits : (k x : Hand) → Suits k (held_back x)
+held_suits k x = by (is_looped x)
+  where
+    by : (b : Bool) → Suits k (if b then Failed (ServiceProblem loop_detected None (Some (item_of x.receiver x.message))) else limit_reply)
+    by true = error_suits k _
+    by false = error_suits k _
+
 changed_suits : (k : Hand) → is_update k.message.request.body ≡ true → Suits k (Answered Changed)
 changed_suits k e = record { answers = changed_answers k.message.request.body e; goes_on = tt }
 
@@ -392,10 +400,11 @@ module _ (s : Scene) (most : ℕ) where
   replies _ _ _ (clear a y e d u) = tt
   replies _ _ _ (unsure a y e d u) = tt
   replies _ _ _ (silent a d u) = tt
-  replies _ _ _ (spent {o = o} a e) = λ t. error_suits o _
-  replies _ _ _ (lost a e f) = λ t. tt
-  replies _ _ _ (dropped a y e f d) = λ t. tt
-  replies _ _ _ (sends {from} {o} {r} a y z e f d u) =
+  replies _ _ _ (holds_back {from} {o} {r} a e) = λ t. held_suits o (hand a (carried_for from o r))
+  replies _ _ _ (spent {o = o} a free e) = λ t. error_suits o _
+  replies _ _ _ (lost a free e f) = λ t. tt
+  replies _ _ _ (dropped a y free e f d) = λ t. tt
+  replies _ _ _ (sends {from} {o} {r} a y z free e f d u) =
       let first : Served (hand a (carried_for from o r)) y = replies _ _ _ d in
       let next : Suits (hand a (carried_for from o r)) y → Suits (hand a (carried_for from o r)) z = replies _ _ _ u in
       let last : is_final z ≡ true = leaves s most _ _ _ u in

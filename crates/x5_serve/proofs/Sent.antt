@@ -117,13 +117,13 @@ module _ {N : Type 0} (scene : N → Scene) (most : N → ℕ) (names : N → Li
     ask_spent y e limit =
         let w = subst (IsCarriedBy (scene old) (most old) (names old) (journal old) (journal now) (Some from) to
         (chained_view (names old) m)) e is in
-        spent_does to (reply_view (names old) y) w.0 w.1 (limit (names old))
+        spent_does to (reply_view (names old) y) refl w.0 w.1 (limit (names old))
 
     pub ask_lost : x ≡ carried.Undelivered → DoesAt scene most journal old now (Sends (Some from) o r to Unheard)
     ask_lost e =
         let w = subst (IsCarriedBy (scene old) (most old) (names old) (journal old) (journal now) (Some from) to
         (chained_view (names old) m)) e is in
-        lost_does to (chained_view (names old) m) c w.0 w.1 w.2
+        lost_does to (chained_view (names old) m) refl c w.0 w.1 w.2
 
     pub ask_dropped : (new : N) (taken : code.Chained) (y : code_reply.Reply) → x ≡ carried.Unheard taken
         → Stays scene most names old now
@@ -133,7 +133,7 @@ module _ {N : Type 0} (scene : N → Scene) (most : N → ℕ) (names : N → Li
     ask_dropped new taken y e s d =
         let w = subst (IsCarriedBy (scene old) (most old) (names old) (journal old) (journal now) (Some from) to
         (chained_view (names old) m)) e is in
-        dropped_does to (chained_view (names old) m) (reply_view (names old) y) c w.0 w.1
+        dropped_does to (chained_view (names old) m) (reply_view (names old) y) refl c w.0 w.1
         (rw w.2 at (rw w.3 at (rw (s.scene_is, s.most_is, s.names_are) at d)))
 
     pub ask_heard : (then new : N) (taken : code.Chained) (y back last : code_reply.Reply) → x ≡ carried.Taken taken
@@ -147,7 +147,7 @@ module _ {N : Type 0} (scene : N → Scene) (most : N → ℕ) (names : N → Li
     ask_heard then new taken y back last e s t d b u =
         let w = subst (IsCarriedBy (scene old) (most old) (names old) (journal old) (journal now) (Some from) to
         (chained_view (names old) m)) e is in
-        sends_does to (chained_view (names old) m) (reply_view (names old) y) (reply_view (names old) last) c w.0 w.1
+        sends_does to (chained_view (names old) m) (reply_view (names old) y) (reply_view (names old) last) refl c w.0 w.1
         (rw w.2 at (rw w.3 at (rw (s.scene_is, s.most_is, s.names_are) at d)))
         (rw w.3 at (rw (s.scene_is, s.most_is, s.names_are) at (rw (t.scene_is, t.most_is, t.names_are) at
         (rw b at u))))

@@ -1,0 +1,3 @@
+pub mod Kept
+pub mod Cut
+pub mod Plain
