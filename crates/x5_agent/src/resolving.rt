@@ -130,6 +130,7 @@ fn in_copy(
 {
     let reply = read_copy(alloc, names, state, message, copy, node)?;
     if is_error(&reply) {
+        drop(reply);
         return Ok(Found::Onward(supplier(alloc, names, state, message, copy)?));
     }
     Ok(Found::Told(reply))

@@ -14,6 +14,23 @@ use x5_index::Room;
 use x5_memory::NoMemory;
 use x5_ops::Named;
 
+/// Puts this entry into the context. The one above it is there, and it isn't.
+fn put_entry(alloc: Global, filling: &mut Filling, named: &Named) -> Result<(), NoMemory>
+    requires order { ascending named_below (entries_of filling.old.nodes.nodes) ≡ true }
+    requires grown { is_grown (entries_of filling.old.nodes.nodes) (named.now ∷ []) ≡ true }
+    requires kept { is_kept named.now ≡ true }
+    ensures { IfOk result (λ _. Grown filling.old (named.now ∷ []) filling.new) }
+{
+    let room = Room::new(alloc, &named.entry)?;
+    filling.reserve(1, room.len())?;
+    let name = named.name.clone()?;
+    let entry = named.entry.clone()?;
+    let Ok(_node) = filling.insert(name, entry, room) else {
+        unreachable!()
+    };
+    Ok(())
+}
+
 /// The context with this entry more. The one above it is there, and it isn't.
 fn with_entry(alloc: Global, filling: Filling, named: &Named) -> Result<Filling, NoMemory>
     requires order { ascending named_below (entries_of filling.nodes.nodes) ≡ true }
@@ -22,14 +39,13 @@ fn with_entry(alloc: Global, filling: Filling, named: &Named) -> Result<Filling,
     ensures { IfOk result (λ after. Grown filling (named.now ∷ []) after) }
 {
     let mut filling = filling;
-    let room = Room::new(alloc, &named.entry)?;
-    filling.reserve(1, room.len())?;
-    let name = named.name.clone()?;
-    let entry = named.entry.clone()?;
-    let Ok(_node) = filling.insert(name, entry, room) else {
-        unreachable!()
-    };
-    Ok(filling)
+    match put_entry(alloc, &mut filling, named) {
+        Ok(()) => Ok(filling),
+        Err(fault) => {
+            drop(filling);
+            Err(fault)
+        }
+    }
 }
 
 /// The context with these entries more, each behind the one above it. Its index is put into order once, when all are there.

@@ -151,7 +151,7 @@ impl Feeder {
 }
 
 /// What octets are, and as many more.
-#[derive(Clone, Copy, Debug, PartialEq, Eq)]
+#[derive(Clone, Copy, PartialEq, Eq)]
 enum Sight {
     /// A value stands at the front.
     Whole,

@@ -10,7 +10,7 @@ use crate::element::BerFault;
 pub(crate) const DEEPEST: usize = 64;
 
 /// Why no identifier or no length was read.
-#[derive(Clone, Copy, Debug, PartialEq, Eq, Drop)]
+#[derive(Clone, Copy, PartialEq, Eq, Drop)]
 pub(crate) enum Stop {
     /// The octets end first.
     Short,
@@ -20,7 +20,7 @@ pub(crate) enum Stop {
 
 /// What identifier octets say: the class (0 universal, 1 application, 2 context-specific, 3 private),
 /// whether the content is elements, and the tag number, which is below 2^31.
-#[derive(Clone, Copy, Debug, PartialEq, Eq)]
+#[derive(Clone, Copy, PartialEq, Eq)]
 pub struct Identifier {
     pub class: u8,
     pub constructed: bool,
@@ -29,7 +29,7 @@ pub struct Identifier {
 
 /// A header: its identifier, its length or `None` for the indefinite form, and the place of the
 /// first content octet.
-#[derive(Clone, Copy, Debug, PartialEq, Eq)]
+#[derive(Clone, Copy, PartialEq, Eq)]
 pub struct Head {
     pub identifier: Identifier,
     pub extent: Option<u64>,
@@ -38,7 +38,7 @@ pub struct Head {
 
 /// Where an element has to begin: its depth, where the content of the nearest enclosing element with
 /// a definite length ends, and whether the innermost enclosing one has the indefinite form.
-#[derive(Clone, Copy, Debug, PartialEq, Eq)]
+#[derive(Clone, Copy, PartialEq, Eq)]
 pub(crate) struct Around {
     pub depth: usize,
     pub limit: Option<u128>,

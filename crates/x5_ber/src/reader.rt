@@ -9,7 +9,7 @@ use crate::header::{Around, DEEPEST, Head, read_head, stands_end};
 
 /// What stands around the members of an open element: where the content of the nearest one with a
 /// definite length ends, and whether the innermost one has the indefinite form.
-#[derive(Clone, Copy, Debug, PartialEq, Eq)]
+#[derive(Clone, Copy, PartialEq, Eq)]
 pub(crate) struct Enclosing {
     pub limit: Option<u128>,
     pub closes: bool,

@@ -23,13 +23,28 @@ fn with_entry(alloc: Global, filling: Filling, named: Named) -> Result<Filling, 
     ensures { IfOk result (λ after. IsExtended filling (named ∷ []) after) }
 {
     let mut filling = filling;
+    match put_entry(alloc, &mut filling, named) {
+        Ok(()) => Ok(filling),
+        Err(fault) => {
+            drop(filling);
+            Err(fault)
+        }
+    }
+}
+
+/// Puts this entry behind all others of the context.
+fn put_entry(alloc: Global, filling: &mut Filling, named: Named) -> Result<(), NoMemory>
+    requires order { ascending named_below (entries_of filling.old.nodes.nodes ++ named ∷ []) ≡ true }
+    requires can { CanAdd (entries_of filling.old.nodes.nodes) named }
+    ensures { IfOk result (λ _. IsExtended filling.old (named ∷ []) filling.new) }
+{
     let room = Room::new(alloc, &named.entry)?;
     filling.reserve(1, room.len())?;
     let Named { name, entry } = named;
     let Ok(_node) = filling.insert(name, entry, room) else {
         unreachable!()
     };
-    Ok(filling)
+    Ok(())
 }
 
 /// The context with these entries more. They are in the order of their keys, each behind the one above it. There is room for all

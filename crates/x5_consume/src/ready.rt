@@ -6,7 +6,7 @@ use x5_names::{Name, Rdn};
 use x5_ops::Step;
 
 /// What a step needs: the entry that comes with its values, and the name of the one that it changes.
-#[derive(Debug, Drop)]
+#[derive(Drop)]
 pub(crate) enum Ready {
     Add {
         name: Name,
@@ -30,7 +30,7 @@ pub(crate) enum Ready {
 }
 
 /// A step, with what it needs.
-#[derive(Debug, Drop)]
+#[derive(Drop)]
 pub(crate) struct Prepared {
     pub(crate) ready: Ready,
     pub(crate) step: Step,

@@ -92,16 +92,17 @@ fn search_node<'a>(
     subset: Subset,
     filter: &'a Filter,
     selection: &Selection,
-    controls: Node<'a>,
+    controls: Controls,
 ) -> Result<Node<'a>, NoMemory>
     ensures { IfOk result (λ n. node_view n ≡ node_of (name_node_of base.now ∷ nodes.whole (requests.subset_number (subset_view subset))
         ∷ filter_node_of (filter_view filter.now) ∷ requests.selection_node (selection_view selection.now)
-        ∷ node_view controls.entry ∷ [])) }
+        ∷ requests.controls_node (controls_view controls) ∷ [])) }
 {
     let base = name_node(alloc, base)?;
-    let subset = number(subset_number(subset));
     let filter = filter_node(alloc, filter)?;
     let selection = selection_node(alloc, selection)?;
+    let controls = controls_node(alloc, controls)?;
+    let subset = number(subset_number(subset));
     five(alloc, base, subset, filter, selection, controls)
 }
 
@@ -111,40 +112,49 @@ fn rename_node<'a>(
     object: &'a Name,
     rdn: &'a Rdn,
     drop_old: bool,
-    controls: Node<'a>,
+    controls: Controls,
 ) -> Result<Node<'a>, NoMemory>
     ensures { IfOk result (λ n. node_view n ≡ node_of (name_node_of object.now ∷ rdn_node_of rdn.now ∷ nodes.Flag drop_old
-        ∷ node_view controls.entry ∷ [])) }
+        ∷ requests.controls_node (controls_view controls) ∷ [])) }
 {
     let object = name_node(alloc, object)?;
     let rdn = rdn_node(alloc, rdn)?;
+    let controls = controls_node(alloc, controls)?;
     four(alloc, object, rdn, Node::Flag(drop_old), controls)
+}
+
+/// The argument of an operation that asks one thing of one entry.
+fn entry_node<'a>(
+    alloc: Global,
+    object: &'a Name,
+    asked: Node<'a>,
+    controls: Controls,
+) -> Result<Node<'a>, NoMemory>
+    ensures { IfOk result (λ n. node_view n ≡ node_of (name_node_of object.now ∷ node_view asked.entry
+        ∷ requests.controls_node (controls_view controls) ∷ [])) }
+{
+    let object = name_node(alloc, object)?;
+    let controls = controls_node(alloc, controls)?;
+    three(alloc, object, asked, controls)
 }
 
 /// The argument of an operation, with its controls.
 pub fn argument_node<'a>(alloc: Global, request: &'a Request) -> Result<Node<'a>, NoMemory>
     ensures { IfOk result (λ n. node_view n ≡ requests.argument_node (request_view request.now)) }
 {
-    let controls = controls_node(alloc, request.controls)?;
+    let controls = request.controls;
     match &request.body {
-        Body::Read { object, selection } => three(
-            alloc,
-            name_node(alloc, object)?,
-            selection_node(alloc, selection)?,
-            controls,
-        ),
+        Body::Read { object, selection } => {
+            entry_node(alloc, object, selection_node(alloc, selection)?, controls)
+        }
         Body::Compare {
             object,
             kind,
             value,
-        } => three(
-            alloc,
-            name_node(alloc, object)?,
-            assertion_node(alloc, kind, value)?,
-            controls,
-        ),
+        } => entry_node(alloc, object, assertion_node(alloc, kind, value)?, controls),
         Body::List { object } | Body::Remove { object } => {
-            two(alloc, name_node(alloc, object)?, controls)
+            let object = name_node(alloc, object)?;
+            two(alloc, object, controls_node(alloc, controls)?)
         }
         Body::Search {
             base,
@@ -152,18 +162,14 @@ pub fn argument_node<'a>(alloc: Global, request: &'a Request) -> Result<Node<'a>
             filter,
             selection,
         } => search_node(alloc, base, *subset, filter, selection, controls),
-        Body::Add { object, attributes } => three(
-            alloc,
-            name_node(alloc, object)?,
-            attributes_node(alloc, attributes.as_slice())?,
-            controls,
-        ),
-        Body::Modify { object, changes } => three(
-            alloc,
-            name_node(alloc, object)?,
-            changes_node(alloc, changes.as_slice())?,
-            controls,
-        ),
+        Body::Add { object, attributes } => {
+            let attributes = attributes_node(alloc, attributes.as_slice())?;
+            entry_node(alloc, object, attributes, controls)
+        }
+        Body::Modify { object, changes } => {
+            let changes = changes_node(alloc, changes.as_slice())?;
+            entry_node(alloc, object, changes, controls)
+        }
         Body::ModifyDn {
             object,
             rdn,

@@ -20,30 +20,21 @@ pub fn many<'a>(parts: Vec<Node<'a>>) -> Node<'a>
 pub fn one<'a>(alloc: Global, a: Node<'a>) -> Result<Node<'a>, NoMemory>
     ensures { IfOk result (λ n. node_view n ≡ node_of (node_view a.entry ∷ [])) }
 {
-    let mut parts = Vec::with_capacity(alloc, 1)?;
-    parts.push(a)?;
-    Ok(many(parts))
+    Ok(many(vec![in alloc; a]?))
 }
 
 /// The value of two parts.
 pub fn two<'a>(alloc: Global, a: Node<'a>, b: Node<'a>) -> Result<Node<'a>, NoMemory>
     ensures { IfOk result (λ n. node_view n ≡ node_of (node_view a.entry ∷ node_view b.entry ∷ [])) }
 {
-    let mut parts = Vec::with_capacity(alloc, 2)?;
-    parts.push(a)?;
-    parts.push(b)?;
-    Ok(many(parts))
+    Ok(many(vec![in alloc; a, b]?))
 }
 
 /// The value of three parts.
 pub fn three<'a>(alloc: Global, a: Node<'a>, b: Node<'a>, c: Node<'a>) -> Result<Node<'a>, NoMemory>
     ensures { IfOk result (λ n. node_view n ≡ node_of (node_view a.entry ∷ node_view b.entry ∷ node_view c.entry ∷ [])) }
 {
-    let mut parts = Vec::with_capacity(alloc, 3)?;
-    parts.push(a)?;
-    parts.push(b)?;
-    parts.push(c)?;
-    Ok(many(parts))
+    Ok(many(vec![in alloc; a, b, c]?))
 }
 
 /// The value of four parts.
@@ -57,12 +48,7 @@ pub fn four<'a>(
     ensures { IfOk result (λ n. node_view n ≡ node_of (node_view a.entry ∷ node_view b.entry ∷ node_view c.entry
         ∷ node_view d.entry ∷ [])) }
 {
-    let mut parts = Vec::with_capacity(alloc, 4)?;
-    parts.push(a)?;
-    parts.push(b)?;
-    parts.push(c)?;
-    parts.push(d)?;
-    Ok(many(parts))
+    Ok(many(vec![in alloc; a, b, c, d]?))
 }
 
 /// One of several, by its context tag.
@@ -96,11 +82,5 @@ pub(crate) fn five<'a>(
     ensures { IfOk result (λ n. node_view n ≡ node_of (node_view a.entry ∷ node_view b.entry ∷ node_view c.entry
         ∷ node_view d.entry ∷ node_view e.entry ∷ [])) }
 {
-    let mut parts = Vec::with_capacity(alloc, 5)?;
-    parts.push(a)?;
-    parts.push(b)?;
-    parts.push(c)?;
-    parts.push(d)?;
-    parts.push(e)?;
-    Ok(many(parts))
+    Ok(many(vec![in alloc; a, b, c, d, e]?))
 }

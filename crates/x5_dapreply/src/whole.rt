@@ -24,7 +24,7 @@ use x5_types::Named;
 use x5_writer::{Backwards, WriteFault, write};
 
 /// The protocol by which a reply goes: to a user, or to another agent.
-#[derive(Clone, Copy, Debug)]
+#[derive(Clone, Copy)]
 pub enum Protocol {
     Dap,
     Dsp,

@@ -3,7 +3,7 @@
 use x5_ops::{Content, Moment, StepList};
 
 /// What a supplier sends: nothing, where nothing changed; the whole content of a context; or the steps of the changes.
-#[derive(Debug, Drop)]
+#[derive(Drop)]
 pub enum Refresh {
     Nothing,
     Total(Content),
@@ -11,7 +11,7 @@ pub enum Refresh {
 }
 
 /// A message of shadowing, with its agreement by its number.
-#[derive(Debug, Drop)]
+#[derive(Drop)]
 pub enum Shadow {
     /// A consumer asks (requestShadowUpdate): the moment of the last refresh that it has, and whether it wants all.
     Request {

@@ -11,7 +11,7 @@ use x5_memory::NoMemory;
 use x5_names::{Name, Pair, Rdn};
 
 /// The number of a node. A node keeps it while it's there; afterwards another may get it.
-#[derive(Clone, Copy, Debug, PartialEq, Eq)]
+#[derive(Clone, Copy, PartialEq, Eq)]
 pub struct NodeId(pub usize);
 
 /// Why a change of a tree is refused.
@@ -29,7 +29,7 @@ pub enum DseFault {
 }
 
 /// Where an entry's own RDN stands.
-#[derive(Debug, Drop)]
+#[derive(Drop)]
 pub(crate) enum Own {
     /// The last RDN of the name that it was added with; the others aren't looked at.
     Last(Name),
@@ -39,7 +39,7 @@ pub(crate) enum Own {
 
 /// An entry of an agent (X.501: a DSA-specific entry): the node just above it, how many RDNs it stands below the prefix,
 /// and its own RDN.
-#[derive(Debug, Drop)]
+#[derive(Drop)]
 pub(crate) struct Dse {
     pub(crate) parent: NodeId,
     pub(crate) depth: usize,

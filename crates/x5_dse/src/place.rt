@@ -352,7 +352,7 @@ pub(crate) fn move_of(
 
 /// The places in order to which a walk has come: its node's, and where the run of what stands just below a node began that it left
 /// last. It goes on nearby, so these are tried first.
-#[derive(Clone, Copy, Debug, Drop)]
+#[derive(Clone, Copy, Drop)]
 pub(crate) struct Reached {
     pub(crate) place: usize,
     pub(crate) run: usize,

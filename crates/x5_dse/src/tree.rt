@@ -22,7 +22,7 @@ use x5_memory::NoMemory;
 use x5_names::{Name, Rdn};
 
 /// The entries of one naming context, whose prefix is the first of them.
-#[derive(Debug, Drop)]
+#[derive(Drop)]
 pub struct DseTree {
     prefix: Name,
     slots: Vec<Option<Dse>>,

@@ -58,15 +58,20 @@ fn chaining_in(alloc: Global, node: &Node<'_>, request: Request) -> Result<Chain
     let [target, progress, trace, kind, exclusions] = node.parts() else {
         unreachable!()
     };
-    let (name, rdns, items) = places_in(alloc, target, exclusions, trace)?;
-    Ok(Chained {
-        target: name,
-        progress: progress_in(progress),
-        kind: kind_in(kind),
-        exclusions: rdns,
-        trace: items,
-        request,
-    })
+    match places_in(alloc, target, exclusions, trace) {
+        Ok((name, rdns, items)) => Ok(Chained {
+            target: name,
+            progress: progress_in(progress),
+            kind: kind_in(kind),
+            exclusions: rdns,
+            trace: items,
+            request,
+        }),
+        Err(fault) => {
+            drop(request);
+            Err(fault)
+        }
+    }
 }
 
 /// The message of the operation with the code that the node says: chaining arguments, and an argument as a user gives it.

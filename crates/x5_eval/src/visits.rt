@@ -21,7 +21,7 @@ const LEVELS: usize = 16;
 
 /// The contexts in the order in which the walk comes to them, and in the order in which it leaves them; and of each number how many
 /// levels were looked at there, with the context's own.
-#[derive(Debug, Drop)]
+#[derive(Drop)]
 pub(crate) struct Visits {
     pub(crate) entered: Vec<usize>,
     pub(crate) left: Vec<usize>,

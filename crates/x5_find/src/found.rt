@@ -5,7 +5,7 @@ use x5_names::Name;
 use x5_ops::{Access, AgentId, AgentList, Progress, RefType};
 
 /// Who can be asked: one agent, or those of an access, its master first.
-#[derive(Clone, Copy, Debug)]
+#[derive(Clone, Copy)]
 pub enum Via<'a> {
     One(AgentId),
     Access(&'a Access),
@@ -13,7 +13,7 @@ pub enum Via<'a> {
 
 /// Where the resolution of a name ends. `own` and `copy` are places among the contexts that the agent masters, and among its
 /// copies.
-#[derive(Clone, Copy, Debug)]
+#[derive(Clone, Copy)]
 pub enum Found<'a> {
     /// The node of the target, in a context that the agent masters.
     Here {

@@ -11,7 +11,7 @@ fn next(x: u64) -> u64
 }
 
 /// The sequence of a seed, from which numbers are drawn.
-#[derive(Debug, Drop)]
+#[derive(Drop)]
 pub(crate) struct Draws {
     x: u64,
 }

@@ -19,14 +19,14 @@ use x5_names::Rdn;
 use x5_ops::Specific;
 
 /// A place among the members of several lists: which list, and which of its members.
-#[derive(Clone, Copy, Debug)]
+#[derive(Clone, Copy)]
 pub(crate) struct Spot {
     pub(crate) list: usize,
     pub(crate) member: usize,
 }
 
 /// The subordinate references of contexts, by their pins.
-#[derive(Debug, Drop)]
+#[derive(Drop)]
 pub(crate) struct Below {
     pins: Pins,
     spots: Vec<Spot>,

@@ -20,7 +20,7 @@ use x5_memory::NoMemory;
 use x5_names::{Name, Rdn};
 
 /// A change of a context's entries, made ready: the entry that comes has its values in the room (X.511, section 11).
-#[derive(Debug, Drop)]
+#[derive(Drop)]
 pub enum EntryChange {
     Add {
         name: Name,

@@ -20,7 +20,7 @@ use x5_ops::{NssrList, SpecificList};
 
 /// A naming context to which entries are added, and whose index isn't in order yet: that takes the time of one sort for all of
 /// them (X.501, section 22).
-#[derive(Debug, Drop)]
+#[derive(Drop)]
 pub struct Filling {
     prefix: Name,
     tree: DseTree,

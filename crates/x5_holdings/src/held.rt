@@ -27,7 +27,7 @@ use x5_ops::{AgentId, Moment, Named, NamedList, Nssr, NssrList, Request, Specifi
 /// A naming context: its entries, among them its prefix's, an index of their values, the log of its changes, and the subordinate
 /// references and NSSRs that belong to it (X.501, section 22). Its entries may stand in a list besides, in which refreshes send them and
 /// bring them, until they change.
-#[derive(Debug, Drop)]
+#[derive(Drop)]
 pub struct Held {
     pub(crate) prefix: Name,
     pub(crate) tree: DseTree,
@@ -239,7 +239,7 @@ pub fn may_use_copies(request: &Request) -> bool
 
 /// A copy of a context: the agent that supplies it, and what refreshes brought with their stamp; nothing before the first one
 /// (X.525, section 9).
-#[derive(Debug, Drop)]
+#[derive(Drop)]
 pub struct Copied {
     prefix: Name,
     supplier: AgentId,

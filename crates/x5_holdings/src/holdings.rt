@@ -25,7 +25,7 @@ use x5_names::{Name, Rdn};
 use x5_ops::{AgentId, Cross, CrossList, Listed, Moment, Request, Specific, SpecificList};
 
 /// What is known of a pin: the place of a context that is mastered, or of a copy, or a subordinate reference, or a cross reference.
-#[derive(Clone, Copy, Debug)]
+#[derive(Clone, Copy)]
 pub enum Pin<'a> {
     Own(usize),
     Copy(usize),
@@ -35,7 +35,7 @@ pub enum Pin<'a> {
 
 /// What an agent holds at a moment: the contexts that it masters, one of each prefix, copies of others, one of each context, and
 /// references: its superior, the subordinate references of one RDN at a first-level agent, and cross references (X.501, section 22).
-#[derive(Debug, Drop)]
+#[derive(Drop)]
 pub struct Holdings {
     me: AgentId,
     moment: Moment,

@@ -14,14 +14,14 @@ use x5_ops::{Moment, Step};
 const MOST: usize = 256;
 
 /// A change of a context, with its moment.
-#[derive(Debug, Drop)]
+#[derive(Drop)]
 pub struct Logged {
     pub moment: Moment,
     pub step: Step,
 }
 
 /// The changes of a context since its base moment, the oldest first; 256 at most.
-#[derive(Debug, Drop)]
+#[derive(Drop)]
 pub struct ChangeLog {
     base: Moment,
     changes: Vec<Logged>,

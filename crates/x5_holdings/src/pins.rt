@@ -14,7 +14,7 @@ use x5_names::{Name, Rdn};
 use x5_ops::{Cross, Nssr, Specific};
 
 /// The names of a list, by their keys.
-#[derive(Debug, Drop)]
+#[derive(Drop)]
 pub(crate) struct Pins {
     rows: Vec<Row>,
 }

@@ -13,7 +13,7 @@ use std::marker::Model;
 use x5_names::{Name, Rdn};
 
 /// A name, and its place in a list.
-#[derive(Debug, Drop)]
+#[derive(Drop)]
 pub struct Row {
     name: Name,
     place: usize,

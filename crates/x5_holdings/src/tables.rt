@@ -12,7 +12,7 @@ use x5_memory::NoMemory;
 
 /// The prefixes of contexts and copies, and the pins of subordinate references of contexts, of copies and of the root, and of
 /// cross references.
-#[derive(Debug, Drop)]
+#[derive(Drop)]
 pub(crate) struct Tables {
     pub(crate) own: Pins,
     pub(crate) copies: Pins,

@@ -17,7 +17,7 @@ use x5_syntax::NoMemory;
 
 /// Nodes with the values of their entries in the order in which they came, of which an index is made when all are there. So
 /// that many entries are put into an index in the time of one sort.
-#[derive(Debug, Drop)]
+#[derive(Drop)]
 pub struct Gathered {
     postings: Vec<Posting>,
 }

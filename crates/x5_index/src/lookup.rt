@@ -15,7 +15,7 @@ use x5_match::{Assertion, Filter, Item};
 use x5_syntax::{NoMemory, Normal, TypeId, TypeRef};
 
 /// Numbers of nodes.
-#[derive(Debug, Drop)]
+#[derive(Drop)]
 pub struct NodeList {
     nodes: Vec<usize>,
 }

@@ -13,7 +13,7 @@ use std::marker::Model;
 use x5_syntax::{Normal, TypeId};
 
 /// A value by which an entry is found: its type and its normal form.
-#[derive(Debug, Drop)]
+#[derive(Drop)]
 pub(crate) struct Term {
     pub(crate) kind: TypeId,
     pub(crate) normal: Normal,
@@ -28,7 +28,7 @@ impl Model for Term {
 }
 
 /// A value that an entry has, and the number of the entry's node.
-#[derive(Debug, Drop)]
+#[derive(Drop)]
 pub(crate) struct Posting {
     pub(crate) term: Term,
     pub(crate) node: usize,

@@ -21,7 +21,7 @@ use x5_syntax::{NoMemory, Normal, TypeId};
 
 /// The nodes that are there, each with the values of its entry. A node is a number that its owner gives; an entry is known by
 /// its types and normal forms.
-#[derive(Debug, Drop)]
+#[derive(Drop)]
 pub struct Postings {
     postings: Vec<Posting>,
 }

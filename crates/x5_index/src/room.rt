@@ -13,7 +13,7 @@ use x5_match::{Entry, Stored};
 use x5_syntax::NoMemory;
 
 /// The values of an entry, made ready to be put into an index without memory.
-#[derive(Debug, Drop)]
+#[derive(Drop)]
 pub struct Room {
     terms: Vec<Term>,
 }

@@ -8,7 +8,7 @@ use x5_names::Name;
 use x5_ops::{AgentId, Listed};
 
 /// An agreement by which the supplier keeps a copy of the context at the consumer. Its number is 1 to 1,000,000.
-#[derive(Debug, Drop)]
+#[derive(Drop)]
 pub struct Agreement {
     pub id: u32,
     pub supplier: AgentId,

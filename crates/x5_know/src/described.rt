@@ -11,7 +11,7 @@ pub type KindList = Listed<bool>;
 
 /// An agent as its file describes it. Its references of both kinds stand there in one list: `crosses` says of each of them, in their
 /// order, whether it's a cross reference.
-#[derive(Debug, Drop)]
+#[derive(Drop)]
 pub struct DescribedAgent {
     pub spec: AgentSpec,
     pub crosses: KindList,

@@ -28,7 +28,7 @@ pub type PairList = Listed<Pair>;
 pub type NumberList = Listed<u32>;
 
 /// The network of a world. Of each list no member stands there twice, and no pair in either order.
-#[derive(Debug, Drop)]
+#[derive(Drop)]
 pub struct NetworkState {
     pub down: AgentList,
     pub refusing: AgentList,

@@ -20,7 +20,7 @@ use x5_syntax::Text;
 const DAY: u64 = 86_400;
 
 /// When the world starts: a date, and the seconds of it that have passed.
-#[derive(Debug, Drop)]
+#[derive(Drop)]
 pub struct Start {
     date: Date,
     second: u32,

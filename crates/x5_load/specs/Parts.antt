@@ -1,14 +1,15 @@
 -- For private clauses: the last steps of a part of the definition of what a world file describes, one behind the other.
-use Rattle.std.specs.Prelude.{ℕ, Bool, ◌&&◌, nat_le, List, [], map, Option, Ok, codes}
+use Rattle.std.specs.Prelude.{ℕ, Bool, ◌&&◌, nat_le, List, [], ◌∷◌, ◌++◌, map, Option, Ok, codes}
 use Rattle.std.specs.List.{flat_map}
 use Rattle.serde_json.specs.Data.{Data, Items, Members}
 use Rattle.serde_json.specs.Events.{items_len}
 use Rattle.x5_know.specs.Moments.{Start}
 use Rattle.x5_model.specs.Values.{Text}
-use Rattle.x5_model_tree.specs.Described.{most_agents, most_agreements, most_cut, most_shadows, most_with_copies}
-use Rattle.x5_model_tree.specs.World.{Access, Agreement}
-use Rattle.x5_model_world.specs.AgentText.{Agents, names_behind}
-use Rattle.x5_model_world.specs.ContextText.{agent_of, agents_behind}
+use Rattle.x5_model_tree.specs.Described.{most_agents, most_agreements, most_cut, most_references, most_shadows, most_with_copies}
+use Rattle.x5_model_tree.specs.World.{Access, Agent, Agreement}
+use Rattle.x5_model_world.specs.AgentText.{Agents, References, agent_members, agent_with, names_behind}
+use Rattle.x5_model_world.specs.AgentText.{no_references, references_behind, with_contexts, with_these}
+use Rattle.x5_model_world.specs.ContextText.{Contexts, agent_of, agents_behind, contexts_behind}
 use Rattle.x5_model_world.specs.Mentioned.{first_of_two, first_at, unknown_text, unknown_in_pair, unknown_in_world}
 use Rattle.x5_model_world.specs.NetworkText.{pairs_behind, pair_of_agents, numbers_behind}
 use Rattle.x5_model_world.specs.Reading.{Read, ◌>>=◌, at, needed, if_few, text_at, some_at, list_if_any, only}
@@ -33,6 +34,36 @@ access_at names path d = do
   few ← if_few (at path (codes "shadows")) most_shadows (items_len texts) texts
   shadows ← agents_behind names (at path (codes "shadows")) 0 [] few
   Ok (record { master = agent_of names master; shadows = shadows })
+
+-- ---- an agent, behind its name and superior
+
+abbrev pub one_more : List Agent → Text → Option ℕ → Contexts → References → Read Agents
+one_more before name superior found references =
+    Ok (record {
+      agents = before ++ agent_with name superior found.contexts references ∷ [];
+      counts = found.counts;
+    })
+
+-- behind its contexts
+abbrev pub referring : List Text → Text → List Agent → Text → Option ℕ → Contexts → Data → Members → Read Agents
+referring names path before name superior found d members = do
+  list ← list_if_any path (codes "refs") d
+  few_refs ← if_few (at path (codes "refs")) most_references (items_len list) list
+  references ← references_behind names (at path (codes "refs")) 0 no_references few_refs
+  only path agent_members members
+      (record {
+        agents = before ++ agent_with name superior found.contexts references ∷ [];
+        counts = found.counts;
+      })
+
+-- behind its superior
+abbrev pub settling : List Text → Text → Agents → Text → Option ℕ → Data → Members → Read Agents
+settling names path before name superior d members = do
+  items ← list_if_any path (codes "contexts") d
+  used ← with_these path before.counts.contexts items
+  found ← contexts_behind names (at path (codes "contexts")) 0
+      (record { contexts = []; counts = with_contexts before.counts used }) items
+  referring names path before.agents name superior found d members
 
 -- ---- the network's lists, at a path
 

@@ -3,7 +3,7 @@
 ghost use Rattle.std.specs.Prelude.{◌≡◌, ◌+◌, ◌<◌, ◌≤◌, [], map, length, option_and_then, IfOk, codes};
 ghost use Rattle.std.specs.List.{list_any};
 ghost use Rattle.serde_json.specs.Find.{get, as_str};
-ghost use Rattle.serde_json.specs.View.{view, items_view};
+ghost use Rattle.serde_json.specs.View.{view, items_view, members_view};
 ghost use Rattle.x5_know.specs.Names.{has_name};
 ghost use Rattle.x5_know.specs.WorldView.{described_agent_view};
 ghost use Rattle.x5_model.specs.Words.{same_octets};
@@ -11,12 +11,13 @@ ghost use Rattle.x5_model_world.specs.AgentText as model;
 ghost use Rattle.x5_model_world.specs.Reading.{at};
 ghost use Rattle.x5_model_world.specs.WorldFile.{none_yet};
 ghost use Rattle.x5_ops.specs.KnowledgeViews.{context_view};
+ghost use Rattle.x5_load.specs.Parts as parts;
 ghost use Rattle.x5_world_members.specs.Paths.{path_of};
 ghost use Rattle.x5_world_members.specs.Views.{ReadsPart};
 
 use crate::limits::few;
 use crate::refs::{References, references_behind};
-use serde_json::Value;
+use serde_json::{Map, Value};
 use std::alloc::Global;
 use std::marker::Model;
 use x5_know::{AgentNames, DescribedAgent, KindList};
@@ -99,6 +100,13 @@ fn agent_if_any(
     }
 }
 
+/// An agent so far: its name and its superior.
+#[derive(Drop)]
+struct Begun {
+    name: AgentName,
+    superior: Option<AgentId>,
+}
+
 /// The agent of these parts. No memory.
 fn agent_with(
     name: AgentName,
@@ -125,8 +133,69 @@ fn agent_with(
     }
 }
 
-/// The agents with one more, which an object describes.
+/// The agents with one more, of these parts.
 #[tactic(auto, using(crate::proofs::Listing::agent_more))]
+fn more(
+    before: Vec<DescribedAgent>,
+    agent: Begun,
+    found: Contexts,
+    references: References,
+) -> Result<Agents, LoadFault>
+    ensures { ReadsPart (λ a. a) result (parts.one_more (map described_agent_view before.items) agent.name agent.superior found references) }
+{
+    let mut agents = before;
+    let counts = found.counts();
+    let Begun { name, superior } = agent;
+    agents.push(agent_with(name, superior, found.into_list(), references))?;
+    Ok(Agents { agents, counts })
+}
+
+/// The agents with one more, which has this name, superior and contexts, and the references that the object lists.
+fn with_references(
+    alloc: Global,
+    names: &AgentNames,
+    place: &Place<'_>,
+    before: Vec<DescribedAgent>,
+    agent: Begun,
+    found: Contexts,
+    value: &Value,
+    members: &Map<String, Value>,
+) -> Result<Agents, LoadFault>
+    ensures { ReadsPart (λ a. a) result (parts.referring names.now (path_of place.now) (map described_agent_view before.items) agent.name agent.superior found (view value.now) (members_view members.now.entries)) }
+{
+    let list = list_if_any(alloc, place, "refs", value)?;
+    few(alloc, &Place::Member(place, "refs"), MOST_REFERENCES, list)?;
+    let references = references_behind(alloc, names, &Place::Member(place, "refs"), list)?;
+    only(
+        alloc,
+        place,
+        &["name", "superior", "contexts", "refs"],
+        members,
+    )?;
+    more(before, agent, found, references)
+}
+
+/// The agents with one more, which has this name and superior, and what else the object lists.
+fn with_contexts(
+    alloc: Global,
+    names: &AgentNames,
+    place: &Place<'_>,
+    before: Agents,
+    agent: Begun,
+    value: &Value,
+    members: &Map<String, Value>,
+) -> Result<Agents, LoadFault>
+    ensures { ReadsPart (λ a. a) result (parts.settling names.now (path_of place.now) before agent.name agent.superior (view value.now) (members_view members.now.entries)) }
+{
+    let Agents { agents, counts } = before;
+    let items = list_if_any(alloc, place, "contexts", value)?;
+    let used = with_these(alloc, place, counts.contexts(), items)?;
+    let none = Contexts::new(alloc, counts.with_contexts(used));
+    let found = contexts_behind(alloc, names, &Place::Member(place, "contexts"), none, items)?;
+    with_references(alloc, names, place, agents, agent, found, value, members)
+}
+
+/// The agents with one more, which an object describes.
 fn agent_behind(
     alloc: Global,
     names: &AgentNames,
@@ -138,30 +207,15 @@ fn agent_behind(
 {
     let members = members_at(alloc, place, value)?;
     let text = text_at(alloc, place, "name", value)?;
-    let Agents { mut agents, counts } = before;
     let name = new_name(
         alloc,
         &Place::Member(place, "name"),
-        agents.as_slice(),
+        before.agents.as_slice(),
         text,
     )?;
     let superior = agent_if_any(alloc, names, place, value)?;
-    let items = list_if_any(alloc, place, "contexts", value)?;
-    let used = with_these(alloc, place, counts.contexts(), items)?;
-    let none = Contexts::new(alloc, counts.with_contexts(used));
-    let found = contexts_behind(alloc, names, &Place::Member(place, "contexts"), none, items)?;
-    let list = list_if_any(alloc, place, "refs", value)?;
-    few(alloc, &Place::Member(place, "refs"), MOST_REFERENCES, list)?;
-    let references = references_behind(alloc, names, &Place::Member(place, "refs"), list)?;
-    only(
-        alloc,
-        place,
-        &["name", "superior", "contexts", "refs"],
-        members,
-    )?;
-    let counts = found.counts();
-    agents.push(agent_with(name, superior, found.into_list(), references))?;
-    Ok(Agents { agents, counts })
+    let agent = Begun { name, superior };
+    with_contexts(alloc, names, place, before, agent, value, members)
 }
 
 /// The agents that a list describes.

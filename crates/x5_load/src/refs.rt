@@ -1,6 +1,7 @@
 //! The references of an agent, of both kinds in one list.
 
-ghost use Rattle.std.specs.Prelude.{◌≡◌, true, false, IfOk};
+ghost use Rattle.std.specs.Prelude.{◌≡◌, true, false, [], ◌∷◌, ◌++◌, map, IfOk, OnOk};
+ghost use Rattle.x5_ops.specs.KnowledgeViews.{cross_view, specific_view};
 ghost use Rattle.serde_json.specs.View.{view, items_view};
 ghost use Rattle.x5_model.specs.Values.{key_of};
 ghost use Rattle.x5_model_world.specs.AgentText as model;
@@ -79,6 +80,52 @@ fn is_cross(word: &str) -> Option<bool>
     None
 }
 
+/// Puts a cross reference behind these, and its key behind theirs.
+#[tactic(auto, using(crate::proofs::Pins::cross_more, crate::proofs::Pins::cross_keys))]
+fn put_cross(
+    cross: &mut Vec<Cross>,
+    keys: &mut KeySet,
+    pin: &Name,
+    access: Access,
+) -> Result<(), NoMemory>
+    requires keyed { keys.old ≡ model.pin_keys (map cross_view cross.old.items) }
+    requires new { has_key keys.old (key_of pin.now) ≡ false }
+    ensures more { OnOk result (map cross_view cross.new.items ≡ map cross_view cross.old.items ++ record { pin = pin.now; access = access } ∷ []) }
+    ensures keyed { OnOk result (keys.new ≡ model.pin_keys (map cross_view cross.new.items)) }
+{
+    let pin = pin.clone()?;
+    let key = pin.key().clone()?;
+    keys.add(key)?;
+    cross.push(Cross { pin, access })?;
+    Ok(())
+}
+
+/// Puts a subordinate reference behind these, and its key behind theirs.
+#[tactic(auto, using(crate::proofs::Pins::specific_more, crate::proofs::Pins::specific_keys))]
+fn put_subordinate(
+    alloc: Global,
+    specific: &mut Vec<Specific>,
+    keys: &mut KeySet,
+    pin: &Name,
+    access: Access,
+) -> Result<(), NoMemory>
+    requires keyed { keys.old ≡ model.pin_keys (map specific_view specific.old.items) }
+    requires new { has_key keys.old (key_of pin.now) ≡ false }
+    ensures more { OnOk result (map specific_view specific.new.items ≡ map specific_view specific.old.items ++ record { pin = pin.now; access = access } ∷ []) }
+    ensures keyed { OnOk result (keys.new ≡ model.pin_keys (map specific_view specific.new.items)) }
+{
+    let pin = pin.clone()?;
+    let key = pin.key().clone()?;
+    keys.add(key)?;
+    let context = Name::root(alloc);
+    specific.push(Specific {
+        context,
+        pin,
+        access,
+    })?;
+    Ok(())
+}
+
 impl KeyedReferences {
     /// The references themselves. No memory.
     fn into_references(self) -> References
@@ -117,7 +164,6 @@ impl KeyedReferences {
     }
 
     /// The references with one more cross reference, to whose name there is none.
-    #[tactic(auto, using(crate::proofs::Pins::cross_more, crate::proofs::Pins::cross_keys))]
     fn with_cross(self, pin: &Name, access: Access) -> Result<KeyedReferences, NoMemory>
         requires { has_key (model.pin_keys self.cross) (key_of pin.now) ≡ false }
         ensures { IfOk result (λ r. r ≡ model.with_reference self true (record { pin = pin.now; access = access })) }
@@ -129,11 +175,8 @@ impl KeyedReferences {
             specific_keys,
             mut cross_keys,
         } = self;
-        let key = pin.key().clone()?;
-        cross_keys.add(key)?;
+        put_cross(&mut cross, &mut cross_keys, pin, access)?;
         crosses.push(true)?;
-        let pin = pin.clone()?;
-        cross.push(Cross { pin, access })?;
         Ok(KeyedReferences {
             specific,
             cross,
@@ -144,7 +187,6 @@ impl KeyedReferences {
     }
 
     /// The references with one more subordinate reference, to whose name there is none.
-    #[tactic(auto, using(crate::proofs::Pins::specific_more, crate::proofs::Pins::specific_keys))]
     fn with_subordinate(
         self,
         alloc: Global,
@@ -161,16 +203,8 @@ impl KeyedReferences {
             mut specific_keys,
             cross_keys,
         } = self;
-        let key = pin.key().clone()?;
-        specific_keys.add(key)?;
+        put_subordinate(alloc, &mut specific, &mut specific_keys, pin, access)?;
         crosses.push(false)?;
-        let pin = pin.clone()?;
-        let context = Name::root(alloc);
-        specific.push(Specific {
-            context,
-            pin,
-            access,
-        })?;
         Ok(KeyedReferences {
             specific,
             cross,

@@ -10,7 +10,7 @@ use std::rc::Rc;
 use x5_syntax::{NoMemory, Normal, TypeId, Value};
 
 /// A value with its normal form for its type.
-#[derive(Debug, Drop)]
+#[derive(Drop)]
 pub struct StoredValue {
     pub value: Value,
     pub normal: Normal,
@@ -26,7 +26,7 @@ impl Model for StoredValue {
 }
 
 /// Values of one type, in the order of their normal forms.
-#[derive(Debug, Drop)]
+#[derive(Drop)]
 pub struct StoredValueList {
     values: Vec<StoredValue>,
 }
@@ -75,7 +75,7 @@ impl StoredValueList {
 }
 
 /// An attribute of an entry: its type, and its values in the order of their normal forms.
-#[derive(Debug, Drop)]
+#[derive(Drop)]
 pub struct Stored {
     pub kind: TypeId,
     pub values: StoredValueList,
@@ -90,14 +90,14 @@ impl Model for Stored {
 }
 
 /// The attributes of one list alone, or those that it shares with its copies.
-#[derive(Debug, Drop)]
+#[derive(Drop)]
 enum Held {
     Own(Vec<Stored>),
     Shared(Rc<Vec<Stored>>),
 }
 
 /// Attributes of an entry, in the order of their types' numbers.
-#[derive(Debug, Drop)]
+#[derive(Drop)]
 pub struct StoredList {
     attributes: Held,
 }
@@ -167,7 +167,7 @@ impl StoredList {
 
 /// An entry. Its attributes stand in the order of their types' numbers, each type once and with one value at least;
 /// the values of a type are distinct by equality and stand in the order of their normal forms.
-#[derive(Debug, Drop)]
+#[derive(Drop)]
 pub struct Entry {
     pub attributes: StoredList,
 }

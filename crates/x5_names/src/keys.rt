@@ -18,7 +18,7 @@ use std::marker::Model;
 use x5_syntax::{NoMemory, Normal};
 
 /// A pair of a key: a type's number and a normal value.
-#[derive(Debug, Drop)]
+#[derive(Drop)]
 pub struct KeyPair {
     kind: u8,
     normal: Normal,
@@ -33,7 +33,7 @@ impl Model for KeyPair {
 }
 
 /// The key of an RDN: its pairs in the order of type numbers.
-#[derive(Debug, Drop)]
+#[derive(Drop)]
 pub struct KeyRdn {
     pairs: Vec<KeyPair>,
 }

@@ -22,7 +22,7 @@ use x5_names::{Key, Name};
 use x5_ops::{AgentName, Source};
 
 /// A naming context: its prefix, and the name of the agent that masters it.
-#[derive(Debug, Drop)]
+#[derive(Drop)]
 pub(crate) struct Held {
     prefix: Name,
     master: AgentName,
@@ -50,7 +50,7 @@ impl Held {
 }
 
 /// A pin, and the place of its context.
-#[derive(Debug, Drop)]
+#[derive(Drop)]
 pub(crate) struct Pin {
     key: Key,
     place: usize,

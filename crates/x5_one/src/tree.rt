@@ -26,7 +26,7 @@ use x5_ops::{Named, Reply, Request, fault_of};
 
 /// The whole tree of a world, which answers by itself (X.501, section 7: the directory information tree). Contracts see its
 /// entries in the order of their keys, and its naming contexts with their masters in the order of the world's file.
-#[derive(Debug, Drop)]
+#[derive(Drop)]
 pub struct OneTree {
     entries: Vec<Named>,
     contexts: Vec<Held>,

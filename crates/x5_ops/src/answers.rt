@@ -12,7 +12,7 @@ use x5_names::{Name, Rdn};
 use x5_syntax::TypeRef;
 
 /// A moment: seconds since the world's start.
-#[derive(Clone, Copy, Debug, PartialEq, Eq)]
+#[derive(Clone, Copy, PartialEq, Eq)]
 pub struct Moment(pub u32);
 
 impl Model for Moment {
@@ -26,7 +26,7 @@ impl Model for Moment {
 }
 
 /// A naming context that an answer was computed from, its agent, and the moment of the copy; None at a master.
-#[derive(Debug, Drop)]
+#[derive(Drop)]
 pub struct Source {
     pub context: Name,
     pub agent: AgentName,
@@ -38,14 +38,14 @@ pub type SourceList = Listed<Source>;
 
 /// The partial outcome of a list or search (X.511, section 10.1.3): whether a size limit cut it, and the parts that nobody
 /// looked into.
-#[derive(Debug, Drop)]
+#[derive(Drop)]
 pub struct Outcome {
     pub limited: bool,
     pub unexplored: ReferenceList,
 }
 
 /// What an answer says of an entry (X.511, section 7.7); `copy` says that it comes from a shadow.
-#[derive(Debug, Drop)]
+#[derive(Drop)]
 pub struct EntryInfo {
     pub name: Name,
     pub copy: bool,
@@ -56,7 +56,7 @@ pub struct EntryInfo {
 pub type EntryList = Listed<EntryInfo>;
 
 /// What a list says of an entry below; `copy` says that it comes from a shadow.
-#[derive(Debug, Drop)]
+#[derive(Drop)]
 pub struct Sub {
     pub rdn: Rdn,
     pub copy: bool,
@@ -66,7 +66,7 @@ pub struct Sub {
 pub type SubList = Listed<Sub>;
 
 /// A result: of a read, a compare, a list, a search, or an update.
-#[derive(Debug, Drop)]
+#[derive(Drop)]
 pub enum Answer {
     Entry {
         entry: EntryInfo,
@@ -112,7 +112,7 @@ pub enum DirError {
 }
 
 /// What is answered to a request: a result, an error or a referral.
-#[derive(Debug, Drop)]
+#[derive(Drop)]
 pub enum Reply {
     Done(Answer),
     Failed(DirError),

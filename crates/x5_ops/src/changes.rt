@@ -47,7 +47,7 @@ impl From<NoMemory> for ChangeFault {
 }
 
 /// Why an entry isn't changed, before it's told.
-#[derive(Debug, Drop)]
+#[derive(Drop)]
 pub(crate) enum Stop {
     Refused(Refusal),
     NoMemory,

@@ -11,7 +11,7 @@ use crate::references::Progress;
 use x5_names::Name;
 
 /// An operation that a user requests (X.511, sections 9 to 11).
-#[derive(Clone, Copy, Debug, PartialEq, Eq)]
+#[derive(Clone, Copy, PartialEq, Eq)]
 pub enum Operation {
     Read,
     Compare,
@@ -42,7 +42,7 @@ impl Operation {
 }
 
 /// An operation between a supplier and a consumer (X.525, section 11).
-#[derive(Clone, Copy, Debug, PartialEq, Eq)]
+#[derive(Clone, Copy, PartialEq, Eq)]
 pub enum ShadowOperation {
     RequestShadowUpdate,
     UpdateShadow,
@@ -50,7 +50,7 @@ pub enum ShadowOperation {
 }
 
 /// What became of a message: it didn't arrive; it arrived, and its reply didn't; both arrived.
-#[derive(Clone, Copy, Debug, PartialEq, Eq)]
+#[derive(Clone, Copy, PartialEq, Eq)]
 pub enum Fate {
     Lost,
     NoReply,
@@ -81,7 +81,7 @@ impl Fate {
 
 /// A message: of a request, where `from` is None for the user and `t` is how many agents passed the request on before; of a
 /// refresh; or raw octets for an agent, by the protocol between agents or not, and how many.
-#[derive(Debug, Drop)]
+#[derive(Drop)]
 pub enum Line {
     Msg {
         from: Option<AgentName>,
@@ -111,7 +111,7 @@ pub enum Line {
 pub type LineList = Listed<Line>;
 
 /// The messages of a line of a script, and the agents that accepted its update, both in their order.
-#[derive(Debug, Drop)]
+#[derive(Drop)]
 pub struct Journal {
     pub lines: LineList,
     pub accepted: AgentNameList,
@@ -120,7 +120,7 @@ pub struct Journal {
 /// What a refresh did (X.525, section 9): a total or incremental one with its moment and how many entries or steps were sent,
 /// one that found nothing new, a message that wasn't heard, or a problem by its number with the moments that the consumer and
 /// the supplier have.
-#[derive(Clone, Copy, Debug, Drop)]
+#[derive(Clone, Copy, Drop)]
 pub enum Refreshed {
     Total(Moment, u64),
     Incremental(Moment, u64),
@@ -135,7 +135,7 @@ pub enum Refreshed {
 
 /// What a script does to the network: an agent is down or up again, a pair is cut or joined again, an agent refuses to chain
 /// or is willing again.
-#[derive(Clone, Copy, Debug, PartialEq, Eq)]
+#[derive(Clone, Copy, PartialEq, Eq)]
 pub enum Outage {
     Down(AgentId),
     Up(AgentId),
@@ -147,7 +147,7 @@ pub enum Outage {
 
 /// What a split or an unsplit of a naming context did: the entry's new master, or why nothing was done: the name isn't an
 /// entry, is a context prefix, is none, is one of one RDN, a context has an agreement, or a limit would be passed.
-#[derive(Clone, Copy, Debug, PartialEq, Eq)]
+#[derive(Clone, Copy, PartialEq, Eq)]
 pub enum Replanted {
     Done(AgentId),
     NoEntry,

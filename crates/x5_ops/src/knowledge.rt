@@ -10,7 +10,7 @@ use x5_match::Entry;
 use x5_names::Name;
 
 /// Where a context can be asked for: its master, and zero to eight agents that have a copy.
-#[derive(Debug, Drop)]
+#[derive(Drop)]
 pub struct Access {
     pub master: AgentId,
     pub shadows: AgentList,
@@ -26,7 +26,7 @@ impl Model for Access {
 
 /// A subordinate reference: the prefix of a context below, and where it can be asked for. `context` is the prefix of the
 /// mastered context or the copy to which it belongs, and the root for one of one RDN at a first-level agent.
-#[derive(Debug, Drop)]
+#[derive(Drop)]
 pub struct Specific {
     pub context: Name,
     pub pin: Name,
@@ -37,7 +37,7 @@ pub struct Specific {
 pub type SpecificList = Listed<Specific>;
 
 /// A cross reference: the prefix of a context anywhere, and where it can be asked for.
-#[derive(Debug, Drop)]
+#[derive(Drop)]
 pub struct Cross {
     pub pin: Name,
     pub access: Access,
@@ -47,7 +47,7 @@ pub struct Cross {
 pub type CrossList = Listed<Cross>;
 
 /// A non-specific subordinate reference: agents that master something just below the entry `at`, which is of the context.
-#[derive(Debug, Drop)]
+#[derive(Drop)]
 pub struct Nssr {
     pub context: Name,
     pub at: Name,
@@ -58,7 +58,7 @@ pub struct Nssr {
 pub type NssrList = Listed<Nssr>;
 
 /// A supplier reference: the agent that a copy of the context comes from.
-#[derive(Debug, Drop)]
+#[derive(Drop)]
 pub struct Supplier {
     pub context: Name,
     pub agent: AgentId,
@@ -68,7 +68,7 @@ pub struct Supplier {
 pub type SupplierList = Listed<Supplier>;
 
 /// What an agent knows of others.
-#[derive(Debug, Drop)]
+#[derive(Drop)]
 pub struct Refs {
     pub superior: Option<AgentId>,
     pub specific: SpecificList,
@@ -78,7 +78,7 @@ pub struct Refs {
 }
 
 /// An entry with its full name.
-#[derive(Debug, Drop)]
+#[derive(Drop)]
 pub struct Named {
     pub name: Name,
     pub entry: Entry,
@@ -96,7 +96,7 @@ impl Model for Named {
 pub type NamedList = Listed<Named>;
 
 /// What a total refresh brings: entries, subordinate references and NSSRs of one context. Each reference's `context` is the root.
-#[derive(Debug, Drop)]
+#[derive(Drop)]
 pub struct Content {
     pub entries: NamedList,
     pub specific: SpecificList,
@@ -104,7 +104,7 @@ pub struct Content {
 }
 
 /// A change of a context that an incremental refresh brings.
-#[derive(Debug, Drop)]
+#[derive(Drop)]
 pub enum Step {
     Add(Named),
     Remove(Name),
@@ -116,7 +116,7 @@ pub enum Step {
 pub type StepList = Listed<Step>;
 
 /// A naming context that an agent masters: its prefix, its entries, each behind its parent and the prefix's first, and its NSSRs.
-#[derive(Debug, Drop)]
+#[derive(Drop)]
 pub struct ContextSpec {
     pub prefix: Name,
     pub entries: NamedList,
@@ -127,7 +127,7 @@ pub struct ContextSpec {
 pub type ContextSpecList = Listed<ContextSpec>;
 
 /// What is described of an agent; one without a superior is first-level.
-#[derive(Debug, Drop)]
+#[derive(Drop)]
 pub struct AgentSpec {
     pub name: AgentName,
     pub superior: Option<AgentId>,

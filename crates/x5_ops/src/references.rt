@@ -124,7 +124,7 @@ pub struct Reference {
 pub type ReferenceList = Listed<Reference>;
 
 /// A message between agents (X.518, section 10.3: chaining arguments).
-#[derive(Debug, Drop)]
+#[derive(Drop)]
 pub struct Chained {
     pub target: Name,
     pub progress: Progress,

@@ -3,6 +3,7 @@
 ghost use Rattle.std.specs.Prelude.{◌≡◌, IfOk};
 ghost use Rattle.x5_ops.specs.JournalViews.{code_view};
 ghost use Rattle.x5_ops.specs.RequestViews.{body_view, request_view, name_of};
+ghost use Rattle.x5_ops.specs.declared.requests.Body.TheVariants as bodies;
 ghost use Rattle.x5_model_run.specs.Journal.{operation_of};
 ghost use Rattle.x5_model_tree.specs.Ask.{is_update};
 
@@ -14,7 +15,7 @@ use x5_names::{Name, Rdn};
 use x5_syntax::{TypeRef, Value};
 
 /// Service controls (X.511, section 7.5): dontUseCopy, chainingProhibited and the size limit of a list or search.
-#[derive(Clone, Copy, Debug, Drop)]
+#[derive(Clone, Copy, Drop)]
 pub struct Controls {
     pub nocopy: bool,
     pub nochain: bool,
@@ -22,7 +23,7 @@ pub struct Controls {
 }
 
 /// Where a search looks (X.511, section 10.2.2): at the base, just below it, or at it and all below.
-#[derive(Clone, Copy, Debug, PartialEq, Eq)]
+#[derive(Clone, Copy, PartialEq, Eq)]
 pub enum Subset {
     Base,
     One,
@@ -33,7 +34,7 @@ pub enum Subset {
 pub type TypeList = Listed<TypeRef>;
 
 /// Which attributes an answer shows (X.511, section 7.6).
-#[derive(Debug, Drop)]
+#[derive(Drop)]
 pub enum Selection {
     All,
     Only(TypeList),
@@ -43,7 +44,7 @@ pub enum Selection {
 pub type ValueList = Listed<Value>;
 
 /// An attribute that somebody offers, or that an answer shows.
-#[derive(Debug, Drop)]
+#[derive(Drop)]
 pub struct Attribute {
     pub kind: TypeRef,
     pub values: ValueList,
@@ -53,7 +54,7 @@ pub struct Attribute {
 pub type AttributeList = Listed<Attribute>;
 
 /// One change of a modifyEntry (X.511, section 11.3.2).
-#[derive(Debug, Drop)]
+#[derive(Drop)]
 pub enum Change {
     AddAttribute(Attribute),
     RemoveAttribute(TypeRef),
@@ -65,7 +66,7 @@ pub enum Change {
 pub type ChangeList = Listed<Change>;
 
 /// An operation with its arguments (X.511, sections 9 to 11).
-#[derive(Debug, Drop)]
+#[derive(Drop)]
 pub enum Body {
     Read {
         object: Name,
@@ -104,7 +105,7 @@ pub enum Body {
 }
 
 /// A user's request.
-#[derive(Debug, Drop)]
+#[derive(Drop)]
 pub struct Request {
     pub controls: Controls,
     pub body: Body,
@@ -191,25 +192,88 @@ impl Clone for Change {
     }
 }
 
+/// A copy of a read of these arguments.
+fn read_of(object: &Name, selection: &Selection) -> Result<Body, AllocError>
+    ensures { IfOk result (λ b. body_view b ≡ body_view (bodies.Read object.now selection.now)) }
+{
+    Ok(Body::Read {
+        object: object.clone()?,
+        selection: selection.clone()?,
+    })
+}
+
+/// A copy of a compare of these arguments.
+fn compare_of(object: &Name, kind: &TypeRef, value: &Value) -> Result<Body, AllocError>
+    ensures { IfOk result (λ b. body_view b ≡ body_view (bodies.Compare object.now kind.now value.now)) }
+{
+    Ok(Body::Compare {
+        object: object.clone()?,
+        kind: kind.clone()?,
+        value: value.clone()?,
+    })
+}
+
+/// A copy of a search of these arguments.
+fn search_of(
+    alloc: Global,
+    base: &Name,
+    subset: Subset,
+    filter: &Filter,
+    selection: &Selection,
+) -> Result<Body, AllocError>
+    ensures { IfOk result (λ b. body_view b ≡ body_view (bodies.Search base.now subset filter.now selection.now)) }
+{
+    Ok(Body::Search {
+        base: base.clone()?,
+        subset,
+        selection: selection.clone()?,
+        filter: copied(alloc, filter)?,
+    })
+}
+
+/// A copy of a add of these arguments.
+fn add_of(object: &Name, attributes: &AttributeList) -> Result<Body, AllocError>
+    ensures { IfOk result (λ b. body_view b ≡ body_view (bodies.Add object.now attributes.now)) }
+{
+    Ok(Body::Add {
+        object: object.clone()?,
+        attributes: attributes.clone()?,
+    })
+}
+
+/// A copy of a modify of these arguments.
+fn modify_of(object: &Name, changes: &ChangeList) -> Result<Body, AllocError>
+    ensures { IfOk result (λ b. body_view b ≡ body_view (bodies.Modify object.now changes.now)) }
+{
+    Ok(Body::Modify {
+        object: object.clone()?,
+        changes: changes.clone()?,
+    })
+}
+
+/// A copy of a modifyDn of these arguments.
+fn rename_of(object: &Name, rdn: &Rdn, drop_old: bool) -> Result<Body, AllocError>
+    ensures { IfOk result (λ b. body_view b ≡ body_view (bodies.ModifyDn object.now rdn.now drop_old)) }
+{
+    Ok(Body::ModifyDn {
+        object: object.clone()?,
+        rdn: rdn.clone()?,
+        drop_old,
+    })
+}
+
 impl Body {
     /// A copy.
     pub fn copy(&self, alloc: Global) -> Result<Body, AllocError>
         ensures { IfOk result (λ b. body_view b ≡ body_view self.now) }
     {
         match self {
-            Body::Read { object, selection } => Ok(Body::Read {
-                object: object.clone()?,
-                selection: selection.clone()?,
-            }),
+            Body::Read { object, selection } => read_of(object, selection),
             Body::Compare {
                 object,
                 kind,
                 value,
-            } => Ok(Body::Compare {
-                object: object.clone()?,
-                kind: kind.clone()?,
-                value: value.clone()?,
-            }),
+            } => compare_of(object, kind, value),
             Body::List { object } => Ok(Body::List {
                 object: object.clone()?,
             }),
@@ -218,32 +282,17 @@ impl Body {
                 subset,
                 filter,
                 selection,
-            } => Ok(Body::Search {
-                base: base.clone()?,
-                subset: *subset,
-                filter: copied(alloc, filter)?,
-                selection: selection.clone()?,
-            }),
-            Body::Add { object, attributes } => Ok(Body::Add {
-                object: object.clone()?,
-                attributes: attributes.clone()?,
-            }),
+            } => search_of(alloc, base, *subset, filter, selection),
+            Body::Add { object, attributes } => add_of(object, attributes),
             Body::Remove { object } => Ok(Body::Remove {
                 object: object.clone()?,
             }),
-            Body::Modify { object, changes } => Ok(Body::Modify {
-                object: object.clone()?,
-                changes: changes.clone()?,
-            }),
+            Body::Modify { object, changes } => modify_of(object, changes),
             Body::ModifyDn {
                 object,
                 rdn,
                 drop_old,
-            } => Ok(Body::ModifyDn {
-                object: object.clone()?,
-                rdn: rdn.clone()?,
-                drop_old: *drop_old,
-            }),
+            } => rename_of(object, rdn, *drop_old),
         }
     }
 }

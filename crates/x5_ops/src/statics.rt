@@ -28,7 +28,7 @@ use x5_names::{Name, Rdn};
 use x5_syntax::{NoMemory, Normal, TypeId, TypeRef, Value};
 
 /// Why a request is refused by itself or by the entry that it meets: the root is no entry, or a problem by its number.
-#[derive(Debug, Drop)]
+#[derive(Drop)]
 pub enum Refusal {
     NoObject,
     Attribute { problem: u8, kind: TypeRef },

@@ -16,7 +16,7 @@ use x5_ops::{Fate, Moment, Refreshed};
 const MISSED_PREVIOUS: u8 = 5;
 
 /// Whether a refresh ended, and how, or goes on.
-#[derive(Clone, Copy, Debug, Drop)]
+#[derive(Clone, Copy, Drop)]
 pub enum Start {
     Ended(Refreshed),
     GoesOn,

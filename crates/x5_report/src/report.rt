@@ -26,7 +26,7 @@ use x5_typed::Breach;
 /// hold together, so that there are no refreshes; the reply to a message that so many octets brought, for which the first
 /// message of the journal stands; or the first breach of octets that brought none. Octets are handed over as a user's message, or
 /// as another agent's (`dsp`).
-#[derive(Debug, Drop)]
+#[derive(Drop)]
 pub enum LineOutcome {
     Set,
     Answered(Reply),

@@ -20,7 +20,7 @@ use x5_syntax::Text;
 
 /// How many requests a script had, apart from those that octets bring, and how many lines of its blocks begin with `entry`, `sub`, `error`, `referral`,
 /// `unexplored`, `accepted` and `refreshed`. A count stops at 2^64 - 1.
-#[derive(Clone, Copy, Debug, PartialEq, Eq)]
+#[derive(Clone, Copy, PartialEq, Eq)]
 pub struct Totals {
     pub requests: u64,
     pub entries: u64,

@@ -9,7 +9,7 @@ use x5_ops::{AgentId, Outage, Request};
 use x5_syntax::Octets;
 
 /// What a line asks for.
-#[derive(Debug, Drop)]
+#[derive(Drop)]
 pub enum Command {
     /// A comment or an empty line.
     Nothing,

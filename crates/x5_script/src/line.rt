@@ -69,11 +69,16 @@ fn request(
     let to = next_agent(words, agents)?;
     let controls = controls(words);
     let body = operation(alloc, words)?;
-    words.end()?;
-    Ok(Command::Ask {
-        to,
-        request: Request { controls, body },
-    })
+    match words.end() {
+        Ok(()) => Ok(Command::Ask {
+            to,
+            request: Request { controls, body },
+        }),
+        Err(fault) => {
+            drop(body);
+            Err(fault)
+        }
+    }
 }
 
 /// One agent, and nothing behind it.

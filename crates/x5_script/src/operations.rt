@@ -142,14 +142,26 @@ fn search(alloc: Global, words: &mut Words<'_>) -> Result<Body, ScriptFault>
 {
     let subset = next_subset(words)?;
     let base = next_name(alloc, words)?;
-    let filter = next_filter(alloc, words)?;
-    let selection = selection(alloc, words)?;
-    Ok(Body::Search {
-        base,
-        subset,
-        filter,
-        selection,
-    })
+    let filter = match next_filter(alloc, words) {
+        Ok(filter) => filter,
+        Err(fault) => {
+            drop(base);
+            return Err(fault);
+        }
+    };
+    match selection(alloc, words) {
+        Ok(selection) => Ok(Body::Search {
+            base,
+            subset,
+            filter,
+            selection,
+        }),
+        Err(fault) => {
+            drop(base);
+            drop(filter);
+            Err(fault)
+        }
+    }
 }
 
 /// Adds a value of a type: to the attribute of that type, else as an attribute of its own at the end.

@@ -112,8 +112,13 @@ fn line_behind(
     ensures few { IfOk result (λ command. scripts.loses_reply (command_view command) ≡ true → lost < 16) }
 {
     let command = line_at(alloc, before, line, agents)?;
-    within_losses(lost, &command)?;
-    Ok(command)
+    match within_losses(lost, &command) {
+        Ok(()) => Ok(command),
+        Err(fault) => {
+            drop(command);
+            Err(fault)
+        }
+    }
 }
 
 /// The lost replies with that of the command.

@@ -22,7 +22,7 @@ use x5_trace::{MOST_ITEMS, repeats};
 
 /// What comes of a message that arrives: the reply to it at once; the reference by which it's passed on; the references for the
 /// parts of a list or search, and the answer that they are joined to; or an update.
-#[derive(Debug, Drop)]
+#[derive(Drop)]
 pub enum Step {
     Replies(Reply),
     Goes(Reference),

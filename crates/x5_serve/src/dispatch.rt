@@ -33,7 +33,7 @@ use x5_ops::{
 };
 
 /// What the agents that a probe went to tell: these weren't heard, and all others have no such entry; or the update ends so.
-#[derive(Debug, Drop)]
+#[derive(Drop)]
 pub enum Probed {
     Through(AccessList),
     Ends(DirError),
@@ -202,7 +202,9 @@ fn take<N: Network>(
     ensures told { IfOk result (λ heard. IsToldHeard (length (N.names net.old)) (heard_view (N.names net.old) heard)) }
 {
     let onward = passed_on(alloc, net.names(), owner, message, reference)?;
-    take_in_turn(alloc, net, from, reference.agents.as_slice(), &onward)
+    let heard = take_in_turn(alloc, net, from, reference.agents.as_slice(), &onward);
+    drop(onward);
+    heard
 }
 
 /// Asks agents in their order, until one is heard (X.518, section 20).

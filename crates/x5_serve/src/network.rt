@@ -26,7 +26,7 @@ use x5_ops::{
 
 /// What becomes of a message that is sent: it doesn't reach its receiver; none is left, so it isn't sent; it reaches its receiver,
 /// whose reply will be lost; or it does, and the reply will too. Where it reaches its receiver it's as that one has it.
-#[derive(Debug, Drop)]
+#[derive(Drop)]
 pub enum Carried {
     Undelivered,
     Spent,
@@ -38,7 +38,7 @@ pub enum Carried {
 /// a read or compare, from a context of its own or a copy; its part of a list or search, with the references for the rest; the
 /// target of an update, in a context of its own. Or the name goes on by a reference; there is no such entry, this being the
 /// lowest on the way; or the agent can't go on from the progress.
-#[derive(Debug, Drop)]
+#[derive(Drop)]
 pub enum Found {
     Told(Reply),
     Part(Answer, ReferenceList),
@@ -50,7 +50,7 @@ pub enum Found {
 
 /// What a master makes of an update by its own ground: it's refused, or may be done, once the agents of the reference, if there is
 /// one, are probed (X.518, section 19.1).
-#[derive(Debug, Drop)]
+#[derive(Drop)]
 pub enum Verdict {
     Refused(DirError),
     Passed(Option<Reference>),

@@ -22,14 +22,14 @@ use x5_ops::{
 };
 
 /// The answers of all parts, as one, or the error that ends them.
-#[derive(Debug, Drop)]
+#[derive(Drop)]
 pub enum Gathered {
     Whole(Answer),
     Broken(DirError),
 }
 
 /// What the reply to a part is to the whole.
-#[derive(Debug, Drop)]
+#[derive(Drop)]
 pub enum Part {
     Joins(Answer),
     Leaves(Reference),

@@ -125,8 +125,8 @@ fn part_body(alloc: Global, wide: bool, base: &Name, body: &Body) -> Result<Body
         } => Ok(Body::Search {
             base: base.clone()?,
             subset: part_subset(wide, *subset),
-            filter: copied(alloc, filter)?,
             selection: selection.clone()?,
+            filter: copied(alloc, filter)?,
         }),
         Body::Read { .. }
         | Body::Compare { .. }

@@ -28,7 +28,7 @@ use x5_ops::{
 };
 
 /// What the sender of a message hears in the end: nothing, or a reply.
-#[derive(Debug, Drop)]
+#[derive(Drop)]
 pub enum Heard {
     Unheard,
     Hears(Reply),
@@ -242,7 +242,7 @@ pub fn is_unable(reply: &Reply) -> bool
 }
 
 /// What the reply to a probe tells of its agent.
-#[derive(Debug, Drop)]
+#[derive(Drop)]
 pub enum Told {
     Unable,
     Unsure,
@@ -255,14 +255,22 @@ pub fn told_by(reply: Reply) -> Told
     ensures { (names : List (List ℕ)) → is_final (reply_view names reply) ≡ true → IsTelling names reply result }
 {
     match reply {
-        Reply::Done(_) => Told::Ends(DirError::Update {
-            problem: ENTRY_ALREADY_EXISTS,
-        }),
-        Reply::Refer(_) => Told::Unsure,
+        Reply::Done(answer) => {
+            drop(answer);
+            Told::Ends(DirError::Update {
+                problem: ENTRY_ALREADY_EXISTS,
+            })
+        }
+        Reply::Refer(reference) => {
+            drop(reference);
+            Told::Unsure
+        }
         Reply::Failed(error) => {
             if is_problem(&error, UNABLE_TO_PROCEED) {
+                drop(error);
                 Told::Unable
             } else if is_problem(&error, UNAVAILABLE) {
+                drop(error);
                 Told::Unsure
             } else {
                 Told::Ends(error)

@@ -14,7 +14,7 @@ use x5_ops::Moment;
 
 /// What asks for a refresh, or tells of one (X.525, section 11.1): the agreement by its number, the moment of the last refresh that
 /// whoever sends it knows of, and whether all is to be sent.
-#[derive(Clone, Copy, Debug, Drop)]
+#[derive(Clone, Copy, Drop)]
 pub struct Asked {
     pub agreement: u32,
     pub last: Option<Moment>,

@@ -16,7 +16,7 @@ use x5_memory::NoMemory;
 use x5_ops::{Moment, ShadowOperation};
 
 /// A problem of a refresh by its number (X.525, section 12), with the moments that the consumer holds and that the supplier has given.
-#[derive(Clone, Copy, Debug, Drop)]
+#[derive(Clone, Copy, Drop)]
 pub struct Problem {
     pub number: u8,
     pub held: Option<Moment>,

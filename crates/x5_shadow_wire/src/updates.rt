@@ -21,7 +21,7 @@ use x5_refresh::Brought;
 
 /// What a supplier sends (updateShadow; X.525, section 11.3): by which agreement, the moment as of which it has the context, and what it
 /// brings.
-#[derive(Debug, Drop)]
+#[derive(Drop)]
 pub struct Update {
     pub agreement: u32,
     pub stamp: Moment,

@@ -11,7 +11,7 @@ use std::alloc::Global;
 use x5_ber::NoMemory;
 
 /// The text that is printed of a file's octets.
-#[derive(Debug, Drop)]
+#[derive(Drop)]
 pub enum Shown {
     /// They are values, one after the other: a line for each element.
     Elements(String),

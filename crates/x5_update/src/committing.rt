@@ -56,7 +56,7 @@ fn passed(
 
 /// An update that its master passes, made ready: the place of its target's context, and the change there with the step that tells
 /// it.
-#[derive(Debug, Drop)]
+#[derive(Drop)]
 pub struct Prepared {
     own: usize,
     plan: Plan,
@@ -75,11 +75,16 @@ pub fn make_ready(
 {
     let place = place_of(state, message);
     let plan = passed(alloc, state, &message.request, place)?;
-    state.make_room(place.own, 1, values_of(&plan.change))?;
-    Ok(Prepared {
-        own: place.own,
-        plan,
-    })
+    match state.make_room(place.own, 1, values_of(&plan.change)) {
+        Ok(()) => Ok(Prepared {
+            own: place.own,
+            plan,
+        }),
+        Err(fault) => {
+            drop(plan);
+            Err(fault)
+        }
+    }
 }
 
 /// Does an update that is ready: the target's context changes, and its log tells it with the agent's moment (X.511, section 11;

@@ -35,6 +35,7 @@ pub fn prepare(
 {
     let place = place_of(state, message);
     let _plan = planned(alloc, state, &message.request, place)?;
+    drop(_plan);
     let held = held_at(state, place);
     let probe = probe(alloc, names, state, held, &message.request.body)?;
     Ok(probe)

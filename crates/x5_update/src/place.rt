@@ -21,7 +21,7 @@ use x5_names::Name;
 use x5_ops::{Chained, Request};
 
 /// The place of a context among those that an agent masters, and a node of its tree.
-#[derive(Clone, Copy, Debug)]
+#[derive(Clone, Copy)]
 pub(crate) struct Place {
     pub(crate) own: usize,
     pub(crate) node: NodeId,

@@ -34,7 +34,7 @@ use x5_ops::{
 };
 
 /// A change of the target's context, made ready, and the step that tells it.
-#[derive(Debug, Drop)]
+#[derive(Drop)]
 pub(crate) struct Plan {
     pub(crate) change: EntryChange,
     pub(crate) step: Step,

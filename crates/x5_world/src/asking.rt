@@ -72,7 +72,9 @@ pub(crate) fn heard(alloc: Global, request: &Request) -> Result<Chained, NoMemor
     ensures { IfOk result (λ message. (names : List (List ℕ)) → chained_view names message ≡ chain.opening (request_view request.now)) }
 {
     let request = carried_request(alloc, ID, request)?;
-    opening(alloc, &request)
+    let message = opening(alloc, &request);
+    drop(request);
+    message
 }
 
 /// Serves the user's message, whose reply is lost; so the user has `unavailable`.
@@ -89,7 +91,7 @@ fn served_in_vain<N: Network>(
     ensures served { IfOk result (λ _. (y : model.Reply) × DoesAt N.scene N.most N.journal net.old net.new (Serves (hand first (chained_view (N.names net.old) message.now)) y)) }
     ensures told { IfOk result (λ reply. reply_view (N.names net.old) reply ≡ user_in_vain_at first (chained_view (N.names net.old) message.now)) }
 {
-    let _ = serve(alloc, net, first, message)?;
+    drop(serve(alloc, net, first, message)?);
     user_in_vain(alloc, net.names(), first, message)
 }
 
@@ -127,7 +129,9 @@ fn user_served<N: Network>(
 {
     let operation = message.request.body.operation();
     let reply = serve(alloc, net, first, message)?;
-    told_back(alloc, dsp, operation, &reply)
+    let back = told_back(alloc, dsp, operation, &reply);
+    drop(reply);
+    back
 }
 
 /// A user's message in the network, which begins as it stands, and which he may hand over as another agent's (`dsp`): what it comes to, with the reply, the messages that it takes, and the

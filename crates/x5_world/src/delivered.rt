@@ -12,7 +12,7 @@ use x5_ops::{AgentId, AgentName, Fate, Journal, Reply};
 use x5_typed::Breach;
 
 /// What comes of octets that a user hands to an agent as his message (X.519, section 7).
-#[derive(Debug, Drop)]
+#[derive(Drop)]
 pub enum Delivered {
     /// They spell a request: what it is answered, the messages that it takes, the first of which stands for the octets, and who
     /// accepts the update.

@@ -55,7 +55,10 @@ fn arrival(fate: Fate, taken: Chained) -> Carried
     ensures { result ≡ arrival_by (fate_view fate) taken }
 {
     match fate {
-        Fate::Lost => Carried::Undelivered,
+        Fate::Lost => {
+            drop(taken);
+            Carried::Undelivered
+        }
         Fate::NoReply => Carried::Unheard(taken),
         Fate::Sent => Carried::Taken(taken),
     }

@@ -18,7 +18,7 @@ use x5_ops::{AgentId, AgentName, Chained, Fate, Journal, Line, LineList, Listed}
 
 /// A message that was sent: its number among all of the run, from 1, its sender, None for the user, its receiver, what was carried,
 /// and what became of it.
-#[derive(Debug, Drop)]
+#[derive(Drop)]
 pub struct Sent {
     pub number: u64,
     pub from: Option<AgentId>,

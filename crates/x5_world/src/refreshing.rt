@@ -31,7 +31,7 @@ use x5_shadow_wire::LastTotal;
 const INVALID_AGREEMENT_ID: u8 = 1;
 
 /// What a supplier sends, with the moment as of which it has the context, or its problem by its number (X.525, section 11.2).
-#[derive(Debug, Drop)]
+#[derive(Drop)]
 pub(crate) enum Supplied {
     Sent(Moment, Brought),
     Refused(u8),
@@ -39,7 +39,7 @@ pub(crate) enum Supplied {
 
 /// A refresh by the agreement of a place, pushed by the supplier or pulled by the consumer, total or incremental; the moment of the
 /// consumer's copy, and the last one that the supplier knows to be taken.
-#[derive(Debug, Drop)]
+#[derive(Drop)]
 pub(crate) struct Way {
     pub place: usize,
     pub agreement: Agreement,

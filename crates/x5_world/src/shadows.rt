@@ -26,7 +26,7 @@ use x5_refresh::{Brought, begins};
 use x5_shadow_wire::{Asked, LastTotal, Problem, Update, carried_asked, carried_problem};
 
 /// What the consumer reads of what the supplier sends: by which agreement, its stamp, and what it brings.
-#[derive(Debug, Drop)]
+#[derive(Drop)]
 pub(crate) struct Arrived {
     pub agreement: Agreement,
     pub stamp: Moment,

@@ -389,11 +389,11 @@ impl World {
     {
         let before = replace(self, World::nobody(alloc));
         let told = asked::<Brand>(alloc, dsp, before, first, message, most)?;
-        let names = told.world.names();
+        *self = told.world;
+        let names = self.names();
         let lines = journal::lines(alloc, names, &told.lines)?;
         let journal = journal::journal(alloc, names, lines, &told.accepted)?;
         let messages = told.lines.len();
-        *self = told.world;
         self.count(messages);
         Ok((told.reply, journal))
     }
@@ -490,7 +490,9 @@ impl World {
         let most = self.budget(alloc)?;
         match decode_request(alloc, octets) {
             Ok((_, request)) => {
-                let message = opening(alloc, &request)?;
+                let opened = opening(alloc, &request);
+                drop(request);
+                let message = opened?;
                 self.take(alloc, false, to, message, most)
             }
             Err(fault) => self.reject(to, fault),

@@ -24,7 +24,7 @@ const MOST_ENTRIES: usize = 100_000;
 const MOST_NSSR_AGENTS: usize = 4096;
 
 /// The contexts, the entries and the agents of non-specific references so far, none of which passes its limit.
-#[derive(Clone, Copy, Debug)]
+#[derive(Clone, Copy)]
 pub struct Counts {
     pub(crate) contexts: usize,
     pub(crate) entries: usize,

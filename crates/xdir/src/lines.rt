@@ -22,7 +22,7 @@ use x5_script::Command;
 use x5_world::{Delivered, World};
 
 /// What came of a command, and the messages that it took.
-#[derive(Debug, Drop)]
+#[derive(Drop)]
 pub struct Course {
     /// The messages, and who accepted an update.
     pub journal: Journal,

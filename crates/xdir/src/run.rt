@@ -30,7 +30,7 @@ use x5_world::World;
 pub const KNOWLEDGE: &str = "knowledge consistent\n";
 
 /// What a run prints behind the line on knowledge.
-#[derive(Clone, Copy, Debug, PartialEq, Eq)]
+#[derive(Clone, Copy, PartialEq, Eq)]
 pub enum Printed {
     /// The block of each command.
     Blocks,

@@ -35,7 +35,7 @@ use x5_world::World;
 pub const MOST_FILE_OCTETS: usize = 16_777_216;
 
 /// How a run ended. The numbers are the exit statuses.
-#[derive(Clone, Copy, Debug, PartialEq, Eq)]
+#[derive(Clone, Copy, PartialEq, Eq)]
 pub enum Status {
     /// All is printed.
     Done = 0,

@@ -28,11 +28,11 @@ kind_in-requires c =
     c.kind-item.is c.exclusions-item.is c.requires in
     five.are.2
 
-pub returns : goal.returns
+pub returns-in-Ok : goal.returns-in-Ok
 unfolding AreSo
-returns c =
+returns-in-Ok c =
     let five = all_five AreSo c.parts.result.now _ c.target-item.result c.progress-item.result c.trace-item.result
     c.kind-item.result c.exclusions-item.result c.parts.ensures c.target-item.is c.progress-item.is c.trace-item.is
     c.kind-item.is c.exclusions-item.is c.requires in
-    chaining_said (request_view c.args.request) (node_view c.args.node.now) _ _ _ _ _ _ five.split c.in_ok-name.ensures.0
-    c.progress_in.ensures c.kind_in.ensures c.in_ok-name.ensures.1 c.in_ok-name.ensures.2 refl
+    chaining_said (request_view c.args.request) (node_view c.args.node.now) _ _ _ _ _ _ five.split c.in-Ok.ensures.0
+    c.progress_in.ensures c.kind_in.ensures c.in-Ok.ensures.1 c.in-Ok.ensures.2 refl

@@ -362,8 +362,8 @@ probe-returns-clause-does g t c =
     c.loop-access.access-index (omega (arith, c.loop-access-test.false)) c.args.me c.args.message.now
     c.in_ok-onward.onward c.args.reference.now c.loop-access.noted i.carries i.probed
 
-pub take-take_in_turn-requires : goal.take-take_in_turn-requires
-take-take_in_turn-requires g t c κs within =
+pub take-take_in_turn-heard-requires : goal.take-take_in_turn-heard-requires
+take-take_in_turn-heard-requires g t c κs within =
     let n = g.N.Network in
     let carries : Carries (n.names c.args.net.now) c.args.owner c.args.message.now c.args.reference.now
     c.in_ok-onward.onward c.as_slice.result.now = record {
@@ -380,10 +380,10 @@ pub take-returns-clause-does : goal.take-returns-clause-does
 take-returns-clause-does g t c =
     let n = g.N.Network in
     let onward = rw c.names.ensures at c.in_ok-onward.ensures.carried in
-    IfOk-weaker c.take_in_turn.result _ _ (λ y d. d (hand c.args.owner (chained_view (n.names c.args.net.now)
+    IfOk-weaker c.take_in_turn-heard.result _ _ (λ y d. d (hand c.args.owner (chained_view (n.names c.args.net.now)
     c.args.message.now)) (reference_view (n.names c.args.net.now) c.args.reference.now)
     (ap (map (access_view (n.names c.args.net.now))) c.as_slice.ensures) (onward c.args.from))
-    c.take_in_turn.ensures.does
+    c.take_in_turn-heard.ensures.does
 
 pub take_in_turn-loop-access-init : goal.take_in_turn-loop-access-init
 take_in_turn-loop-access-init g t c =

@@ -26,19 +26,19 @@ pub make_room-requires : goal.make_room-requires
 make_room-requires c =
     some_within c.args.state.now.own c.place_of-place.result.own c.place_of-place.ensures.kept c.place_of-place.ensures.held
 
-pub returns-in_err-make_room-clause-same : goal.returns-in_err-make_room-clause-same
-returns-in_err-make_room-clause-same c =
+pub returns-in-Err-clause-same : goal.returns-in-Err-clause-same
+returns-in-Err-clause-same c =
     uncommitted c.args.state.now c.make_room.new.self c.place_of-place.result.own c.make_room.ensures.same
 
-pub returns-clause-same : goal.returns-clause-same
-returns-clause-same c =
+pub returns-in-Ok-clause-same : goal.returns-in-Ok-clause-same
+returns-in-Ok-clause-same c =
     uncommitted c.args.state.now c.make_room.new.self c.place_of-place.result.own c.make_room.ensures.same
 
-pub returns-clause-ok : goal.returns-clause-ok
-returns-clause-ok c =
+pub returns-in-Ok-clause-ok : goal.returns-in-Ok-clause-ok
+returns-in-Ok-clause-ok c =
     let r = request_view c.args.message.now.request in
     let key = key_of c.args.message.now.target in
     let at : key ≡ _ = sym (target_is (chained_view c.requires.0 c.args.message.now) c.requires.1.due.fit) in
     prepared c.args.state.now r key c.place_of-place.result.own c.place_of-place.result.node c.place_of-place.ensures
     c.make_room.new.self c.in_ok-plan.plan c.in_ok-plan.ensures at c.make_room.ensures.same c.values_of.result
-    c.in_ok-make_room.ensures.ok c.values_of.ensures
+    c.in-Ok.ensures.ok c.values_of.ensures

@@ -6,4 +6,4 @@ use Rattle.x5_world.proofs.asking.heard.Goals as goal
 
 pub returns : goal.returns
 returns c =
-    IfOk-weaker c.opening.result _ _ (λ m h names. h names ∙ ap opening c.in_ok-request.ensures) c.opening.ensures
+    IfOk-weaker c.opening-message.result _ _ (λ m h names. h names ∙ ap opening c.in_ok-request.ensures) c.opening-message.ensures

@@ -11,8 +11,8 @@ use Rattle.x5_serve.proofs.Limits.{may_be_replied}
 use Rattle.x5_world.proofs.Carrying.{replied_within}
 use Rattle.x5_world.proofs.asking.user_served.Goals as goal
 
-pub told_back-requires : goal.told_back-requires
-told_back-requires g c =
+pub told_back-back-requires : goal.told_back-back-requires
+told_back-back-requires g c =
     let n = g.N.Network in
     let net = c.args.net.now in
     replied_within (n.names net) c.operation-operation.result c.in_ok-reply.reply (g.met.N.Network.plain net)
@@ -24,7 +24,7 @@ pub returns-clause-served : goal.returns-clause-served
 returns-clause-served g c =
     let n = g.N.Network in
     let names = n.names c.args.net.now in
-    IfOk-weaker c.told_back.result _ _
+    IfOk-weaker c.told_back-back.result _ _
     (λ back e. subst (λ (y : Reply). DoesAt n.scene n.most n.journal c.args.net.now c.serve.new.net
     (Serves (hand c.args.first (chained_view names c.args.message.now)) y)) (sym (e names)) c.in_ok-reply.ensures.does)
-    c.told_back.ensures
+    c.told_back-back.ensures
