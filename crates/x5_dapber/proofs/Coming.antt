@@ -9,7 +9,7 @@ use Rattle.x5_model_typed.specs.Trees.{Tree, Lies, plain}
 use Rattle.x5_model_typed.specs.Nodes.{Node}
 use Rattle.x5_model_typed.specs.Named.{Named}
 use Rattle.x5_model_typed.specs.Forms.{Layout}
-use Rattle.x5_model_typed.specs.Judged.{Breach}
+use Rattle.x5_model_octets.specs.Breaches.{Breach}
 use Rattle.x5_model_typed.specs.Typed.{Spells, IsOf}
 use Rattle.x5_model_typed.proofs.Places.{lies_spells, placed_once, whole_spelling}
 use Rattle.x5_model_typed_laws.proofs.Deciding.{is_judged}

@@ -2,7 +2,7 @@
 use Rattle.std.proofs.Common.{◌≡◌, ap, sym, subst, ◌∙◌}
 use Rattle.std.specs.declared.result.Result.{Result}
 use Rattle.std.specs.declared.result.Result.TheVariants.{Ok, Err}
-use Rattle.x5_model_typed.specs.Judged as judged
+use Rattle.x5_model_octets.specs.Breaches as octet_breaches
 use Rattle.x5_model_typed.specs.Nodes as nodes
 use Rattle.x5_typed.specs.Breaches.{Gives}
 use Rattle.x5_typed.specs.declared.fault.Breach.TheVariants as breaches
@@ -16,35 +16,35 @@ use Rattle.x5_dapber.specs.declared.fault.WireFault.TheVariants as wire
 
 module _ {X Y : Type 0} (view : X → Y) (says : nodes.Node → Y) where
   -- a value says what is decoded
-  pub value_decodes : (e : Result nodes.Node judged.Breach) (node : Node) (x : X) → view x ≡ says (node_view node)
+  pub value_decodes : (e : Result nodes.Node octet_breaches.Breach) (node : Node) (x : X) → view x ≡ says (node_view node)
       → Gives (λ m n. node_view m ≡ n) e (Ok node) → Decodes view says e (Ok x)
   value_decodes (Ok n) node x h g = h ∙ ap says g
   value_decodes (Err b) node x h g = absurd g
 
-  breach_decodes : (e : Result nodes.Node judged.Breach) (fault : ReadFault)
+  breach_decodes : (e : Result nodes.Node octet_breaches.Breach) (fault : ReadFault)
       → Gives (λ m n. node_view m ≡ n) e (Err fault) → Decodes view says e (Err (wire_fault fault))
   breach_decodes (Ok n) (faults.Breach b) g = absurd g
   breach_decodes (Ok n) faults.NoMemory g = tt
-  breach_decodes (Err (judged.Ber f)) (faults.Breach (breaches.Ber b)) g = cc
-  breach_decodes (Err (judged.Ber f)) (faults.Breach (breaches.Unrecognised k)) g = absurd (cc g)
-  breach_decodes (Err (judged.Unrecognised l)) (faults.Breach (breaches.Ber b)) g = absurd (cc g)
-  breach_decodes (Err (judged.Unrecognised l)) (faults.Breach (breaches.Unrecognised k)) g = cc
-  breach_decodes (Err (judged.Ber f)) faults.NoMemory g = tt
-  breach_decodes (Err (judged.Unrecognised l)) faults.NoMemory g = tt
+  breach_decodes (Err (octet_breaches.Ber f)) (faults.Breach (breaches.Ber b)) g = cc
+  breach_decodes (Err (octet_breaches.Ber f)) (faults.Breach (breaches.Unrecognised k)) g = absurd (cc g)
+  breach_decodes (Err (octet_breaches.Unrecognised l)) (faults.Breach (breaches.Ber b)) g = absurd (cc g)
+  breach_decodes (Err (octet_breaches.Unrecognised l)) (faults.Breach (breaches.Unrecognised k)) g = cc
+  breach_decodes (Err (octet_breaches.Ber f)) faults.NoMemory g = tt
+  breach_decodes (Err (octet_breaches.Unrecognised l)) faults.NoMemory g = tt
 
   -- so does a breach, and want of memory
-  pub fault_decodes : (e : Result nodes.Node judged.Breach) (fault : ReadFault) (r : Result X WireFault) (w : WireFault)
+  pub fault_decodes : (e : Result nodes.Node octet_breaches.Breach) (fault : ReadFault) (r : Result X WireFault) (w : WireFault)
       → r ≡ Err w → w ≡ wire_fault fault → Gives (λ m n. node_view m ≡ n) e (Err fault) → Decodes view says e r
   fault_decodes e fault r w is same g =
       subst (λ (v : Result X WireFault). Decodes view says e v) (sym is)
       (subst (λ (v : WireFault). Decodes view says e (Err v)) (sym same) (breach_decodes e fault g))
 
-  no_memory_decodes : (e : Result nodes.Node judged.Breach) → Decodes view says e (Err wire.NoMemory)
+  no_memory_decodes : (e : Result nodes.Node octet_breaches.Breach) → Decodes view says e (Err wire.NoMemory)
   no_memory_decodes (Ok n) = tt
-  no_memory_decodes (Err (judged.Ber f)) = tt
-  no_memory_decodes (Err (judged.Unrecognised k)) = tt
+  no_memory_decodes (Err (octet_breaches.Ber f)) = tt
+  no_memory_decodes (Err (octet_breaches.Unrecognised k)) = tt
 
-  pub memory_decodes : (e : Result nodes.Node judged.Breach) (r : Result X WireFault) (w : WireFault) → r ≡ Err w
+  pub memory_decodes : (e : Result nodes.Node octet_breaches.Breach) (r : Result X WireFault) (w : WireFault) → r ≡ Err w
       → w ≡ wire.NoMemory → Decodes view says e r
   memory_decodes e r w is same =
       subst (λ (v : Result X WireFault). Decodes view says e v) (sym is)

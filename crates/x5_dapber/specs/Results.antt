@@ -5,7 +5,7 @@ use Rattle.std.specs.declared.option.Option.TheVariants.{None, Some}
 use Rattle.std.specs.declared.result.Result.{Result}
 use Rattle.std.specs.declared.result.Result.TheVariants.{Ok, Err}
 use Rattle.x5_ber.specs.Views.{fault_view}
-use Rattle.x5_model_typed.specs.Judged as judged
+use Rattle.x5_model_octets.specs.Breaches as octet_breaches
 use Rattle.x5_model_typed.specs.Nodes.{Node}
 use Rattle.x5_typed.specs.declared.fault.Breach.TheVariants as breaches
 use Rattle.x5_typed.specs.declared.fault.ReadFault.{ReadFault}
@@ -27,10 +27,10 @@ wire_fault (faults.Breach (breaches.Unrecognised code)) = wire.Unrecognised code
 wire_fault faults.NoMemory = wire.NoMemory
 
 -- What the value says that reading comes to, or the breach that it comes to, unless memory ran out.
-abbrev pub Decodes : {X Y : Type 0} → (X → Y) → (Node → Y) → Result Node judged.Breach → Result X WireFault → Type 0
+abbrev pub Decodes : {X Y : Type 0} → (X → Y) → (Node → Y) → Result Node octet_breaches.Breach → Result X WireFault → Type 0
 Decodes view says (Ok n) (Ok x) = view x ≡ says n
-Decodes view says (Err (judged.Ber f)) (Err (wire.Ber g)) = fault_view g ≡ f
-Decodes view says (Err (judged.Unrecognised k)) (Err (wire.Unrecognised l)) = l ≡ k
+Decodes view says (Err (octet_breaches.Ber f)) (Err (wire.Ber g)) = fault_view g ≡ f
+Decodes view says (Err (octet_breaches.Unrecognised k)) (Err (wire.Unrecognised l)) = l ≡ k
 Decodes view says e (Err wire.NoMemory) = Unit {0}
 Decodes view says e r = ⊥
 

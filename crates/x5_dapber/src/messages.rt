@@ -6,7 +6,7 @@ ghost use Rattle.x5_dapber.specs.ShortNames.{HasShortNames};
 ghost use Rattle.x5_model.specs.Requests as model;
 ghost use Rattle.x5_model_messages.specs.Laws.{IsBody};
 ghost use Rattle.x5_model_messages.specs.Requests as requests;
-ghost use Rattle.x5_model_typed.specs.Judged as judged;
+ghost use Rattle.x5_model_octets.specs.Breaches as octet_breaches;
 ghost use Rattle.x5_model_typed.specs.Named as named;
 ghost use Rattle.x5_model_typed.specs.Nodes as nodes;
 ghost use Rattle.x5_model_typed.specs.Typed.{Spells};
@@ -72,9 +72,9 @@ pub fn encode_request(alloc: Global, id: u32, request: &Request) -> Result<Octet
 
 /// What a user's message says, read by the table of types, in whatever spelling.
 fn request_by_table(alloc: Global, octets: &[u8]) -> Result<(u32, Request), WireFault>
-    ensures decodes { (e : Result nodes.Node judged.Breach) → ComesTo named.DapRequest octets.now e
+    ensures decodes { (e : Result nodes.Node octet_breaches.Breach) → ComesTo named.DapRequest octets.now e
         → Decodes (λ p. (p.0, request_view p.1)) requests.request_in e result }
-    ensures comes { (e : Result nodes.Node judged.Breach) × ComesTo named.DapRequest octets.now e }
+    ensures comes { (e : Result nodes.Node octet_breaches.Breach) × ComesTo named.DapRequest octets.now e }
     ensures spelled { IfOk result (λ p. (n : nodes.Node) × Spells table named.DapRequest octets.now n
         × ((p.0, request_view p.1) ≡ requests.request_in n)) }
 {
@@ -89,9 +89,9 @@ fn request_by_table(alloc: Global, octets: &[u8]) -> Result<(u32, Request), Wire
 /// second. `Unrecognised` exactly where that is the code of an operation that users don't have. Or that memory ran out.
 pub fn decode_request(alloc: Global, octets: &[u8]) -> Result<(u32, Request), WireFault>
     // What the value says, or the breach, that reading comes to; and it comes to exactly one.
-    ensures decodes { (e : Result nodes.Node judged.Breach) → ComesTo named.DapRequest octets.now e
+    ensures decodes { (e : Result nodes.Node octet_breaches.Breach) → ComesTo named.DapRequest octets.now e
         → Decodes (λ p. (p.0, request_view p.1)) requests.request_in e result }
-    ensures comes { (e : Result nodes.Node judged.Breach) × ComesTo named.DapRequest octets.now e }
+    ensures comes { (e : Result nodes.Node octet_breaches.Breach) × ComesTo named.DapRequest octets.now e }
     // Of octets that spell a value of the type it's what that says, and no other octets give a request.
     ensures exact { (n : nodes.Node) → Spells table named.DapRequest octets.now n
         → Decodes (λ p. (p.0, request_view p.1)) requests.request_in (Ok n) result }

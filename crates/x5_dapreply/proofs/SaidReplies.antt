@@ -3,7 +3,7 @@ use Rattle.std.proofs.Common.{◌≡◌, ℕ, List, [], ap, sym, subst}
 use Rattle.std.specs.declared.result.Result.{Result}
 use Rattle.std.specs.declared.result.Result.TheVariants.{Ok}
 use Rattle.x5_model_messages.specs.Replies as replies
-use Rattle.x5_model_typed.specs.Judged.{Breach}
+use Rattle.x5_model_octets.specs.Breaches.{Breach}
 use Rattle.x5_model_typed.specs.Named.{Named}
 use Rattle.x5_model_typed.specs.Nodes.{Node}
 use Rattle.x5_ops.specs.declared.answers.Reply.{Reply}

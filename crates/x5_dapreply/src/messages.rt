@@ -4,7 +4,7 @@ ghost use Rattle.x5_dapber.specs.Results.{IsWritten, Decodes, IsRead};
 ghost use Rattle.x5_dapreply.specs.ReplyViews.{told_reply, heard, heard_in, unnumbered};
 ghost use Rattle.x5_dapreply.specs.Told.{IsTold};
 ghost use Rattle.x5_model_messages.specs.Replies as replies;
-ghost use Rattle.x5_model_typed.specs.Judged as judged;
+ghost use Rattle.x5_model_octets.specs.Breaches as octet_breaches;
 ghost use Rattle.x5_model_typed.specs.Named as named;
 ghost use Rattle.x5_model_typed.specs.Nodes as nodes;
 ghost use Rattle.x5_model_typed.specs.Typed.{Spells};
@@ -55,9 +55,9 @@ pub fn encode_answer(
 /// second. `Unrecognised` exactly where that is the code of an operation or error that users don't have. Or that memory ran out.
 pub fn decode_answer(alloc: Global, octets: &[u8]) -> Result<(u32, Reply), WireFault>
     // What the value says, or the breach, that reading comes to; and it comes to exactly one.
-    ensures decodes { (e : Result nodes.Node judged.Breach) → ComesTo named.DapAnswer octets.now e
+    ensures decodes { (e : Result nodes.Node octet_breaches.Breach) → ComesTo named.DapAnswer octets.now e
         → Decodes (λ p. (p.0, heard p.1)) heard_in e result }
-    ensures comes { (e : Result nodes.Node judged.Breach) × ComesTo named.DapAnswer octets.now e }
+    ensures comes { (e : Result nodes.Node octet_breaches.Breach) × ComesTo named.DapAnswer octets.now e }
     // Of octets that spell a value of the type it's what that says, and no other octets give a reply.
     ensures exact { (n : nodes.Node) → Spells table named.DapAnswer octets.now n
         → Decodes (λ p. (p.0, heard p.1)) heard_in (Ok n) result }
@@ -77,9 +77,9 @@ pub fn decode_answer(alloc: Global, octets: &[u8]) -> Result<(u32, Reply), WireF
 /// The same, by the reader over the table of types.
 fn read_answer(alloc: Global, octets: &[u8]) -> Result<(u32, Reply), WireFault>
     // What the value says, or the breach, that reading comes to; and it comes to exactly one.
-    ensures decodes { (e : Result nodes.Node judged.Breach) → ComesTo named.DapAnswer octets.now e
+    ensures decodes { (e : Result nodes.Node octet_breaches.Breach) → ComesTo named.DapAnswer octets.now e
         → Decodes (λ p. (p.0, heard p.1)) heard_in e result }
-    ensures comes { (e : Result nodes.Node judged.Breach) × ComesTo named.DapAnswer octets.now e }
+    ensures comes { (e : Result nodes.Node octet_breaches.Breach) × ComesTo named.DapAnswer octets.now e }
     // Of octets that spell a value of the type it's what that says, and no other octets give a reply.
     ensures exact { (n : nodes.Node) → Spells table named.DapAnswer octets.now n
         → Decodes (λ p. (p.0, heard p.1)) heard_in (Ok n) result }

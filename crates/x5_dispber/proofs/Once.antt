@@ -6,7 +6,8 @@ use Rattle.x5_model_octets.specs.Faults.{outermost}
 use Rattle.x5_model_octets.proofs.ElementLaws.{Begins, spelled_once}
 use Rattle.x5_model_octets.proofs.FaultLaws.{spelled_no_fault}
 use Rattle.x5_model_typed.specs.Forms.{Layout}
-use Rattle.x5_model_typed.specs.Judged.{Breach, judged}
+use Rattle.x5_model_octets.specs.Breaches.{Breach}
+use Rattle.x5_model_typed.specs.Judged.{judged}
 use Rattle.x5_model_typed.specs.Named.{Named}
 use Rattle.x5_model_typed.specs.Nodes.{Node}
 use Rattle.x5_model_typed.specs.Trees.{Tree, Lies, plain}

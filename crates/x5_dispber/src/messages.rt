@@ -5,7 +5,7 @@ ghost use Rattle.x5_dispber.specs.ShadowViews.{told_refresh, told_shadow};
 ghost use Rattle.x5_model_messages.specs.Replies.{error_node, number_or_vacant, result_node};
 ghost use Rattle.x5_model_messages.specs.ShadowLaws.{IsShadow};
 ghost use Rattle.x5_model_messages.specs.Shadows as shadows;
-ghost use Rattle.x5_model_typed.specs.Judged as judged;
+ghost use Rattle.x5_model_octets.specs.Breaches as octet_breaches;
 ghost use Rattle.x5_model_typed.specs.Named as named;
 ghost use Rattle.x5_model_typed.specs.Nodes as nodes;
 ghost use Rattle.x5_model_typed.specs.Typed.{Spells};
@@ -188,9 +188,9 @@ fn decode_by_table(
     names: &AgentNames,
     octets: &[u8],
 ) -> Result<(u32, Shadow), WireFault>
-    ensures decodes { (e : Result nodes.Node judged.Breach) → Comes (world_table start.now names.now) named.DispMessage octets.now e
+    ensures decodes { (e : Result nodes.Node octet_breaches.Breach) → Comes (world_table start.now names.now) named.DispMessage octets.now e
         → Decodes (λ p. (p.0, told_shadow names.now p.1)) shadows.shadow_in e result }
-    ensures comes { (e : Result nodes.Node judged.Breach) × Comes (world_table start.now names.now) named.DispMessage octets.now e }
+    ensures comes { (e : Result nodes.Node octet_breaches.Breach) × Comes (world_table start.now names.now) named.DispMessage octets.now e }
     ensures spelled { IfOk result (λ p. (n : nodes.Node) × Spells (world_table start.now names.now) named.DispMessage octets.now n
         × ((p.0, told_shadow names.now p.1) ≡ shadows.shadow_in n)) }
 {
@@ -214,9 +214,9 @@ pub fn decode_shadow(
     octets: &[u8],
 ) -> Result<(u32, Shadow), WireFault>
     // What the value says, or the breach, that reading comes to; and it comes to exactly one.
-    ensures decodes { (e : Result nodes.Node judged.Breach) → Comes (world_table start.now names.now) named.DispMessage octets.now e
+    ensures decodes { (e : Result nodes.Node octet_breaches.Breach) → Comes (world_table start.now names.now) named.DispMessage octets.now e
         → Decodes (λ p. (p.0, told_shadow names.now p.1)) shadows.shadow_in e result }
-    ensures comes { (e : Result nodes.Node judged.Breach) × Comes (world_table start.now names.now) named.DispMessage octets.now e }
+    ensures comes { (e : Result nodes.Node octet_breaches.Breach) × Comes (world_table start.now names.now) named.DispMessage octets.now e }
     // Of octets that spell a value of the type it's what that says, and no other octets give a message.
     ensures exact { (n : nodes.Node) → Spells (world_table start.now names.now) named.DispMessage octets.now n
         → Decodes (λ p. (p.0, told_shadow names.now p.1)) shadows.shadow_in (Ok n) result }

@@ -8,7 +8,7 @@ ghost use Rattle.x5_dspber.specs.ChainedViews.{told_chained};
 ghost use Rattle.x5_model_messages.specs.Chained as chains;
 ghost use Rattle.x5_model_messages.specs.ChainedLaws.{IsChained};
 ghost use Rattle.x5_model_messages.specs.Replies as replies;
-ghost use Rattle.x5_model_typed.specs.Judged as judged;
+ghost use Rattle.x5_model_octets.specs.Breaches as octet_breaches;
 ghost use Rattle.x5_model_typed.specs.Named as named;
 ghost use Rattle.x5_model_typed.specs.Nodes as nodes;
 ghost use Rattle.x5_model_typed.specs.Typed.{Spells};
@@ -51,9 +51,9 @@ pub fn encode_chained(alloc: Global, id: u32, message: &Chained) -> Result<Octet
 
 /// What an agent's message says, read by the table of types, in whatever spelling.
 fn chained_by_table(alloc: Global, octets: &[u8]) -> Result<(u32, Chained), WireFault>
-    ensures decodes { (e : Result nodes.Node judged.Breach) → ComesTo named.DspRequest octets.now e
+    ensures decodes { (e : Result nodes.Node octet_breaches.Breach) → ComesTo named.DspRequest octets.now e
         → Decodes (λ p. (p.0, told_chained p.1)) chains.chained_in e result }
-    ensures comes { (e : Result nodes.Node judged.Breach) × ComesTo named.DspRequest octets.now e }
+    ensures comes { (e : Result nodes.Node octet_breaches.Breach) × ComesTo named.DspRequest octets.now e }
     ensures spelled { IfOk result (λ p. (n : nodes.Node) × Spells table named.DspRequest octets.now n
         × ((p.0, told_chained p.1) ≡ chains.chained_in n)) }
 {
@@ -68,9 +68,9 @@ fn chained_by_table(alloc: Global, octets: &[u8]) -> Result<(u32, Chained), Wire
 /// second. `Unrecognised` exactly where that is the code of an operation that agents don't have. Or that memory ran out.
 pub fn decode_chained(alloc: Global, octets: &[u8]) -> Result<(u32, Chained), WireFault>
     // What the value says, or the breach, that reading comes to; and it comes to exactly one.
-    ensures decodes { (e : Result nodes.Node judged.Breach) → ComesTo named.DspRequest octets.now e
+    ensures decodes { (e : Result nodes.Node octet_breaches.Breach) → ComesTo named.DspRequest octets.now e
         → Decodes (λ p. (p.0, told_chained p.1)) chains.chained_in e result }
-    ensures comes { (e : Result nodes.Node judged.Breach) × ComesTo named.DspRequest octets.now e }
+    ensures comes { (e : Result nodes.Node octet_breaches.Breach) × ComesTo named.DspRequest octets.now e }
     // Of octets that spell a value of the type it's what that says, and no other octets give a message.
     ensures exact { (n : nodes.Node) → Spells table named.DspRequest octets.now n
         → Decodes (λ p. (p.0, told_chained p.1)) chains.chained_in (Ok n) result }
@@ -116,9 +116,9 @@ pub fn encode_result(
 /// second. `Unrecognised` exactly where that is the code of an operation or error that agents don't have. Or that memory ran out.
 pub fn decode_result(alloc: Global, octets: &[u8]) -> Result<(u32, Reply), WireFault>
     // What the value says, or the breach, that reading comes to; and it comes to exactly one.
-    ensures decodes { (e : Result nodes.Node judged.Breach) → ComesTo named.DspAnswer octets.now e
+    ensures decodes { (e : Result nodes.Node octet_breaches.Breach) → ComesTo named.DspAnswer octets.now e
         → Decodes (λ p. (p.0, heard p.1)) heard_in e result }
-    ensures comes { (e : Result nodes.Node judged.Breach) × ComesTo named.DspAnswer octets.now e }
+    ensures comes { (e : Result nodes.Node octet_breaches.Breach) × ComesTo named.DspAnswer octets.now e }
     // Of octets that spell a value of the type it's what that says, and no other octets give a reply.
     ensures exact { (n : nodes.Node) → Spells table named.DspAnswer octets.now n
         → Decodes (λ p. (p.0, heard p.1)) heard_in (Ok n) result }
@@ -138,9 +138,9 @@ pub fn decode_result(alloc: Global, octets: &[u8]) -> Result<(u32, Reply), WireF
 /// The same, by the reader over the table of types.
 fn read_result(alloc: Global, octets: &[u8]) -> Result<(u32, Reply), WireFault>
     // What the value says, or the breach, that reading comes to; and it comes to exactly one.
-    ensures decodes { (e : Result nodes.Node judged.Breach) → ComesTo named.DspAnswer octets.now e
+    ensures decodes { (e : Result nodes.Node octet_breaches.Breach) → ComesTo named.DspAnswer octets.now e
         → Decodes (λ p. (p.0, heard p.1)) heard_in e result }
-    ensures comes { (e : Result nodes.Node judged.Breach) × ComesTo named.DspAnswer octets.now e }
+    ensures comes { (e : Result nodes.Node octet_breaches.Breach) × ComesTo named.DspAnswer octets.now e }
     // Of octets that spell a value of the type it's what that says, and no other octets give a reply.
     ensures exact { (n : nodes.Node) → Spells table named.DspAnswer octets.now n
         → Decodes (λ p. (p.0, heard p.1)) heard_in (Ok n) result }

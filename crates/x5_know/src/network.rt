@@ -5,7 +5,7 @@ use std::marker::Model;
 use x5_ops::{AgentId, AgentList, Listed};
 
 /// Two different agents, in either order.
-#[derive(Clone, Copy, Debug)]
+#[derive(Clone, Copy)]
 pub struct Pair {
     pub a: AgentId,
     pub b: AgentId,

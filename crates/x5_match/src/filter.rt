@@ -20,7 +20,7 @@ use std::marker::Model;
 use x5_syntax::{NoMemory, Normal, SyntaxFault, TypeId, TypeRef, Value, normal, normal_part};
 
 /// A type and a value (X.511, section 7.8.2). There is no normal form exactly where the type is unknown or the value isn't of its kind.
-#[derive(Debug, Drop)]
+#[derive(Drop)]
 pub struct Assertion {
     pub kind: TypeRef,
     pub value: Value,
@@ -66,7 +66,7 @@ impl Assertion {
 }
 
 /// Where a part of a substrings item stands in a value.
-#[derive(Clone, Copy, Debug, PartialEq, Eq)]
+#[derive(Clone, Copy, PartialEq, Eq)]
 pub enum PiecePlace {
     Initial,
     Any,
@@ -74,7 +74,7 @@ pub enum PiecePlace {
 }
 
 /// A part of a substrings item.
-#[derive(Debug, Drop)]
+#[derive(Drop)]
 pub struct Piece {
     pub place: PiecePlace,
     pub value: Value,
@@ -91,7 +91,7 @@ impl Model for Piece {
 }
 
 /// The parts of a substrings item, in their order.
-#[derive(Debug, Drop)]
+#[derive(Drop)]
 pub struct PieceList {
     pieces: Vec<Piece>,
 }
@@ -144,7 +144,7 @@ impl PieceList {
 
 /// A type and parts of a value (X.511, section 7.8.2). There are no normal forms exactly where the type is unknown, its kind
 /// has no substrings, or a part isn't of the kind.
-#[derive(Debug, Drop)]
+#[derive(Drop)]
 pub struct SubstringItem {
     pub kind: TypeRef,
     pub pieces: PieceList,
@@ -225,7 +225,7 @@ impl SubstringItem {
 }
 
 /// What is asserted of one type.
-#[derive(Debug, Drop)]
+#[derive(Drop)]
 pub enum Item {
     Equality(Assertion),
     Substrings(SubstringItem),
@@ -239,7 +239,7 @@ pub enum Item {
 pub type FilterList = Vec<Filter>;
 
 /// What an entry must meet to be selected.
-#[derive(Debug, Drop)]
+#[derive(Drop)]
 pub enum Filter {
     Item(Item),
     And(FilterList),

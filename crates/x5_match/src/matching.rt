@@ -17,7 +17,7 @@ use std::marker::Model;
 use x5_syntax::{NoMemory, Normal, TypeId};
 
 /// Normal forms of the parts in the middle of a substrings item, in their order.
-#[derive(Debug, Drop)]
+#[derive(Drop)]
 pub struct NormalList {
     normals: Vec<Normal>,
 }
@@ -68,7 +68,7 @@ impl Clone for NormalList {
 }
 
 /// The normal forms of the parts of a substrings item (X.511, section 7.8.2).
-#[derive(Debug, Drop)]
+#[derive(Drop)]
 pub struct Parts {
     pub initial: Option<Normal>,
     pub any: NormalList,

@@ -12,7 +12,7 @@ use Rattle.x5_model_run.specs.History.{Refreshed}
 use Rattle.x5_model_run.specs.Refresh.{ShadowOperation, RequestShadowUpdate, UpdateShadow, CoordinateShadowUpdate, ShadowLine}
 use Rattle.x5_model_run.specs.Run.{Protocol, Dap, Dsp, Raw}
 use Rattle.x5_model_octets.specs.Faults.{Fault, Truncated, BadLength, BadTag, BadContent, TooDeep}
-use Rattle.x5_model_typed.specs.Judged.{Breach, Ber, Unrecognised}
+use Rattle.x5_model_octets.specs.Breaches.{Breach, Ber, Unrecognised}
 use Rattle.x5_model_text.specs.NameText.{text_of_name, text_of_rdn, text_of_value}
 use Rattle.x5_model_text.specs.TypeText.{text_of_type}
 use Rattle.x5_model_output.specs.Output.{Names, operation_word, operation_words, progress_text, fate_word, kind_word, attribute_problem, attribute_problems, update_problem, update_problems, service_problem, service_problems, shadow_problem, shadow_problems, shadow_operation, mark, comma, sender_text, message_line, accepted_line, agents_text, rdn_below, exclusions_text, reference_text, attribute_line, attribute_lines, entry_lines, truth_word, match_line, sub_line, count_line, moment_text, source_line, unexplored_line, limit_line, after_reference, after_item, error_line, shadow_line, extent_word, refreshed_line, held_text, fault_word, fault_place, protocol_word, raw_line, reject_line, number_line}

@@ -1,3 +1,4 @@
 pub mod Headers
 pub mod Elements
 pub mod Faults
+pub mod Breaches

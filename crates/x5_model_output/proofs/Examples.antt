@@ -8,7 +8,7 @@ use Rattle.x5_model.specs.References.{Reference, Done as Completed, NonSpecific}
 use Rattle.x5_model.specs.Answers.{EntryInfo, EntryFound, Found, Answered, Failed, Referred}
 use Rattle.x5_model.specs.Answers.{NoSuchObject}
 use Rattle.x5_model_octets.specs.Faults.{Truncated}
-use Rattle.x5_model_typed.specs.Judged.{Ber, Unrecognised}
+use Rattle.x5_model_octets.specs.Breaches.{Ber, Unrecognised}
 use Rattle.x5_model_run.specs.Journal.{Journal}
 use Rattle.x5_model_run.specs.Network.{Sent, NoReply}
 use Rattle.x5_model_run.specs.Refresh as refresh

@@ -21,7 +21,7 @@ use Rattle.x5_model_tree.specs.Masters.{agent_at}
 use Rattle.x5_model_tree.specs.Consistent.{Printed, AgentPrinted, NamePrinted, AgreementPrinted, Inconsistency}
 use Rattle.x5_model_tree.specs.Consistent.{first_breach}
 use Rattle.x5_model_octets.specs.Faults.{Fault, Truncated, BadLength, BadTag, BadContent, TooDeep}
-use Rattle.x5_model_typed.specs.Judged.{Breach, Ber, Unrecognised}
+use Rattle.x5_model_octets.specs.Breaches.{Breach, Ber, Unrecognised}
 use Rattle.x5_model_run.specs.Network.{Fate, Lost, NoReply, Sent}
 use Rattle.x5_model_run.specs.Journal.{Line, Journal, depth, operation_of, is_wide}
 use Rattle.x5_model_run.specs.History.{Refreshed, Did}

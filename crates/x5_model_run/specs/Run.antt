@@ -8,7 +8,7 @@ use Rattle.x5_model.specs.Requests.{Request}
 use Rattle.x5_model.specs.References.{Chained}
 use Rattle.x5_model.specs.Answers.{Reply}
 use Rattle.x5_model_tree.specs.World.{World}
-use Rattle.x5_model_typed.specs.Judged.{Breach}
+use Rattle.x5_model_octets.specs.Breaches.{Breach}
 use Rattle.x5_model_run.specs.Network.{Outage, Fate, fate_of}
 use Rattle.x5_model_run.specs.Journal.{Journal}
 use Rattle.x5_model_run.specs.History.{Deed, Nothing, Outs, Loses, Accepts, Refreshes, Did}

@@ -12,7 +12,8 @@ use Rattle.x5_model_typed.specs.Nodes as nodes
 use Rattle.x5_model_typed.specs.Nodes.{Node, Nodes, Number, Many, list, row, both}
 use Rattle.x5_model_typed.specs.Named.{Named}
 use Rattle.x5_model_typed.specs.Forms.{Layout, Presence, Required, Default, Code, Alternative, Members, Sequence, Component, plain, alternatives, is_component}
-use Rattle.x5_model_typed.specs.Judged.{Breach, State, Awaited, Next, InPlace, judged, judged_all, judged_member, and_then, awaits, stepped, Step, sequence_awaits, unless_required, in_place, behind_code, left_behind, default_of, may_be_missing}
+use Rattle.x5_model_octets.specs.Breaches.{Breach}
+use Rattle.x5_model_typed.specs.Judged.{State, Awaited, Next, InPlace, judged, judged_all, judged_member, and_then, awaits, stepped, Step, sequence_awaits, unless_required, in_place, behind_code, left_behind, default_of, may_be_missing}
 use Rattle.x5_model_typed.specs.Typed as typed
 use Rattle.x5_model_typed.specs.Typed.{IsOf, AllOf, InOrder, Goes}
 

@@ -11,7 +11,8 @@ use Rattle.x5_model_typed.specs.Trees.{laid}
 use Rattle.x5_model_typed.specs.Nodes.{Node, Flag, Oid, Text, Chosen, Many, whole, row}
 use Rattle.x5_model_typed.specs.Named as named
 use Rattle.x5_model_typed.specs.Named.{Named, DapRequest}
-use Rattle.x5_model_typed.specs.Judged.{Breach, Ber, Unrecognised, judged}
+use Rattle.x5_model_octets.specs.Breaches.{Breach, Ber, Unrecognised}
+use Rattle.x5_model_typed.specs.Judged.{judged}
 use Rattle.x5_model_typed.specs.Layouts.{Surroundings, layout, no_controls, all_attributes}
 use Rattle.x5_model_typed.specs.Leaves.{cells}
 use Rattle.x5_model_typed.specs.Written.{canonical_octets}

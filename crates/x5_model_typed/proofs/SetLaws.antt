@@ -9,7 +9,8 @@ use Rattle.x5_model.specs.Words.{in_option}
 use Rattle.x5_model_typed.specs.Trees.{Tree, Trees, Bare, Row, place_of, class_of, tag_of}
 use Rattle.x5_model_typed.specs.Nodes.{Node, row}
 use Rattle.x5_model_typed.specs.Forms.{Layout, Presence, Required, Default, Code, Alternative, Set, Component, alternatives, is_component}
-use Rattle.x5_model_typed.specs.Judged.{Breach, State, Awaited, Step, InSlot, judged, judged_all, judged_member, and_then, awaits, stepped, set_awaits, default_of, may_be_missing, is_filled, all_filled, filled}
+use Rattle.x5_model_octets.specs.Breaches.{Breach}
+use Rattle.x5_model_typed.specs.Judged.{State, Awaited, Step, InSlot, judged, judged_all, judged_member, and_then, awaits, stepped, set_awaits, default_of, may_be_missing, is_filled, all_filled, filled}
 use Rattle.x5_model_typed.specs.Typed as typed
 use Rattle.x5_model_typed.specs.Typed.{IsOf, InAnyOrder, IsMissing, Among}
 use Rattle.x5_model_typed.proofs.Laws.{came, default_is, AreSound}

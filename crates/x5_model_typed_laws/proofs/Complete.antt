@@ -14,7 +14,8 @@ use Rattle.x5_model_typed.specs.Trees.{Tree, Trees, Leaf, Branch, Bare, Row, pla
 use Rattle.x5_model_typed.specs.Nodes.{Node, Nodes, Many, list, row}
 use Rattle.x5_model_typed.specs.Named.{Named}
 use Rattle.x5_model_typed.specs.Forms.{Layout, Presence, Required, Default, Code, Alternative, Component, Content, Explicit, by_tag, alternatives, is_component}
-use Rattle.x5_model_typed.specs.Judged.{Breach, State, Awaited, Next, InPlace, judged, judged_all, judged_member, and_then, wrong_tag, or_wrong, stepped, settled, ended, begun, marked, leaf_node, sequence_awaits, unless_required, in_place, behind_code, left_behind, default_of, may_be_missing, some_many}
+use Rattle.x5_model_octets.specs.Breaches.{Breach}
+use Rattle.x5_model_typed.specs.Judged.{State, Awaited, Next, InPlace, judged, judged_all, judged_member, and_then, wrong_tag, or_wrong, stepped, settled, ended, begun, marked, leaf_node, sequence_awaits, unless_required, in_place, behind_code, left_behind, default_of, may_be_missing, some_many}
 use Rattle.x5_model_typed.specs.Typed as typed
 use Rattle.x5_model_typed.specs.Typed.{IsOf, Holds, AllOf, InOrder, InAnyOrder, Goes, IsPassed}
 use Rattle.x5_model_typed.proofs.Laws.{Skipped, in_sequence, default_is}

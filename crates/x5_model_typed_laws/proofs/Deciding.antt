@@ -5,7 +5,8 @@ use Rattle.std.specs.declared.result.Result.TheVariants.{Ok, Err}
 use Rattle.x5_model_typed.specs.Trees.{Tree}
 use Rattle.x5_model_typed.specs.Nodes.{Node}
 use Rattle.x5_model_typed.specs.Forms.{Alternative, Layout}
-use Rattle.x5_model_typed.specs.Judged.{Breach, judged}
+use Rattle.x5_model_octets.specs.Breaches.{Breach}
+use Rattle.x5_model_typed.specs.Judged.{judged}
 use Rattle.x5_model_typed.specs.Typed.{IsOf}
 use Rattle.x5_model_typed.proofs.Soundness.{judged_is}
 use Rattle.x5_model_typed_laws.specs.Complete.{IsJudged, JudgedDecides}

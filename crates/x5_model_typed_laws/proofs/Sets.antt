@@ -9,7 +9,8 @@ use Rattle.x5_model.specs.Words.{in_option}
 use Rattle.x5_model_typed.specs.Trees.{Tree, Trees, Bare, Row, place_of, class_of, tag_of}
 use Rattle.x5_model_typed.specs.Nodes.{Node}
 use Rattle.x5_model_typed.specs.Forms.{Layout, Default, Component, alternatives, is_component}
-use Rattle.x5_model_typed.specs.Judged.{Breach, State, Awaited, InSlot, judged, judged_all, and_then, wrong_content, stepped, set_awaits, may_be_missing, all_filled, filled}
+use Rattle.x5_model_octets.specs.Breaches.{Breach}
+use Rattle.x5_model_typed.specs.Judged.{State, Awaited, InSlot, judged, judged_all, and_then, wrong_content, stepped, set_awaits, may_be_missing, all_filled, filled}
 use Rattle.x5_model_typed.specs.Typed as typed
 use Rattle.x5_model_typed.specs.Typed.{IsMissing, Among}
 use Rattle.x5_model_typed.proofs.Laws.{default_is}

@@ -11,7 +11,8 @@ use Rattle.x5_model_typed.specs.Trees.{Tree, Trees, Leaf, Branch, Bare, Row, pla
 use Rattle.x5_model_typed.specs.Nodes.{Node, Octets, Bits}
 use Rattle.x5_model_typed.specs.Forms as forms
 use Rattle.x5_model_typed.specs.Forms.{Layout, Alternative, Component, Joined, JoinedBits, by_tag, universal}
-use Rattle.x5_model_typed.specs.Judged.{Breach, State, Awaited, Next, judged, judged_all, judged_member, and_then, wrong_tag, wrong_content, stepped, settled, ended, begun, segment, octets_leaf, bit_segment, bits_leaf, bits_of_content, leaf_node, joined, joined_bits, is_ragged, last_node}
+use Rattle.x5_model_octets.specs.Breaches.{Breach}
+use Rattle.x5_model_typed.specs.Judged.{State, Awaited, Next, judged, judged_all, judged_member, and_then, wrong_tag, wrong_content, stepped, settled, ended, begun, segment, octets_leaf, bit_segment, bits_leaf, bits_of_content, leaf_node, joined, joined_bits, is_ragged, last_node}
 use Rattle.x5_model_typed.specs.Typed.{OctetsOf, SegmentsOf, BitsOf, BitSegmentsOf}
 use Rattle.x5_model_typed.proofs.StringLaws.{within_string, joined_more}
 use Rattle.x5_model_typed.proofs.BitLaws.{within_bits, bits_more, last_is}

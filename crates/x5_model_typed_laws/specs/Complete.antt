@@ -4,7 +4,8 @@ use Rattle.std.specs.declared.result.Result.TheVariants.{Ok, Err}
 use Rattle.x5_model_typed.specs.Trees.{Tree}
 use Rattle.x5_model_typed.specs.Nodes.{Node}
 use Rattle.x5_model_typed.specs.Forms.{Alternative, Layout}
-use Rattle.x5_model_typed.specs.Judged.{Breach, judged}
+use Rattle.x5_model_octets.specs.Breaches.{Breach}
+use Rattle.x5_model_typed.specs.Judged.{judged}
 use Rattle.x5_model_typed.specs.Typed.{IsOf}
 
 -- Wherever an element is a value of a type, it is judged to be that value.

@@ -47,7 +47,7 @@ impl Model for KeyRdn {
 }
 
 /// The key of a name: the keys of its RDNs from the root, which it shares with the name.
-#[derive(Debug, Drop)]
+#[derive(Drop)]
 pub struct Key {
     rdns: Rdns,
 }

@@ -9,7 +9,7 @@ use std::rc::Rc;
 use x5_syntax::NoMemory;
 
 /// The RDNs of a name from the root; where there are none, no memory is taken.
-#[derive(Debug, Drop)]
+#[derive(Drop)]
 pub(crate) struct Rdns {
     list: Option<Rc<Vec<Rdn>>>,
 }

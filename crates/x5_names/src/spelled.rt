@@ -19,7 +19,7 @@ use std::slice::from_ref;
 use x5_syntax::{NameFault, NameValue, NoMemory, Normal, RdnValue, Text, TypeId, text_normal};
 
 /// A pair of an RDN: a type, the text of a value as it's spelled, and its normal form.
-#[derive(Debug, Drop)]
+#[derive(Drop)]
 pub struct Pair {
     kind: TypeId,
     text: Text,
@@ -35,14 +35,14 @@ impl Model for Pair {
 }
 
 /// The pairs of an RDN: nearly all have one, which then needs no list.
-#[derive(Debug, Drop)]
+#[derive(Drop)]
 enum Pairs {
     One(Rc<Pair>),
     Many(Rc<Vec<Pair>>),
 }
 
 /// An RDN: its pairs in the order of type numbers, which its copies share.
-#[derive(Debug, Drop)]
+#[derive(Drop)]
 pub struct Rdn {
     pairs: Pairs,
 }
@@ -57,7 +57,7 @@ impl Model for Rdn {
 }
 
 /// A name from the root, with its key.
-#[derive(Debug, Drop)]
+#[derive(Drop)]
 pub struct Name {
     rdns: Rdns,
     key: Key,

@@ -17,7 +17,7 @@ pub const MOST_AGENTS: usize = 64;
 pub const MOST_NAME_OCTETS: usize = 32;
 
 /// An agent, by its place among the world's agents, from 0.
-#[derive(Clone, Copy, Debug, PartialEq, Eq)]
+#[derive(Clone, Copy, PartialEq, Eq)]
 pub struct AgentId(pub u8);
 
 impl Model for AgentId {
@@ -34,7 +34,7 @@ impl Model for AgentId {
 pub type AgentList = Listed<AgentId>;
 
 /// The name of an agent, which messages carry.
-#[derive(Debug, Drop)]
+#[derive(Drop)]
 pub struct AgentName {
     text: Text,
 }

@@ -92,7 +92,7 @@ pub enum Answer {
 
 /// An error (X.511, section 12), with the number of its problem; a name error is noSuchObject, with the longest part of the
 /// name that is an entry.
-#[derive(Debug, Drop)]
+#[derive(Drop)]
 pub enum DirError {
     Name {
         matched: Name,

@@ -8,7 +8,7 @@ use std::marker::Model;
 use x5_memory::NoMemory;
 
 /// Members in their order.
-#[derive(Debug, Drop)]
+#[derive(Drop)]
 pub struct Listed<T> {
     members: Vec<T>,
 }

@@ -12,7 +12,7 @@ use std::alloc::{AllocError, Global};
 use x5_names::{Name, Rdn};
 
 /// How far a name is resolved (X.518, section 10.5): not at all, all RDNs before the k-th, counted from 1, or whole.
-#[derive(Clone, Copy, Debug, PartialEq, Eq)]
+#[derive(Clone, Copy, PartialEq, Eq)]
 pub enum Progress {
     NotStarted,
     Proceeding(u8),
@@ -34,7 +34,7 @@ impl Progress {
 }
 
 /// Kinds of knowledge references (X.501, section 22); `Own` is the one by which a user asks an agent.
-#[derive(Clone, Copy, Debug, PartialEq, Eq)]
+#[derive(Clone, Copy, PartialEq, Eq)]
 pub enum RefType {
     Superior,
     Subordinate,
@@ -84,7 +84,7 @@ impl RefType {
 
 /// An item of trace information (X.518, section 10.6): an agent, and the message that it received; `wide` marks a message
 /// of the type nonSpecific.
-#[derive(Debug, Drop)]
+#[derive(Drop)]
 pub struct TraceItem {
     pub agent: AgentName,
     pub target: Name,
@@ -96,7 +96,7 @@ pub struct TraceItem {
 pub type Trace = Listed<TraceItem>;
 
 /// An agent that a reference names; `copy` says that it has a copy of the context, and isn't its master.
-#[derive(Debug, Drop)]
+#[derive(Drop)]
 pub struct AccessPoint {
     pub agent: AgentName,
     pub copy: bool,
@@ -110,7 +110,7 @@ pub type RdnList = Listed<Rdn>;
 
 /// A continuation reference (X.518, section 10.9); `tried` says that its agents were asked in vain. The entries below the
 /// target by the RDNs of `exclusions` are left out.
-#[derive(Debug, Drop)]
+#[derive(Drop)]
 pub struct Reference {
     pub target: Name,
     pub progress: Progress,

@@ -77,7 +77,7 @@ impl fmt::Debug for Text {
 }
 
 /// Octets, of a value of the kind octets or resolved from a text.
-#[derive(Debug, Drop)]
+#[derive(Drop)]
 pub struct Octets {
     octets: Vec<u8>,
 }
@@ -233,13 +233,5 @@ impl Clone for Normal {
             Kept::Apart(octets) => Kept::Apart(octets.clone()?),
         };
         Ok(Normal { kept })
-    }
-}
-
-impl fmt::Debug for Normal {
-    fn fmt<W: fmt::Write>(&self, f: &mut fmt::Formatter<W>) -> fmt::Result {
-        f.debug_struct("Normal")
-            .field("octets", &self.as_slice())
-            .finish()
     }
 }

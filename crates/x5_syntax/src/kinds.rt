@@ -48,7 +48,7 @@ impl Kind {
 }
 
 /// A type of the table, by its number below 2.5.4.
-#[derive(Clone, Copy, Debug)]
+#[derive(Clone, Copy)]
 pub struct TypeId(pub u8);
 
 impl Model for TypeId {
@@ -214,7 +214,7 @@ impl TypeId {
 }
 
 /// An attribute type: one of the table, or any other object identifier.
-#[derive(Debug, Drop)]
+#[derive(Drop)]
 pub enum TypeRef {
     Known(TypeId),
     Unknown(Oid),

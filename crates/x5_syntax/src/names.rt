@@ -233,7 +233,7 @@ fn rdn_at(
 }
 
 /// The pairs of an RDN, as they are written.
-#[derive(Debug, Drop)]
+#[derive(Drop)]
 pub struct RdnValue {
     pairs: Vec<(TypeId, Text)>,
 }
@@ -247,7 +247,7 @@ impl Model for RdnValue {
 }
 
 /// A name as it is written, where it's the value of a type: RDNs from the root. Nothing says that it keeps to the limits.
-#[derive(Debug, Drop)]
+#[derive(Drop)]
 pub struct NameValue {
     rdns: Vec<RdnValue>,
 }

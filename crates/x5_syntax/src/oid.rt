@@ -15,7 +15,7 @@ use std::marker::Model;
 use x5_memory::NoMemory;
 
 /// An object identifier: two arcs or more, the first below 3, and the second below 40 where the first is below 2.
-#[derive(Debug, Drop)]
+#[derive(Drop)]
 pub struct Oid {
     arcs: Vec<u32>,
 }

@@ -23,7 +23,7 @@ use thiserror::Error;
 use x5_memory::NoMemory;
 
 /// A value as it is written, by its form and not by its type.
-#[derive(Debug, Drop)]
+#[derive(Drop)]
 pub enum Value {
     Text(Text),
     Octets(Octets),

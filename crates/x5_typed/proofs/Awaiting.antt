@@ -9,6 +9,7 @@ use Rattle.std.specs.declared.result.Result.TheVariants.{Ok, Err}
 use Rattle.x5_model_typed.specs.Forms as forms
 use Rattle.x5_model_typed.specs.Nodes as nodes
 use Rattle.x5_model_typed.specs.Named as named
+use Rattle.x5_model_octets.specs.Breaches as octet_breaches
 use Rattle.x5_model_typed.specs.Judged as judged
 use Rattle.x5_model_typed.specs.Layouts.{Surroundings, layout}
 use Rattle.x5_types.specs.declared.form.Alternative.{Alternative}
@@ -44,7 +45,7 @@ component_is w class tag c choices r b types found e =
 -- ---- in a SEQUENCE
 
 abbrev Outcome : Type 0 → Type 0
-Outcome X = Result X judged.Breach
+Outcome X = Result X octet_breaches.Breach
 
 passed : (p : forms.Presence) (tag : Option ℕ) (form : named.Named) (r : Outcome judged.Awaited) (at : ℕ)
     → judged.may_be_missing (record { tag = tag; form = form; presence = p }) ≡ true → judged.unless_required p r at ≡ r

@@ -14,6 +14,7 @@ use Rattle.x5_model_typed.specs.Trees.{Tree, Trees, Leaf, Lies}
 use Rattle.x5_model_typed.specs.Nodes as nodes
 use Rattle.x5_model_typed.specs.Forms as forms
 use Rattle.x5_model_typed.specs.Forms.{Layout}
+use Rattle.x5_model_octets.specs.Breaches as octet_breaches
 use Rattle.x5_model_typed.specs.Judged as judged
 use Rattle.x5_model_typed.specs.Judged.{judged_all, judged_member, State}
 use Rattle.x5_typed.specs.declared.fault.Breach.{Breach}
@@ -54,7 +55,7 @@ piece_wrong table bytes depth at head types t octets end w r l s e form ends is 
     let same = piece_same table bytes at head t octets (leaf_is bytes depth at head t octets l s e form) types end
     (take (end - head.content) (drop head.content bytes)) ends refl in
     let known : Gives {X = Node} (λ m n. node_view m ≡ n) (judged.judged table types t) (Err w) =
-    subst (λ (q : Result nodes.Node judged.Breach). Gives {X = Node} (λ m n. node_view m ≡ n) q (Err w)) (sym same.0)
+    subst (λ (q : Result nodes.Node octet_breaches.Breach). Gives {X = Node} (λ m n. node_view m ≡ n) q (Err w)) (sym same.0)
     g in
     subst (λ (x : Result (Node × ℕ) ReadFault). Gives (ReadTo (at + length octets)) (judged.judged table types t) x)
     (sym is)
@@ -73,7 +74,7 @@ piece_read table bytes depth at head types t octets end node l s e form ends g =
     let same = piece_same table bytes at head t octets (leaf_is bytes depth at head t octets l s e form) types end
     (take (end - head.content) (drop head.content bytes)) ends refl in
     let known : Gives {X = Node} (λ m n. node_view m ≡ n) (judged.judged table types t) (Ok node) =
-    subst (λ (q : Result nodes.Node judged.Breach). Gives {X = Node} (λ m n. node_view m ≡ n) q (Ok node))
+    subst (λ (q : Result nodes.Node octet_breaches.Breach). Gives {X = Node} (λ m n. node_view m ≡ n) q (Ok node))
     (sym same.0) g in
     gives_is (λ (m : Node) (n : nodes.Node). node_view m ≡ n) (ReadTo (at + length octets))
     (judged.judged table types t) node (node, end) (λ n h. (h, same.1)) known
@@ -117,7 +118,7 @@ pub step_is_wrong : (table : Layout) (new s : State) (t : Tree) (at next : ℕ) 
 step_is_wrong table new s t at next head a m w r h e g k is =
     let to = steps_to table s t at next head a m h e g in
     let known : Gives {X = Unit {0}} (λ _ u. new ≡ u) (judged_member table s t) (Err w) =
-    subst (λ (q : Result State judged.Breach). Gives {X = Unit {0}} (λ _ u. new ≡ u) q (Err w)) (sym to.0) k in
+    subst (λ (q : Result State octet_breaches.Breach). Gives {X = Unit {0}} (λ _ u. new ≡ u) q (Err w)) (sym to.0) k in
     subst (λ (x : Result ℕ ReadFault). Gives (GoesTo new next) (judged_member table s t) x) (sym is)
     (gives_more {X = Unit {0}} (λ _ u. new ≡ u) (GoesTo new next) (judged_member table s t) w known)
 
@@ -130,7 +131,7 @@ pub member_done : (table : Layout) (new s : State) (t : Tree) (at next : ℕ) (h
 member_done table new s t at next head a m u h e g k =
     let to = steps_to table s t at next head a m h e g in
     let known : Gives {X = Unit {0}} (λ _ u. new ≡ u) (judged_member table s t) (Ok u) =
-    subst (λ (q : Result State judged.Breach). Gives {X = Unit {0}} (λ _ u. new ≡ u) q (Ok u)) (sym to.0) k in
+    subst (λ (q : Result State octet_breaches.Breach). Gives {X = Unit {0}} (λ _ u. new ≡ u) q (Ok u)) (sym to.0) k in
     gives_is {X = Unit {0}} (λ _ u. new ≡ u) (GoesTo new next) (judged_member table s t) u m.1 (λ y h'. (h', to.1))
     known
 
@@ -139,7 +140,7 @@ member_done table new s t at next head a m u h e g k =
 pub open_untagged : (table : Layout) (types : List forms.Alternative) (bytes : List ℕ) (depth at : ℕ) (head : Head) (t : Tree)
     (octets : List ℕ) (b : BranchIs bytes depth at head t octets) (c : Breach)
     → forms.by_tag head.identifier.class head.identifier.tag types ≡ None
-    → breach_view c ≡ judged.Ber (octet_faults.BadTag at)
+    → breach_view c ≡ octet_breaches.Ber (octet_faults.BadTag at)
     → Gives (ReadTo (at + length octets)) (judged.judged table types t) (Err (faults.Breach c))
 open_untagged table types bytes depth at head t octets b c none is =
     subst (λ (u : Tree). Gives (ReadTo (at + length octets)) (judged.judged table types u) (Err (faults.Breach c)))
@@ -162,7 +163,7 @@ open_wrong table types a bytes depth at head t octets b next w r tagged g is =
     (judged_all table (judged.begun at a.content) b.members) tagged refl in
     subst (λ (x : Result (Node × ℕ) ReadFault). Gives (ReadTo (at + length octets)) (judged.judged table types t) x)
     (sym is)
-    (subst (λ (q : Result nodes.Node judged.Breach). Gives (ReadTo (at + length octets)) q (Err w)) (sym whole)
+    (subst (λ (q : Result nodes.Node octet_breaches.Breach). Gives (ReadTo (at + length octets)) q (Err w)) (sym whole)
     (gives_err (ContentTo next) (ReadTo (at + length octets)) (λ (s : State). judged.settled at a (judged.ended s))
     (judged_all table (judged.begun at a.content) b.members) w g))
 
@@ -190,7 +191,7 @@ settled_wrong table types a bytes depth at head t octets b next m w r tagged g k
     let to = settles_to table types a bytes depth at head t octets b next m tagged g in
     subst (λ (x : Result (Node × ℕ) ReadFault). Gives (ReadTo (at + length octets)) (judged.judged table types t) x)
     (sym is)
-    (subst (λ (q : Result nodes.Node judged.Breach). Gives (ReadTo (at + length octets)) q (Err w)) (sym to.0)
+    (subst (λ (q : Result nodes.Node octet_breaches.Breach). Gives (ReadTo (at + length octets)) q (Err w)) (sym to.0)
     (gives_more (λ (m : Node) (n : nodes.Node). node_view m ≡ n) (ReadTo (at + length octets))
     (judged.settled at a (option_view m.0)) w k))
 
@@ -203,7 +204,7 @@ pub open_done : (table : Layout) (types : List forms.Alternative) (a : forms.Alt
     → Gives (ReadTo (at + length octets)) (judged.judged table types t) (Ok (node, m.1))
 open_done table types a bytes depth at head t octets b next m node tagged is g k =
     let to = settles_to table types a bytes depth at head t octets b next m tagged g in
-    subst (λ (q : Result nodes.Node judged.Breach). Gives (ReadTo (at + length octets)) q (Ok (node, m.1))) (sym to.0)
+    subst (λ (q : Result nodes.Node octet_breaches.Breach). Gives (ReadTo (at + length octets)) q (Ok (node, m.1))) (sym to.0)
     (gives_is (λ (m : Node) (n : nodes.Node). node_view m ≡ n) (ReadTo (at + length octets))
     (judged.settled at a (option_view m.0)) node (node, m.1) (λ n h. (h, to.1 ∙ is)) k)
 

@@ -18,7 +18,8 @@ use Rattle.x5_model_typed.specs.Nodes as nodes
 use Rattle.x5_model_typed.specs.Forms as forms
 use Rattle.x5_model_typed.specs.Forms.{Layout}
 use Rattle.x5_model_typed.specs.Judged as judged
-use Rattle.x5_model_typed.specs.Judged.{Breach, and_then, judged_all, judged_member, State}
+use Rattle.x5_model_octets.specs.Breaches.{Breach}
+use Rattle.x5_model_typed.specs.Judged.{and_then, judged_all, judged_member, State}
 use Rattle.x5_typed.specs.declared.fault.ReadFault.{ReadFault}
 use Rattle.x5_typed.specs.declared.fault.ReadFault.TheVariants as faults
 use Rattle.x5_typed.specs.Ahead.{Ahead}

@@ -16,6 +16,7 @@ use Rattle.x5_model_typed.specs.Trees.{Tree, Trees, Leaf, Branch, Bare, Row, Lie
 use Rattle.x5_model_typed.specs.Nodes as nodes
 use Rattle.x5_model_typed.specs.Named.{Named}
 use Rattle.x5_model_typed.specs.Forms.{Layout}
+use Rattle.x5_model_octets.specs.Breaches as octet_breaches
 use Rattle.x5_model_typed.specs.Judged as judged
 use Rattle.x5_model_typed.proofs.Places.{lies_spells}
 use Rattle.x5_typed.specs.declared.fault.Breach.{Breach}
@@ -66,11 +67,11 @@ all_stand octets = front_stands octets octets [] (sym (append-nil octets))
 -- Where there is a first fault.
 pub faulty_comes : (table : Layout) (form : Named) (octets : List ℕ) (fault : BerFault)
     → FirstFault octets outermost 0 (fault_view fault)
-    → ((e : Element) (s : List ℕ) → Spells 1 e s → Stands octets 0 s → ⊥) → (r : Result nodes.Node judged.Breach)
+    → ((e : Element) (s : List ℕ) → Spells 1 e s → Stands octets 0 s → ⊥) → (r : Result nodes.Node octet_breaches.Breach)
     → Comes table form octets r
     → Gives {X = Node} (λ m n. node_view m ≡ n) r (Err (faults.Breach (Ber fault)))
 faulty_comes table form octets fault is none r (faulty other that) =
-    ap (λ (f : octet_faults.Fault). judged.Ber f) (one_first_fault octets outermost 0 (fault_view fault) other is that)
+    ap (λ (f : octet_faults.Fault). octet_breaches.Ber f) (one_first_fault octets outermost 0 (fault_view fault) other is that)
 faulty_comes table form octets fault is none r (more tree first rest o l e) =
     absurd (none (plain tree) first (lies_spells 1 0 tree first l) (front_stands octets first (o ∷ rest) e))
 faulty_comes table form octets fault is none r (whole tree l) =
@@ -78,10 +79,10 @@ faulty_comes table form octets fault is none r (whole tree l) =
 
 -- Where an element stands with octets behind it.
 pub more_comes : (table : Layout) (form : Named) (octets : List ℕ) (next : ℕ) (b : Breach) → next < length octets
-    → breach_view b ≡ judged.Ber (octet_faults.BadTag next)
+    → breach_view b ≡ octet_breaches.Ber (octet_faults.BadTag next)
     → ((f : octet_faults.Fault) → FirstFault octets outermost 0 f → ⊥)
     → ((e : Element) (s : List ℕ) → Spells 1 e s → Stands octets 0 s → next ≡ 0 + length s)
-    → (r : Result nodes.Node judged.Breach) → Comes table form octets r
+    → (r : Result nodes.Node octet_breaches.Breach) → Comes table form octets r
     → Gives {X = Node} (λ m n. node_view m ≡ n) r (Err (faults.Breach b))
 more_comes table form octets next b less is none only r (faulty other that) = absurd (none other that)
 more_comes table form octets next b less is none only r (more tree first rest o l e) =
@@ -90,19 +91,19 @@ more_comes table form octets next b less is none only r (more tree first rest o 
       only (plain tree) first (lies_spells 1 0 tree first l)
           (front_stands octets first (o ∷ rest) e),
     ) in
-    is ∙ ap (λ (n : ℕ). judged.Ber (octet_faults.BadTag n)) same
+    is ∙ ap (λ (n : ℕ). octet_breaches.Ber (octet_faults.BadTag n)) same
 more_comes table form octets next b less is none only r (whole tree l) =
     absurd (omega (arith, less, only (plain tree) octets (lies_spells 1 0 tree octets l) (all_stand octets)))
 
 pub comes_more : (table : Layout) (form : Named) (octets : List ℕ) (next : ℕ) (e : Element) (s : List ℕ) → next < length octets
     → Spells 1 e s → Stands octets 0 s → next ≡ 0 + length s
-    → (r : Result nodes.Node judged.Breach) × Comes table form octets r
+    → (r : Result nodes.Node octet_breaches.Breach) × Comes table form octets r
 comes_more table form octets next e s less p stand is = by (drop (0 + length s) octets) stand.split
   where
-    by : (rest : List ℕ) → octets ≡ s ++ rest → (r : Result nodes.Node judged.Breach) × Comes table form octets r
+    by : (rest : List ℕ) → octets ≡ s ++ rest → (r : Result nodes.Node octet_breaches.Breach) × Comes table form octets r
     by [] e' = absurd (omega (arith, less, is, ap length e', length-append s []))
     by (o ∷ rest) e' = (
-      Err (judged.Ber (octet_faults.BadTag (length s))),
+      Err (octet_breaches.Ber (octet_faults.BadTag (length s))),
       more (placed 1 0 e s p).0 s rest o
           (placed 1 0 e s p).1 e',
     )
@@ -112,7 +113,7 @@ pub whole_comes : (table : Layout) (form : Named) (octets : List ℕ) (next : �
     → ((f : octet_faults.Fault) → FirstFault octets outermost 0 f → ⊥)
     → ((e : Element) (s : List ℕ) → Spells 1 e s → Stands octets 0 s → next ≡ 0 + length s)
     → ((t : Tree) → Lies 1 0 t octets → Gives (λ m n. node_view m ≡ n) (judged.judged table (table form) t) result)
-    → (r : Result nodes.Node judged.Breach) → Comes table form octets r → Gives (λ m n. node_view m ≡ n) r result
+    → (r : Result nodes.Node octet_breaches.Breach) → Comes table form octets r → Gives (λ m n. node_view m ≡ n) r result
 whole_comes table form octets next result full none only read r (faulty other that) = absurd (none other that)
 whole_comes table form octets next result full none only read r (more tree first rest o l e) =
     absurd (omega (

@@ -8,7 +8,8 @@ use Rattle.x5_model_typed.specs.Trees.{Tree, Lies}
 use Rattle.x5_model_typed.specs.Nodes.{Node}
 use Rattle.x5_model_typed.specs.Named.{Named}
 use Rattle.x5_model_typed.specs.Forms.{Layout}
-use Rattle.x5_model_typed.specs.Judged.{Breach, Ber, judged}
+use Rattle.x5_model_octets.specs.Breaches.{Breach, Ber}
+use Rattle.x5_model_typed.specs.Judged.{judged}
 use Rattle.x5_types.specs.FormView.{table}
 
 pub data Comes (layout : Layout) (form : Named) (octets : List ℕ) : Result Node Breach → Type 0 where

@@ -7,6 +7,7 @@ use Rattle.std.specs.declared.result.Result.TheVariants.{Ok}
 use Rattle.x5_model_typed.specs.Nodes as nodes
 use Rattle.x5_model_typed.specs.Forms as forms
 use Rattle.x5_model_typed.specs.Layouts.{Surroundings}
+use Rattle.x5_model_octets.specs.Breaches as octet_breaches
 use Rattle.x5_model_typed.specs.Judged as judged
 use Rattle.x5_types.specs.FormView.{named_view, content_view, components_view, choices_view}
 use Rattle.x5_types.specs.NodeView.{node_view, option_view}
@@ -43,7 +44,7 @@ state_view w s = record {
 }
 
 -- What is awaited in a bit string.
-abbrev pub awaits_bits : judged.State → Result judged.Awaited judged.Breach
+abbrev pub awaits_bits : judged.State → Result judged.Awaited octet_breaches.Breach
 awaits_bits s =
     if judged.is_ragged (judged.last_node s.nodes) then judged.wrong_content s.last else Ok
     (record { types = judged.bit_segment; step = judged.Next })

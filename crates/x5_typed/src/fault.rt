@@ -1,7 +1,7 @@
 //! Breaches of types, and want of memory.
 ghost use Rattle.std.specs.Prelude.{◌≡◌};
 ghost use Rattle.x5_model_octets.specs.Faults as faults;
-ghost use Rattle.x5_model_typed.specs.Judged as judged;
+ghost use Rattle.x5_model_octets.specs.Breaches as octet_breaches;
 ghost use Rattle.x5_typed.specs.Breaches.{breach_view};
 ghost use Rattle.x5_typed.specs.declared.fault.ReadFault.TheVariants.{NoMemory as NoMemoryFault, Breach as BreachFault};
 
@@ -66,14 +66,14 @@ impl From<Breach> for ReadFault {
 
 /// A tag that isn't expected, at the place.
 pub(crate) fn wrong_tag(at: usize) -> Breach
-    ensures { breach_view result ≡ judged.Ber (faults.BadTag at) }
+    ensures { breach_view result ≡ octet_breaches.Ber (faults.BadTag at) }
 {
     Breach::Ber(BerFault::BadTag(at))
 }
 
 /// A content outside its type, of the element at the place.
 pub(crate) fn wrong_content(at: usize) -> Breach
-    ensures { breach_view result ≡ judged.Ber (faults.BadContent at) }
+    ensures { breach_view result ≡ octet_breaches.Ber (faults.BadContent at) }
 {
     Breach::Ber(BerFault::BadContent(at))
 }

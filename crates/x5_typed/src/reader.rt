@@ -5,6 +5,7 @@ ghost use Rattle.x5_model_octets.specs.Faults as faults;
 ghost use Rattle.x5_model_octets.specs.Faults.{begins_with_end, head_at, outermost};
 ghost use Rattle.x5_ber.specs.Views.{head_view};
 ghost use Rattle.x5_ber.specs.Reading.{Stands};
+ghost use Rattle.x5_model_octets.specs.Breaches as octet_breaches;
 ghost use Rattle.x5_model_typed.specs.Judged as judged;
 ghost use Rattle.x5_model_typed.specs.Layouts as layouts;
 ghost use Rattle.x5_model_typed.specs.Nodes as nodes;
@@ -288,9 +289,9 @@ pub fn read_in<'a>(
     octets: &'a [u8],
 ) -> Result<Node<'a>, ReadFault>
     // The value or the breach is the one that reading comes to, and it comes to exactly one.
-    ensures reads { (e : Result nodes.Node judged.Breach) → Comes (table_in surroundings.entry) (named_view form) octets.now e
+    ensures reads { (e : Result nodes.Node octet_breaches.Breach) → Comes (table_in surroundings.entry) (named_view form) octets.now e
         → Gives (λ m n. node_view m ≡ n) e result }
-    ensures comes { (e : Result nodes.Node judged.Breach) × Comes (table_in surroundings.entry) (named_view form) octets.now e }
+    ensures comes { (e : Result nodes.Node octet_breaches.Breach) × Comes (table_in surroundings.entry) (named_view form) octets.now e }
     // A value is spelled by the octets.
     ensures spelled { IfOk result (λ m. Spells (table_in surroundings.entry) (named_view form) octets.now (node_view m)) }
 {
@@ -324,8 +325,8 @@ fn read_whole<'a>(
 /// memory ran out.
 pub fn read<'a>(alloc: Global, form: Named, octets: &'a [u8]) -> Result<Node<'a>, ReadFault>
     // The value or the breach is the one that reading comes to, and it comes to exactly one.
-    ensures reads { (e : Result nodes.Node judged.Breach) → ComesTo (named_view form) octets.now e → Gives (λ m n. node_view m ≡ n) e result }
-    ensures comes { (e : Result nodes.Node judged.Breach) × ComesTo (named_view form) octets.now e }
+    ensures reads { (e : Result nodes.Node octet_breaches.Breach) → ComesTo (named_view form) octets.now e → Gives (λ m n. node_view m ≡ n) e result }
+    ensures comes { (e : Result nodes.Node octet_breaches.Breach) × ComesTo (named_view form) octets.now e }
     // A value is spelled by the octets.
     ensures spelled { IfOk result (λ m. Spells table (named_view form) octets.now (node_view m)) }
 {

@@ -21,7 +21,7 @@ use Rattle.x5_model_run.specs.Chain.{opening}
 use Rattle.x5_model_run.specs.History.{Point}
 use Rattle.x5_model_run.specs.Network.{fate_of}
 use Rattle.x5_model_run.specs.Run.{Protocol, Dap, Dsp}
-use Rattle.x5_model_typed.specs.Judged.{Breach, Ber, Unrecognised}
+use Rattle.x5_model_octets.specs.Breaches.{Breach, Ber, Unrecognised}
 use Rattle.x5_model_typed.specs.Named as named
 use Rattle.x5_model_typed.specs.Nodes.{Node}
 use Rattle.x5_model_typed.specs.Typed.{Spells}

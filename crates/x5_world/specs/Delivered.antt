@@ -12,7 +12,7 @@ use Rattle.x5_model_messages.specs.Requests.{request_in}
 use Rattle.x5_model_run.specs.Chain.{opening}
 use Rattle.x5_model_run.specs.History.{Point}
 use Rattle.x5_model_run.specs.Run.{Protocol, Dap, Dsp, Hands, Rejected as Told, raw_to, did_by}
-use Rattle.x5_model_typed.specs.Judged.{Breach}
+use Rattle.x5_model_octets.specs.Breaches.{Breach}
 use Rattle.x5_model_typed.specs.Named.{Named, DapRequest, DspRequest}
 use Rattle.x5_model_typed.specs.Nodes.{Node}
 use Rattle.x5_ops.specs.AgentNames.{agent_of}

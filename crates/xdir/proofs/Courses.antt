@@ -20,7 +20,7 @@ use Rattle.x5_model_script.specs.Lines.{Asked}
 use Rattle.x5_model_script.specs.Lines as script
 use Rattle.x5_model_settled.specs.Settled.{HasAgent}
 use Rattle.x5_model_settled.specs.Runs.{IsAskable}
-use Rattle.x5_model_typed.specs.Judged.{Breach}
+use Rattle.x5_model_octets.specs.Breaches.{Breach}
 use Rattle.x5_model_run.specs.Run as model
 use Rattle.x5_model_tree.specs.Consistent.{first_breach, IsConsistent}
 use Rattle.x5_model_world.specs.WorldFile.{File}

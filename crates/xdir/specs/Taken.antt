@@ -10,7 +10,7 @@ use Rattle.x5_model_run.specs.Run as run
 use Rattle.x5_model_script.specs.Lines.{Asked, Delivers}
 use Rattle.x5_model_script.specs.Lines as lines
 use Rattle.x5_model_tree.specs.World.{World}
-use Rattle.x5_model_typed.specs.Judged.{Breach}
+use Rattle.x5_model_octets.specs.Breaches.{Breach}
 use Rattle.x5_ops.specs.JournalViews.{protocol_view}
 use Rattle.x5_ops.specs.RequestViews.{request_view}
 use Rattle.x5_script.specs.declared.command.Command.{Command}

@@ -7,7 +7,7 @@ use Rattle.std.specs.declared.result.Result.TheVariants.{Ok}
 use Rattle.x5_model.specs.Requests as model
 use Rattle.x5_model_messages.specs.Requests.{request_in, request_node}
 use Rattle.x5_model_messages.proofs.Requests.{requests_back}
-use Rattle.x5_model_typed.specs.Judged as judged
+use Rattle.x5_model_octets.specs.Breaches as octet_breaches
 use Rattle.x5_model_typed.specs.Named as named
 use Rattle.x5_model_typed.specs.Nodes.{Node}
 use Rattle.x5_model_typed.specs.Typed.{Spells}
@@ -33,10 +33,10 @@ seen p = (p.0, request_view p.1)
 abbrev Says : List ℕ → ℕ × Request → Type 0
 Says octets p = (n : Node) × Spells table named.DapRequest octets n × (seen p ≡ request_in n)
 
-said_decodes : (octets : List ℕ) (p : ℕ × Request) → Says octets p → (e : Result Node judged.Breach)
+said_decodes : (octets : List ℕ) (p : ℕ × Request) → Says octets p → (e : Result Node octet_breaches.Breach)
     → ComesTo named.DapRequest octets e → Decodes seen request_in e (Ok p)
 said_decodes octets p s e comes =
-    subst (λ (r : Result Node judged.Breach). Decodes seen request_in r (Ok p))
+    subst (λ (r : Result Node octet_breaches.Breach). Decodes seen request_in r (Ok p))
     (sym (comes_only named.DapRequest octets s.0 s.1 e comes)) s.2
 
 said_short : (octets : List ℕ) → list_all is_octet octets ≡ true → (p : ℕ × Request) → Says octets p

@@ -6,7 +6,7 @@ use Rattle.x5_model_messages.specs.ShadowLaws.{IsShadow}
 use Rattle.x5_model_messages.specs.Shadows as shadows
 use Rattle.x5_model_messages.specs.Shadows.{shadow_in, shadow_node}
 use Rattle.x5_model_messages.proofs.Shadows.{shadow_back}
-use Rattle.x5_model_typed.specs.Judged.{Breach}
+use Rattle.x5_model_octets.specs.Breaches.{Breach}
 use Rattle.x5_model_typed.specs.Named as named
 use Rattle.x5_model_typed.specs.Nodes.{Node}
 use Rattle.x5_model_typed.specs.Typed.{Spells}

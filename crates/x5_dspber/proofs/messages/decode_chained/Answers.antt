@@ -7,7 +7,7 @@ use Rattle.std.specs.declared.result.Result.TheVariants.{Ok}
 use Rattle.x5_model_messages.specs.Chained as chains
 use Rattle.x5_model_messages.specs.Chained.{chained_in, chained_node}
 use Rattle.x5_model_messages.proofs.Chained.{chained_back}
-use Rattle.x5_model_typed.specs.Judged as judged
+use Rattle.x5_model_octets.specs.Breaches as octet_breaches
 use Rattle.x5_model_typed.specs.Named as named
 use Rattle.x5_model_typed.specs.Nodes.{Node}
 use Rattle.x5_model_typed.specs.Typed.{Spells}
@@ -34,10 +34,10 @@ seen p = (p.0, told_chained p.1)
 abbrev Says : List ℕ → ℕ × Chained → Type 0
 Says octets p = (n : Node) × Spells table named.DspRequest octets n × (seen p ≡ chained_in n)
 
-said_decodes : (octets : List ℕ) (p : ℕ × Chained) → Says octets p → (e : Result Node judged.Breach)
+said_decodes : (octets : List ℕ) (p : ℕ × Chained) → Says octets p → (e : Result Node octet_breaches.Breach)
     → ComesTo named.DspRequest octets e → Decodes seen chained_in e (Ok p)
 said_decodes octets p s e comes =
-    subst (λ (r : Result Node judged.Breach). Decodes seen chained_in r (Ok p))
+    subst (λ (r : Result Node octet_breaches.Breach). Decodes seen chained_in r (Ok p))
     (sym (comes_only named.DspRequest octets s.0 s.1 e comes)) s.2
 
 said_short : (octets : List ℕ) → list_all is_octet octets ≡ true → (p : ℕ × Chained) → Says octets p

@@ -2,6 +2,7 @@
 use Rattle.std.proofs.Common.{◌++◌}
 use Rattle.x5_ber.specs.Views.{fault_view}
 use Rattle.std.specs.declared.result.Result.TheVariants.{Err}
+use Rattle.x5_model_octets.specs.Breaches as octet_breaches
 use Rattle.x5_model_typed.specs.Judged as judged
 use Rattle.x5_typed.specs.Comes.{faulty, whole}
 use Rattle.x5_types.specs.FormView.{named_view, table_in}
@@ -14,7 +15,7 @@ returns-in-Err-clause-reads c = λ r k. faulty_comes (table_in c.args.surroundin
 
 pub returns-in-Err-clause-comes : goal.returns-in-Err-clause-comes
 returns-in-Err-clause-comes c = (
-  Err (judged.Ber (fault_view c.in-Err.fault)),
+  Err (octet_breaches.Ber (fault_view c.in-Err.fault)),
   faulty (fault_view c.in-Err.fault)
       c.in-Err.ensures.fault,
 )

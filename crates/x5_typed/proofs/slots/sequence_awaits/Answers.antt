@@ -4,6 +4,7 @@ use Rattle.std.proofs.lemmas.List.{drop_all}
 use Rattle.std.specs.declared.result.Result.{Result}
 use Rattle.std.specs.declared.result.Result.TheVariants.{Ok, Err}
 use Rattle.x5_model_typed.specs.Forms as forms
+use Rattle.x5_model_octets.specs.Breaches as octet_breaches
 use Rattle.x5_model_typed.specs.Judged as judged
 use Rattle.x5_model_typed.specs.Layouts.{layout}
 use Rattle.x5_types.specs.FormView.{component_view}
@@ -20,7 +21,7 @@ returns-then-is_some-clause-awaits c = λ w.
     sym (c.loop-i.invariant w)
     ∙ ap (judged.sequence_awaits (layout w) c.args.at c.args.class c.args.tag c.loop-i.i) c.component-component.ensures
     ∙ sequence_found (layout w) c.args.at c.args.class c.args.tag c.loop-i.i cv rest here
-    ∙ ap (λ (types : List forms.Alternative). let r : Result judged.Awaited judged.Breach = Ok (record { types = types; step = judged.InPlace c.loop-i.i }) in r)
+    ∙ ap (λ (types : List forms.Alternative). let r : Result judged.Awaited octet_breaches.Breach = Ok (record { types = types; step = judged.InPlace c.loop-i.i }) in r)
     (sym (c.choices-choices.ensures w))
 
 pub returns-then-not-may_be_missing-clause-awaits : goal.returns-then-not-may_be_missing-clause-awaits
@@ -33,7 +34,7 @@ returns-then-not-may_be_missing-clause-awaits c = λ w.
     ∙ ap (judged.sequence_awaits (layout w) c.args.at c.args.class c.args.tag c.loop-i.i) c.component-component.ensures
     ∙ sequence_ends (layout w) c.args.at c.args.class c.args.tag c.loop-i.i cv rest here
     (sym c.may_be_missing.ensures ∙ c.if-not-may_be_missing.true)
-    ∙ ap (λ (b : judged.Breach). let r : Result judged.Awaited judged.Breach = Err b in r) (sym c.wrong_tag.ensures)
+    ∙ ap (λ (b : octet_breaches.Breach). let r : Result judged.Awaited octet_breaches.Breach = Err b in r) (sym c.wrong_tag.ensures)
 
 pub loop-i-preserved : goal.loop-i-preserved
 loop-i-preserved c = λ w.
@@ -51,4 +52,4 @@ returns-clause-awaits c = λ w.
     sym (c.loop-i.invariant w)
     ∙ ap (judged.sequence_awaits (layout w) c.args.at c.args.class c.args.tag c.loop-i.i)
     (drop_all c.loop-i.i (left_view c.args.left.now) (omega (arith, c.loop-i-test.false, c.len-i-end.ensures)))
-    ∙ ap (λ (b : judged.Breach). let r : Result judged.Awaited judged.Breach = Err b in r) (sym c.wrong_tag-2.ensures)
+    ∙ ap (λ (b : octet_breaches.Breach). let r : Result judged.Awaited octet_breaches.Breach = Err b in r) (sym c.wrong_tag-2.ensures)

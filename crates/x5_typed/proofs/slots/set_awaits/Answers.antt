@@ -4,6 +4,7 @@ use Rattle.std.proofs.lemmas.List.{drop_all}
 use Rattle.std.specs.declared.result.Result.{Result}
 use Rattle.std.specs.declared.result.Result.TheVariants.{Ok, Err}
 use Rattle.x5_model_typed.specs.Forms as forms
+use Rattle.x5_model_octets.specs.Breaches as octet_breaches
 use Rattle.x5_model_typed.specs.Judged as judged
 use Rattle.x5_model_typed.specs.Layouts.{layout}
 use Rattle.x5_types.specs.FormView.{component_view}
@@ -22,7 +23,7 @@ returns-then-taken-clause-awaits c = λ w.
     sym (c.loop-i.invariant w)
     ∙ ap (λ (cs : List forms.Component). judged.set_awaits (layout w) c.args.at c.args.class c.args.tag c.loop-i.i cs (drop c.loop-i.i slots)) c.component.ensures
     ∙ slot_taken (layout w) c.args.at c.args.class c.args.tag c.loop-i.i cv rest slots here c.if-taken.ensures
-    ∙ ap (λ (b : judged.Breach). let r : Result judged.Awaited judged.Breach = Err b in r) (sym c.wrong_content.ensures)
+    ∙ ap (λ (b : octet_breaches.Breach). let r : Result judged.Awaited octet_breaches.Breach = Err b in r) (sym c.wrong_content.ensures)
 
 pub returns-then-is_some-clause-awaits : goal.returns-then-is_some-clause-awaits
 returns-then-is_some-clause-awaits c = λ w.
@@ -34,7 +35,7 @@ returns-then-is_some-clause-awaits c = λ w.
     sym (c.loop-i.invariant w)
     ∙ ap (λ (cs : List forms.Component). judged.set_awaits (layout w) c.args.at c.args.class c.args.tag c.loop-i.i cs (drop c.loop-i.i slots)) c.component.ensures
     ∙ slot_free (layout w) c.args.at c.args.class c.args.tag c.loop-i.i cv rest slots here c.if-taken.ensures
-    ∙ ap (λ (types : List forms.Alternative). let r : Result judged.Awaited judged.Breach = Ok (record { types = types; step = judged.InSlot c.loop-i.i }) in r)
+    ∙ ap (λ (types : List forms.Alternative). let r : Result judged.Awaited octet_breaches.Breach = Ok (record { types = types; step = judged.InSlot c.loop-i.i }) in r)
     (sym (c.choices-choices.ensures w))
 
 pub loop-i-preserved : goal.loop-i-preserved
@@ -55,4 +56,4 @@ returns-clause-awaits c = λ w.
     sym (c.loop-i.invariant w)
     ∙ ap (λ (cs : List forms.Component). judged.set_awaits (layout w) c.args.at c.args.class c.args.tag c.loop-i.i cs (drop c.loop-i.i slots))
     (drop_all c.loop-i.i (left_view c.args.left.now) (omega (arith, c.loop-i-test.false, c.len-i-end.ensures)))
-    ∙ ap (λ (b : judged.Breach). let r : Result judged.Awaited judged.Breach = Err b in r) (sym c.wrong_tag.ensures)
+    ∙ ap (λ (b : octet_breaches.Breach). let r : Result judged.Awaited octet_breaches.Breach = Err b in r) (sym c.wrong_tag.ensures)
