@@ -1,5 +1,5 @@
 -- What is read of a value of JSON (RFC 8259), member by member, or the first breach with its path.
-use Rattle.std.specs.Prelude.{ℕ, Bool, not, ◌==◌, nat_le, nat_lt, if◌then◌else◌, List, [], ◌∷◌, Option, Some, None}
+use Rattle.std.specs.Prelude.{ℕ, Bool, not, ◌||◌, ◌==◌, nat_le, nat_lt, if◌then◌else◌, List, [], ◌∷◌, Option, Some, None}
 use Rattle.std.specs.Prelude.{option_and_then, Result, Ok, Err, codes}
 use Rattle.std.specs.List.{concat, flat_map}
 use Rattle.std.specs.Fmt.{decimal}
@@ -10,8 +10,9 @@ use Rattle.serde_json.specs.Events.{items_len}
 use Rattle.serde_json.specs.Find.{get, as_str, as_array, as_object, as_number, as_u64}
 use Rattle.x5_model.specs.Words.{has, same_octets, is_empty}
 use Rattle.x5_model.specs.Values.{Text, Name}
-use Rattle.x5_model.specs.Normal.{stored}
+use Rattle.x5_model.specs.Normal.{stored, is_control}
 use Rattle.x5_model_text.specs.NameText.{NameFault, name_of_text}
+use Rattle.x5_model_text.specs.ValueText as value_text
 use Rattle.x5_model_tree.specs.Described.{is_number}
 
 -- What can be wrong, each with its path: something isn't as it must be; a text is no name; a list or a value passes
@@ -40,9 +41,17 @@ at path name = concat (path ∷ codes "/" ∷ name ∷ [])
 abbrev pub nth : Text → ℕ → Text
 nth path i = concat (path ∷ codes "/" ∷ decimal i ∷ [])
 
+-- a character that no path shows as it is, so that a path never prints a line of its own: a control character, or a
+-- backslash. It's spelled as in the text of a value.
+abbrev pub is_hidden : ℕ → Bool
+is_hidden c = is_control c || (c == 92)
+
+abbrev pub shown_char : ℕ → Text
+shown_char c = if is_hidden c then value_text.escaped (encode_utf8 c) else encode_utf8 c
+
 -- in a member's name `~` is spelled `~0`, and `/` is spelled `~1`
 abbrev pub escaped_char : ℕ → Text
-escaped_char c = if c == 126 then codes "~0" else (if c == 47 then codes "~1" else encode_utf8 c)
+escaped_char c = if c == 126 then codes "~0" else (if c == 47 then codes "~1" else shown_char c)
 
 abbrev pub escaped : Text → Text
 escaped name = flat_map escaped_char (chars name)

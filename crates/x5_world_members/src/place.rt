@@ -1,14 +1,16 @@
 //! Places in a file, and faults there.
 
+ghost use Rattle.std.specs.Char.{encode_utf8};
 ghost use Rattle.std.specs.Prelude.{◌≡◌, ◌++◌, IfOk, OnOk, Err, string_bytes};
 ghost use Rattle.x5_model_tree.specs.World.{World};
 ghost use Rattle.x5_world_members.specs.Paths.{path_of};
+ghost use Rattle.x5_model_text.specs.ValueText as value_text;
 ghost use Rattle.x5_model_world.specs.Reading as model;
 ghost use Rattle.x5_world_members.specs.Views.{Fails};
 
 use crate::fault::LoadFault;
 use std::alloc::{AllocError, Global};
-use x5_syntax::Text;
+use x5_syntax::{NoMemory, Text, escape};
 
 /// A place in a file: the whole, a member of an object, or a member of a list.
 #[derive(Clone, Copy)]
@@ -25,24 +27,51 @@ fn member_path(alloc: Global, object: &str, name: &str) -> Result<String, AllocE
     format!(in alloc; "{object}/{name}")
 }
 
+/// Whether no path shows the character as it is: a control character, or a backslash.
+fn is_hidden(c: char) -> bool
+    ensures { result ≡ model.is_hidden c }
+{
+    let number = c as u32;
+    number < 32 || number == 127 || number == 92
+}
+
+/// The text of a character that no path shows as it is.
+fn hidden_text(alloc: Global, c: char) -> Result<Text, NoMemory>
+    ensures { IfOk result (λ text. text ≡ value_text.escaped (encode_utf8 c)) }
+{
+    let mut octets = [0; 4];
+    escape(alloc, c.encode_utf8(&mut octets))
+}
+
+/// Adds a character as a path shows it.
+fn push_shown(alloc: Global, text: &mut String, c: char) -> Result<(), NoMemory>
+    ensures { OnOk result (string_bytes text.new ≡ string_bytes text.old ++ model.shown_char c) }
+{
+    if !is_hidden(c) {
+        return Ok(text.push(c)?);
+    }
+    let hidden = hidden_text(alloc, c)?;
+    Ok(text.push_str(hidden.as_str())?)
+}
+
 /// Adds a character of a member's name as it stands in a path.
-fn push_escaped(text: &mut String, c: char) -> Result<(), AllocError>
+fn push_escaped(alloc: Global, text: &mut String, c: char) -> Result<(), NoMemory>
     ensures { OnOk result (string_bytes text.new ≡ string_bytes text.old ++ model.escaped_char c) }
 {
     match c {
-        '~' => text.push_str("~0"),
-        '/' => text.push_str("~1"),
-        _ => text.push(c),
+        '~' => Ok(text.push_str("~0")?),
+        '/' => Ok(text.push_str("~1")?),
+        _ => push_shown(alloc, text, c),
     }
 }
 
 /// A member's name as it stands in a path.
-fn escaped(alloc: Global, name: &str) -> Result<String, AllocError>
+fn escaped(alloc: Global, name: &str) -> Result<String, NoMemory>
     ensures { IfOk result (λ s. string_bytes s ≡ model.escaped name.now) }
 {
     let mut text = String::new(alloc);
     for c in name.chars() {
-        push_escaped(&mut text, c)?;
+        push_escaped(alloc, &mut text, c)?;
     }
     Ok(text)
 }
@@ -133,11 +162,11 @@ impl<'a> Place<'a> {
     }
 
     /// The path of a member of any name.
-    fn unlisted_path(&self, alloc: Global, name: &str) -> Result<String, AllocError>
+    fn unlisted_path(&self, alloc: Global, name: &str) -> Result<String, NoMemory>
         ensures { IfOk result (λ s. string_bytes s ≡ model.at (path_of self.now) (model.escaped name.now)) }
     {
         let object = self.path(alloc)?;
         let name = escaped(alloc, name)?;
-        member_path(alloc, object.as_str(), name.as_str())
+        Ok(member_path(alloc, object.as_str(), name.as_str())?)
     }
 }
