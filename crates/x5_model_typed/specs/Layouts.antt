@@ -18,13 +18,20 @@ use Rattle.x5_model_typed.specs.Named.{Qualifier, AttributeError, NameError, Ser
 use Rattle.x5_model_typed.specs.Named.{Agreement, ShadowArgument, UpdateArgument, Refresh, Total, Entries, Entry}
 use Rattle.x5_model_typed.specs.Named.{Knowns, Known, NonSpecifics, NonSpecific, WorldAgents, WorldAgent}
 use Rattle.x5_model_typed.specs.Named.{WorldAgentName, Steps, Step, Renamed}
+use Rattle.x5_model_typed.specs.Named.{LdapMessage, LdapResponse, LdapOperation, LdapAnswer, LdapString, LdapTagged}
+use Rattle.x5_model_typed.specs.Named.{LdapTaggedFlag, LdapStrings, LdapValues, LdapSomeValues, LdapAttribute}
+use Rattle.x5_model_typed.specs.Named.{LdapShown, LdapNewAttribute, LdapNewAttributes, LdapChange, LdapChanges}
+use Rattle.x5_model_typed.specs.Named.{LdapAssertion, LdapFilter, LdapPiece, LdapPieces, LdapAuthentication}
+use Rattle.x5_model_typed.specs.Named.{LdapControl, LdapControls}
 use Rattle.x5_model_typed.specs.Forms.{Leaf, Component, Primitive, Joined, JoinedBits, Explicit, Sequence, Set, Members}
-use Rattle.x5_model_typed.specs.Forms.{Never, Alternative, Layout, universal, choice, ruled, plain, at, or, code}
+use Rattle.x5_model_typed.specs.Forms.{Never, Alternative, Layout, universal, context, choice, ruled, plain, at, or}
+use Rattle.x5_model_typed.specs.Forms.{code, any_node, Content}
 use Rattle.x5_model_typed.specs.Leaves.{boolean, null, number, any_number, from_to, one_of, oid, any_oid, short_oid}
-use Rattle.x5_model_typed.specs.Leaves.{octet_string, text_where, text_of, is_numeric, is_seven_bit, universal_string}
-use Rattle.x5_model_typed.specs.Leaves.{is_agent_name, options, options_node, where_so}
+use Rattle.x5_model_typed.specs.Leaves.{octet_string, any_octets, placed, text_where, text_of, is_numeric}
+use Rattle.x5_model_typed.specs.Leaves.{is_seven_bit, universal_string, is_agent_name, options, options_node, where_so}
 use Rattle.x5_model_typed.specs.Rules.{name_rule, rdn_rule, pair_rule, some_members, controls_rule, text_rule}
-use Rattle.x5_model_typed.specs.Rules.{parts_rule, progress_rule, trace_rule, entry_rule, known_rule, masters_rule}
+use Rattle.x5_model_typed.specs.Rules.{parts_rule, pieces_rule, progress_rule, trace_rule, entry_rule, known_rule}
+use Rattle.x5_model_typed.specs.Rules.{masters_rule}
 
 -- What shadow messages are read and written with: the moments that times are, the times of the moments that have one,
 -- and the world's agents.
@@ -167,6 +174,68 @@ time_leaf w = record { reads = λ octets. moment_node (w.moment octets); writes 
     writes (Number (pos m)) = w.time m
     writes n = None
 
+-- ---- messages of LDAP (RFC 4511, section 4 and appendix B: implicit tags, definite lengths, strings in one piece)
+
+-- one of several, by its application tag; one whose values no other has needs no mark
+abbrev pub application : Bool → ℕ → Content → Alternative
+application marked tag content = record { class = 1; tag = tag; content = content; marked = marked; settles = any_node }
+
+abbrev pub string : Content
+string = Primitive any_octets
+
+-- MessageID, and the limits of a search
+abbrev pub count : Component
+count = plain (NumberBelow 0 2147483647)
+
+abbrev pub assertion : List Component
+assertion = plain LdapString ∷ plain LdapString ∷ []
+
+-- a part of a substrings item: initial, any or final by its tag
+abbrev pub piece : ℕ → Alternative
+piece tag = context tag (Primitive (placed tag))
+
+-- what users ask
+abbrev pub ldap_operations : List Alternative
+ldap_operations =
+    application true 0 (Sequence (plain (NumberBelow 1 127) ∷ plain LdapString ∷ plain LdapAuthentication ∷ []))
+    ∷ application false 2 (Primitive null)
+    ∷ application true 3 (Sequence (plain LdapString ∷ plain (Enumeration 0 2) ∷ plain (Enumeration 0 3) ∷ count ∷ count
+    ∷ plain Boolean ∷ plain LdapFilter ∷ plain LdapStrings ∷ []))
+    ∷ application true 6 (Sequence (plain LdapString ∷ plain LdapChanges ∷ []))
+    ∷ application true 8 (Sequence (plain LdapString ∷ plain LdapNewAttributes ∷ []))
+    ∷ application false 10 string
+    ∷ application true 12 (Sequence (plain LdapString ∷ plain LdapString ∷ plain Boolean
+    ∷ optional (plain (LdapTagged 0)) ∷ []))
+    ∷ application true 14 (Sequence (plain LdapString ∷ plain LdapAssertion ∷ []))
+    ∷ application false 16 (Primitive (number (from_to 0 2147483647)))
+    ∷ application true 23 (Sequence (plain (LdapTagged 0) ∷ optional (plain (LdapTagged 1)) ∷ []))
+    ∷ []
+
+-- LDAPResult: a code, the matched name and a text
+abbrev pub ldap_result : ℕ → Alternative
+ldap_result tag = application true tag (Sequence (plain (Enumeration 0 80) ∷ plain LdapString ∷ plain LdapString ∷ []))
+
+-- what they are answered
+abbrev pub ldap_answers : List Alternative
+ldap_answers =
+    ldap_result 1 ∷ application true 4 (Sequence (plain LdapString ∷ plain LdapShown ∷ [])) ∷ ldap_result 5
+    ∷ ldap_result 7 ∷ ldap_result 9 ∷ ldap_result 11 ∷ ldap_result 13 ∷ ldap_result 15 ∷ ldap_result 24 ∷ []
+
+abbrev pub ldap_filter : List Alternative
+ldap_filter =
+    ruled some_members (choice 0 (Members LdapFilter))
+    ∷ ruled some_members (choice 1 (Members LdapFilter))
+    ∷ choice 2 (Explicit LdapFilter)
+    ∷ choice 3 (Sequence assertion)
+    ∷ choice 4 (Sequence (plain LdapString ∷ plain LdapPieces ∷ []))
+    ∷ choice 5 (Sequence assertion)
+    ∷ choice 6 (Sequence assertion)
+    ∷ context 7 string
+    ∷ choice 8 (Sequence assertion)
+    ∷ choice 9 (Sequence (optional (plain (LdapTagged 1)) ∷ optional (plain (LdapTagged 2)) ∷ plain (LdapTagged 3)
+    ∷ or (Flag false) (plain (LdapTaggedFlag 4)) ∷ []))
+    ∷ []
+
 -- ---- the table
 
 abbrev pub layout : Surroundings → Layout
@@ -279,3 +348,28 @@ layout w Steps = is (sequence_of Step)
 layout w Step =
     choice 0 (Explicit Entry) ∷ choice 1 (Explicit Name) ∷ choice 2 (Explicit Entry) ∷ choice 3 (Explicit Renamed) ∷ []
 layout w Renamed = is (sequence (plain Name ∷ plain Entry ∷ []))
+layout w LdapMessage = is (sequence (count ∷ plain LdapOperation ∷ or_nothing (plain LdapControls) ∷ []))
+layout w LdapResponse = is (sequence (count ∷ plain LdapAnswer ∷ []))
+layout w LdapOperation = ldap_operations
+layout w LdapAnswer = ldap_answers
+layout w LdapString = is (universal 4 string)
+layout w (LdapTagged tag) = is (context tag string)
+layout w (LdapTaggedFlag tag) = is (context tag (Primitive boolean))
+layout w LdapStrings = is (sequence_of LdapString)
+layout w LdapValues = is (set_of LdapString)
+layout w LdapSomeValues = is (ruled some_members (set_of LdapString))
+layout w LdapAttribute = is (sequence (plain LdapString ∷ plain LdapValues ∷ []))
+layout w LdapShown = is (sequence_of LdapAttribute)
+layout w LdapNewAttribute = is (sequence (plain LdapString ∷ plain LdapSomeValues ∷ []))
+layout w LdapNewAttributes = is (sequence_of LdapNewAttribute)
+layout w LdapChange = is (sequence (plain (Enumeration 0 2) ∷ plain LdapAttribute ∷ []))
+layout w LdapChanges = is (sequence_of LdapChange)
+layout w LdapAssertion = is (sequence assertion)
+layout w LdapFilter = ldap_filter
+layout w LdapPiece = piece 0 ∷ piece 1 ∷ piece 2 ∷ []
+layout w LdapPieces = is (ruled pieces_rule (sequence_of LdapPiece))
+layout w LdapAuthentication =
+    context 0 string ∷ context 3 (Sequence (plain LdapString ∷ optional (plain LdapString) ∷ [])) ∷ []
+layout w LdapControl =
+    is (sequence (plain LdapString ∷ or (Flag false) (plain Boolean) ∷ optional (plain LdapString) ∷ []))
+layout w LdapControls = is (context 0 (Members LdapControl))

@@ -11,7 +11,7 @@ use Rattle.x5_model.specs.Words.{in_option, same_octets}
 use Rattle.x5_model.specs.Normal.{is_oid, most_octets, oid_content_len}
 use Rattle.x5_model_octets.specs.Headers.{big_endian}
 use Rattle.x5_model_octets.specs.Elements.{groups, without_zeros}
-use Rattle.x5_model_typed.specs.Nodes.{Node, Vacant, Flag, Number, Oid, Octets, Text, Many, row, parts}
+use Rattle.x5_model_typed.specs.Nodes.{Node, Vacant, Flag, Number, Oid, Octets, Text, Many, row, parts, whole}
 use Rattle.x5_model_typed.specs.Forms.{Leaf}
 
 abbrev pub where_so : {X : Type 0} → Bool → X → Option X
@@ -153,6 +153,31 @@ octet_string =
     writes : Node → Option (List ℕ)
     writes (Octets octets) = where_so (nat_le (length octets) most_octets) octets
     writes n = None
+
+-- of whatever length
+abbrev pub any_octets : Leaf (List ℕ)
+any_octets = record { reads = λ octets. Some (Octets octets); writes = writes }
+  where
+    writes : Node → Option (List ℕ)
+    writes (Octets octets) = Some octets
+    writes n = None
+
+-- so, with a number before them
+abbrev pub is_place : ℕ → Node → Bool
+is_place place (Number (pos k)) = k == place
+is_place place n = false
+
+abbrev pub octets_in : Node → Option (List ℕ)
+octets_in (Octets octets) = Some octets
+octets_in n = None
+
+abbrev pub placed : ℕ → Leaf (List ℕ)
+placed place =
+    record { reads = λ octets. Some (Many (row (whole place ∷ Octets octets ∷ []))); writes = λ n. by (parts n) }
+  where
+    by : List Node → Option (List ℕ)
+    by (p ∷ q ∷ []) = if is_place place p then octets_in q else None
+    by other = None
 
 abbrev pub is_length : List ℕ → Bool
 is_length text = nat_lt 0 (length text) && nat_le (length text) most_octets

@@ -123,6 +123,22 @@ in_their_places (p ∷ q ∷ ps) = not (is_final p) && not (is_initial q) && in_
 abbrev pub parts_rule : Node → Option Node
 parts_rule = where_test (λ n. not (is_empty (parts n)) && in_their_places (parts n))
 
+-- the same of parts that have their places before them (RFC 4511, section 4.5.1.7.2)
+abbrev pub place_in : Node → ℕ
+place_in p = by (parts p)
+  where
+    by : List Node → ℕ
+    by (Number (pos k) ∷ octets ∷ []) = k
+    by other = 1
+
+abbrev pub in_line : List Node → Bool
+in_line [] = true
+in_line (p ∷ []) = true
+in_line (p ∷ q ∷ ps) = not (place_in p == 2) && not (place_in q == 0) && in_line (q ∷ ps)
+
+abbrev pub pieces_rule : Node → Option Node
+pieces_rule = where_test (λ n. not (is_empty (parts n)) && in_line (parts n))
+
 -- ---- distributed operation
 
 -- the next RDN is there exactly in phase 2

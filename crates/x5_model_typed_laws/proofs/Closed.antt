@@ -1,6 +1,8 @@
 -- The table of messages is closed, type by type: the rule of each type keeps what was read, or what it makes of it fits
 -- and is kept.
-use Rattle.std.proofs.Common.{◌≡◌, ℕ, Bool, true, false, not, ◌&&◌, ◌||◌, ◌==◌, if◌then◌else◌, cond, Option, List, [], ◌∷◌, ◌-◌, length, refl, sym, ap, ◌∙◌}
+use Rattle.std.specs.Prelude.{ℤ}
+use Rattle.std.proofs.Common.{◌≡◌, ℕ, subst, Bool, true, false, not, ◌&&◌, ◌||◌, ◌==◌, if◌then◌else◌, cond, Option}
+use Rattle.std.proofs.Common.{List, [], ◌∷◌, ◌-◌, length, refl, sym, ap, ◌∙◌}
 use Rattle.std.specs.Prelude.{nat_le}
 use Rattle.std.specs.List.{find, list_all}
 use Rattle.std.specs.Option.{is_some}
@@ -9,16 +11,49 @@ use Rattle.x5_model.specs.Words.{distinct, is_empty}
 use Rattle.x5_model.specs.Normal as normal
 use Rattle.x5_model_typed.specs.Nodes as nodes
 use Rattle.x5_model_typed.specs.Nodes.{Node, Nodes, Vacant, Flag, Many, Nil, More, parts, is_vacant}
-use Rattle.x5_model_typed.specs.Named.{Named, AddEntry, Agent, AgentName, Agents, Agreement, AnyNumber, AnyOid, Argument, Assertion, Attribute, AttributeError, Attributes, Boolean, Chained, Chaining, Change, Changes, Compare, Controls, DapAnswer, DapRequest, DapResult, DispMessage, DispResult, DspAnswer, DspRequest, DspResult, Entries, Entry, EntryInfo, EntryInfos, Enumeration, Filter, Filters, Item, Known, Knowns, ListBelow, ModifyDn, ModifyEntry, Name, NameError, NonSpecific, NonSpecifics, Null, NumberBelow, Options, Outcome, Pair, Part, Parts, PlacedPart, Progress, Qualifier, Rdn, Rdns, Read, RefType, Reference, References, Refresh, RemoveEntry, Renamed, Search, Selection, ServiceError, ShadowArgument, ShadowError, Source, Sources, Step, Steps, Sub, Subs, Substrings, Time, Total, Trace, TraceItem, TypeList, UpdateArgument, UpdateError, Value, Values, WorldAgent, WorldAgentName, WorldAgents}
-use Rattle.x5_model_typed.specs.Forms.{Primitive, Joined, JoinedBits, Explicit, Never, Alternative, Layout, universal, choice, ruled, plain, at, or}
-use Rattle.x5_model_typed.specs.Leaves.{boolean, null, number, any_number, from_to, one_of, oid, any_oid, is_agent_name, options}
-use Rattle.x5_model_typed.specs.Rules.{name_rule, is_pair, pair_rule, some_members, in_their_places, parts_rule, is_proceeding, progress_rule, same_item, most_items, trace_rule, master_first, agents_of, is_copy, known_rule, masters_rule}
-use Rattle.x5_model_typed.specs.Written.{is_made_of_members, can_hold}
-use Rattle.x5_model_typed.specs.Layouts.{Surroundings, layout, sequence, set, sequence_of, set_of, integer, optional, or_nothing, invoke, result, error, result_inner, operation_codes, dap_errors, dsp_errors, shadow_operations, shadow_results, shadow_errors, argument, outcome, agent_name, any_agent, time_leaf}
-use Rattle.x5_model_typed_laws.specs.Said.{is_uncoded, Closes, AllClose, MessagesAreClosed, MessagesSpelledFit}
-use Rattle.x5_model_typed_laws.proofs.Leaves.{so}
-use Rattle.x5_model_typed_laws.proofs.Closing.{Keeps, any_keeps, test_keeps, no_leaf, made_closes, chosen_closes, explicit_closes, leaf_closes, leaf_alone, held_by, boolean_writes, null_writes, text_writes, time_writes, options_writes, oid_writes, number_writes}
-use Rattle.x5_model_typed_laws.proofs.Texts.{printable_value_closes, printable_part_closes, universal_value_closes, universal_part_closes, numeric_value_closes, numeric_part_closes, seven_value_closes, seven_part_closes, oid_value_closes, octets_value_closes, oid_part_closes, octets_part_closes, name_part_closes}
+use Rattle.x5_model_typed.specs.Named.{Named, AddEntry, Agent, AgentName, Agents, Agreement, AnyNumber, AnyOid}
+use Rattle.x5_model_typed.specs.Named.{Argument, Assertion, Attribute, AttributeError, Attributes, Boolean, Chained}
+use Rattle.x5_model_typed.specs.Named.{Chaining, Change, Changes, Compare, Controls, DapAnswer, DapRequest, DapResult}
+use Rattle.x5_model_typed.specs.Named.{DispMessage, DispResult, DspAnswer, DspRequest, DspResult, Entries, Entry}
+use Rattle.x5_model_typed.specs.Named.{EntryInfo, EntryInfos, Enumeration, Filter, Filters, Item, Known, Knowns}
+use Rattle.x5_model_typed.specs.Named.{ListBelow, ModifyDn, ModifyEntry, Name, NameError, NonSpecific, NonSpecifics}
+use Rattle.x5_model_typed.specs.Named.{Null, NumberBelow, Options, Outcome, Pair, Part, Parts, PlacedPart, Progress}
+use Rattle.x5_model_typed.specs.Named.{Qualifier, Rdn, Rdns, Read, RefType, Reference, References, Refresh, RemoveEntry}
+use Rattle.x5_model_typed.specs.Named.{Renamed, Search, Selection, ServiceError, ShadowArgument, ShadowError, Source}
+use Rattle.x5_model_typed.specs.Named.{Sources, Step, Steps, Sub, Subs, Substrings, Time, Total, Trace, TraceItem}
+use Rattle.x5_model_typed.specs.Named.{TypeList, UpdateArgument, UpdateError, Value, Values, WorldAgent, WorldAgentName}
+use Rattle.x5_model_typed.specs.Named.{WorldAgents}
+use Rattle.x5_model_typed.specs.Named.{LdapMessage, LdapResponse, LdapOperation, LdapAnswer, LdapString, LdapTagged}
+use Rattle.x5_model_typed.specs.Named.{LdapTaggedFlag, LdapStrings, LdapValues, LdapSomeValues, LdapAttribute}
+use Rattle.x5_model_typed.specs.Named.{LdapShown, LdapNewAttribute, LdapNewAttributes, LdapChange, LdapChanges}
+use Rattle.x5_model_typed.specs.Named.{LdapAssertion, LdapFilter, LdapPiece, LdapPieces, LdapAuthentication}
+use Rattle.x5_model_typed.specs.Named.{LdapControl, LdapControls}
+use Rattle.x5_model_typed.specs.Forms.{Content, Sequence, Members, context, Primitive, Joined, JoinedBits, Explicit}
+use Rattle.x5_model_typed.specs.Forms.{Never, Alternative, Layout, universal, choice, ruled, plain, at, or}
+use Rattle.x5_model_typed.specs.Leaves.{boolean, null, number, any_number, from_to, one_of, oid, any_oid, is_agent_name}
+use Rattle.x5_model_typed.specs.Leaves.{options}
+use Rattle.x5_model_typed.specs.Rules.{name_rule, is_pair, pair_rule, some_members, in_their_places, parts_rule}
+use Rattle.x5_model_typed.specs.Rules.{pieces_rule, in_line, is_proceeding, progress_rule, same_item, most_items}
+use Rattle.x5_model_typed.specs.Rules.{trace_rule, master_first, agents_of, is_copy, known_rule, masters_rule}
+use Rattle.x5_model_typed.specs.Written.{leaf_octets, is_made_of_members, can_hold}
+use Rattle.x5_model_typed.specs.Judged.{marked}
+use Rattle.x5_model_typed.specs.Layouts.{application, string, count, assertion, piece, ldap_result, Surroundings}
+use Rattle.x5_model_typed.specs.Layouts.{layout, sequence, set, sequence_of, set_of, integer, optional, or_nothing}
+use Rattle.x5_model_typed.specs.Layouts.{invoke, result, error, result_inner, operation_codes, dap_errors, dsp_errors}
+use Rattle.x5_model_typed.specs.Layouts.{shadow_operations, shadow_results, shadow_errors, argument, outcome}
+use Rattle.x5_model_typed.specs.Layouts.{agent_name, any_agent, time_leaf}
+use Rattle.x5_model_typed_laws.specs.Said.{IsSaid, is_uncoded, Closes, AllClose, MessagesAreClosed, MessagesSpelledFit}
+use Rattle.x5_model_typed_laws.specs.Fits as fits
+use Rattle.x5_model_typed_laws.specs.Fits.{Fits}
+use Rattle.x5_model_typed_laws.proofs.Leaves.{so, some_is}
+use Rattle.x5_model_typed_laws.proofs.Closing.{any_octets_writes, placed_writes, number_is, null_is, Keeps, any_keeps}
+use Rattle.x5_model_typed_laws.proofs.Closing.{test_keeps, no_leaf, made_closes, chosen_closes, explicit_closes}
+use Rattle.x5_model_typed_laws.proofs.Closing.{leaf_closes, leaf_alone, held_by, boolean_writes, null_writes}
+use Rattle.x5_model_typed_laws.proofs.Closing.{text_writes, time_writes, options_writes, oid_writes, number_writes}
+use Rattle.x5_model_typed_laws.proofs.Texts.{printable_value_closes, printable_part_closes, universal_value_closes}
+use Rattle.x5_model_typed_laws.proofs.Texts.{universal_part_closes, numeric_value_closes, numeric_part_closes}
+use Rattle.x5_model_typed_laws.proofs.Texts.{seven_value_closes, seven_part_closes, oid_value_closes}
+use Rattle.x5_model_typed_laws.proofs.Texts.{octets_value_closes, oid_part_closes, octets_part_closes, name_part_closes}
 use Rattle.x5_model_typed_laws.proofs.Settling.{rdn_closes, controls_close, entry_closes}
 use Rattle.x5_model_typed_laws.proofs.Spelled.{spelled_fits}
 
@@ -59,6 +94,77 @@ progress_keeps (Many (More p (More q Nil))) n h =
     sym (so ((is_proceeding p && not (is_vacant q)) || (not (is_proceeding p) && is_vacant q))
     (Many (More p (More q Nil))) n h).1
 progress_keeps (Many (More p (More q (More r rs)))) n h = absurd (cc h)
+
+pieces_keeps : Keeps pieces_rule
+pieces_keeps m n h = test_keeps (λ x. not (is_empty (parts x)) && in_line (parts x)) m n h
+
+-- ---- contents of octets among others (RFC 4511)
+octets_held : (L : Layout) (types : List Alternative) (a : Alternative) → a.content ≡ string → a.marked ≡ false
+    → Keeps a.settles → ((octets : List ℕ) → find (can_hold (nodes.Octets octets)) types ≡ Some a) → Closes L types a
+octets_held L types a c plain keeps held m n said rule =
+    let s : IsSaid L string m = subst (λ (x : Content). IsSaid L x m) c said in
+    let e : nodes.Octets s.0 ≡ m = some_is (nodes.Octets s.0) m s.2 in
+    let same : n ≡ m = keeps m n rule in
+    subst (λ (x : Node). Fits L types x)
+    (ap (λ (b : Bool). if b then nodes.Chosen a.tag (nodes.Octets s.0) else nodes.Octets s.0) (sym plain)
+    ∙ ap (λ (x : Node). marked a x) (e ∙ sym same))
+    (fits.whole a s.0 refl (held s.0) plain (ap (λ (x : Content). leaf_octets x (nodes.Octets s.0)) c)
+    (subst (λ (x : Node). a.settles x ≡ Some x) (sym e) (rule ∙ ap (λ (x : Node). Some x) same)))
+
+operation_octets_closes : (w : Surroundings) → Closes (layout w) (layout w LdapOperation) (application false 10 string)
+operation_octets_closes w =
+    octets_held (layout w) (layout w LdapOperation) (application false 10 string) refl refl any_keeps (λ octets. refl)
+
+present_closes : (w : Surroundings) → Closes (layout w) (layout w LdapFilter) (context 7 string)
+present_closes w = octets_held (layout w) (layout w LdapFilter) (context 7 string) refl refl any_keeps (λ octets. refl)
+
+simple_closes : (w : Surroundings) → Closes (layout w) (layout w LdapAuthentication) (context 0 string)
+simple_closes w =
+    octets_held (layout w) (layout w LdapAuthentication) (context 0 string) refl refl any_keeps (λ octets. refl)
+
+operation_null_closes : (w : Surroundings)
+    → Closes (layout w) (layout w LdapOperation) (application false 2 (Primitive null))
+operation_null_closes w =
+    leaf_closes (layout w) (layout w LdapOperation) (application false 2 (Primitive null)) refl any_keeps
+    null_writes
+    (λ m said.
+    subst (λ (x : Node). find (can_hold x) (layout w LdapOperation) ≡ Some (application false 2 (Primitive null)))
+    (null_is said.0 m said.2) refl)
+
+-- MessageID
+abbrev abandoned : Alternative
+abandoned = application false 16 (Primitive (number (from_to 0 2147483647)))
+
+number_found : (w : Surroundings) (m : Node) (k : ℤ) → nodes.Number k ≡ m → can_hold m abandoned ≡ true
+    → find (can_hold m) (layout w LdapOperation) ≡ Some abandoned
+number_found w m k e h =
+    subst (λ (x : Node). can_hold x abandoned ≡ true → find (can_hold x) (layout w LdapOperation) ≡ Some abandoned) e
+    (λ g. ap (λ (b : Bool). cond b (Some abandoned)
+    (find (can_hold (nodes.Number k))
+    (application true 23 (Sequence (plain (LdapTagged 0) ∷ optional (plain (LdapTagged 1)) ∷ [])) ∷ []))) g) h
+
+operation_number_closes : (w : Surroundings) → Closes (layout w) (layout w LdapOperation) abandoned
+operation_number_closes w =
+    leaf_closes (layout w) (layout w LdapOperation) abandoned refl any_keeps (number_writes (from_to 0 2147483647))
+    (λ m said. let x = number_is (from_to 0 2147483647) said.0 m said.2 in
+    number_found w m x.0 x.1 (held_by abandoned m (number_writes (from_to 0 2147483647) (layout w) m said)))
+
+abbrev placed_node : ℕ → List ℕ → Node
+placed_node k octets = Many (nodes.row (nodes.whole k ∷ nodes.Octets octets ∷ []))
+
+abbrev AreFound : Surroundings → ℕ → Type 0
+AreFound w k = (octets : List ℕ) → find (can_hold (placed_node k octets)) (layout w LdapPiece) ≡ Some (piece k)
+
+piece_found : (w : Surroundings) (k : ℕ) → AreFound w k
+    → Closes (layout w) (layout w LdapPiece) (piece k)
+piece_found w k found =
+    leaf_closes (layout w) (layout w LdapPiece) (piece k) refl any_keeps (placed_writes k)
+    (λ m said. subst (λ (x : Node). find (can_hold x) (layout w LdapPiece) ≡ Some (piece k))
+    (some_is (placed_node k said.0) m said.2) (found said.0))
+
+pieces_close : (w : Surroundings) → AllClose (layout w) (layout w LdapPiece) (layout w LdapPiece)
+pieces_close w =
+    (piece_found w 0 (λ octets. refl), (piece_found w 1 (λ octets. refl), (piece_found w 2 (λ octets. refl), tt)))
 
 -- ---- a type with one alternative, of elements
 made_alone : (L : Layout) (a : Alternative) → is_made_of_members a.content ≡ true → a.marked ≡ false → Keeps a.settles
@@ -114,8 +220,11 @@ filters_uncoded levels false = refl
 
 -- ---- the table
 pub messages_close : (w : Surroundings) (form : Named) → AllClose (layout w) (layout w form) (layout w form)
-messages_close w DapRequest =
-    (chosen_closes (layout w) (layout w DapRequest) (invoke (operation_codes Argument)) refl refl any_keeps refl, tt)
+messages_close w DapRequest = (
+  chosen_closes (layout w) (layout w DapRequest) (invoke (operation_codes Argument)) refl refl any_keeps
+      refl,
+  tt,
+)
 messages_close w DapAnswer = (
   chosen_closes (layout w) (layout w DapAnswer) (result DapResult) refl refl any_keeps
       refl,
@@ -300,7 +409,8 @@ messages_close w PlacedPart = (
   ),
 )
 messages_close w Chaining =
-    made_alone (layout w) (set (at 0 Name ∷ at 1 Progress ∷ at 2 Trace ∷ at 3 RefType ∷ or_nothing (at 4 Rdns) ∷ []))
+    made_alone (layout w) (set (at 0 Name ∷ at 1 Progress ∷ at 2 Trace ∷ at 3 RefType ∷ or_nothing (at 4 Rdns) ∷
+    []))
     refl refl any_keeps
 messages_close w Progress =
     made_alone (layout w) (ruled progress_rule (sequence
@@ -371,10 +481,12 @@ messages_close w Known =
     made_alone (layout w) (ruled known_rule (sequence (plain Name ∷ plain WorldAgents ∷ []))) refl refl known_keeps
 messages_close w NonSpecifics = made_alone (layout w) (sequence_of NonSpecific) refl refl any_keeps
 messages_close w NonSpecific =
-    made_alone (layout w) (ruled masters_rule (sequence (plain Name ∷ plain WorldAgents ∷ []))) refl refl masters_keeps
+    made_alone (layout w) (ruled masters_rule (sequence (plain Name ∷ plain WorldAgents ∷ []))) refl refl
+    masters_keeps
 messages_close w WorldAgents = made_alone (layout w) (sequence_of WorldAgent) refl refl any_keeps
 messages_close w WorldAgent =
-    made_alone (layout w) (sequence (plain WorldAgentName ∷ or (Flag false) (plain Boolean) ∷ [])) refl refl any_keeps
+    made_alone (layout w) (sequence (plain WorldAgentName ∷ or (Flag false) (plain Boolean) ∷ [])) refl refl
+    any_keeps
 messages_close w WorldAgentName = (
   leaf_alone (layout w) (agent_name w.is_agent) refl any_keeps
       (text_writes (λ t. if is_agent_name t then w.is_agent t else false)),
@@ -401,6 +513,151 @@ messages_close w Step = (
   ),
 )
 messages_close w Renamed = made_alone (layout w) (sequence (plain Name ∷ plain Entry ∷ [])) refl refl any_keeps
+messages_close w LdapMessage =
+    made_alone (layout w) (sequence (count ∷ plain LdapOperation ∷ or_nothing (plain LdapControls) ∷ [])) refl
+    refl any_keeps
+messages_close w LdapResponse = made_alone (layout w) (sequence (count ∷ plain LdapAnswer ∷ [])) refl refl any_keeps
+messages_close w LdapOperation = (
+  chosen_closes (layout w) (layout w LdapOperation) (application true 0 (Sequence (plain (NumberBelow 1 127) ∷
+      plain LdapString ∷ plain LdapAuthentication ∷ []))) refl refl any_keeps refl,
+  (
+    operation_null_closes w,
+    (
+      chosen_closes (layout w) (layout w LdapOperation) (application true 3 (Sequence (plain LdapString ∷ plain
+          (Enumeration 0 2) ∷ plain (Enumeration 0 3) ∷ count ∷ count ∷ plain Boolean ∷ plain LdapFilter ∷ plain
+          LdapStrings ∷ []))) refl refl any_keeps refl,
+      (
+        chosen_closes (layout w) (layout w LdapOperation) (application true 6 (Sequence (plain LdapString ∷
+            plain LdapChanges ∷ []))) refl refl any_keeps refl,
+        (
+          chosen_closes (layout w) (layout w LdapOperation) (application true 8 (Sequence (plain LdapString ∷
+              plain LdapNewAttributes ∷ []))) refl refl any_keeps refl,
+          (
+            operation_octets_closes w,
+            (
+              chosen_closes (layout w) (layout w LdapOperation) (application true 12 (Sequence (plain LdapString
+                  ∷ plain LdapString ∷ plain Boolean ∷ optional (plain (LdapTagged 0)) ∷ []))) refl refl
+                  any_keeps refl,
+              (
+                chosen_closes (layout w) (layout w LdapOperation) (application true 14 (Sequence (plain
+                    LdapString ∷ plain LdapAssertion ∷ []))) refl refl any_keeps refl,
+                (
+                  operation_number_closes w,
+                  (
+                    chosen_closes (layout w) (layout w LdapOperation) (application true 23 (Sequence (plain
+                        (LdapTagged 0) ∷ optional (plain (LdapTagged 1)) ∷ []))) refl refl any_keeps refl,
+                    tt,
+                  ),
+                ),
+              ),
+            ),
+          ),
+        ),
+      ),
+    ),
+  ),
+)
+messages_close w LdapAnswer = (
+  chosen_closes (layout w) (layout w LdapAnswer) (ldap_result 1) refl refl any_keeps refl,
+  (
+    chosen_closes (layout w) (layout w LdapAnswer) (application true 4 (Sequence (plain LdapString ∷ plain
+        LdapShown ∷ []))) refl refl any_keeps refl,
+    (
+      chosen_closes (layout w) (layout w LdapAnswer) (ldap_result 5) refl refl any_keeps refl,
+      (
+        chosen_closes (layout w) (layout w LdapAnswer) (ldap_result 7) refl refl any_keeps refl,
+        (
+          chosen_closes (layout w) (layout w LdapAnswer) (ldap_result 9) refl refl any_keeps refl,
+          (
+            chosen_closes (layout w) (layout w LdapAnswer) (ldap_result 11) refl refl any_keeps refl,
+            (
+              chosen_closes (layout w) (layout w LdapAnswer) (ldap_result 13) refl refl any_keeps refl,
+              (
+                chosen_closes (layout w) (layout w LdapAnswer) (ldap_result 15) refl refl any_keeps refl,
+                (
+                  chosen_closes (layout w) (layout w LdapAnswer) (ldap_result 24) refl refl any_keeps refl,
+                  tt,
+                ),
+              ),
+            ),
+          ),
+        ),
+      ),
+    ),
+  ),
+)
+messages_close w LdapString = (leaf_alone (layout w) (universal 4 string) refl any_keeps any_octets_writes, tt)
+messages_close w (LdapTagged tag) = (leaf_alone (layout w) (context tag string) refl any_keeps any_octets_writes, tt)
+messages_close w (LdapTaggedFlag tag) = (
+  leaf_alone (layout w) (context tag (Primitive boolean)) refl any_keeps boolean_writes,
+  tt,
+)
+messages_close w LdapStrings = made_alone (layout w) (sequence_of LdapString) refl refl any_keeps
+messages_close w LdapValues = made_alone (layout w) (set_of LdapString) refl refl any_keeps
+messages_close w LdapSomeValues = made_alone (layout w) (ruled some_members (set_of LdapString)) refl refl some_keeps
+messages_close w LdapAttribute =
+    made_alone (layout w) (sequence (plain LdapString ∷ plain LdapValues ∷ [])) refl refl any_keeps
+messages_close w LdapShown = made_alone (layout w) (sequence_of LdapAttribute) refl refl any_keeps
+messages_close w LdapNewAttribute =
+    made_alone (layout w) (sequence (plain LdapString ∷ plain LdapSomeValues ∷ [])) refl refl any_keeps
+messages_close w LdapNewAttributes = made_alone (layout w) (sequence_of LdapNewAttribute) refl refl any_keeps
+messages_close w LdapChange =
+    made_alone (layout w) (sequence (plain (Enumeration 0 2) ∷ plain LdapAttribute ∷ [])) refl refl any_keeps
+messages_close w LdapChanges = made_alone (layout w) (sequence_of LdapChange) refl refl any_keeps
+messages_close w LdapAssertion = made_alone (layout w) (sequence assertion) refl refl any_keeps
+messages_close w LdapFilter = (
+  chosen_closes (layout w) (layout w LdapFilter) (ruled some_members (choice 0 (Members LdapFilter))) refl refl
+      some_keeps refl,
+  (
+    chosen_closes (layout w) (layout w LdapFilter) (ruled some_members (choice 1 (Members LdapFilter))) refl
+        refl some_keeps refl,
+    (
+      explicit_closes (layout w) (layout w LdapFilter) (choice 2 (Explicit LdapFilter)) LdapFilter refl refl
+          any_keeps refl,
+      (
+        chosen_closes (layout w) (layout w LdapFilter) (choice 3 (Sequence assertion)) refl refl any_keeps refl,
+        (
+          chosen_closes (layout w) (layout w LdapFilter) (choice 4 (Sequence (plain LdapString ∷ plain
+              LdapPieces ∷ []))) refl refl any_keeps refl,
+          (
+            chosen_closes (layout w) (layout w LdapFilter) (choice 5 (Sequence assertion)) refl refl any_keeps refl,
+            (
+              chosen_closes (layout w) (layout w LdapFilter) (choice 6 (Sequence assertion)) refl refl any_keeps
+                  refl,
+              (
+                present_closes w,
+                (
+                  chosen_closes (layout w) (layout w LdapFilter) (choice 8 (Sequence assertion)) refl refl
+                      any_keeps refl,
+                  (
+                    chosen_closes (layout w) (layout w LdapFilter) (choice 9 (Sequence (optional (plain
+                        (LdapTagged 1)) ∷ optional (plain (LdapTagged 2)) ∷ plain (LdapTagged 3) ∷ or (Flag
+                        false) (plain (LdapTaggedFlag 4)) ∷ []))) refl refl any_keeps refl,
+                    tt,
+                  ),
+                ),
+              ),
+            ),
+          ),
+        ),
+      ),
+    ),
+  ),
+)
+messages_close w LdapPiece = pieces_close w
+messages_close w LdapPieces = made_alone (layout w) (ruled pieces_rule (sequence_of LdapPiece)) refl refl pieces_keeps
+messages_close w LdapAuthentication = (
+  simple_closes w,
+  (
+    made_closes (layout w) (layout w LdapAuthentication) (context 3 (Sequence (plain LdapString ∷ optional
+        (plain LdapString) ∷ []))) refl refl any_keeps (λ ns. refl),
+    tt,
+  ),
+)
+messages_close w LdapControl =
+    made_alone (layout w) (sequence (plain LdapString ∷ or (Flag false) (plain Boolean) ∷ optional (plain
+    LdapString) ∷ [])) refl refl any_keeps
+messages_close w LdapControls = made_alone (layout w) (context 0 (Members LdapControl)) refl refl any_keeps
 
 pub messages_uncoded : (w : Surroundings) (form : Named) → list_all (λ a. is_uncoded a.content) (layout w form) ≡ true
 messages_uncoded w DapRequest = refl
@@ -496,6 +753,29 @@ messages_uncoded w WorldAgentName = refl
 messages_uncoded w Steps = refl
 messages_uncoded w Step = refl
 messages_uncoded w Renamed = refl
+messages_uncoded w LdapMessage = refl
+messages_uncoded w LdapResponse = refl
+messages_uncoded w LdapOperation = refl
+messages_uncoded w LdapAnswer = refl
+messages_uncoded w LdapString = refl
+messages_uncoded w (LdapTagged tag) = refl
+messages_uncoded w (LdapTaggedFlag tag) = refl
+messages_uncoded w LdapStrings = refl
+messages_uncoded w LdapValues = refl
+messages_uncoded w LdapSomeValues = refl
+messages_uncoded w LdapAttribute = refl
+messages_uncoded w LdapShown = refl
+messages_uncoded w LdapNewAttribute = refl
+messages_uncoded w LdapNewAttributes = refl
+messages_uncoded w LdapChange = refl
+messages_uncoded w LdapChanges = refl
+messages_uncoded w LdapAssertion = refl
+messages_uncoded w LdapFilter = refl
+messages_uncoded w LdapPiece = refl
+messages_uncoded w LdapPieces = refl
+messages_uncoded w LdapAuthentication = refl
+messages_uncoded w LdapControl = refl
+messages_uncoded w LdapControls = refl
 
 pub messages_are_closed : MessagesAreClosed
 messages_are_closed w = record { uncoded = messages_uncoded w; closes = messages_close w }

@@ -1,7 +1,8 @@
 -- How a type is closed: by the kind of its content, where the rule of the whole keeps what was read as it is.
-use Rattle.std.proofs.Common.{◌≡◌, ℕ, ◌+◌, ◌-◌, ◌*◌, ◌^◌, ◌<◌, ◌≤◌, Bool, true, false, cond, not, ◌&&◌, ◌==◌, nat_lt, nat_le, if◌then◌else◌, List, [], ◌∷◌, length, refl, sym, ap, subst, ◌∙◌, arith}
+use Rattle.std.proofs.Common.{◌≡◌, ℕ, ◌+◌, ◌-◌, ◌*◌, ◌^◌, ◌<◌, ◌≤◌, Bool, true, false, cond, not, ◌&&◌, ◌==◌, nat_lt}
+use Rattle.std.proofs.Common.{nat_le, if◌then◌else◌, List, [], ◌∷◌, length, refl, sym, ap, subst, ◌∙◌, arith}
 use Rattle.std.specs.Prelude.{ℤ}
-use Rattle.std.proofs.lemmas.Bool.{lt-ltb, ltb-true, ltb-false, leb-true}
+use Rattle.std.proofs.lemmas.Bool.{eq-eqb, lt-ltb, ltb-true, ltb-false, leb-true}
 use Rattle.std.specs.List.{find, list_all}
 use native.Mathlib.Nat.{pow-le-pow_right}
 use Rattle.std.specs.Option.{is_some}
@@ -11,11 +12,15 @@ use Rattle.x5_model.specs.Words.{in_option}
 use Rattle.x5_model.specs.Normal.{is_oid, most_octets}
 use Rattle.x5_model.proofs.Lists.{both_true, and_true}
 use Rattle.x5_model_octets.specs.Headers.{big_endian}
-use Rattle.x5_model_typed.specs.Nodes.{Node, Nodes, Vacant, Flag, Number, Oid, Octets, Text, Chosen, Many, whole}
+use Rattle.x5_model_typed.specs.Nodes.{Node, Nodes, Vacant, Flag, Number, Oid, Octets, Text, Chosen, Many, whole, row}
 use Rattle.x5_model_typed.specs.Named.{Named}
-use Rattle.x5_model_typed.specs.Forms.{Content, Primitive, Joined, JoinedBits, Explicit, Sequence, Set, Members, Never, Alternative, Layout}
+use Rattle.x5_model_typed.specs.Forms.{Content, Primitive, Joined, JoinedBits, Explicit, Sequence, Set, Members, Never}
+use Rattle.x5_model_typed.specs.Forms.{Alternative, Layout}
 use Rattle.x5_model_typed.specs.Judged.{marked}
-use Rattle.x5_model_typed.specs.Leaves.{where_so, boolean, null, is_shortest, complement, number_of, number_octets, is_short_number, number, subidentifiers, arcs_of, oid_of, oid_octets, oid, octet_string, text_where, options, options_node, may_be_set, fourth, second}
+use Rattle.x5_model_typed.specs.Leaves.{any_octets, placed, where_so, boolean, null, is_shortest, complement, number_of}
+use Rattle.x5_model_typed.specs.Leaves.{number_octets, is_short_number, number, subidentifiers, arcs_of, oid_of}
+use Rattle.x5_model_typed.specs.Leaves.{oid_octets, oid, octet_string, text_where, options, options_node, may_be_set}
+use Rattle.x5_model_typed.specs.Leaves.{fourth, second}
 use Rattle.x5_model_typed.specs.Written.{leaf_octets, is_made_of_members, is_many, can_hold, is_marked}
 use Rattle.x5_model_typed.specs.Layouts.{Surroundings, time_leaf}
 use Rattle.x5_model_typed_laws.specs.Fits as fits
@@ -150,6 +155,16 @@ null_by (o ∷ os) m h = absurd (cc h)
 
 pub null_writes : Writes (Primitive null)
 null_writes layout m s = null_by s.0 m s.2
+
+pub any_octets_writes : Writes (Primitive any_octets)
+any_octets_writes layout m s =
+    writable (Primitive any_octets) m (Octets s.0) s.0 (some_is (Octets s.0) m s.2) refl refl
+
+pub placed_writes : (place : ℕ) → Writes (Primitive (placed place))
+placed_writes place layout m s =
+    writable (Primitive (placed place)) m (Many (row (whole place ∷ Octets s.0 ∷ []))) s.0
+    (some_is (Many (row (whole place ∷ Octets s.0 ∷ []))) m s.2)
+    (ap (λ (b : Bool). if b then Some s.0 else None) (eq-eqb place place refl)) refl
 
 pub octets_writes : Writes (Joined octet_string)
 octets_writes layout m s =
@@ -313,6 +328,21 @@ number_writable test octets m o h =
     let fine : (is_short_number w.0 && test w.0) ≡ true = and_true (is_short_number w.0) (test w.0) short x.0 in
     writable (Primitive (number test)) m (Number w.0) (number_octets w.0) x.1
     (let_through (is_short_number w.0 && test w.0) (number_octets w.0) fine) refl
+
+-- a number that was read is one
+pub number_is : (test : ℤ → Bool) (octets : List ℕ) (m : Node) → (number test).reads octets ≡ Some m
+    → (k : ℤ) × (Number k ≡ m)
+number_is test octets m h =
+    let w = some_number (number_of octets) (λ k. where_so (test k) (Number k)) m h in
+    let x = so (test w.0) (Number w.0) m w.2 in
+    (w.0, x.1)
+
+null_by_is : (octets : List ℕ) (m : Node) → null.reads octets ≡ Some m → Vacant ≡ m
+null_by_is [] m h = some_is Vacant m h
+null_by_is (o ∷ os) m h = absurd (cc h)
+
+pub null_is : (octets : List ℕ) (m : Node) → null.reads octets ≡ Some m → Vacant ≡ m
+null_is octets m h = null_by_is octets m h
 
 pub number_writes : (test : ℤ → Bool) → Writes (Primitive (number test))
 number_writes test layout m s = number_writable test s.0 m s.1 s.2

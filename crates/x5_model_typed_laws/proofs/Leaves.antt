@@ -1,7 +1,8 @@
 -- Each kind of content that the table of messages has reads back what is written in it.
-use Rattle.std.proofs.Common.{◌≡◌, ℕ, ◌^◌, ◌<◌, Bool, true, false, ◌&&◌, nat_lt, nat_le, inl, inr, List, [], ◌∷◌, length, refl, sym, ap, ◌∙◌, arith}
-use Rattle.std.specs.Prelude.{ℤ, pos, negsuc, flat_map, chars, encode_utf8_all}
-use Rattle.std.proofs.lemmas.Bool.{ltb-true}
+use Rattle.std.proofs.Common.{◌≡◌, ℕ, ◌^◌, ◌<◌, Bool, true, false, ◌&&◌, nat_lt, nat_le, inl, inr, List, [], ◌∷◌}
+use Rattle.std.proofs.Common.{length, refl, sym, ap, ◌∙◌, arith}
+use Rattle.std.specs.Prelude.{if◌then◌else◌, ℤ, pos, negsuc, flat_map, chars, encode_utf8_all}
+use Rattle.std.proofs.lemmas.Bool.{ltb-true, eqb-true}
 use Rattle.std.specs.Cmp.Lexicographic.{bytes_decides}
 use Rattle.std.specs.Int.{to_be_bytes, w32}
 use Rattle.std.specs.List.{list_all}
@@ -12,10 +13,13 @@ use Rattle.x5_model.specs.Normal.{is_oid, most_octets}
 use Rattle.x5_model.proofs.Lists.{both_true, and_true, either_true}
 use Rattle.x5_model_octets.specs.Headers.{big_endian}
 use Rattle.x5_model_typed.specs.Nodes as nodes
-use Rattle.x5_model_typed.specs.Nodes.{Node, Nodes, Vacant, Flag, Number, Oid, Bits, Octets, Text, Chosen, Many, whole, list, row, parts}
+use Rattle.x5_model_typed.specs.Nodes.{Node, Nodes, Vacant, Flag, Number, Oid, Bits, Octets, Text, Chosen, Many, whole}
+use Rattle.x5_model_typed.specs.Nodes.{list, row, parts}
 use Rattle.x5_model_typed.specs.Forms.{Primitive, Joined, JoinedBits}
 use Rattle.x5_model_typed.specs.Judged.{leaf_node}
-use Rattle.x5_model_typed.specs.Leaves.{where_so, boolean, null, number_octets, is_short_number, number, cons_to, oid_octets, oid, octet_string, is_length, text_where, cells, is_character, are_characters, universal_string, options}
+use Rattle.x5_model_typed.specs.Leaves.{any_octets, is_place, octets_in, placed, where_so, boolean, null, number_octets}
+use Rattle.x5_model_typed.specs.Leaves.{is_short_number, number, cons_to, oid_octets, oid, octet_string, is_length}
+use Rattle.x5_model_typed.specs.Leaves.{text_where, cells, is_character, are_characters, universal_string, options}
 use Rattle.x5_model_typed.specs.Written.{leaf_octets, bit_content}
 use Rattle.x5_model_typed.specs.Layouts.{Surroundings, time_leaf}
 use Rattle.x5_model_typed_laws.specs.Fits.{ReadsBack, ClockReadsBack}
@@ -109,6 +113,66 @@ octets_back (Octets o) octets h =
 octets_back (Text t) octets h = absurd (cc h)
 octets_back (Chosen tag m) octets h = absurd (cc h)
 octets_back (Many ns) octets h = absurd (cc h)
+
+pub any_octets_back : ReadsBack (Primitive any_octets)
+any_octets_back Vacant octets h = absurd (cc h)
+any_octets_back (Flag b) octets h = absurd (cc h)
+any_octets_back (Number k) octets h = absurd (cc h)
+any_octets_back (Oid arcs) octets h = absurd (cc h)
+any_octets_back (Bits bits) octets h = absurd (cc h)
+any_octets_back (Octets o) octets h = ap any_octets.reads (sym (some_is o octets h))
+any_octets_back (Text t) octets h = absurd (cc h)
+any_octets_back (Chosen tag m) octets h = absurd (cc h)
+any_octets_back (Many ns) octets h = absurd (cc h)
+
+place_so : (place : ℕ) (n : Node) → is_place place n ≡ true → n ≡ whole place
+place_so place (Number (pos k)) h = ap whole (eqb-true k place h)
+place_so place (Number (negsuc k)) h = absurd (cc h)
+place_so place Vacant h = absurd (cc h)
+place_so place (Flag b) h = absurd (cc h)
+place_so place (Oid arcs) h = absurd (cc h)
+place_so place (Bits bits) h = absurd (cc h)
+place_so place (Octets o) h = absurd (cc h)
+place_so place (Text t) h = absurd (cc h)
+place_so place (Chosen tag m) h = absurd (cc h)
+place_so place (Many ns) h = absurd (cc h)
+
+octets_so : (n : Node) (octets : List ℕ) → octets_in n ≡ Some octets → n ≡ Octets octets
+octets_so (Octets o) octets h = ap Octets (some_is o octets h)
+octets_so (Number k) octets h = absurd (cc h)
+octets_so Vacant octets h = absurd (cc h)
+octets_so (Flag b) octets h = absurd (cc h)
+octets_so (Oid arcs) octets h = absurd (cc h)
+octets_so (Bits bits) octets h = absurd (cc h)
+octets_so (Text t) octets h = absurd (cc h)
+octets_so (Chosen tag m) octets h = absurd (cc h)
+octets_so (Many ns) octets h = absurd (cc h)
+
+abbrev placed_node : ℕ → List ℕ → Node
+placed_node place octets = Many (row (whole place ∷ Octets octets ∷ []))
+
+two_back : (place : ℕ) (p q : Node) (octets : List ℕ) (b : Bool) → is_place place p ≡ b
+    → (if b then octets_in q else None) ≡ Some octets
+    → (let o : Option Node = Some (placed_node place octets) in o) ≡ Some (Many (row (p ∷ q ∷ [])))
+two_back place p q octets true e h =
+    ap (λ (x : Node). Some (Many (row (x ∷ Octets octets ∷ [])))) (sym (place_so place p e))
+    ∙ ap (λ (x : Node). Some (Many (row (p ∷ x ∷ [])))) (sym (octets_so q octets h))
+two_back place p q octets false e h = absurd (cc h)
+
+pub placed_back : (place : ℕ) → ReadsBack (Primitive (placed place))
+placed_back place Vacant octets h = absurd (cc h)
+placed_back place (Flag b) octets h = absurd (cc h)
+placed_back place (Number k) octets h = absurd (cc h)
+placed_back place (Oid arcs) octets h = absurd (cc h)
+placed_back place (Bits bits) octets h = absurd (cc h)
+placed_back place (Octets o) octets h = absurd (cc h)
+placed_back place (Text t) octets h = absurd (cc h)
+placed_back place (Chosen tag m) octets h = absurd (cc h)
+placed_back place (Many nodes.Nil) octets h = absurd (cc h)
+placed_back place (Many (nodes.More p nodes.Nil)) octets h = absurd (cc h)
+placed_back place (Many (nodes.More p (nodes.More q nodes.Nil))) octets h =
+    two_back place p q octets (is_place place p) refl h
+placed_back place (Many (nodes.More p (nodes.More q (nodes.More r rs)))) octets h = absurd (cc h)
 
 pub text_back : (test : List ℕ → Bool) → ReadsBack (Joined (text_where test))
 text_back test Vacant octets h = absurd (cc h)

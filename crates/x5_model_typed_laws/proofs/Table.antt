@@ -1,13 +1,31 @@
 -- The tags of the table of messages are apart, and its contents read back, type by type.
 use Rattle.std.proofs.Common.{◌≡◌, ℕ, Bool, true, false, refl, [], ◌∷◌}
 use Rattle.std.specs.Prelude.{◌-◌, ◌==◌, if◌then◌else◌}
-use Rattle.x5_model_typed.specs.Named.{Read, Compare, ListBelow, Search, AddEntry, RemoveEntry, ModifyEntry, ModifyDn, DapRequest, DapAnswer, DspRequest, DspAnswer, DispMessage, Argument, Chained, DapResult, DspResult, DispResult, Outcome, AnyNumber, NumberBelow, Enumeration, Boolean, Null, AnyOid, Value, Part, AgentName, Time, Options, RefType, Name, Rdn, Rdns, Pair, Attribute, Attributes, Values, TypeList, Selection, Controls, Assertion, Changes, Change, Filter, Filters, Item, Substrings, Parts, PlacedPart, Chaining, Progress, Trace, TraceItem, Agents, Agent, Reference, References, Source, Sources, EntryInfo, EntryInfos, Sub, Subs, Qualifier, AttributeError, NameError, ServiceError, UpdateError, ShadowError, Agreement, ShadowArgument, UpdateArgument, Refresh, Total, Entries, Entry, Knowns, Known, NonSpecifics, NonSpecific, WorldAgents, WorldAgent, WorldAgentName, Steps, Step, Renamed}
+use Rattle.x5_model_typed.specs.Named.{Read, Compare, ListBelow, Search, AddEntry, RemoveEntry, ModifyEntry, ModifyDn}
+use Rattle.x5_model_typed.specs.Named.{DapRequest, DapAnswer, DspRequest, DspAnswer, DispMessage, Argument, Chained}
+use Rattle.x5_model_typed.specs.Named.{DapResult, DspResult, DispResult, Outcome, AnyNumber, NumberBelow, Enumeration}
+use Rattle.x5_model_typed.specs.Named.{Boolean, Null, AnyOid, Value, Part, AgentName, Time, Options, RefType, Name, Rdn}
+use Rattle.x5_model_typed.specs.Named.{Rdns, Pair, Attribute, Attributes, Values, TypeList, Selection, Controls}
+use Rattle.x5_model_typed.specs.Named.{Assertion, Changes, Change, Filter, Filters, Item, Substrings, Parts, PlacedPart}
+use Rattle.x5_model_typed.specs.Named.{Chaining, Progress, Trace, TraceItem, Agents, Agent, Reference, References}
+use Rattle.x5_model_typed.specs.Named.{Source, Sources, EntryInfo, EntryInfos, Sub, Subs, Qualifier, AttributeError}
+use Rattle.x5_model_typed.specs.Named.{NameError, ServiceError, UpdateError, ShadowError, Agreement, ShadowArgument}
+use Rattle.x5_model_typed.specs.Named.{UpdateArgument, Refresh, Total, Entries, Entry, Knowns, Known, NonSpecifics}
+use Rattle.x5_model_typed.specs.Named.{NonSpecific, WorldAgents, WorldAgent, WorldAgentName, Steps, Step, Renamed}
+use Rattle.x5_model_typed.specs.Named.{LdapMessage, LdapResponse, LdapOperation, LdapAnswer, LdapString, LdapTagged}
+use Rattle.x5_model_typed.specs.Named.{LdapTaggedFlag, LdapStrings, LdapValues, LdapSomeValues, LdapAttribute}
+use Rattle.x5_model_typed.specs.Named.{LdapShown, LdapNewAttribute, LdapNewAttributes, LdapChange, LdapChanges}
+use Rattle.x5_model_typed.specs.Named.{LdapAssertion, LdapFilter, LdapPiece, LdapPieces, LdapAuthentication}
+use Rattle.x5_model_typed.specs.Named.{LdapControl, LdapControls}
 use Rattle.x5_model_typed.specs.Forms.{Explicit, Never, choice}
 use Rattle.x5_model.specs.Normal.{is_printable}
-use Rattle.x5_model_typed.specs.Leaves.{any_number, from_to, one_of, any_oid, short_oid, text_of, is_numeric, is_seven_bit, is_agent_name}
+use Rattle.x5_model_typed.specs.Leaves.{any_number, from_to, one_of, any_oid, short_oid, text_of, is_numeric}
+use Rattle.x5_model_typed.specs.Leaves.{is_seven_bit, is_agent_name}
 use Rattle.x5_model_typed.specs.Layouts.{Surroundings, layout, any_agent}
 use Rattle.x5_model_typed_laws.specs.Fits.{are_tags_apart, AreTagsApart, AllReadBack, LeavesReadBack, ClockReadsBack}
-use Rattle.x5_model_typed_laws.proofs.Leaves.{boolean_back, null_back, number_reads_back, oid_reads_back, octets_back, text_back, universal_back, time_back, options_back}
+use Rattle.x5_model_typed_laws.proofs.Leaves.{any_octets_back, placed_back, boolean_back, null_back, number_reads_back}
+use Rattle.x5_model_typed_laws.proofs.Leaves.{oid_reads_back, octets_back, text_back, universal_back, time_back}
+use Rattle.x5_model_typed_laws.proofs.Leaves.{options_back}
 
 filters_apart : (w : Surroundings) (levels : ℕ) (b : Bool)
     → are_tags_apart (layout w)
@@ -109,6 +127,29 @@ messages_apart w WorldAgentName = refl
 messages_apart w Steps = refl
 messages_apart w Step = refl
 messages_apart w Renamed = refl
+messages_apart w LdapMessage = refl
+messages_apart w LdapResponse = refl
+messages_apart w LdapOperation = refl
+messages_apart w LdapAnswer = refl
+messages_apart w LdapString = refl
+messages_apart w (LdapTagged tag) = refl
+messages_apart w (LdapTaggedFlag tag) = refl
+messages_apart w LdapStrings = refl
+messages_apart w LdapValues = refl
+messages_apart w LdapSomeValues = refl
+messages_apart w LdapAttribute = refl
+messages_apart w LdapShown = refl
+messages_apart w LdapNewAttribute = refl
+messages_apart w LdapNewAttributes = refl
+messages_apart w LdapChange = refl
+messages_apart w LdapChanges = refl
+messages_apart w LdapAssertion = refl
+messages_apart w LdapFilter = refl
+messages_apart w LdapPiece = refl
+messages_apart w LdapPieces = refl
+messages_apart w LdapAuthentication = refl
+messages_apart w LdapControl = refl
+messages_apart w LdapControls = refl
 
 filters_read_back : (levels : ℕ) (b : Bool)
     → AllReadBack (if b then choice 0 Never ∷ choice 1 Never ∷ choice 2 Never ∷ choice 3 Never ∷ [] else (choice 0 (Explicit Item) ∷ choice 1 (Explicit (Filters (levels - 1))) ∷ choice 2 (Explicit (Filters (levels - 1))) ∷ choice 3 (Explicit (Filter (levels - 1))) ∷ []))
@@ -256,3 +297,113 @@ messages_read_back w clock Step = (
   (λ n octets h. absurd (cc h), (λ n octets h. absurd (cc h), (λ n octets h. absurd (cc h), tt))),
 )
 messages_read_back w clock Renamed = (λ n octets h. absurd (cc h), tt)
+messages_read_back w clock LdapMessage = (λ n octets h. absurd (cc h), tt)
+messages_read_back w clock LdapResponse = (λ n octets h. absurd (cc h), tt)
+messages_read_back w clock LdapOperation = (
+  λ n octets h. absurd (cc h),
+  (
+    null_back,
+    (
+      λ n octets h. absurd (cc h),
+      (
+        λ n octets h. absurd (cc h),
+        (
+          λ n octets h. absurd (cc h),
+          (
+            any_octets_back,
+            (
+              λ n octets h. absurd (cc h),
+              (
+                λ n octets h. absurd (cc h),
+                (
+                  number_reads_back (from_to 0 2147483647),
+                  (
+                    λ n octets h. absurd (cc h),
+                    tt,
+                  ),
+                ),
+              ),
+            ),
+          ),
+        ),
+      ),
+    ),
+  ),
+)
+messages_read_back w clock LdapAnswer = (
+  λ n octets h. absurd (cc h),
+  (
+    λ n octets h. absurd (cc h),
+    (
+      λ n octets h. absurd (cc h),
+      (
+        λ n octets h. absurd (cc h),
+        (
+          λ n octets h. absurd (cc h),
+          (
+            λ n octets h. absurd (cc h),
+            (
+              λ n octets h. absurd (cc h),
+              (
+                λ n octets h. absurd (cc h),
+                (
+                  λ n octets h. absurd (cc h),
+                  tt,
+                ),
+              ),
+            ),
+          ),
+        ),
+      ),
+    ),
+  ),
+)
+messages_read_back w clock LdapString = (any_octets_back, tt)
+messages_read_back w clock (LdapTagged tag) = (any_octets_back, tt)
+messages_read_back w clock (LdapTaggedFlag tag) = (boolean_back, tt)
+messages_read_back w clock LdapStrings = (λ n octets h. absurd (cc h), tt)
+messages_read_back w clock LdapValues = (λ n octets h. absurd (cc h), tt)
+messages_read_back w clock LdapSomeValues = (λ n octets h. absurd (cc h), tt)
+messages_read_back w clock LdapAttribute = (λ n octets h. absurd (cc h), tt)
+messages_read_back w clock LdapShown = (λ n octets h. absurd (cc h), tt)
+messages_read_back w clock LdapNewAttribute = (λ n octets h. absurd (cc h), tt)
+messages_read_back w clock LdapNewAttributes = (λ n octets h. absurd (cc h), tt)
+messages_read_back w clock LdapChange = (λ n octets h. absurd (cc h), tt)
+messages_read_back w clock LdapChanges = (λ n octets h. absurd (cc h), tt)
+messages_read_back w clock LdapAssertion = (λ n octets h. absurd (cc h), tt)
+messages_read_back w clock LdapFilter = (
+  λ n octets h. absurd (cc h),
+  (
+    λ n octets h. absurd (cc h),
+    (
+      λ n octets h. absurd (cc h),
+      (
+        λ n octets h. absurd (cc h),
+        (
+          λ n octets h. absurd (cc h),
+          (
+            λ n octets h. absurd (cc h),
+            (
+              λ n octets h. absurd (cc h),
+              (
+                any_octets_back,
+                (
+                  λ n octets h. absurd (cc h),
+                  (
+                    λ n octets h. absurd (cc h),
+                    tt,
+                  ),
+                ),
+              ),
+            ),
+          ),
+        ),
+      ),
+    ),
+  ),
+)
+messages_read_back w clock LdapPiece = (placed_back 0, (placed_back 1, (placed_back 2, tt)))
+messages_read_back w clock LdapPieces = (λ n octets h. absurd (cc h), tt)
+messages_read_back w clock LdapAuthentication = (any_octets_back, (λ n octets h. absurd (cc h), tt))
+messages_read_back w clock LdapControl = (λ n octets h. absurd (cc h), tt)
+messages_read_back w clock LdapControls = (λ n octets h. absurd (cc h), tt)
