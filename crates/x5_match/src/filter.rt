@@ -199,7 +199,10 @@ fn parts_from(alloc: Global, kind: TypeId, pieces: &[Piece]) -> Result<Option<Pa
     for piece in pieces {
         match piece_normal(alloc, kind, piece)? {
             Some(normal) => add_part(&mut parts, piece.place, normal)?,
-            None => return Ok(None),
+            None => {
+                drop(parts);
+                return Ok(None);
+            }
         }
     }
     Ok(Some(parts))

@@ -331,7 +331,10 @@ fn closed<'a>(all: usize, filter: Filter, text: &'a str) -> Result<(Filter, &'a 
 {
     match text.strip_prefix(')') {
         Some(behind) => Ok((filter, behind)),
-        None => Err(FilterFault::Bad(all - text.len())),
+        None => {
+            drop(filter);
+            Err(FilterFault::Bad(all - text.len()))
+        }
     }
 }
 
@@ -344,7 +347,7 @@ fn item_from<'a>(alloc: Global, all: usize, text: &'a str) -> Result<(Filter, &'
 {
     let at = all - text.len();
     let Some((word, behind)) = text.split_once(')') else {
-        item_at(alloc, at, text)?;
+        drop(item_at(alloc, at, text)?);
         return Err(FilterFault::Bad(all));
     };
     let item = item_at(alloc, at, word)?;
@@ -445,6 +448,7 @@ impl Filter {
                 if behind.is_empty() {
                     Ok(filter)
                 } else {
+                    drop(filter);
                     Err(FilterFault::Bad(all - behind.len()))
                 }
             }
