@@ -195,8 +195,8 @@ fn with_pair(alloc: Global, entry: Entry, pair: &Pair) -> Result<Entry, NoMemory
     if has_pair(&entry, pair) {
         return Ok(entry);
     }
-    let value = Value::Text(pair.text().clone()?);
     let normal = pair.normal().clone()?;
+    let value = Value::Text(pair.text().clone()?);
     put_value(alloc, entry, pair.kind(), value, normal)
 }
 

@@ -144,5 +144,8 @@ pub fn compares(
         return Ok(None);
     }
     let assertion = Assertion::new(alloc, kind.clone()?, value.clone()?)?;
-    Ok(Some(Item::Equality(assertion).holds(entry).is_true()))
+    let item = Item::Equality(assertion);
+    let truth = item.holds(entry);
+    drop(item);
+    Ok(Some(truth.is_true()))
 }

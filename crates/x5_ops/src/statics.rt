@@ -417,10 +417,12 @@ fn add_refusal(
     if refusal.is_some() {
         return Ok(refusal);
     }
+    drop(refusal);
     let refusal = attribute_repeats(alloc, attributes.as_slice())?;
     if refusal.is_some() {
         return Ok(refusal);
     }
+    drop(refusal);
     let entry = entry_at(alloc, object, attributes)?;
     Ok(entry_refusal(&entry))
 }
@@ -438,14 +440,17 @@ fn modify_refusal(
     if refusal.is_some() {
         return Ok(refusal);
     }
+    drop(refusal);
     let refusal = changes_refusal(alloc, changes.as_slice())?;
     if refusal.is_some() {
         return Ok(refusal);
     }
+    drop(refusal);
     let refusal = changes_repeats(alloc, changes.as_slice())?;
     if refusal.is_some() {
         return Ok(refusal);
     }
+    drop(refusal);
     if name_class(changes.as_slice()) {
         return Ok(Some(Refusal::Update {
             problem: update_problem::OBJECT_CLASS_MODIFICATION_PROHIBITED,
