@@ -18,10 +18,11 @@ use Rattle.x5_model_typed.specs.Named.{Qualifier, AttributeError, NameError, Ser
 use Rattle.x5_model_typed.specs.Named.{Agreement, ShadowArgument, UpdateArgument, Refresh, Total, Entries, Entry}
 use Rattle.x5_model_typed.specs.Named.{Knowns, Known, NonSpecifics, NonSpecific, WorldAgents, WorldAgent}
 use Rattle.x5_model_typed.specs.Named.{WorldAgentName, Steps, Step, Renamed}
-use Rattle.x5_model_typed.specs.Named.{LdapMessage, LdapResponse, LdapOperation, LdapAnswer, LdapString, LdapTagged}
-use Rattle.x5_model_typed.specs.Named.{LdapTaggedFlag, LdapStrings, LdapValues, LdapSomeValues, LdapAttribute}
-use Rattle.x5_model_typed.specs.Named.{LdapShown, LdapNewAttribute, LdapNewAttributes, LdapChange, LdapChanges}
-use Rattle.x5_model_typed.specs.Named.{LdapAssertion, LdapFilter, LdapPiece, LdapPieces, LdapAuthentication}
+use Rattle.x5_model_typed.specs.Named.{LdapMessage, LdapResponse, LdapOperation, LdapAnswer, LdapString, LdapStrings}
+use Rattle.x5_model_typed.specs.Named.{LdapValues, LdapSomeValues, LdapAttribute, LdapShown, LdapNewAttribute}
+use Rattle.x5_model_typed.specs.Named.{LdapNewAttributes, LdapChange, LdapChanges, LdapAssertion, LdapFilter, LdapPiece}
+use Rattle.x5_model_typed.specs.Named.{LdapPieces, LdapAuthentication, LdapSuperior, LdapExtension, LdapExtensionValue}
+use Rattle.x5_model_typed.specs.Named.{LdapMatchingRule, LdapMatchedType, LdapMatchedValue, LdapMatchesNames}
 use Rattle.x5_model_typed.specs.Named.{LdapControl, LdapControls}
 use Rattle.x5_model_typed.specs.Forms.{Leaf, Component, Primitive, Joined, JoinedBits, Explicit, Sequence, Set, Members}
 use Rattle.x5_model_typed.specs.Forms.{Never, Alternative, Layout, universal, context, choice, ruled, plain, at, or}
@@ -205,10 +206,10 @@ ldap_operations =
     ∷ application true 8 (Sequence (plain LdapString ∷ plain LdapNewAttributes ∷ []))
     ∷ application false 10 string
     ∷ application true 12 (Sequence (plain LdapString ∷ plain LdapString ∷ plain Boolean
-    ∷ optional (plain (LdapTagged 0)) ∷ []))
+    ∷ optional (plain LdapSuperior) ∷ []))
     ∷ application true 14 (Sequence (plain LdapString ∷ plain LdapAssertion ∷ []))
     ∷ application false 16 (Primitive (number (from_to 0 2147483647)))
-    ∷ application true 23 (Sequence (plain (LdapTagged 0) ∷ optional (plain (LdapTagged 1)) ∷ []))
+    ∷ application true 23 (Sequence (plain LdapExtension ∷ optional (plain LdapExtensionValue) ∷ []))
     ∷ []
 
 -- LDAPResult: a code, the matched name and a text
@@ -232,8 +233,8 @@ ldap_filter =
     ∷ choice 6 (Sequence assertion)
     ∷ context 7 string
     ∷ choice 8 (Sequence assertion)
-    ∷ choice 9 (Sequence (optional (plain (LdapTagged 1)) ∷ optional (plain (LdapTagged 2)) ∷ plain (LdapTagged 3)
-    ∷ or (Flag false) (plain (LdapTaggedFlag 4)) ∷ []))
+    ∷ choice 9 (Sequence (optional (plain LdapMatchingRule) ∷ optional (plain LdapMatchedType) ∷ plain LdapMatchedValue
+    ∷ or (Flag false) (plain LdapMatchesNames) ∷ []))
     ∷ []
 
 -- ---- the table
@@ -353,8 +354,6 @@ layout w LdapResponse = is (sequence (count ∷ plain LdapAnswer ∷ []))
 layout w LdapOperation = ldap_operations
 layout w LdapAnswer = ldap_answers
 layout w LdapString = is (universal 4 string)
-layout w (LdapTagged tag) = is (context tag string)
-layout w (LdapTaggedFlag tag) = is (context tag (Primitive boolean))
 layout w LdapStrings = is (sequence_of LdapString)
 layout w LdapValues = is (set_of LdapString)
 layout w LdapSomeValues = is (ruled some_members (set_of LdapString))
@@ -370,6 +369,13 @@ layout w LdapPiece = piece 0 ∷ piece 1 ∷ piece 2 ∷ []
 layout w LdapPieces = is (ruled pieces_rule (sequence_of LdapPiece))
 layout w LdapAuthentication =
     context 0 string ∷ context 3 (Sequence (plain LdapString ∷ optional (plain LdapString) ∷ [])) ∷ []
+layout w LdapSuperior = is (context 0 string)
+layout w LdapExtension = is (context 0 string)
+layout w LdapExtensionValue = is (context 1 string)
+layout w LdapMatchingRule = is (context 1 string)
+layout w LdapMatchedType = is (context 2 string)
+layout w LdapMatchedValue = is (context 3 string)
+layout w LdapMatchesNames = is (context 4 (Primitive boolean))
 layout w LdapControl =
     is (sequence (plain LdapString ∷ or (Flag false) (plain Boolean) ∷ optional (plain LdapString) ∷ []))
 layout w LdapControls = is (context 0 (Members LdapControl))

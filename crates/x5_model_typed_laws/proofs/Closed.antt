@@ -23,10 +23,11 @@ use Rattle.x5_model_typed.specs.Named.{Renamed, Search, Selection, ServiceError,
 use Rattle.x5_model_typed.specs.Named.{Sources, Step, Steps, Sub, Subs, Substrings, Time, Total, Trace, TraceItem}
 use Rattle.x5_model_typed.specs.Named.{TypeList, UpdateArgument, UpdateError, Value, Values, WorldAgent, WorldAgentName}
 use Rattle.x5_model_typed.specs.Named.{WorldAgents}
-use Rattle.x5_model_typed.specs.Named.{LdapMessage, LdapResponse, LdapOperation, LdapAnswer, LdapString, LdapTagged}
-use Rattle.x5_model_typed.specs.Named.{LdapTaggedFlag, LdapStrings, LdapValues, LdapSomeValues, LdapAttribute}
-use Rattle.x5_model_typed.specs.Named.{LdapShown, LdapNewAttribute, LdapNewAttributes, LdapChange, LdapChanges}
-use Rattle.x5_model_typed.specs.Named.{LdapAssertion, LdapFilter, LdapPiece, LdapPieces, LdapAuthentication}
+use Rattle.x5_model_typed.specs.Named.{LdapMessage, LdapResponse, LdapOperation, LdapAnswer, LdapString, LdapStrings}
+use Rattle.x5_model_typed.specs.Named.{LdapValues, LdapSomeValues, LdapAttribute, LdapShown, LdapNewAttribute}
+use Rattle.x5_model_typed.specs.Named.{LdapNewAttributes, LdapChange, LdapChanges, LdapAssertion, LdapFilter, LdapPiece}
+use Rattle.x5_model_typed.specs.Named.{LdapPieces, LdapAuthentication, LdapSuperior, LdapExtension, LdapExtensionValue}
+use Rattle.x5_model_typed.specs.Named.{LdapMatchingRule, LdapMatchedType, LdapMatchedValue, LdapMatchesNames}
 use Rattle.x5_model_typed.specs.Named.{LdapControl, LdapControls}
 use Rattle.x5_model_typed.specs.Forms.{Content, Sequence, Members, context, Primitive, Joined, JoinedBits, Explicit}
 use Rattle.x5_model_typed.specs.Forms.{Never, Alternative, Layout, universal, choice, ruled, plain, at, or}
@@ -141,7 +142,7 @@ number_found w m k e h =
     subst (λ (x : Node). can_hold x abandoned ≡ true → find (can_hold x) (layout w LdapOperation) ≡ Some abandoned) e
     (λ g. ap (λ (b : Bool). cond b (Some abandoned)
     (find (can_hold (nodes.Number k))
-    (application true 23 (Sequence (plain (LdapTagged 0) ∷ optional (plain (LdapTagged 1)) ∷ [])) ∷ []))) g) h
+    (application true 23 (Sequence (plain LdapExtension ∷ optional (plain LdapExtensionValue) ∷ [])) ∷ []))) g) h
 
 operation_number_closes : (w : Surroundings) → Closes (layout w) (layout w LdapOperation) abandoned
 operation_number_closes w =
@@ -220,11 +221,8 @@ filters_uncoded levels false = refl
 
 -- ---- the table
 pub messages_close : (w : Surroundings) (form : Named) → AllClose (layout w) (layout w form) (layout w form)
-messages_close w DapRequest = (
-  chosen_closes (layout w) (layout w DapRequest) (invoke (operation_codes Argument)) refl refl any_keeps
-      refl,
-  tt,
-)
+messages_close w DapRequest =
+    (chosen_closes (layout w) (layout w DapRequest) (invoke (operation_codes Argument)) refl refl any_keeps refl, tt)
 messages_close w DapAnswer = (
   chosen_closes (layout w) (layout w DapAnswer) (result DapResult) refl refl any_keeps
       refl,
@@ -409,8 +407,7 @@ messages_close w PlacedPart = (
   ),
 )
 messages_close w Chaining =
-    made_alone (layout w) (set (at 0 Name ∷ at 1 Progress ∷ at 2 Trace ∷ at 3 RefType ∷ or_nothing (at 4 Rdns) ∷
-    []))
+    made_alone (layout w) (set (at 0 Name ∷ at 1 Progress ∷ at 2 Trace ∷ at 3 RefType ∷ or_nothing (at 4 Rdns) ∷ []))
     refl refl any_keeps
 messages_close w Progress =
     made_alone (layout w) (ruled progress_rule (sequence
@@ -481,12 +478,10 @@ messages_close w Known =
     made_alone (layout w) (ruled known_rule (sequence (plain Name ∷ plain WorldAgents ∷ []))) refl refl known_keeps
 messages_close w NonSpecifics = made_alone (layout w) (sequence_of NonSpecific) refl refl any_keeps
 messages_close w NonSpecific =
-    made_alone (layout w) (ruled masters_rule (sequence (plain Name ∷ plain WorldAgents ∷ []))) refl refl
-    masters_keeps
+    made_alone (layout w) (ruled masters_rule (sequence (plain Name ∷ plain WorldAgents ∷ []))) refl refl masters_keeps
 messages_close w WorldAgents = made_alone (layout w) (sequence_of WorldAgent) refl refl any_keeps
 messages_close w WorldAgent =
-    made_alone (layout w) (sequence (plain WorldAgentName ∷ or (Flag false) (plain Boolean) ∷ [])) refl refl
-    any_keeps
+    made_alone (layout w) (sequence (plain WorldAgentName ∷ or (Flag false) (plain Boolean) ∷ [])) refl refl any_keeps
 messages_close w WorldAgentName = (
   leaf_alone (layout w) (agent_name w.is_agent) refl any_keeps
       (text_writes (λ t. if is_agent_name t then w.is_agent t else false)),
@@ -536,7 +531,7 @@ messages_close w LdapOperation = (
             operation_octets_closes w,
             (
               chosen_closes (layout w) (layout w LdapOperation) (application true 12 (Sequence (plain LdapString
-                  ∷ plain LdapString ∷ plain Boolean ∷ optional (plain (LdapTagged 0)) ∷ []))) refl refl
+                  ∷ plain LdapString ∷ plain Boolean ∷ optional (plain LdapSuperior) ∷ []))) refl refl
                   any_keeps refl,
               (
                 chosen_closes (layout w) (layout w LdapOperation) (application true 14 (Sequence (plain
@@ -545,7 +540,7 @@ messages_close w LdapOperation = (
                   operation_number_closes w,
                   (
                     chosen_closes (layout w) (layout w LdapOperation) (application true 23 (Sequence (plain
-                        (LdapTagged 0) ∷ optional (plain (LdapTagged 1)) ∷ []))) refl refl any_keeps refl,
+                        LdapExtension ∷ optional (plain LdapExtensionValue) ∷ []))) refl refl any_keeps refl,
                     tt,
                   ),
                 ),
@@ -587,11 +582,6 @@ messages_close w LdapAnswer = (
   ),
 )
 messages_close w LdapString = (leaf_alone (layout w) (universal 4 string) refl any_keeps any_octets_writes, tt)
-messages_close w (LdapTagged tag) = (leaf_alone (layout w) (context tag string) refl any_keeps any_octets_writes, tt)
-messages_close w (LdapTaggedFlag tag) = (
-  leaf_alone (layout w) (context tag (Primitive boolean)) refl any_keeps boolean_writes,
-  tt,
-)
 messages_close w LdapStrings = made_alone (layout w) (sequence_of LdapString) refl refl any_keeps
 messages_close w LdapValues = made_alone (layout w) (set_of LdapString) refl refl any_keeps
 messages_close w LdapSomeValues = made_alone (layout w) (ruled some_members (set_of LdapString)) refl refl some_keeps
@@ -631,8 +621,8 @@ messages_close w LdapFilter = (
                       any_keeps refl,
                   (
                     chosen_closes (layout w) (layout w LdapFilter) (choice 9 (Sequence (optional (plain
-                        (LdapTagged 1)) ∷ optional (plain (LdapTagged 2)) ∷ plain (LdapTagged 3) ∷ or (Flag
-                        false) (plain (LdapTaggedFlag 4)) ∷ []))) refl refl any_keeps refl,
+                        LdapMatchingRule) ∷ optional (plain LdapMatchedType) ∷ plain LdapMatchedValue ∷ or
+                        (Flag false) (plain LdapMatchesNames) ∷ []))) refl refl any_keeps refl,
                     tt,
                   ),
                 ),
@@ -654,6 +644,14 @@ messages_close w LdapAuthentication = (
     tt,
   ),
 )
+messages_close w LdapSuperior = (leaf_alone (layout w) (context 0 string) refl any_keeps any_octets_writes, tt)
+messages_close w LdapExtension = (leaf_alone (layout w) (context 0 string) refl any_keeps any_octets_writes, tt)
+messages_close w LdapExtensionValue = (leaf_alone (layout w) (context 1 string) refl any_keeps any_octets_writes, tt)
+messages_close w LdapMatchingRule = (leaf_alone (layout w) (context 1 string) refl any_keeps any_octets_writes, tt)
+messages_close w LdapMatchedType = (leaf_alone (layout w) (context 2 string) refl any_keeps any_octets_writes, tt)
+messages_close w LdapMatchedValue = (leaf_alone (layout w) (context 3 string) refl any_keeps any_octets_writes, tt)
+messages_close w LdapMatchesNames =
+    (leaf_alone (layout w) (context 4 (Primitive boolean)) refl any_keeps boolean_writes, tt)
 messages_close w LdapControl =
     made_alone (layout w) (sequence (plain LdapString ∷ or (Flag false) (plain Boolean) ∷ optional (plain
     LdapString) ∷ [])) refl refl any_keeps
@@ -758,8 +756,6 @@ messages_uncoded w LdapResponse = refl
 messages_uncoded w LdapOperation = refl
 messages_uncoded w LdapAnswer = refl
 messages_uncoded w LdapString = refl
-messages_uncoded w (LdapTagged tag) = refl
-messages_uncoded w (LdapTaggedFlag tag) = refl
 messages_uncoded w LdapStrings = refl
 messages_uncoded w LdapValues = refl
 messages_uncoded w LdapSomeValues = refl
@@ -774,6 +770,13 @@ messages_uncoded w LdapFilter = refl
 messages_uncoded w LdapPiece = refl
 messages_uncoded w LdapPieces = refl
 messages_uncoded w LdapAuthentication = refl
+messages_uncoded w LdapSuperior = refl
+messages_uncoded w LdapExtension = refl
+messages_uncoded w LdapExtensionValue = refl
+messages_uncoded w LdapMatchingRule = refl
+messages_uncoded w LdapMatchedType = refl
+messages_uncoded w LdapMatchedValue = refl
+messages_uncoded w LdapMatchesNames = refl
 messages_uncoded w LdapControl = refl
 messages_uncoded w LdapControls = refl
 

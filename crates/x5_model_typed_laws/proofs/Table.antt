@@ -12,10 +12,11 @@ use Rattle.x5_model_typed.specs.Named.{Source, Sources, EntryInfo, EntryInfos, S
 use Rattle.x5_model_typed.specs.Named.{NameError, ServiceError, UpdateError, ShadowError, Agreement, ShadowArgument}
 use Rattle.x5_model_typed.specs.Named.{UpdateArgument, Refresh, Total, Entries, Entry, Knowns, Known, NonSpecifics}
 use Rattle.x5_model_typed.specs.Named.{NonSpecific, WorldAgents, WorldAgent, WorldAgentName, Steps, Step, Renamed}
-use Rattle.x5_model_typed.specs.Named.{LdapMessage, LdapResponse, LdapOperation, LdapAnswer, LdapString, LdapTagged}
-use Rattle.x5_model_typed.specs.Named.{LdapTaggedFlag, LdapStrings, LdapValues, LdapSomeValues, LdapAttribute}
-use Rattle.x5_model_typed.specs.Named.{LdapShown, LdapNewAttribute, LdapNewAttributes, LdapChange, LdapChanges}
-use Rattle.x5_model_typed.specs.Named.{LdapAssertion, LdapFilter, LdapPiece, LdapPieces, LdapAuthentication}
+use Rattle.x5_model_typed.specs.Named.{LdapMessage, LdapResponse, LdapOperation, LdapAnswer, LdapString, LdapStrings}
+use Rattle.x5_model_typed.specs.Named.{LdapValues, LdapSomeValues, LdapAttribute, LdapShown, LdapNewAttribute}
+use Rattle.x5_model_typed.specs.Named.{LdapNewAttributes, LdapChange, LdapChanges, LdapAssertion, LdapFilter, LdapPiece}
+use Rattle.x5_model_typed.specs.Named.{LdapPieces, LdapAuthentication, LdapSuperior, LdapExtension, LdapExtensionValue}
+use Rattle.x5_model_typed.specs.Named.{LdapMatchingRule, LdapMatchedType, LdapMatchedValue, LdapMatchesNames}
 use Rattle.x5_model_typed.specs.Named.{LdapControl, LdapControls}
 use Rattle.x5_model_typed.specs.Forms.{Explicit, Never, choice}
 use Rattle.x5_model.specs.Normal.{is_printable}
@@ -132,8 +133,6 @@ messages_apart w LdapResponse = refl
 messages_apart w LdapOperation = refl
 messages_apart w LdapAnswer = refl
 messages_apart w LdapString = refl
-messages_apart w (LdapTagged tag) = refl
-messages_apart w (LdapTaggedFlag tag) = refl
 messages_apart w LdapStrings = refl
 messages_apart w LdapValues = refl
 messages_apart w LdapSomeValues = refl
@@ -148,6 +147,13 @@ messages_apart w LdapFilter = refl
 messages_apart w LdapPiece = refl
 messages_apart w LdapPieces = refl
 messages_apart w LdapAuthentication = refl
+messages_apart w LdapSuperior = refl
+messages_apart w LdapExtension = refl
+messages_apart w LdapExtensionValue = refl
+messages_apart w LdapMatchingRule = refl
+messages_apart w LdapMatchedType = refl
+messages_apart w LdapMatchedValue = refl
+messages_apart w LdapMatchesNames = refl
 messages_apart w LdapControl = refl
 messages_apart w LdapControls = refl
 
@@ -359,8 +365,6 @@ messages_read_back w clock LdapAnswer = (
   ),
 )
 messages_read_back w clock LdapString = (any_octets_back, tt)
-messages_read_back w clock (LdapTagged tag) = (any_octets_back, tt)
-messages_read_back w clock (LdapTaggedFlag tag) = (boolean_back, tt)
 messages_read_back w clock LdapStrings = (λ n octets h. absurd (cc h), tt)
 messages_read_back w clock LdapValues = (λ n octets h. absurd (cc h), tt)
 messages_read_back w clock LdapSomeValues = (λ n octets h. absurd (cc h), tt)
@@ -405,5 +409,12 @@ messages_read_back w clock LdapFilter = (
 messages_read_back w clock LdapPiece = (placed_back 0, (placed_back 1, (placed_back 2, tt)))
 messages_read_back w clock LdapPieces = (λ n octets h. absurd (cc h), tt)
 messages_read_back w clock LdapAuthentication = (any_octets_back, (λ n octets h. absurd (cc h), tt))
+messages_read_back w clock LdapSuperior = (any_octets_back, tt)
+messages_read_back w clock LdapExtension = (any_octets_back, tt)
+messages_read_back w clock LdapExtensionValue = (any_octets_back, tt)
+messages_read_back w clock LdapMatchingRule = (any_octets_back, tt)
+messages_read_back w clock LdapMatchedType = (any_octets_back, tt)
+messages_read_back w clock LdapMatchedValue = (any_octets_back, tt)
+messages_read_back w clock LdapMatchesNames = (boolean_back, tt)
 messages_read_back w clock LdapControl = (λ n octets h. absurd (cc h), tt)
 messages_read_back w clock LdapControls = (λ n octets h. absurd (cc h), tt)
