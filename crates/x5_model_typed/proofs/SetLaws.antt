@@ -9,7 +9,7 @@ use Rattle.x5_model.specs.Words.{in_option}
 use Rattle.x5_model_typed.specs.Trees.{Tree, Trees, Bare, Row, place_of, class_of, tag_of}
 use Rattle.x5_model_typed.specs.Nodes.{Node, row}
 use Rattle.x5_model_typed.specs.Forms.{Layout, Presence, Required, Default, Code, Alternative, Set, Component, alternatives, is_component}
-use Rattle.x5_model_octets.specs.Breaches.{Breach}
+use Rattle.x5_model_octets.specs.Breaches.{Breach, Ber}
 use Rattle.x5_model_typed.specs.Judged.{State, Awaited, Step, InSlot, judged, judged_all, judged_member, and_then, awaits, stepped, set_awaits, default_of, may_be_missing, is_filled, all_filled, filled}
 use Rattle.x5_model_typed.specs.Typed as typed
 use Rattle.x5_model_typed.specs.Typed.{IsOf, InAnyOrder, IsMissing, Among}
@@ -47,7 +47,7 @@ pub record Slot (layout : Layout) (class tag k : ℕ) (cs : List Component) (os 
 pub slot_by : (layout : Layout) (at class tag k : ℕ) (c : Component) (cs : List Component) (o : Option Node) (os : List (Option Node)) (a : Awaited) (b : Bool)
     → is_component layout class tag c ≡ b
     → (set_awaits layout at class tag (k + 1) cs os ≡ Ok a → Slot layout class tag (k + 1) cs os a)
-    → (if b then in_option (Ok (record { types = alternatives layout c; step = InSlot k })) (λ n. Err (Rattle.x5_model_typed.specs.Judged.Ber (Rattle.x5_model_octets.specs.Faults.BadContent at))) o else set_awaits layout at class tag (k + 1) cs os) ≡ Ok a
+    → (if b then in_option (Ok (record { types = alternatives layout c; step = InSlot k })) (λ n. Err (Ber (Rattle.x5_model_octets.specs.Faults.BadContent at))) o else set_awaits layout at class tag (k + 1) cs os) ≡ Ok a
     → Slot layout class tag k (c ∷ cs) (o ∷ os) a
 slot_by layout at class tag k c cs None os a true is more e =
     let same : record { types = alternatives layout c; step = InSlot k } ≡ a = cc e in
