@@ -1,6 +1,7 @@
 //! Moments as they are printed: the date and time so many seconds after the world's start.
 
-ghost use Rattle.std.specs.Prelude.{◌≡◌, ℕ, ◌+◌, ◌-◌, ◌*◌, ◌<◌, ◌≤◌, ◌/◌, ◌%◌, ℤ, pos, ◌+ℤ◌, ◌≤ℤ◌, ◌↔◌, Some, IsSome, IfSome, IfOk, length, slice_index, string_bytes, true, if◌then◌else◌};
+ghost use Rattle.std.specs.Prelude.{◌≡◌, ℕ, ◌+◌, ◌-◌, ◌*◌, ◌<◌, ◌≤◌, ◌/◌, ◌%◌, ℤ, pos, ◌+ℤ◌, ◌≤ℤ◌, ◌↔◌, Some, IsSome, IfSome, IfOk, length, slice_index, string_bytes, true, if◌then◌else◌, codes, ◌∷◌, []};
+ghost use Rattle.std.specs.List.{concat};
 ghost use Rattle.jiff.specs.Words.{epoch_day, IsBetween};
 ghost use Rattle.jiff_core.specs.Calendar.{IsCivilDate};
 ghost use Rattle.jiff_core.specs.declared.civil.date.Date.{Date as CivilDate};
@@ -76,6 +77,22 @@ fn four(alloc: Global, number: u64) -> Result<String, AllocError>
     format!(in alloc; "{thousands}{hundreds}{tens}{ones}")
 }
 
+/// The digits of a date, the time at a second of it, and `Z`.
+fn with_time(
+    alloc: Global,
+    year: &str,
+    month: &str,
+    day: &str,
+    second: u64,
+) -> Result<String, AllocError>
+    ensures { IfOk result (λ text. string_bytes text ≡ concat (year.now ∷ month.now ∷ day.now ∷ two_digits (second / 3600) ∷ two_digits (second / 60 % 60) ∷ two_digits (second % 60) ∷ codes "Z" ∷ [])) }
+{
+    let hour = two(alloc, second / 3600)?;
+    let minute = two(alloc, second / 60 % 60)?;
+    let second = two(alloc, second % 60)?;
+    format!(in alloc; "{year}{month}{day}{hour}{minute}{second}Z")
+}
+
 /// The date and the time at a second of it.
 fn stamp(alloc: Global, date: Date, second: u64) -> Result<String, AllocError>
     ensures { IfOk result (λ text. string_bytes text ≡ stamp_text (day_of date) second) }
@@ -83,10 +100,7 @@ fn stamp(alloc: Global, date: Date, second: u64) -> Result<String, AllocError>
     let year = four(alloc, u64::from(date.year().unsigned_abs()))?;
     let month = two(alloc, u64::from(date.month().unsigned_abs()))?;
     let day = two(alloc, u64::from(date.day().unsigned_abs()))?;
-    let hour = two(alloc, second / 3600)?;
-    let minute = two(alloc, second / 60 % 60)?;
-    let second = two(alloc, second % 60)?;
-    format!(in alloc; "{year}{month}{day}{hour}{minute}{second}Z")
+    with_time(alloc, year.as_str(), month.as_str(), day.as_str(), second)
 }
 
 impl Start {
