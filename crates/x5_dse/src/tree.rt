@@ -266,6 +266,7 @@ impl DseTree {
         if self.free.push(node).is_err() {
             unreachable!();
         }
+        drop(held.own);
         Ok(held.entry)
     }
 
@@ -283,6 +284,8 @@ impl DseTree {
         ensures err { OnErr result (self.new ≡ self.old) }
     {
         let Some((from, to)) = move_of(&self.slots, &self.order, node, rdn.pairs()) else {
+            drop(rdn);
+            drop(entry);
             return Err(DseFault::Exists);
         };
         self.order.remove(from);
@@ -296,6 +299,7 @@ impl DseTree {
             own: Own::Renamed(rdn),
             entry,
         });
+        drop(held.own);
         Ok(held.entry)
     }
 }
