@@ -1,5 +1,6 @@
 pub mod ByParts
 pub mod Failing
+pub mod Growing
 pub mod Items
 pub mod LastRdn
 pub mod Owned

@@ -113,33 +113,55 @@ fn nssrs_at(
     nssrs_behind(alloc, names, &here, entries, none, list)
 }
 
-/// The contexts with one more, whose prefix and entries are read, where the file has so many entries with these.
+/// The non-specific references of a context that stands behind these, whose prefix and entries are read, where the file has so many
+/// entries with these.
 #[tactic(auto, using(crate::proofs::ByParts::context_by_parts))]
-fn with_entries_read(
+fn nssrs_beside(
     alloc: Global,
     names: &AgentNames,
     place: &Place<'_>,
-    before: Contexts,
-    prefix: Name,
-    entries: Entries,
+    before: &Contexts,
+    prefix: &Name,
+    entries: &Entries,
     used: usize,
     members: &Map<String, Value>,
     value: &Value,
-) -> Result<Contexts, LoadFault>
+) -> Result<Nssrs, LoadFault>
     requires { used ≤ 100_000 }
-    ensures { ReadsPart (λ c. c) result (parts.with_entries_read names.now (path_of place.now) before prefix entries used (members_view members.now.entries) (view value.now)) }
+    ensures { ReadsPart (λ n. model.with_context before.now prefix.now entries.now n used) result (parts.with_entries_read names.now (path_of place.now) before.now prefix.now entries.now used (members_view members.now.entries) (view value.now)) }
 {
     let nssr_agents = before.counts().nssr_agents();
-    let found = nssrs_at(alloc, names, place, &entries, nssr_agents, value)?;
-    let listed = found.listed();
-    let spec = ContextSpec {
-        prefix,
-        entries: entries.into_list(),
-        nssr: found.into_list(),
-    };
+    let found = nssrs_at(alloc, names, place, entries, nssr_agents, value)?;
     only(alloc, place, &["prefix", "entries", "nssr"], members)?;
-    let contexts = before.with(spec, used, listed)?;
-    Ok(contexts)
+    Ok(found)
+}
+
+/// The entries and non-specific references of a context of the prefix that stands behind these, and how many entries the file has
+/// with these.
+fn both_behind(
+    alloc: Global,
+    names: &AgentNames,
+    place: &Place<'_>,
+    before: &Contexts,
+    prefix: &Name,
+    members: &Map<String, Value>,
+    value: &Value,
+) -> Result<(Entries, Nssrs, usize), LoadFault>
+    ensures read { ReadsPart (λ r. model.with_context before.now prefix.now r.0 r.1 r.2) result (parts.with_prefix_read names.now (path_of place.now) before.now prefix.now (members_view members.now.entries) (view value.now)) }
+    ensures most { IfOk result (λ r. r.2 ≤ 100_000) }
+{
+    let items = some_at(alloc, place, "entries", value)?;
+    let used = with_entries(alloc, place, before.counts().entries(), items)?;
+    let entries = entries_behind(alloc, &Place::Member(place, "entries"), prefix, items)?;
+    match nssrs_beside(
+        alloc, names, place, before, prefix, &entries, used, members, value,
+    ) {
+        Ok(found) => Ok((entries, found, used)),
+        Err(fault) => {
+            drop(entries);
+            Err(fault)
+        }
+    }
 }
 
 /// The contexts with one more, which an object describes.
@@ -154,12 +176,23 @@ fn context_behind(
 {
     let members = members_at(alloc, place, value)?;
     let prefix = entry_name_at(alloc, place, "prefix", value)?;
-    let items = some_at(alloc, place, "entries", value)?;
-    let used = with_entries(alloc, place, before.counts().entries(), items)?;
-    let entries = entries_behind(alloc, &Place::Member(place, "entries"), &prefix, items)?;
-    with_entries_read(
-        alloc, names, place, before, prefix, entries, used, members, value,
-    )
+    match both_behind(alloc, names, place, &before, &prefix, members, value) {
+        Ok((entries, found, used)) => {
+            let listed = found.listed();
+            let spec = ContextSpec {
+                prefix,
+                entries: entries.into_list(),
+                nssr: found.into_list(),
+            };
+            let contexts = before.with(spec, used, listed)?;
+            Ok(contexts)
+        }
+        Err(fault) => {
+            drop(prefix);
+            drop(before);
+            Err(fault)
+        }
+    }
 }
 
 /// The contexts with all that a list describes.

@@ -1,6 +1,6 @@
 //! The entries of a context, each behind its parent.
 
-ghost use Rattle.std.specs.Prelude.{◌≡◌, [], ◌∷◌, ◌++◌, map, IfOk, false};
+ghost use Rattle.std.specs.Prelude.{◌≡◌, [], ◌∷◌, ◌++◌, map, IfOk, OnOk, false};
 ghost use Rattle.std.specs.List.{find};
 ghost use Rattle.std.specs.Option.{option_copied};
 ghost use Rattle.serde_json.specs.View.{view, items_view};
@@ -48,6 +48,20 @@ impl Model for Entries {
     ghost invariant = { λ e. e.keys ≡ map key_at e.entries.items };
 }
 
+/// Puts an entry behind these, and its key behind theirs.
+#[tactic(auto, using(crate::proofs::Growing::entry_keys_more))]
+fn put_entry(entries: &mut Vec<Named>, keys: &mut KeySet, entry: Named) -> Result<(), NoMemory>
+    requires keyed { keys.old ≡ map key_at entries.old.items }
+    requires new { model.has_key keys.old (key_at entry) ≡ false }
+    ensures more { OnOk result (entries.new.items ≡ entries.old.items ++ entry ∷ []) }
+    ensures keyed { OnOk result (keys.new ≡ map key_at entries.new.items) }
+{
+    let key = entry.name.key().clone()?;
+    keys.add(key)?;
+    entries.push(entry)?;
+    Ok(())
+}
+
 impl Entries {
     /// No entries yet, and room for so many.
     fn new(alloc: Global, count: usize) -> Result<Entries, NoMemory>
@@ -93,9 +107,7 @@ impl Entries {
             mut entries,
             mut keys,
         } = self;
-        let key = entry.name.key().clone()?;
-        keys.add(key)?;
-        entries.push(entry)?;
+        put_entry(&mut entries, &mut keys, entry)?;
         Ok(Entries { entries, keys })
     }
 
@@ -192,8 +204,31 @@ fn named_at(
     Ok(Named { name, entry })
 }
 
-/// The entries with one more, which an object describes. What stands above it is known then.
+/// The entry that an object describes behind these, none of which has its key. What stands above it is known then.
 #[tactic(auto, using(crate::proofs::ByParts::entry_by_parts))]
+fn named_behind<'a>(
+    alloc: Global,
+    place: &Place<'_>,
+    prefix: &Name,
+    known: &mut KnownName<'a>,
+    before: &Entries,
+    value: &'a Value,
+) -> Result<Named, LoadFault>
+    ensures read { ReadsPart (λ e. before.now ++ e ∷ []) result (model.entry_behind (path_of place.now) prefix.now before.now (view value.now)) }
+    ensures new { IfOk result (λ e. model.has_key (map key_at before.now) (key_at e) ≡ false) }
+{
+    let members = members_at(alloc, place, value)?;
+    let own = entry_name_behind(alloc, place, "name", known, value)?;
+    if before.has(&own) {
+        drop(own);
+        return Err(Place::Member(place, "name").bad_shape(alloc));
+    }
+    let named = named_at(alloc, place, prefix, before, own, value)?;
+    only(alloc, place, &["name", "attrs"], members)?;
+    Ok(named)
+}
+
+/// The entries with one more, which an object describes. What stands above it is known then.
 fn entry_behind<'a>(
     alloc: Global,
     place: &Place<'_>,
@@ -204,15 +239,16 @@ fn entry_behind<'a>(
 ) -> Result<Entries, LoadFault>
     ensures { ReadsPart (λ e. e) result (model.entry_behind (path_of place.now) prefix.now before (view value.now)) }
 {
-    let members = members_at(alloc, place, value)?;
-    let own = entry_name_behind(alloc, place, "name", known, value)?;
-    if before.has(&own) {
-        return Err(Place::Member(place, "name").bad_shape(alloc));
+    match named_behind(alloc, place, prefix, known, &before, value) {
+        Ok(named) => {
+            let entries = before.with(named)?;
+            Ok(entries)
+        }
+        Err(fault) => {
+            drop(before);
+            Err(fault)
+        }
     }
-    let named = named_at(alloc, place, prefix, &before, own, value)?;
-    only(alloc, place, &["name", "attrs"], members)?;
-    let entries = before.with(named)?;
-    Ok(entries)
 }
 
 /// The entries of the context of the prefix, which a list describes.

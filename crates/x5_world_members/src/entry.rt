@@ -1,6 +1,6 @@
 //! The entry that its values make.
 
-ghost use Rattle.std.specs.Prelude.{◌≡◌, IfOk};
+ghost use Rattle.std.specs.Prelude.{◌≡◌, Some, IfOk};
 ghost use Rattle.x5_model.specs.Attributes.{is_present};
 ghost use Rattle.x5_model.specs.Values.{Known};
 ghost use Rattle.x5_model_world.specs.EntryTexts as model;
@@ -12,7 +12,26 @@ use x5_match::normal_for;
 use x5_memory::NoMemory;
 use x5_names::Rdn;
 use x5_ops::{Entry, doubled, put_value, with_rdn};
-use x5_syntax::{TypeId, TypeRef, Value};
+use x5_syntax::{Normal, TypeId, TypeRef, Value};
+
+/// The entry with one value more of this normal form, if it doesn't have it yet.
+fn with_normal(
+    alloc: Global,
+    entry: Entry,
+    kind: TypeId,
+    value: Value,
+    normal: Normal,
+) -> Result<Option<Entry>, NoMemory>
+    ensures { IfOk result (λ o. o ≡ model.with_normal kind (value_view value) entry (Some normal)) }
+{
+    if entry.has_value(kind, &normal) {
+        drop(normal);
+        drop(value);
+        drop(entry);
+        return Ok(None);
+    }
+    Ok(Some(put_value(alloc, entry, kind, value, normal)?))
+}
 
 /// The entry with one value more of a known type, if it's one of the type that the entry doesn't have yet.
 fn with_known(
@@ -23,13 +42,20 @@ fn with_known(
 ) -> Result<Option<Entry>, NoMemory>
     ensures { IfOk result (λ o. o ≡ model.with_value entry (Known kind) (value_view value)) }
 {
-    let Some(normal) = normal_for(alloc, &TypeRef::Known(kind), &value)? else {
-        return Ok(None);
-    };
-    if entry.has_value(kind, &normal) {
-        return Ok(None);
+    let found = normal_for(alloc, &TypeRef::Known(kind), &value);
+    match found {
+        Ok(Some(normal)) => with_normal(alloc, entry, kind, value, normal),
+        Ok(None) => {
+            drop(value);
+            drop(entry);
+            Ok(None)
+        }
+        Err(fault) => {
+            drop(value);
+            drop(entry);
+            Err(fault)
+        }
     }
-    Ok(Some(put_value(alloc, entry, kind, value, normal)?))
 }
 
 /// The entry with one value more, if it may have it.
