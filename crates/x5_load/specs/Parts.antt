@@ -6,12 +6,13 @@ use Rattle.serde_json.specs.Events.{items_len}
 use Rattle.x5_know.specs.Moments.{Start}
 use Rattle.x5_model.specs.Values.{Text}
 use Rattle.x5_model_tree.specs.Described.{most_agents, most_agreements, most_cut, most_references, most_shadows, most_with_copies}
-use Rattle.x5_model_tree.specs.World.{Access, Agent, Agreement}
+use Rattle.x5_model_tree.specs.Described.{most_lost_messages, most_lost_replies}
+use Rattle.x5_model_tree.specs.World.{Access, Agent, Agreement, Network}
 use Rattle.x5_model_world.specs.AgentText.{Agents, References, agent_members, agent_with, names_behind}
 use Rattle.x5_model_world.specs.AgentText.{no_references, references_behind, with_contexts, with_these}
 use Rattle.x5_model_world.specs.ContextText.{Contexts, agent_of, agents_behind, contexts_behind}
 use Rattle.x5_model_world.specs.Mentioned.{first_of_two, first_at, unknown_text, unknown_in_pair, unknown_in_world}
-use Rattle.x5_model_world.specs.NetworkText.{pairs_behind, pair_of_agents, numbers_behind}
+use Rattle.x5_model_world.specs.NetworkText.{pairs_behind, pair_of_agents, numbers_behind, numbers_at, network_members}
 use Rattle.x5_model_world.specs.Reading.{Read, ◌>>=◌, at, needed, if_few, text_at, some_at, list_if_any, only}
 use Rattle.x5_model_world.specs.StartText.{two, year_of, is_day, is_time, start_of}
 use Rattle.x5_model_world.specs.WorldFile.{File, agreements_behind, with_copies, network_of, world_members, world_in}
@@ -78,6 +79,19 @@ numbers_in most path items = do
   few ← if_few path most (items_len items) items
   numbers_behind path 0 [] few
 
+-- a network with these lists
+abbrev pub network_with : List ℕ → List ℕ → List (ℕ × ℕ) → List ℕ → List ℕ → Network
+network_with down refusing cut messages replies =
+    record { down = down; refusing = refusing; cut = cut; lost_messages = messages; lost_replies = replies }
+
+-- the same, behind its agents and pairs
+abbrev pub losing : List ℕ → List ℕ → List (ℕ × ℕ) → Members → Data → Read Network
+losing down refusing cut members d = do
+  messages ← numbers_at most_lost_messages (codes "loseMessages") d
+  replies ← numbers_at most_lost_replies (codes "loseReplies") d
+  only (codes "/network") network_members members
+      (record { down = down; refusing = refusing; cut = cut; lost_messages = messages; lost_replies = replies })
+
 -- the first name there that is no agent's
 abbrev pub unknown_there : List Text → Text → Data → Option Text
 unknown_there names path d =
@@ -86,6 +100,10 @@ unknown_there names path d =
     (first_at (unknown_in_pair names) path (codes "cut") d))
 
 -- ---- the world
+
+abbrev pub file_with : Start → Agents → List Agreement → Network → File
+file_with start found agreements network =
+    record { start = start; world = record { agents = found.agents; agreements = agreements; network = network } }
 
 -- behind its agreements
 abbrev pub connected : List Text → Bool → Start → Data → Members → Agents → List Agreement → Read File

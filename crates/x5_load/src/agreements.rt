@@ -48,20 +48,19 @@ fn agreement_in(
     let supplier = text_at(alloc, place, "supplier", value)?;
     let consumer = text_at(alloc, place, "consumer", value)?;
     let context = entry_name_at(alloc, place, "context", value)?;
-    only(
-        alloc,
-        place,
-        &["id", "supplier", "consumer", "context"],
-        members,
-    )?;
-    let supplier = agent_of(names, supplier);
-    let consumer = agent_of(names, consumer);
-    Ok(Agreement {
-        id,
-        supplier,
-        consumer,
-        context,
-    })
+    let listed = &["id", "supplier", "consumer", "context"];
+    match only(alloc, place, listed, members) {
+        Ok(()) => Ok(Agreement {
+            id,
+            supplier: agent_of(names, supplier),
+            consumer: agent_of(names, consumer),
+            context,
+        }),
+        Err(fault) => {
+            drop(context);
+            Err(fault)
+        }
+    }
 }
 
 /// The agreements that a list describes.

@@ -3,7 +3,7 @@
 ghost use Rattle.std.specs.Prelude.{◌≡◌, ◌==◌, [], map, codes, false, option_map, option_and_then, IfOk};
 ghost use Rattle.std.specs.List.{list_any};
 ghost use Rattle.serde_json.specs.Find.{get, as_array, as_str};
-ghost use Rattle.serde_json.specs.View.{view, items_view};
+ghost use Rattle.serde_json.specs.View.{view, items_view, members_view};
 ghost use Rattle.x5_load.specs.Parts as parts;
 ghost use Rattle.x5_load.specs.TextPairs.{texts_of};
 ghost use Rattle.x5_model_world.specs.ContextText.{agent_of as place_of};
@@ -13,7 +13,7 @@ ghost use Rattle.x5_world_members.specs.Views.{ReadsPart};
 
 use crate::distinct::{Numbers, Pairs, Texts};
 use crate::limits::few;
-use serde_json::Value;
+use serde_json::{Map, Value};
 use std::alloc::Global;
 use x5_know::{AgentNames, NetworkState, NumberList, Pair, PairList};
 use x5_memory::NoMemory;
@@ -262,6 +262,26 @@ fn numbers_at(
     numbers_in(alloc, most, &Place::Member(&here, name), items)
 }
 
+/// The numbers of messages and of replies that are lost in a network with these lists, which an object describes.
+fn losses_at(
+    alloc: Global,
+    down: &AgentList,
+    refusing: &AgentList,
+    cut: &PairList,
+    members: &Map<String, Value>,
+    value: &Value,
+) -> Result<(NumberList, NumberList), LoadFault>
+    ensures { ReadsPart (λ r. parts.network_with down.now refusing.now cut.now r.0 r.1) result (parts.losing down.now refusing.now cut.now (members_view members.now.entries) (view value.now)) }
+{
+    let whole = Place::Whole;
+    let here = Place::Member(&whole, "network");
+    let messages = numbers_at(alloc, MOST_LOST_MESSAGES, "loseMessages", value)?;
+    let replies = numbers_at(alloc, MOST_LOST_REPLIES, "loseReplies", value)?;
+    let listed = &["down", "refuse", "cut", "loseMessages", "loseReplies"];
+    only(alloc, &here, listed, members)?;
+    Ok((messages, replies))
+}
+
 /// The network that an object describes.
 fn network_in(alloc: Global, names: &AgentNames, value: &Value) -> Result<NetworkState, LoadFault>
     ensures { ReadsPart (λ n. n) result (model.network_in names.now (view value.now)) }
@@ -272,10 +292,7 @@ fn network_in(alloc: Global, names: &AgentNames, value: &Value) -> Result<Networ
     let down = agents_at(alloc, names, "down", value)?;
     let refusing = agents_at(alloc, names, "refuse", value)?;
     let cut = cut_at(alloc, names, value)?;
-    let lost_messages = numbers_at(alloc, MOST_LOST_MESSAGES, "loseMessages", value)?;
-    let lost_replies = numbers_at(alloc, MOST_LOST_REPLIES, "loseReplies", value)?;
-    let listed = &["down", "refuse", "cut", "loseMessages", "loseReplies"];
-    only(alloc, &here, listed, members)?;
+    let (lost_messages, lost_replies) = losses_at(alloc, &down, &refusing, &cut, members, value)?;
     Ok(NetworkState {
         down,
         refusing,

@@ -271,6 +271,7 @@ fn reference_in(
     };
     let pin = entry_name_at(alloc, place, "name", value)?;
     if before.has(cross, &pin) {
+        drop(pin);
         return Err(Place::Member(place, "name").bad_shape(alloc));
     }
     let access = access_at(alloc, names, place, value)?;
@@ -293,9 +294,18 @@ fn reference_behind(
 ) -> Result<KeyedReferences, LoadFault>
     ensures { ReadsPart (λ r. r) result (model.reference_behind names.now (path_of place.now) before (view value.now)) }
 {
-    let (cross, pin, access) = reference_in(alloc, names, place, &before, value)?;
-    let references = before.with(alloc, cross, &pin, access)?;
-    Ok(references)
+    match reference_in(alloc, names, place, &before, value) {
+        Ok((cross, pin, access)) => {
+            let more = before.with(alloc, cross, &pin, access);
+            drop(pin);
+            let references = more?;
+            Ok(references)
+        }
+        Err(fault) => {
+            drop(before);
+            Err(fault)
+        }
+    }
 }
 
 /// The references that a list describes, with the keys of their names.

@@ -81,31 +81,66 @@ fn only_listed(
     }
 }
 
-/// The world of these agents and agreements.
-fn connected(
+/// The network of the world of these agents and agreements, which has no members but those of its format.
+fn network_beside(
     alloc: Global,
-    names: AgentNames,
+    names: &AgentNames,
     has_network: bool,
-    start: Start,
+    start: &Start,
     value: &Value,
     members: &Map<String, Value>,
-    found: Agents,
-    agreements: Vec<Agreement>,
-) -> Result<Described, LoadFault>
-    ensures read { ReadsPart file_view result (parts.connected names has_network start (view value.now) (members_view members.now.entries) found agreements.items) }
-    ensures names { IfOk result (λ d. d.names ≡ names) }
-    ensures agents { IfOk result (λ d. map described_agent_view d.agents ≡ found.agents) }
+    found: &Agents,
+    agreements: &[Agreement],
+) -> Result<NetworkState, LoadFault>
+    ensures { ReadsPart (λ n. parts.file_with start.now found.now agreements.now n) result (parts.connected names.now has_network start.now (view value.now) (members_view members.now.entries) found.now agreements.now) }
 {
-    let network = network_of(alloc, &names, has_network, value)?;
-    only_listed(alloc, has_network, members)?;
-    let Agents { agents, counts: _ } = found;
-    Ok(Described {
-        start,
+    let network = network_of(alloc, names, has_network, value)?;
+    match only_listed(alloc, has_network, members) {
+        Ok(()) => Ok(network),
+        Err(fault) => {
+            drop(network);
+            Err(fault)
+        }
+    }
+}
+
+/// The agreements and the network of the world of these agents.
+fn agreed_on(
+    alloc: Global,
+    names: &AgentNames,
+    has_network: bool,
+    start: &Start,
+    value: &Value,
+    members: &Map<String, Value>,
+    found: &Agents,
+) -> Result<(Vec<Agreement>, NetworkState), LoadFault>
+    ensures { ReadsPart (λ r. parts.file_with start.now found.now r.0.items r.1) result (parts.agreed names.now has_network start.now (view value.now) (members_view members.now.entries) found.now) }
+{
+    let whole = Place::Whole;
+    let list = list_if_any(alloc, &whole, "agreements", value)?;
+    let here = Place::Member(&whole, "agreements");
+    few(alloc, &here, MOST_AGREEMENTS, list)?;
+    let agreements = agreements_behind(alloc, names, &here, list)?;
+    if !copies_fit(&found.agents, found.counts.entries(), &agreements) {
+        drop(agreements);
+        return Err(here.over_limit(alloc, MOST_WITH_COPIES));
+    }
+    match network_beside(
+        alloc,
         names,
-        agents: DescribedAgents::from_vec(agents),
-        agreements: AgreementList::from_vec(agreements),
-        network,
-    })
+        has_network,
+        start,
+        value,
+        members,
+        found,
+        &agreements,
+    ) {
+        Ok(network) => Ok((agreements, network)),
+        Err(fault) => {
+            drop(agreements);
+            Err(fault)
+        }
+    }
 }
 
 /// The world of these agents.
@@ -122,24 +157,24 @@ fn agreed(
     ensures names { IfOk result (λ d. d.names ≡ names) }
     ensures agents { IfOk result (λ d. map described_agent_view d.agents ≡ found.agents) }
 {
-    let whole = Place::Whole;
-    let list = list_if_any(alloc, &whole, "agreements", value)?;
-    let here = Place::Member(&whole, "agreements");
-    few(alloc, &here, MOST_AGREEMENTS, list)?;
-    let agreements = agreements_behind(alloc, &names, &here, list)?;
-    if !copies_fit(&found.agents, found.counts.entries(), &agreements) {
-        return Err(here.over_limit(alloc, MOST_WITH_COPIES));
+    match agreed_on(alloc, &names, has_network, &start, value, members, &found) {
+        Ok((agreements, network)) => {
+            let Agents { agents, counts: _ } = found;
+            Ok(Described {
+                start,
+                names,
+                agents: DescribedAgents::from_vec(agents),
+                agreements: AgreementList::from_vec(agreements),
+                network,
+            })
+        }
+        Err(fault) => {
+            drop(found);
+            drop(names);
+            drop(start);
+            Err(fault)
+        }
     }
-    connected(
-        alloc,
-        names,
-        has_network,
-        start,
-        value,
-        members,
-        found,
-        agreements,
-    )
 }
 
 /// The world of the agents with these names, of which a list describes each.
