@@ -65,9 +65,11 @@ fn put_value<'a>(
     ensures normals { IfOk result (λ b. b ≡ true → normals.new.items ≡ map (rules.normal_in kind) (map node_view nodes.new.items)) }
 {
     let Some(normal) = normal_in(alloc, kind, &node)? else {
+        drop(node);
         return Ok(false);
     };
     if is_among(normals, &normal) {
+        drop(node);
         return Ok(false);
     }
     let place = place_of(normals, &normal);
@@ -102,7 +104,10 @@ fn members_of<'a>(alloc: Global, node: Node<'a>) -> Vec<Node<'a>>
 {
     match node {
         Node::Many(members) => members,
-        _ => Vec::new(alloc),
+        _ => {
+            drop(node);
+            Vec::new(alloc)
+        }
     }
 }
 
@@ -121,6 +126,7 @@ fn stored<'a>(alloc: Global, node: Node<'a>) -> Result<Option<Node<'a>>, NoMemor
     ensures { IfOk result (λ n. option_view n ≡ where_so (rules.is_stored (node_view node.entry)) (rules.in_order (node_view node.entry))) }
 {
     let Node::Many(mut parts) = node else {
+        drop(node);
         return Ok(None);
     };
     let Some(kind) = stored_type(&parts) else {
@@ -193,6 +199,7 @@ fn put_attribute<'a>(
         → map node_view nodes.new.items ≡ insert_sorted rules.attribute_below (rules.in_order (node_view node.entry)) (map node_view nodes.old.items)) }
 {
     if has_type(nodes, &node) {
+        drop(node);
         return Ok(false);
     }
     let Some(node) = stored(alloc, node)? else {
@@ -241,6 +248,7 @@ pub(crate) fn entry<'a>(alloc: Global, node: Node<'a>) -> Result<Option<Node<'a>
     ensures { IfOk result (λ n. option_view n ≡ rules.entry_rule (node_view node.entry)) }
 {
     let Node::Many(mut parts) = node else {
+        drop(node);
         return Ok(None);
     };
     if !is_from_entry(&parts) {

@@ -189,6 +189,7 @@ pub(crate) fn rdn<'a>(alloc: Global, node: Node<'a>) -> Result<Option<Node<'a>>,
     ensures { IfOk result (λ n. option_view n ≡ rules.rdn_rule (node_view node.entry)) }
 {
     let Node::Many(pairs) = node else {
+        drop(node);
         return Ok(None);
     };
     if !are_pairs(&pairs) {

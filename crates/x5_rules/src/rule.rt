@@ -20,7 +20,12 @@ use x5_types::{Node, Rule};
 fn kept<'a>(right: bool, node: Node<'a>) -> Option<Node<'a>>
     ensures { option_view result ≡ where_so right (node_view node.entry) }
 {
-    if right { Some(node) } else { None }
+    if right {
+        Some(node)
+    } else {
+        drop(node);
+        None
+    }
 }
 
 /// The value as it is kept, by the rule; None where it breaks it. Most types have no rule, so that is asked first.
@@ -47,10 +52,23 @@ fn settle_by<'a>(alloc: Global, rule: Rule, node: Node<'a>) -> Result<Option<Nod
         Rule::Text => Ok(kept(is_text(&node), node)),
         Rule::Parts => Ok(kept(are_parts(&node), node)),
         Rule::Progress => Ok(kept(is_progress(&node), node)),
-        Rule::Trace => Ok(kept(is_trace(alloc, &node)?, node)),
+        Rule::Trace => trace(alloc, node),
         Rule::Entry => entry(alloc, node),
         Rule::Known => Ok(kept(is_known(&node), node)),
         Rule::Masters => Ok(kept(has_masters(&node), node)),
+    }
+}
+
+/// Trace information, whose items are all different.
+fn trace<'a>(alloc: Global, node: Node<'a>) -> Result<Option<Node<'a>>, NoMemory>
+    ensures { IfOk result (λ n. option_view n ≡ rules.trace_rule (node_view node.entry)) }
+{
+    match is_trace(alloc, &node) {
+        Ok(right) => Ok(kept(right, node)),
+        Err(fault) => {
+            drop(node);
+            Err(fault)
+        }
     }
 }
 
@@ -145,6 +163,7 @@ fn controls<'a>(node: Node<'a>) -> Option<Node<'a>>
     ensures { option_view result ≡ rules.controls_rule (node_view node.entry) }
 {
     let Node::Many(mut parts) = node else {
+        drop(node);
         return None;
     };
     if parts.len() != 4 {
