@@ -65,5 +65,5 @@ pub fn limit(answer: &mut Answer, count: u32)
     ensures { (names : List (List ℕ)) → answer_view names answer.new ≡ model.limited_answer (Some count) (answer_view names answer.old) }
 {
     let whole = replace(answer, Answer::Changed);
-    *answer = limited(whole, count as usize);
+    drop(replace(answer, limited(whole, count as usize)));
 }

@@ -91,7 +91,14 @@ fn by_halves(parts: Vec<Answer>) -> Result<Answer, NoMemory>
         return Ok(only);
     }
     let later = earlier.split_off(middle)?;
-    both(by_halves(earlier)?, by_halves(later)?)
+    let front = by_halves(earlier)?;
+    match by_halves(later) {
+        Ok(back) => both(front, back),
+        Err(fault) => {
+            drop(front);
+            Err(fault)
+        }
+    }
 }
 
 /// The answers of the parts of a list or search, of one agent each, joined: entries and names by their keys, of two with one key

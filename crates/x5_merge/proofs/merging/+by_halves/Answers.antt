@@ -34,12 +34,12 @@ both-requires t c =
     let tail = c.in_ok-later.ensures.tail in
     let all : c.split_off.new.self.items ++ c.in_ok-later.later.items ≡ c.args.parts.items = (λ i. items i ++ tail i) ∙ take-append-drop (c.len-middle.result / 2) c.args.parts.items in
     merges_alike c.split_off.new.self.items c.in_ok-later.later.items (subst (λ (ps : List Answer). are_alike ps ≡ true) (sym all) c.requires.alike)
-    c.in_ok-by_halves.field-0 c.in_ok-by_halves-2.field-0 c.in_ok-by_halves.ensures c.in_ok-by_halves-2.ensures
+    c.in_ok-front.front c.in-Ok.back c.in_ok-front.ensures c.in-Ok.ensures
 
-pub returns : goal.returns
-returns t c =
+pub returns-in-Ok : goal.returns-in-Ok
+returns-in-Ok t c =
     let items = c.in_ok-later.ensures.items in
     let tail = c.in_ok-later.ensures.tail in
     let all : c.split_off.new.self.items ++ c.in_ok-later.later.items ≡ c.args.parts.items = (λ i. items i ++ tail i) ∙ take-append-drop (c.len-middle.result / 2) c.args.parts.items in
-    if_halves c.split_off.new.self.items c.in_ok-later.later.items c.args.parts.items c.in_ok-by_halves.field-0 c.in_ok-by_halves-2.field-0 c.both.result all c.requires.alike
-    c.in_ok-by_halves.ensures c.in_ok-by_halves-2.ensures c.both.ensures.merged c.both.ensures.kind
+    if_halves c.split_off.new.self.items c.in_ok-later.later.items c.args.parts.items c.in_ok-front.front c.in-Ok.back c.both.result all c.requires.alike
+    c.in_ok-front.ensures c.in-Ok.ensures c.both.ensures.merged c.both.ensures.kind
