@@ -7,6 +7,7 @@ use crate::lists::Listed;
 use crate::references::{Reference, ReferenceList, TraceItem};
 use crate::requests::AttributeList;
 use std::alloc::AllocError;
+use std::fmt;
 use std::marker::Model;
 use x5_names::{Name, Rdn};
 use x5_syntax::TypeRef;
@@ -109,6 +110,18 @@ pub enum DirError {
         reference: Option<Reference>,
         item: Option<TraceItem>,
     },
+}
+
+impl fmt::Debug for DirError {
+    /// What kind of error it is: all that an error which wraps it says of it.
+    fn fmt<W: fmt::Write>(&self, f: &mut fmt::Formatter<W>) -> fmt::Result {
+        match self {
+            DirError::Name { .. } => write!(f, "a name error"),
+            DirError::Attribute { .. } => write!(f, "an attribute error"),
+            DirError::Update { .. } => write!(f, "an update error"),
+            DirError::Service { .. } => write!(f, "a service error"),
+        }
+    }
 }
 
 /// What is answered to a request: a result, an error or a referral.
