@@ -93,15 +93,18 @@ impl Holdings {
         ensures ok { OnOk result (IsCopyChanged self.old copy (λ before after. after ≡ record before { refreshed = Some (held, stamp) }) self.new) }
         ensures err { OnErr result (self.new ≡ self.old) }
     {
-        let below = Below::with_copy(
-            *self.copies.allocator(),
-            &self.copies,
-            copy,
-            held.subordinate(),
-        )?;
-        self.copies[copy].take(held, stamp);
-        self.tables.below_copies = below;
-        Ok(())
+        let alloc = *self.copies.allocator();
+        match Below::with_copy(alloc, &self.copies, copy, held.subordinate()) {
+            Ok(below) => {
+                self.copies[copy].take(held, stamp);
+                self.tables.below_copies = below;
+                Ok(())
+            }
+            Err(fault) => {
+                drop(held);
+                Err(fault)
+            }
+        }
     }
 
     /// Keeps the entries that refreshes brought of its copy of this place, and has this log, these references and this stamp for it: so

@@ -11,7 +11,7 @@ ghost use Rattle.x5_dse.specs.Linked.{entries_of};
 ghost use Rattle.x5_dse.specs.Changes.{Inserted, NotInserted};
 ghost use Rattle.x5_index.specs.Index.{terms_of};
 ghost use Rattle.x5_holdings.specs.Rows.{AreRowsOf};
-ghost use Rattle.x5_holdings.specs.State.{IsBrought, IsKept, OnlyEntries, brought_for, brought_references, stamp_of};
+ghost use Rattle.x5_holdings.specs.State.{ArePosted, IsBrought, IsKept, OnlyEntries, brought_for, brought_references, stamp_of};
 
 use crate::log::ChangeLog;
 use crate::pins::{Pins, entries_of_nssrs, pins_of_references};
@@ -52,6 +52,37 @@ impl Model for Held {
     ghost invariant = { inside.IsHeld };
 }
 
+/// The tree of the prefix's entry alone, and its index.
+fn rooted(alloc: Global, prefix: &Name, entry: Entry) -> Result<(DseTree, Postings), NoMemory>
+    ensures entries { IfOk result (λ made. entries_of made.0.nodes ≡ record { name = prefix.now; entry = entry } ∷ []) }
+    ensures posted { IfOk result (λ made. ArePosted made.1.postings made.0.nodes) }
+{
+    let tree = DseTree::new(alloc, prefix.clone()?, entry)?;
+    let top = tree.top();
+    let mut postings = Postings::new(alloc);
+    postings.add(top.0, tree.entry(top))?;
+    Ok((tree, postings))
+}
+
+/// The same, the pins of subordinate references, and the entries at which NSSRs stand.
+fn begun(
+    alloc: Global,
+    prefix: &Name,
+    entry: Entry,
+    subordinate: &[Specific],
+    nssrs: &[Nssr],
+) -> Result<(DseTree, Postings, Pins, Pins), NoMemory>
+    ensures entries { IfOk result (λ made. entries_of made.0.nodes ≡ record { name = prefix.now; entry = entry } ∷ []) }
+    ensures posted { IfOk result (λ made. ArePosted made.1.postings made.0.nodes) }
+    ensures below { IfOk result (λ made. AreRowsOf made.2 (map (λ k. key_of k.pin) subordinate.now)) }
+    ensures wide { IfOk result (λ made. AreRowsOf made.3 (map (λ n. key_of n.at) nssrs.now)) }
+{
+    let below = pins_of_references(alloc, subordinate)?;
+    let wide = entries_of_nssrs(alloc, nssrs)?;
+    let (tree, postings) = rooted(alloc, prefix, entry)?;
+    Ok((tree, postings, below, wide))
+}
+
 impl Held {
     /// The context of the prefix's entry alone.
     pub fn new(
@@ -69,12 +100,13 @@ impl Held {
         ensures subordinate { IfOk result (λ held. held.subordinate ≡ subordinate) }
         ensures nssrs { IfOk result (λ held. held.nssrs ≡ nssrs) }
     {
-        let below = pins_of_references(alloc, subordinate.as_slice())?;
-        let wide = entries_of_nssrs(alloc, nssrs.as_slice())?;
-        let tree = DseTree::new(alloc, prefix.clone()?, entry)?;
-        let top = tree.top();
-        let mut postings = Postings::new(alloc);
-        postings.add(top.0, tree.entry(top))?;
+        let (tree, postings, below, wide) = begun(
+            alloc,
+            &prefix,
+            entry,
+            subordinate.as_slice(),
+            nssrs.as_slice(),
+        )?;
         Ok(Held {
             prefix,
             tree,

@@ -16,8 +16,8 @@ ghost use Rattle.x5_holdings.specs.Tables.{AreTables, below_copies, below_own};
 
 use crate::below::Below;
 use crate::held::{Copied, Held, may_use_copies};
-use crate::pins::{Pins, pins_of_crosses, pins_of_references};
-use crate::tables::{Tables, prefixes_of_copies, prefixes_of_held};
+use crate::pins::Pins;
+use crate::tables::Tables;
 use std::alloc::Global;
 use std::marker::Model;
 use x5_memory::NoMemory;
@@ -98,14 +98,7 @@ impl Holdings {
         requires once { are_once copies.items ≡ true }
         ensures { IfOk result (λ h. h ≡ record { me = me; moment = 0; superior = superior; own = own.items; copies = copies.items; root = root; cross = cross }) }
     {
-        let tables = Tables {
-            own: prefixes_of_held(alloc, &own)?,
-            copies: prefixes_of_copies(alloc, &copies)?,
-            below_own: Below::of_held(alloc, &own)?,
-            below_copies: Below::of_copies(alloc, &copies)?,
-            root: pins_of_references(alloc, root.as_slice())?,
-            cross: pins_of_crosses(alloc, cross.as_slice())?,
-        };
+        let tables = Tables::of(alloc, &own, &copies, root.as_slice(), cross.as_slice())?;
         Ok(Holdings {
             me,
             moment: Moment(0),

@@ -46,7 +46,10 @@ fn drop_oldest(changes: &mut Vec<Logged>) -> Moment
     ensures len { vec_len changes.new + 1 ≡ vec_len changes.old }
     ensures capacity { vec_capacity changes.new ≡ vec_capacity changes.old }
 {
-    changes.remove(0).moment
+    let oldest = changes.remove(0);
+    let moment = oldest.moment;
+    drop(oldest);
+    moment
 }
 
 /// Puts a change at the end. No memory: there is room.
@@ -56,9 +59,7 @@ fn put_latest(changes: &mut Vec<Logged>, change: Logged)
     ensures len { vec_len changes.new ≡ vec_len changes.old + 1 }
     ensures capacity { vec_capacity changes.old ≤ vec_capacity changes.new }
 {
-    if changes.push(change).is_err() {
-        unreachable!();
-    }
+    changes.push_reserved(change);
 }
 
 impl ChangeLog {
