@@ -1,7 +1,7 @@
 //! The check of a world's knowledge: the ten conditions, one after the other.
 
-ghost use Rattle.std.specs.Prelude.{◌≤◌, ◌↔◌, length, IfOk, IsNone, IfSome};
-ghost use Rattle.x5_model_tree.specs.Consistent.{IsConsistent, breaches};
+ghost use Rattle.std.specs.Prelude.{◌≤◌, ◌↔◌, ◌++◌, [], length, IfOk, IsNone, IfSome};
+ghost use Rattle.x5_model_tree.specs.Consistent.{IsConsistent, breaches, breaches_6, breaches_7, breaches_8, breaches_9, breaches_10};
 ghost use Rattle.x5_model_tree.specs.Breaking.{IsFirstBreach};
 ghost use Rattle.x5_know.specs.WorldView.{world_view};
 ghost use Rattle.x5_check.specs.Views.{Tells, breach_view};
@@ -24,6 +24,33 @@ use std::alloc::Global;
 use x5_know::Described;
 use x5_memory::NoMemory;
 
+/// The first breach of the first of the conditions 6 to 10 that fails.
+fn later_told(known: &Known<'_, '_, '_>) -> Result<Option<Inconsistency>, NoMemory>
+    ensures { Tells result (breaches_6 known.now ++ (breaches_7 known.now ++ (breaches_8 known.now ++ (breaches_9 known.now ++ (breaches_10 known.now ++ []))))) }
+{
+    let below = unknown_below(known)?;
+    if below.is_some() {
+        return Ok(below);
+    }
+    drop(below);
+    let member = false_member(known)?;
+    if member.is_some() {
+        return Ok(member);
+    }
+    drop(member);
+    let top = unknown_top(known)?;
+    if top.is_some() {
+        return Ok(top);
+    }
+    drop(top);
+    let endless = endless_superiors(known)?;
+    if endless.is_some() {
+        return Ok(endless);
+    }
+    drop(endless);
+    false_agreement(known)
+}
+
 /// The first breach of the first condition that fails.
 fn first_told(alloc: Global, known: &Known<'_, '_, '_>) -> Result<Option<Inconsistency>, NoMemory>
     ensures { Tells result (breaches known.now) }
@@ -32,39 +59,28 @@ fn first_told(alloc: Global, known: &Known<'_, '_, '_>) -> Result<Option<Inconsi
     if repeated.is_some() {
         return Ok(repeated);
     }
+    drop(repeated);
     let orphan = missing_parent(alloc, known)?;
     if orphan.is_some() {
         return Ok(orphan);
     }
+    drop(orphan);
     let longer = longer_pin(alloc, known)?;
     if longer.is_some() {
         return Ok(longer);
     }
+    drop(longer);
     let reference = false_reference(alloc, known)?;
     if reference.is_some() {
         return Ok(reference);
     }
+    drop(reference);
     let shadow = false_shadow(known)?;
     if shadow.is_some() {
         return Ok(shadow);
     }
-    let below = unknown_below(known)?;
-    if below.is_some() {
-        return Ok(below);
-    }
-    let member = false_member(known)?;
-    if member.is_some() {
-        return Ok(member);
-    }
-    let top = unknown_top(known)?;
-    if top.is_some() {
-        return Ok(top);
-    }
-    let endless = endless_superiors(known)?;
-    if endless.is_some() {
-        return Ok(endless);
-    }
-    false_agreement(known)
+    drop(shadow);
+    later_told(known)
 }
 
 /// The first breach in the world's knowledge: of the first condition that fails, in their order, and of it the first in the order of
@@ -79,5 +95,7 @@ pub fn check(alloc: Global, world: &Described) -> Result<Option<Inconsistency>, 
     let agents = numbered_agents(alloc, world)?;
     let held = contexts_of(alloc, world)?;
     let known = Known::new(alloc, world, &agents, &held)?;
-    first_told(alloc, &known)
+    let told = first_told(alloc, &known);
+    drop(known);
+    told
 }

@@ -62,8 +62,13 @@ impl<'a> Index<'a> {
             indexing.add(row)?;
         }
         let Indexing { firsts, more } = indexing;
-        let more = Table::sorted(more)?;
-        Ok(Index { firsts, more })
+        match Table::sorted(more) {
+            Ok(more) => Ok(Index { firsts, more }),
+            Err(fault) => {
+                drop(firsts);
+                Err(fault)
+            }
+        }
     }
 
     /// The least number of the key from this one on. No memory.

@@ -169,12 +169,12 @@ impl<'w, 'g, 'h> Known<'w, 'g, 'h> {
             world,
             agents,
             held,
-            prefixes: prefixes_by_place(alloc, held)?,
-            entries: entries_by_place(alloc, held)?,
             masters: prefixes_by_master(alloc, held)?,
             above: parents_by_master(alloc, held)?,
             referrers: references_by_agent(alloc, agents)?,
             consumers: contexts_by_consumer(alloc, world.agreements.as_slice())?,
+            prefixes: prefixes_by_place(alloc, held)?,
+            entries: entries_by_place(alloc, held)?,
         })
     }
 

@@ -9,8 +9,8 @@ use Rattle.x5_check.proofs.conditions.check.Goals as goal
 
 pub returns-clause-consistent : goal.returns-clause-consistent
 returns-clause-consistent c =
-    consistent_where_none (world_view c.args.world.now) c.first_told.result (subst (λ (w : World). Tells c.first_told.result (breaches w)) c.in_ok-known.ensures c.first_told.ensures)
+    consistent_where_none (world_view c.args.world.now) c.first_told-told.result (subst (λ (w : World). Tells c.first_told-told.result (breaches w)) c.in_ok-known.ensures c.first_told-told.ensures)
 
 pub returns-clause-first : goal.returns-clause-first
 returns-clause-first c =
-    first_where_some (world_view c.args.world.now) c.first_told.result (subst (λ (w : World). Tells c.first_told.result (breaches w)) c.in_ok-known.ensures c.first_told.ensures)
+    first_where_some (world_view c.args.world.now) c.first_told-told.result (subst (λ (w : World). Tells c.first_told-told.result (breaches w)) c.in_ok-known.ensures c.first_told-told.ensures)

@@ -1,11 +1,10 @@
 -- Nothing is told of the conditions before.
-use Rattle.std.proofs.Common.{◌≡◌, Option, sym, subst, ap, ◌∙◌, List, ◌++◌, []}
+use Rattle.std.proofs.Common.{◌≡◌, Option, sym, subst, ◌∙◌, ◌++◌, []}
 use Rattle.std.specs.Option.{option_map}
 use Rattle.std.specs.Result.{IfOk}
-use Rattle.x5_model.specs.Words.{first_of}
 use Rattle.x5_model_tree.specs.Consistent as model
 use Rattle.x5_check.specs.Views.{breach_view}
-use Rattle.x5_check.proofs.Steps.{append_nothing, first_later, nothing_told, something_told}
+use Rattle.x5_check.proofs.Steps.{first_later, nothing_told, something_told}
 use Rattle.x5_check.proofs.conditions.first_told.Goals as goal
 
 pub returns-then-is_some : goal.returns-then-is_some
@@ -38,57 +37,10 @@ returns-then-is_some-5 c =
     ∙ first_later (model.breaches_4 c.args.known.now) ((model.breaches_5 c.args.known.now) ++ ((model.breaches_6 c.args.known.now) ++ ((model.breaches_7 c.args.known.now) ++ ((model.breaches_8 c.args.known.now) ++ ((model.breaches_9 c.args.known.now) ++ ((model.breaches_10 c.args.known.now) ++ [])))))) (nothing_told breach_view c.in_ok-reference.reference (model.breaches_4 c.args.known.now) c.in_ok-reference.ensures (sym c.is_some-4.ensures ∙ c.if-is_some-4.false))
     ∙ something_told breach_view c.in_ok-shadow.shadow (model.breaches_5 c.args.known.now) ((model.breaches_6 c.args.known.now) ++ ((model.breaches_7 c.args.known.now) ++ ((model.breaches_8 c.args.known.now) ++ ((model.breaches_9 c.args.known.now) ++ ((model.breaches_10 c.args.known.now) ++ []))))) c.in_ok-shadow.ensures (sym c.is_some-5.ensures ∙ c.if-is_some-5.true))
 
-pub returns-then-is_some-6 : goal.returns-then-is_some-6
-returns-then-is_some-6 c =
-    sym (first_later (model.breaches_1 c.args.known.now) ((model.breaches_2 c.args.known.now) ++ ((model.breaches_3 c.args.known.now) ++ ((model.breaches_4 c.args.known.now) ++ ((model.breaches_5 c.args.known.now) ++ ((model.breaches_6 c.args.known.now) ++ ((model.breaches_7 c.args.known.now) ++ ((model.breaches_8 c.args.known.now) ++ ((model.breaches_9 c.args.known.now) ++ ((model.breaches_10 c.args.known.now) ++ []))))))))) (nothing_told breach_view c.in_ok-repeated.repeated (model.breaches_1 c.args.known.now) c.in_ok-repeated.ensures (sym c.is_some.ensures ∙ c.if-is_some.false))
-    ∙ first_later (model.breaches_2 c.args.known.now) ((model.breaches_3 c.args.known.now) ++ ((model.breaches_4 c.args.known.now) ++ ((model.breaches_5 c.args.known.now) ++ ((model.breaches_6 c.args.known.now) ++ ((model.breaches_7 c.args.known.now) ++ ((model.breaches_8 c.args.known.now) ++ ((model.breaches_9 c.args.known.now) ++ ((model.breaches_10 c.args.known.now) ++ [])))))))) (nothing_told breach_view c.in_ok-orphan.orphan (model.breaches_2 c.args.known.now) c.in_ok-orphan.ensures (sym c.is_some-2.ensures ∙ c.if-is_some-2.false))
-    ∙ first_later (model.breaches_3 c.args.known.now) ((model.breaches_4 c.args.known.now) ++ ((model.breaches_5 c.args.known.now) ++ ((model.breaches_6 c.args.known.now) ++ ((model.breaches_7 c.args.known.now) ++ ((model.breaches_8 c.args.known.now) ++ ((model.breaches_9 c.args.known.now) ++ ((model.breaches_10 c.args.known.now) ++ []))))))) (nothing_told breach_view c.in_ok-longer.longer (model.breaches_3 c.args.known.now) c.in_ok-longer.ensures (sym c.is_some-3.ensures ∙ c.if-is_some-3.false))
-    ∙ first_later (model.breaches_4 c.args.known.now) ((model.breaches_5 c.args.known.now) ++ ((model.breaches_6 c.args.known.now) ++ ((model.breaches_7 c.args.known.now) ++ ((model.breaches_8 c.args.known.now) ++ ((model.breaches_9 c.args.known.now) ++ ((model.breaches_10 c.args.known.now) ++ [])))))) (nothing_told breach_view c.in_ok-reference.reference (model.breaches_4 c.args.known.now) c.in_ok-reference.ensures (sym c.is_some-4.ensures ∙ c.if-is_some-4.false))
-    ∙ first_later (model.breaches_5 c.args.known.now) ((model.breaches_6 c.args.known.now) ++ ((model.breaches_7 c.args.known.now) ++ ((model.breaches_8 c.args.known.now) ++ ((model.breaches_9 c.args.known.now) ++ ((model.breaches_10 c.args.known.now) ++ []))))) (nothing_told breach_view c.in_ok-shadow.shadow (model.breaches_5 c.args.known.now) c.in_ok-shadow.ensures (sym c.is_some-5.ensures ∙ c.if-is_some-5.false))
-    ∙ something_told breach_view c.in_ok-below.below (model.breaches_6 c.args.known.now) ((model.breaches_7 c.args.known.now) ++ ((model.breaches_8 c.args.known.now) ++ ((model.breaches_9 c.args.known.now) ++ ((model.breaches_10 c.args.known.now) ++ [])))) c.in_ok-below.ensures (sym c.is_some-6.ensures ∙ c.if-is_some-6.true))
-
-pub returns-then-is_some-7 : goal.returns-then-is_some-7
-returns-then-is_some-7 c =
-    sym (first_later (model.breaches_1 c.args.known.now) ((model.breaches_2 c.args.known.now) ++ ((model.breaches_3 c.args.known.now) ++ ((model.breaches_4 c.args.known.now) ++ ((model.breaches_5 c.args.known.now) ++ ((model.breaches_6 c.args.known.now) ++ ((model.breaches_7 c.args.known.now) ++ ((model.breaches_8 c.args.known.now) ++ ((model.breaches_9 c.args.known.now) ++ ((model.breaches_10 c.args.known.now) ++ []))))))))) (nothing_told breach_view c.in_ok-repeated.repeated (model.breaches_1 c.args.known.now) c.in_ok-repeated.ensures (sym c.is_some.ensures ∙ c.if-is_some.false))
-    ∙ first_later (model.breaches_2 c.args.known.now) ((model.breaches_3 c.args.known.now) ++ ((model.breaches_4 c.args.known.now) ++ ((model.breaches_5 c.args.known.now) ++ ((model.breaches_6 c.args.known.now) ++ ((model.breaches_7 c.args.known.now) ++ ((model.breaches_8 c.args.known.now) ++ ((model.breaches_9 c.args.known.now) ++ ((model.breaches_10 c.args.known.now) ++ [])))))))) (nothing_told breach_view c.in_ok-orphan.orphan (model.breaches_2 c.args.known.now) c.in_ok-orphan.ensures (sym c.is_some-2.ensures ∙ c.if-is_some-2.false))
-    ∙ first_later (model.breaches_3 c.args.known.now) ((model.breaches_4 c.args.known.now) ++ ((model.breaches_5 c.args.known.now) ++ ((model.breaches_6 c.args.known.now) ++ ((model.breaches_7 c.args.known.now) ++ ((model.breaches_8 c.args.known.now) ++ ((model.breaches_9 c.args.known.now) ++ ((model.breaches_10 c.args.known.now) ++ []))))))) (nothing_told breach_view c.in_ok-longer.longer (model.breaches_3 c.args.known.now) c.in_ok-longer.ensures (sym c.is_some-3.ensures ∙ c.if-is_some-3.false))
-    ∙ first_later (model.breaches_4 c.args.known.now) ((model.breaches_5 c.args.known.now) ++ ((model.breaches_6 c.args.known.now) ++ ((model.breaches_7 c.args.known.now) ++ ((model.breaches_8 c.args.known.now) ++ ((model.breaches_9 c.args.known.now) ++ ((model.breaches_10 c.args.known.now) ++ [])))))) (nothing_told breach_view c.in_ok-reference.reference (model.breaches_4 c.args.known.now) c.in_ok-reference.ensures (sym c.is_some-4.ensures ∙ c.if-is_some-4.false))
-    ∙ first_later (model.breaches_5 c.args.known.now) ((model.breaches_6 c.args.known.now) ++ ((model.breaches_7 c.args.known.now) ++ ((model.breaches_8 c.args.known.now) ++ ((model.breaches_9 c.args.known.now) ++ ((model.breaches_10 c.args.known.now) ++ []))))) (nothing_told breach_view c.in_ok-shadow.shadow (model.breaches_5 c.args.known.now) c.in_ok-shadow.ensures (sym c.is_some-5.ensures ∙ c.if-is_some-5.false))
-    ∙ first_later (model.breaches_6 c.args.known.now) ((model.breaches_7 c.args.known.now) ++ ((model.breaches_8 c.args.known.now) ++ ((model.breaches_9 c.args.known.now) ++ ((model.breaches_10 c.args.known.now) ++ [])))) (nothing_told breach_view c.in_ok-below.below (model.breaches_6 c.args.known.now) c.in_ok-below.ensures (sym c.is_some-6.ensures ∙ c.if-is_some-6.false))
-    ∙ something_told breach_view c.in_ok-member.member (model.breaches_7 c.args.known.now) ((model.breaches_8 c.args.known.now) ++ ((model.breaches_9 c.args.known.now) ++ ((model.breaches_10 c.args.known.now) ++ []))) c.in_ok-member.ensures (sym c.is_some-7.ensures ∙ c.if-is_some-7.true))
-
-pub returns-then-is_some-8 : goal.returns-then-is_some-8
-returns-then-is_some-8 c =
-    sym (first_later (model.breaches_1 c.args.known.now) ((model.breaches_2 c.args.known.now) ++ ((model.breaches_3 c.args.known.now) ++ ((model.breaches_4 c.args.known.now) ++ ((model.breaches_5 c.args.known.now) ++ ((model.breaches_6 c.args.known.now) ++ ((model.breaches_7 c.args.known.now) ++ ((model.breaches_8 c.args.known.now) ++ ((model.breaches_9 c.args.known.now) ++ ((model.breaches_10 c.args.known.now) ++ []))))))))) (nothing_told breach_view c.in_ok-repeated.repeated (model.breaches_1 c.args.known.now) c.in_ok-repeated.ensures (sym c.is_some.ensures ∙ c.if-is_some.false))
-    ∙ first_later (model.breaches_2 c.args.known.now) ((model.breaches_3 c.args.known.now) ++ ((model.breaches_4 c.args.known.now) ++ ((model.breaches_5 c.args.known.now) ++ ((model.breaches_6 c.args.known.now) ++ ((model.breaches_7 c.args.known.now) ++ ((model.breaches_8 c.args.known.now) ++ ((model.breaches_9 c.args.known.now) ++ ((model.breaches_10 c.args.known.now) ++ [])))))))) (nothing_told breach_view c.in_ok-orphan.orphan (model.breaches_2 c.args.known.now) c.in_ok-orphan.ensures (sym c.is_some-2.ensures ∙ c.if-is_some-2.false))
-    ∙ first_later (model.breaches_3 c.args.known.now) ((model.breaches_4 c.args.known.now) ++ ((model.breaches_5 c.args.known.now) ++ ((model.breaches_6 c.args.known.now) ++ ((model.breaches_7 c.args.known.now) ++ ((model.breaches_8 c.args.known.now) ++ ((model.breaches_9 c.args.known.now) ++ ((model.breaches_10 c.args.known.now) ++ []))))))) (nothing_told breach_view c.in_ok-longer.longer (model.breaches_3 c.args.known.now) c.in_ok-longer.ensures (sym c.is_some-3.ensures ∙ c.if-is_some-3.false))
-    ∙ first_later (model.breaches_4 c.args.known.now) ((model.breaches_5 c.args.known.now) ++ ((model.breaches_6 c.args.known.now) ++ ((model.breaches_7 c.args.known.now) ++ ((model.breaches_8 c.args.known.now) ++ ((model.breaches_9 c.args.known.now) ++ ((model.breaches_10 c.args.known.now) ++ [])))))) (nothing_told breach_view c.in_ok-reference.reference (model.breaches_4 c.args.known.now) c.in_ok-reference.ensures (sym c.is_some-4.ensures ∙ c.if-is_some-4.false))
-    ∙ first_later (model.breaches_5 c.args.known.now) ((model.breaches_6 c.args.known.now) ++ ((model.breaches_7 c.args.known.now) ++ ((model.breaches_8 c.args.known.now) ++ ((model.breaches_9 c.args.known.now) ++ ((model.breaches_10 c.args.known.now) ++ []))))) (nothing_told breach_view c.in_ok-shadow.shadow (model.breaches_5 c.args.known.now) c.in_ok-shadow.ensures (sym c.is_some-5.ensures ∙ c.if-is_some-5.false))
-    ∙ first_later (model.breaches_6 c.args.known.now) ((model.breaches_7 c.args.known.now) ++ ((model.breaches_8 c.args.known.now) ++ ((model.breaches_9 c.args.known.now) ++ ((model.breaches_10 c.args.known.now) ++ [])))) (nothing_told breach_view c.in_ok-below.below (model.breaches_6 c.args.known.now) c.in_ok-below.ensures (sym c.is_some-6.ensures ∙ c.if-is_some-6.false))
-    ∙ first_later (model.breaches_7 c.args.known.now) ((model.breaches_8 c.args.known.now) ++ ((model.breaches_9 c.args.known.now) ++ ((model.breaches_10 c.args.known.now) ++ []))) (nothing_told breach_view c.in_ok-member.member (model.breaches_7 c.args.known.now) c.in_ok-member.ensures (sym c.is_some-7.ensures ∙ c.if-is_some-7.false))
-    ∙ something_told breach_view c.in_ok-top.top (model.breaches_8 c.args.known.now) ((model.breaches_9 c.args.known.now) ++ ((model.breaches_10 c.args.known.now) ++ [])) c.in_ok-top.ensures (sym c.is_some-8.ensures ∙ c.if-is_some-8.true))
-
-pub returns-then-is_some-9 : goal.returns-then-is_some-9
-returns-then-is_some-9 c =
-    sym (first_later (model.breaches_1 c.args.known.now) ((model.breaches_2 c.args.known.now) ++ ((model.breaches_3 c.args.known.now) ++ ((model.breaches_4 c.args.known.now) ++ ((model.breaches_5 c.args.known.now) ++ ((model.breaches_6 c.args.known.now) ++ ((model.breaches_7 c.args.known.now) ++ ((model.breaches_8 c.args.known.now) ++ ((model.breaches_9 c.args.known.now) ++ ((model.breaches_10 c.args.known.now) ++ []))))))))) (nothing_told breach_view c.in_ok-repeated.repeated (model.breaches_1 c.args.known.now) c.in_ok-repeated.ensures (sym c.is_some.ensures ∙ c.if-is_some.false))
-    ∙ first_later (model.breaches_2 c.args.known.now) ((model.breaches_3 c.args.known.now) ++ ((model.breaches_4 c.args.known.now) ++ ((model.breaches_5 c.args.known.now) ++ ((model.breaches_6 c.args.known.now) ++ ((model.breaches_7 c.args.known.now) ++ ((model.breaches_8 c.args.known.now) ++ ((model.breaches_9 c.args.known.now) ++ ((model.breaches_10 c.args.known.now) ++ [])))))))) (nothing_told breach_view c.in_ok-orphan.orphan (model.breaches_2 c.args.known.now) c.in_ok-orphan.ensures (sym c.is_some-2.ensures ∙ c.if-is_some-2.false))
-    ∙ first_later (model.breaches_3 c.args.known.now) ((model.breaches_4 c.args.known.now) ++ ((model.breaches_5 c.args.known.now) ++ ((model.breaches_6 c.args.known.now) ++ ((model.breaches_7 c.args.known.now) ++ ((model.breaches_8 c.args.known.now) ++ ((model.breaches_9 c.args.known.now) ++ ((model.breaches_10 c.args.known.now) ++ []))))))) (nothing_told breach_view c.in_ok-longer.longer (model.breaches_3 c.args.known.now) c.in_ok-longer.ensures (sym c.is_some-3.ensures ∙ c.if-is_some-3.false))
-    ∙ first_later (model.breaches_4 c.args.known.now) ((model.breaches_5 c.args.known.now) ++ ((model.breaches_6 c.args.known.now) ++ ((model.breaches_7 c.args.known.now) ++ ((model.breaches_8 c.args.known.now) ++ ((model.breaches_9 c.args.known.now) ++ ((model.breaches_10 c.args.known.now) ++ [])))))) (nothing_told breach_view c.in_ok-reference.reference (model.breaches_4 c.args.known.now) c.in_ok-reference.ensures (sym c.is_some-4.ensures ∙ c.if-is_some-4.false))
-    ∙ first_later (model.breaches_5 c.args.known.now) ((model.breaches_6 c.args.known.now) ++ ((model.breaches_7 c.args.known.now) ++ ((model.breaches_8 c.args.known.now) ++ ((model.breaches_9 c.args.known.now) ++ ((model.breaches_10 c.args.known.now) ++ []))))) (nothing_told breach_view c.in_ok-shadow.shadow (model.breaches_5 c.args.known.now) c.in_ok-shadow.ensures (sym c.is_some-5.ensures ∙ c.if-is_some-5.false))
-    ∙ first_later (model.breaches_6 c.args.known.now) ((model.breaches_7 c.args.known.now) ++ ((model.breaches_8 c.args.known.now) ++ ((model.breaches_9 c.args.known.now) ++ ((model.breaches_10 c.args.known.now) ++ [])))) (nothing_told breach_view c.in_ok-below.below (model.breaches_6 c.args.known.now) c.in_ok-below.ensures (sym c.is_some-6.ensures ∙ c.if-is_some-6.false))
-    ∙ first_later (model.breaches_7 c.args.known.now) ((model.breaches_8 c.args.known.now) ++ ((model.breaches_9 c.args.known.now) ++ ((model.breaches_10 c.args.known.now) ++ []))) (nothing_told breach_view c.in_ok-member.member (model.breaches_7 c.args.known.now) c.in_ok-member.ensures (sym c.is_some-7.ensures ∙ c.if-is_some-7.false))
-    ∙ first_later (model.breaches_8 c.args.known.now) ((model.breaches_9 c.args.known.now) ++ ((model.breaches_10 c.args.known.now) ++ [])) (nothing_told breach_view c.in_ok-top.top (model.breaches_8 c.args.known.now) c.in_ok-top.ensures (sym c.is_some-8.ensures ∙ c.if-is_some-8.false))
-    ∙ something_told breach_view c.in_ok-endless.endless (model.breaches_9 c.args.known.now) ((model.breaches_10 c.args.known.now) ++ []) c.in_ok-endless.ensures (sym c.is_some-9.ensures ∙ c.if-is_some-9.true))
-
 pub returns : goal.returns
 returns c =
-    subst (λ (o : Option model.Inconsistency). IfOk c.false_agreement.result (λ told. option_map breach_view told ≡ o)) (sym (first_later (model.breaches_1 c.args.known.now) ((model.breaches_2 c.args.known.now) ++ ((model.breaches_3 c.args.known.now) ++ ((model.breaches_4 c.args.known.now) ++ ((model.breaches_5 c.args.known.now) ++ ((model.breaches_6 c.args.known.now) ++ ((model.breaches_7 c.args.known.now) ++ ((model.breaches_8 c.args.known.now) ++ ((model.breaches_9 c.args.known.now) ++ ((model.breaches_10 c.args.known.now) ++ []))))))))) (nothing_told breach_view c.in_ok-repeated.repeated (model.breaches_1 c.args.known.now) c.in_ok-repeated.ensures (sym c.is_some.ensures ∙ c.if-is_some.false))
+    subst (λ (o : Option model.Inconsistency). IfOk c.later_told.result (λ told. option_map breach_view told ≡ o)) (sym (first_later (model.breaches_1 c.args.known.now) ((model.breaches_2 c.args.known.now) ++ ((model.breaches_3 c.args.known.now) ++ ((model.breaches_4 c.args.known.now) ++ ((model.breaches_5 c.args.known.now) ++ ((model.breaches_6 c.args.known.now) ++ ((model.breaches_7 c.args.known.now) ++ ((model.breaches_8 c.args.known.now) ++ ((model.breaches_9 c.args.known.now) ++ ((model.breaches_10 c.args.known.now) ++ []))))))))) (nothing_told breach_view c.in_ok-repeated.repeated (model.breaches_1 c.args.known.now) c.in_ok-repeated.ensures (sym c.is_some.ensures ∙ c.if-is_some.false))
     ∙ first_later (model.breaches_2 c.args.known.now) ((model.breaches_3 c.args.known.now) ++ ((model.breaches_4 c.args.known.now) ++ ((model.breaches_5 c.args.known.now) ++ ((model.breaches_6 c.args.known.now) ++ ((model.breaches_7 c.args.known.now) ++ ((model.breaches_8 c.args.known.now) ++ ((model.breaches_9 c.args.known.now) ++ ((model.breaches_10 c.args.known.now) ++ [])))))))) (nothing_told breach_view c.in_ok-orphan.orphan (model.breaches_2 c.args.known.now) c.in_ok-orphan.ensures (sym c.is_some-2.ensures ∙ c.if-is_some-2.false))
     ∙ first_later (model.breaches_3 c.args.known.now) ((model.breaches_4 c.args.known.now) ++ ((model.breaches_5 c.args.known.now) ++ ((model.breaches_6 c.args.known.now) ++ ((model.breaches_7 c.args.known.now) ++ ((model.breaches_8 c.args.known.now) ++ ((model.breaches_9 c.args.known.now) ++ ((model.breaches_10 c.args.known.now) ++ []))))))) (nothing_told breach_view c.in_ok-longer.longer (model.breaches_3 c.args.known.now) c.in_ok-longer.ensures (sym c.is_some-3.ensures ∙ c.if-is_some-3.false))
     ∙ first_later (model.breaches_4 c.args.known.now) ((model.breaches_5 c.args.known.now) ++ ((model.breaches_6 c.args.known.now) ++ ((model.breaches_7 c.args.known.now) ++ ((model.breaches_8 c.args.known.now) ++ ((model.breaches_9 c.args.known.now) ++ ((model.breaches_10 c.args.known.now) ++ [])))))) (nothing_told breach_view c.in_ok-reference.reference (model.breaches_4 c.args.known.now) c.in_ok-reference.ensures (sym c.is_some-4.ensures ∙ c.if-is_some-4.false))
-    ∙ first_later (model.breaches_5 c.args.known.now) ((model.breaches_6 c.args.known.now) ++ ((model.breaches_7 c.args.known.now) ++ ((model.breaches_8 c.args.known.now) ++ ((model.breaches_9 c.args.known.now) ++ ((model.breaches_10 c.args.known.now) ++ []))))) (nothing_told breach_view c.in_ok-shadow.shadow (model.breaches_5 c.args.known.now) c.in_ok-shadow.ensures (sym c.is_some-5.ensures ∙ c.if-is_some-5.false))
-    ∙ first_later (model.breaches_6 c.args.known.now) ((model.breaches_7 c.args.known.now) ++ ((model.breaches_8 c.args.known.now) ++ ((model.breaches_9 c.args.known.now) ++ ((model.breaches_10 c.args.known.now) ++ [])))) (nothing_told breach_view c.in_ok-below.below (model.breaches_6 c.args.known.now) c.in_ok-below.ensures (sym c.is_some-6.ensures ∙ c.if-is_some-6.false))
-    ∙ first_later (model.breaches_7 c.args.known.now) ((model.breaches_8 c.args.known.now) ++ ((model.breaches_9 c.args.known.now) ++ ((model.breaches_10 c.args.known.now) ++ []))) (nothing_told breach_view c.in_ok-member.member (model.breaches_7 c.args.known.now) c.in_ok-member.ensures (sym c.is_some-7.ensures ∙ c.if-is_some-7.false))
-    ∙ first_later (model.breaches_8 c.args.known.now) ((model.breaches_9 c.args.known.now) ++ ((model.breaches_10 c.args.known.now) ++ [])) (nothing_told breach_view c.in_ok-top.top (model.breaches_8 c.args.known.now) c.in_ok-top.ensures (sym c.is_some-8.ensures ∙ c.if-is_some-8.false))
-    ∙ first_later (model.breaches_9 c.args.known.now) ((model.breaches_10 c.args.known.now) ++ []) (nothing_told breach_view c.in_ok-endless.endless (model.breaches_9 c.args.known.now) c.in_ok-endless.ensures (sym c.is_some-9.ensures ∙ c.if-is_some-9.false))
-    ∙ ap (λ (l : List model.Inconsistency). first_of l) (append_nothing (model.breaches_10 c.args.known.now)))) c.false_agreement.ensures
+    ∙ first_later (model.breaches_5 c.args.known.now) ((model.breaches_6 c.args.known.now) ++ ((model.breaches_7 c.args.known.now) ++ ((model.breaches_8 c.args.known.now) ++ ((model.breaches_9 c.args.known.now) ++ ((model.breaches_10 c.args.known.now) ++ []))))) (nothing_told breach_view c.in_ok-shadow.shadow (model.breaches_5 c.args.known.now) c.in_ok-shadow.ensures (sym c.is_some-5.ensures ∙ c.if-is_some-5.false)))) c.later_told.ensures

@@ -17,10 +17,10 @@ loop-row-preserved c =
     c.row-item.result c.loop-row-test.true)
     ∙ c.loop-row.invariant
 
-pub returns : goal.returns
-returns c =
+pub returns-in-Ok : goal.returns-in-Ok
+returns-in-Ok c =
     let so_far : Numbers = indexed c.loop-row.indexing.firsts c.loop-row.indexing.more.items in
-    ap (λ (n : Numbers). either (first_numbers c.loop-row.indexing.firsts) n) c.in_ok-more.ensures
+    ap (λ (n : Numbers). either (first_numbers c.loop-row.indexing.firsts) n) c.in-Ok.ensures
     ∙ sym (no_more so_far)
     ∙ sym (at_drop_all (λ (l : List KeyRow). either so_far (numbers_of l)) c.args.rows.now c.loop-row.row-index
     c.loop-row-test.false)
