@@ -84,8 +84,13 @@ fn prepared(alloc: Global, step: Step) -> Result<Prepared, NoMemory>
     ensures step { IfOk result (λ one. one.step ≡ step) }
     ensures prepared { IfOk result (λ one. IsPrepared one) }
 {
-    let ready = ready_for(alloc, &step)?;
-    Ok(Prepared { ready, step })
+    match ready_for(alloc, &step) {
+        Ok(ready) => Ok(Prepared { ready, step }),
+        Err(fault) => {
+            drop(step);
+            Err(fault)
+        }
+    }
 }
 
 /// The steps in their order, each with what it needs.
