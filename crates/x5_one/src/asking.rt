@@ -46,9 +46,9 @@ fn info_of(alloc: Global, selection: &Selection, named: &Named) -> Result<EntryI
     ensures { IfOk result (λ info. info_view info ≡ model.info_of (λ key. false) (selection_view selection.now) named.now) }
 {
     Ok(EntryInfo {
-        name: named.name.clone()?,
         copy: false,
         attributes: shown(alloc, selection, &named.entry)?,
+        name: named.name.clone()?,
     })
 }
 
@@ -62,10 +62,16 @@ pub(crate) fn read(
     ensures { IfOk result (λ reply. (names : List (List ℕ)) → reply_view names reply ≡ reply_of (source_view names source) (model.read (λ key. false) (selection_view selection.now) named.now)) }
 {
     if let Some(kind) = selection_fault(selection, &named.entry) {
+        drop(source);
         return lacking(kind);
     }
-    let entry = info_of(alloc, selection, named)?;
-    Ok(Reply::Done(Answer::Entry { entry, source }))
+    match info_of(alloc, selection, named) {
+        Ok(entry) => Ok(Reply::Done(Answer::Entry { entry, source })),
+        Err(fault) => {
+            drop(source);
+            Err(fault)
+        }
+    }
 }
 
 /// What a compare is answered at an entry (X.511, section 9.2).
@@ -78,13 +84,20 @@ pub(crate) fn compare(
 ) -> Result<Reply, NoMemory>
     ensures { IfOk result (λ reply. (names : List (List ℕ)) → reply_view names reply ≡ reply_of (source_view names source) (model.compare (λ key. false) (assertion_of (type_view kind.now) (value_view value.now)) named.now)) }
 {
-    match compares(alloc, &named.entry, kind, value)? {
-        Some(matched) => Ok(Reply::Done(Answer::Match {
+    match compares(alloc, &named.entry, kind, value) {
+        Ok(Some(matched)) => Ok(Reply::Done(Answer::Match {
             matched,
             copy: false,
             source,
         })),
-        None => lacking(kind),
+        Ok(None) => {
+            drop(source);
+            lacking(kind)
+        }
+        Err(fault) => {
+            drop(source);
+            Err(fault)
+        }
     }
 }
 

@@ -111,10 +111,13 @@ fn renamed(
     let entry = with_rdn(alloc, entry, rdn)?;
     match doubled(&entry) {
         None => Ok(entry.shared(alloc)?),
-        Some(kind) => Err(ChangeFault::Refused(DirError::Attribute {
-            problem: attribute_problem::CONSTRAINT_VIOLATION,
-            kind: TypeRef::Known(kind),
-        })),
+        Some(kind) => {
+            drop(entry);
+            Err(ChangeFault::Refused(DirError::Attribute {
+                problem: attribute_problem::CONSTRAINT_VIOLATION,
+                kind: TypeRef::Known(kind),
+            }))
+        }
     }
 }
 
@@ -202,12 +205,19 @@ fn planned(
     let named = &entries[at];
     let entry = match renamed(alloc, &named.entry, &old, rdn, drop_old) {
         Ok(entry) => entry,
-        Err(fault) => return Err(fault),
+        Err(fault) => {
+            drop(old);
+            return Err(fault);
+        }
     };
+    drop(old);
     let name = new_name(alloc, object, rdn)?;
     let Some(place) = new_place(entries, object, at, &name) else {
+        drop(name);
+        drop(entry);
         return Err(refused(update_problem::ENTRY_ALREADY_EXISTS));
     };
+    drop(name);
     let end = run_end(entries, at, object.key());
     let run = moved(alloc, &entries[at..end], object.len() - 1, rdn, entry)?;
     Ok(Move {

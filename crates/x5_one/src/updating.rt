@@ -83,13 +83,18 @@ pub(crate) fn add(
         Err(_) => return Err(no_object(alloc, entries, above.key())),
     };
     let place = match place_of(entries, object.key()) {
-        Ok(_) => return Err(refused(update_problem::ENTRY_ALREADY_EXISTS)),
+        Ok(_) => {
+            drop(above);
+            return Err(refused(update_problem::ENTRY_ALREADY_EXISTS));
+        }
         Err(place) => place,
     };
+    drop(above);
     let rdn = last_of(alloc, object)?;
     let entry = added_entry(alloc, &rdn, attributes)?;
     let named = &entries[parent];
     let name = named.name.below(alloc, &rdn)?;
+    drop(rdn);
     put(entries, place, Named { name, entry })?;
     Ok(())
 }
@@ -148,8 +153,12 @@ pub(crate) fn modify(
     let named = &entries[at];
     let entry = match change(alloc, &rdn, &named.entry, changes) {
         Ok(entry) => entry,
-        Err(fault) => return Err(fault),
+        Err(fault) => {
+            drop(rdn);
+            return Err(fault);
+        }
     };
+    drop(rdn);
     entries[at] = with_entry(named, entry)?;
     Ok(())
 }
