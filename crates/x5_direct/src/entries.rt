@@ -65,6 +65,7 @@ fn stored_values_in(alloc: Global, kind: TypeId, octets: &[u8]) -> Result<Vec<St
     while !rest.is_empty() {
         let (value, taken) = stored_value_at(alloc, kind, rest)?;
         if !follows_values(values.as_slice(), &value) {
+            drop(value);
             return Err(Unread::Unusual);
         }
         values.push(value)?;
@@ -113,6 +114,7 @@ fn all_stored_in(alloc: Global, octets: &[u8]) -> Result<StoredList, Unread>
     while !rest.is_empty() {
         let (attribute, taken) = stored_at(alloc, rest)?;
         if !follows_types(attributes.as_slice(), &attribute) {
+            drop(attribute);
             return Err(Unread::Unusual);
         }
         attributes.push(attribute)?;
@@ -140,6 +142,7 @@ pub(crate) fn entry_behind<'a>(
     let (name, named_by, front) = name_behind(alloc, above_octets, above, content)?;
     let (members, end) = opened(0x31, &content[named_by..])?;
     if !end.is_empty() {
+        drop(name);
         return Err(Unread::Unusual);
     }
     let attributes = all_stored_in(alloc, members)?;

@@ -86,6 +86,7 @@ fn info_behind<'a>(
     let (copy, behind) = mark_at(&content[size..]);
     let (members, end) = opened(0x31, behind)?;
     if !end.is_empty() {
+        drop(name);
         return Err(Unread::Unusual);
     }
     let attributes = all_shown_in(alloc, members)?;
