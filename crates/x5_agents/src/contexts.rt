@@ -63,5 +63,6 @@ pub(crate) fn own_of(
             own.push(held_of(alloc, context, specific)?)?;
         }
     }
+    drop(prefixes);
     Ok(own)
 }

@@ -60,6 +60,7 @@ pub(crate) fn references_of(
             below.push(in_context(&context.prefix, known)?)?;
         }
     }
+    drop(keys);
     Ok(below)
 }
 
