@@ -219,6 +219,7 @@ fn add_agent(
     write!(text, "{{\"name\":\"A{agent}\"")?;
     add_superior(text, agent)?;
     add_context(text, alloc, prefix.as_str(), agent, draws)?;
+    drop(prefix);
     add_references(text, alloc, agent)?;
     text.push_str("}")?;
     Ok(())
