@@ -1,7 +1,7 @@
 //! Requests (X.511, sections 7 and 9 to 11; X.519, section 7), read straight from octets in their usual spelling: the components of
 //! an argument in the order of their tags, each by its octets where these are usual, and else, if they are 96 at most, by the table of
 //! types.
-ghost use Rattle.std.specs.Prelude.{◌≡◌, ◌-◌, ◌<◌, ◌≤◌, ◌%◌, ◌∷◌, [], IfOk, IfSome, length};
+ghost use Rattle.std.specs.Prelude.{◌≡◌, ℕ, List, ◌-◌, ◌<◌, ◌≤◌, ◌%◌, ◌∷◌, [], IfOk, IfSome, length};
 ghost use Rattle.std.specs.declared.option.Option.TheVariants.{Some};
 ghost use Rattle.x5_dapber.specs.Direct.{Invokes, ReadsNext, code_of};
 ghost use Rattle.x5_direct.specs.Spelled.{Opens, Reads, Spelled};
@@ -62,6 +62,7 @@ fn part<'a>(alloc: Global, form: Named, octets: &'a [u8]) -> Result<Node<'a>, Un
 {
     let (node, rest) = part_at(alloc, form, octets)?;
     if !rest.is_empty() {
+        drop(node);
         return Err(Unread::Unusual);
     }
     Ok(node)
@@ -74,6 +75,7 @@ fn object_at(alloc: Global, octets: &[u8]) -> Result<(Name, &[u8]), Unread>
     let (content, rest) = opened(0xA0, octets)?;
     let (name, taken) = name_at(alloc, content)?;
     if taken != content.len() {
+        drop(name);
         return Err(Unread::Unusual);
     }
     Ok((name, rest))
@@ -205,11 +207,17 @@ fn read_of(alloc: Global, octets: &[u8]) -> Result<Request, Unread>
     let content = whole(0x31, octets)?;
     let (object, behind) = object_at(alloc, content)?;
     let (selection, last) = selection_at(alloc, 0xA1, behind)?;
-    let controls = controls_last(alloc, last)?;
-    Ok(Request {
-        controls,
-        body: Body::Read { object, selection },
-    })
+    match controls_last(alloc, last) {
+        Ok(controls) => Ok(Request {
+            controls,
+            body: Body::Read { object, selection },
+        }),
+        Err(fault) => {
+            drop(object);
+            drop(selection);
+            Err(fault)
+        }
+    }
 }
 
 /// The request to compare whose argument is all of the octets.
@@ -219,15 +227,22 @@ fn compare_of(alloc: Global, octets: &[u8]) -> Result<Request, Unread>
     let content = whole(0x31, octets)?;
     let (object, behind) = object_at(alloc, content)?;
     let (kind, value, last) = asserted_at(alloc, behind)?;
-    let controls = controls_last(alloc, last)?;
-    Ok(Request {
-        controls,
-        body: Body::Compare {
-            object,
-            kind,
-            value,
-        },
-    })
+    match controls_last(alloc, last) {
+        Ok(controls) => Ok(Request {
+            controls,
+            body: Body::Compare {
+                object,
+                kind,
+                value,
+            },
+        }),
+        Err(fault) => {
+            drop(object);
+            drop(kind);
+            drop(value);
+            Err(fault)
+        }
+    }
 }
 
 /// The request to list whose argument is all of the octets.
@@ -243,6 +258,17 @@ fn list_of(alloc: Global, octets: &[u8]) -> Result<Request, Unread>
     })
 }
 
+/// The selection of attributes of a search and its service controls, which are all of the octets.
+fn selection_last(alloc: Global, octets: &[u8]) -> Result<(Selection, Controls), Unread>
+    ensures { IfOk result (λ r. (last : List ℕ)
+        × ReadsNext 49 4 (forms.or layouts.all_attributes (forms.at 4 named.Selection)) requests.selection_in (selection_view r.0) octets.now last
+        × ReadsNext 49 30 layouts.controls requests.controls_in (controls_view r.1) last []) }
+{
+    let (selection, last) = selection_at(alloc, 0xA4, octets)?;
+    let controls = controls_last(alloc, last)?;
+    Ok((selection, controls))
+}
+
 /// The request to search whose argument is all of the octets.
 fn search_of(alloc: Global, octets: &[u8]) -> Result<Request, Unread>
     ensures { IfOk result (λ r. Reads 50 (named.Argument named.Search) (requests.argument_in 5) (request_view r) octets.now []) }
@@ -251,17 +277,22 @@ fn search_of(alloc: Global, octets: &[u8]) -> Result<Request, Unread>
     let (base, second) = object_at(alloc, content)?;
     let (subset, third) = subset_at(second)?;
     let (filter, fourth) = filter_at(alloc, third)?;
-    let (selection, last) = selection_at(alloc, 0xA4, fourth)?;
-    let controls = controls_last(alloc, last)?;
-    Ok(Request {
-        controls,
-        body: Body::Search {
-            base,
-            subset,
-            filter,
-            selection,
-        },
-    })
+    match selection_last(alloc, fourth) {
+        Ok((selection, controls)) => Ok(Request {
+            controls,
+            body: Body::Search {
+                base,
+                subset,
+                filter,
+                selection,
+            },
+        }),
+        Err(fault) => {
+            drop(base);
+            drop(filter);
+            Err(fault)
+        }
+    }
 }
 
 /// The request to remove whose argument is all of the octets.

@@ -28,6 +28,7 @@ fn usual_assertion(alloc: Global, octets: &[u8]) -> Result<(TypeRef, Value), Unr
     let behind = &content[SHORT_OID..];
     let (value, taken) = value_at(alloc, behind)?;
     if taken != behind.len() {
+        drop(value);
         return Err(Unread::Unusual);
     }
     Ok((TypeRef::Known(kind), value))
@@ -76,6 +77,7 @@ fn one_item_in(alloc: Global, octets: &[u8]) -> Result<Filter, Unread>
 {
     let (filter, rest) = item_filter_at(alloc, octets)?;
     if !rest.is_empty() {
+        drop(filter);
         return Err(Unread::Unusual);
     }
     Ok(filter)

@@ -4,10 +4,10 @@ use Rattle.x5_match.specs.FilterView.{filter_view}
 use Rattle.x5_dapber.proofs.ArgumentsSpelled.{search_read}
 use Rattle.x5_dapber.proofs.direct.search_of.Goals as goal
 
-pub returns : goal.returns
-returns c =
-    search_read (controls_view c.in_ok-controls.controls) c.in_ok-base.base (subset_view c.in_ok-subset.subset)
-    (filter_view c.in_ok-filter.filter) (selection_view c.in_ok-selection.selection) c.in_ok-content.content.now
+pub returns-in-Ok : goal.returns-in-Ok
+returns-in-Ok c =
+    search_read (controls_view c.in-Ok.controls) c.in_ok-base.base (subset_view c.in_ok-subset.subset)
+    (filter_view c.in_ok-filter.filter) (selection_view c.in-Ok.selection) c.in_ok-content.content.now
     c.args.octets.now c.in_ok-base.second.now c.in_ok-subset.third.now c.in_ok-filter.fourth.now
-    c.in_ok-selection.last.now c.in_ok-content.ensures c.in_ok-base.ensures c.in_ok-subset.ensures
-    c.in_ok-filter.ensures c.in_ok-selection.ensures c.in_ok-controls.ensures
+    c.in-Ok.ensures.0 c.in_ok-content.ensures c.in_ok-base.ensures c.in_ok-subset.ensures
+    c.in_ok-filter.ensures c.in-Ok.ensures.1 c.in-Ok.ensures.2
