@@ -9,7 +9,7 @@ ghost use Rattle.x5_types.specs.NodeView.{node_view};
 
 use std::alloc::Global;
 use x5_dapber::names::{name_node, rdn_node};
-use x5_dapber::parts::{four, many, number, three, two};
+use x5_dapber::parts::{many, number, three, two};
 use x5_memory::NoMemory;
 use x5_names::Rdn;
 use x5_ops::{AccessPoint, AgentName, Moment, Progress, Reference, Source, TraceItem};
@@ -94,15 +94,12 @@ pub(crate) fn references_node<'a>(
 pub fn item_node<'a>(alloc: Global, item: &'a TraceItem) -> Result<Node<'a>, NoMemory>
     ensures { IfOk result (λ n. node_view n ≡ replies.item_node (told_item item.now)) }
 {
-    let target = name_node(alloc, &item.target)?;
-    let progress = progress_node(alloc, item.progress)?;
-    four(
-        alloc,
-        agent_node(&item.agent),
-        target,
-        progress,
-        Node::Flag(item.wide),
-    )
+    let mut parts = Vec::with_capacity(alloc, 4)?;
+    parts.push(agent_node(&item.agent))?;
+    parts.push(name_node(alloc, &item.target)?)?;
+    parts.push(progress_node(alloc, item.progress)?)?;
+    parts.push(Node::Flag(item.wide))?;
+    Ok(many(parts))
 }
 
 fn moment_node<'a>(moment: Option<Moment>) -> Node<'a>

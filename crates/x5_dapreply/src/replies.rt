@@ -1,9 +1,10 @@
 //! Results and errors (X.511, sections 7.7, 9, 10 and 12) as values of types of messages.
 ghost use Rattle.std.specs.Prelude.{◌≡◌, [], ◌∷◌, IfOk, map, not};
 ghost use Rattle.std.specs.Option.{option_map};
-ghost use Rattle.x5_dapreply.specs.ReplyViews.{told_answer, told_error, told_item, told_outcome, told_reference, told_reply};
+ghost use Rattle.x5_dapreply.specs.ReplyViews.{told_answer, told_error, told_item, told_outcome, told_reference, told_reply, told_source};
 ghost use Rattle.x5_model_messages.specs.Replies as replies;
 ghost use Rattle.x5_model_messages.specs.Terms.{node_of};
+ghost use Rattle.x5_model_typed.specs.Nodes as nodes;
 ghost use Rattle.x5_ops.specs.AnswerViews.{info_view, shown_view, sub_view};
 ghost use Rattle.x5_types.specs.NodeView.{node_view};
 
@@ -13,7 +14,9 @@ use x5_dapber::names::{name_node, rdn_node, type_node};
 use x5_dapber::parts::{chosen, many, number, one, three, two};
 use x5_dapber::values::values_node;
 use x5_memory::NoMemory;
-use x5_ops::{Answer, Attribute, DirError, EntryInfo, Outcome, Reference, Reply, Sub, TraceItem};
+use x5_ops::{
+    Answer, Attribute, DirError, EntryInfo, Outcome, Reference, Reply, Source, Sub, TraceItem,
+};
 use x5_types::Node;
 
 fn shown_node<'a>(alloc: Global, attribute: &'a Attribute) -> Result<Node<'a>, NoMemory>
@@ -83,15 +86,63 @@ pub(crate) fn outcome_node<'a>(alloc: Global, outcome: &'a Outcome) -> Result<No
     two(alloc, limit_node(outcome.limited), unexplored)
 }
 
+/// The result of a read.
+fn entry_node<'a>(
+    alloc: Global,
+    entry: &'a EntryInfo,
+    source: &'a Source,
+) -> Result<Node<'a>, NoMemory>
+    ensures { IfOk result (λ n. node_view n
+        ≡ node_of (replies.info_node (info_view entry.now) ∷ replies.source_node (told_source source.now) ∷ [])) }
+{
+    let mut parts = Vec::with_capacity(alloc, 2)?;
+    parts.push(info_node(alloc, entry)?)?;
+    parts.push(source_node(alloc, source)?)?;
+    Ok(many(parts))
+}
+
+/// The result of a list.
+fn listed_node<'a>(
+    alloc: Global,
+    subs: &'a [Sub],
+    sources: &'a [Source],
+    outcome: &'a Outcome,
+) -> Result<Node<'a>, NoMemory>
+    ensures { IfOk result (λ n. node_view n
+        ≡ node_of (node_of (map replies.sub_node (map sub_view subs.now)) ∷ node_of (map replies.source_node (map told_source sources.now))
+        ∷ replies.outcome_node (told_outcome outcome.now) ∷ [])) }
+{
+    let mut parts = Vec::with_capacity(alloc, 3)?;
+    parts.push(subs_node(alloc, subs)?)?;
+    parts.push(sources_node(alloc, sources)?)?;
+    parts.push(outcome_node(alloc, outcome)?)?;
+    Ok(many(parts))
+}
+
+/// The result of a search.
+fn found_node<'a>(
+    alloc: Global,
+    entries: &'a [EntryInfo],
+    sources: &'a [Source],
+    outcome: &'a Outcome,
+) -> Result<Node<'a>, NoMemory>
+    ensures { IfOk result (λ n. node_view n
+        ≡ node_of (node_of (map replies.info_node (map info_view entries.now)) ∷ node_of (map replies.source_node (map told_source sources.now))
+        ∷ replies.outcome_node (told_outcome outcome.now) ∷ [])) }
+{
+    let mut parts = Vec::with_capacity(alloc, 3)?;
+    parts.push(infos_node(alloc, entries)?)?;
+    parts.push(sources_node(alloc, sources)?)?;
+    parts.push(outcome_node(alloc, outcome)?)?;
+    Ok(many(parts))
+}
+
 /// A result: of a read, a compare, a list, a search, or an update.
 pub(crate) fn answer_node<'a>(alloc: Global, answer: &'a Answer) -> Result<Node<'a>, NoMemory>
     ensures { IfOk result (λ n. node_view n ≡ replies.answer_node (told_answer answer.now)) }
 {
     match answer {
-        Answer::Entry { entry, source } => {
-            let entry = info_node(alloc, entry)?;
-            two(alloc, entry, source_node(alloc, source)?)
-        }
+        Answer::Entry { entry, source } => entry_node(alloc, entry, source),
         Answer::Match {
             matched,
             copy,
@@ -104,20 +155,12 @@ pub(crate) fn answer_node<'a>(alloc: Global, answer: &'a Answer) -> Result<Node<
             subs,
             sources,
             outcome,
-        } => {
-            let subs = subs_node(alloc, subs.as_slice())?;
-            let sources = sources_node(alloc, sources.as_slice())?;
-            three(alloc, subs, sources, outcome_node(alloc, outcome)?)
-        }
+        } => listed_node(alloc, subs.as_slice(), sources.as_slice(), outcome),
         Answer::Found {
             entries,
             sources,
             outcome,
-        } => {
-            let entries = infos_node(alloc, entries.as_slice())?;
-            let sources = sources_node(alloc, sources.as_slice())?;
-            three(alloc, entries, sources, outcome_node(alloc, outcome)?)
-        }
+        } => found_node(alloc, entries.as_slice(), sources.as_slice(), outcome),
         Answer::Changed => Ok(Node::Vacant),
     }
 }
@@ -163,6 +206,25 @@ fn item_or_vacant<'a>(alloc: Global, item: &'a Option<TraceItem>) -> Result<Node
     }
 }
 
+/// A service error with the id of the request.
+fn service_node<'a>(
+    alloc: Global,
+    id: u32,
+    problem: u8,
+    reference: &'a Option<Reference>,
+    item: &'a Option<TraceItem>,
+) -> Result<Node<'a>, NoMemory>
+    ensures { IfOk result (λ n. node_view n
+        ≡ replies.error_node id 3 (node_of (nodes.whole problem ∷ replies.reference_or_vacant (option_map told_reference reference.now)
+        ∷ replies.item_or_vacant (option_map told_item item.now) ∷ []))) }
+{
+    let mut parts = Vec::with_capacity(alloc, 3)?;
+    parts.push(number(u32::from(problem)))?;
+    parts.push(reference_or_vacant(alloc, reference)?)?;
+    parts.push(item_or_vacant(alloc, item)?)?;
+    error_node(alloc, id, 3, many(parts))
+}
+
 /// An error (X.511, section 12) with the id of the request.
 fn failed_node<'a>(
     alloc: Global,
@@ -174,11 +236,13 @@ fn failed_node<'a>(
 {
     match error {
         DirError::Name { matched } => {
-            let parameter = two(alloc, number(1), name_node(alloc, matched)?)?;
+            let name = name_node(alloc, matched)?;
+            let parameter = two(alloc, number(1), name)?;
             error_node(alloc, id, 2, parameter)
         }
         DirError::Attribute { problem, kind } => {
-            let parameter = two(alloc, number(u32::from(*problem)), type_node(alloc, kind)?)?;
+            let kind = type_node(alloc, kind)?;
+            let parameter = two(alloc, number(u32::from(*problem)), kind)?;
             error_node(alloc, id, 1, parameter)
         }
         DirError::Update { problem } => {
@@ -189,12 +253,7 @@ fn failed_node<'a>(
             problem,
             reference,
             item,
-        } => {
-            let reference = reference_or_vacant(alloc, reference)?;
-            let item = item_or_vacant(alloc, item)?;
-            let parameter = three(alloc, number(u32::from(*problem)), reference, item)?;
-            error_node(alloc, id, 3, parameter)
-        }
+        } => service_node(alloc, id, *problem, reference, item),
     }
 }
 
