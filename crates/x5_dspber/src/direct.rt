@@ -51,8 +51,8 @@ fn chaining_in(alloc: Global, octets: &[u8]) -> Result<Chaining, Unread>
     let (target_part, progress_part, trace_part, kind_part, rest) = four_in(octets)?;
     let progress = progress_in(progress_part)?;
     let kind = kind_in(kind_part)?;
-    let target = name_in(alloc, target_part)?;
     let exclusions = exclusions_in(alloc, rest)?;
+    let target = name_in(alloc, target_part)?;
     let trace = trace_in(alloc, &target, target_part, trace_part)?;
     Ok(Chaining {
         target,
@@ -76,15 +76,20 @@ fn carried_in(
     let content = whole(0x30, octets)?;
     let (arguments, behind) = opened(0x31, content)?;
     let chaining = chaining_in(alloc, arguments)?;
-    let request = argument_of(alloc, code, operation, behind)?;
-    Ok(Chained {
-        target: chaining.target,
-        progress: chaining.progress,
-        kind: chaining.kind,
-        exclusions: chaining.exclusions,
-        trace: chaining.trace,
-        request,
-    })
+    match argument_of(alloc, code, operation, behind) {
+        Ok(request) => Ok(Chained {
+            target: chaining.target,
+            progress: chaining.progress,
+            kind: chaining.kind,
+            exclusions: chaining.exclusions,
+            trace: chaining.trace,
+            request,
+        }),
+        Err(fault) => {
+            drop(chaining);
+            Err(fault)
+        }
+    }
 }
 
 /// The id of the agent's message that is all of the octets, and what it asks.
