@@ -6,7 +6,7 @@ ghost use Rattle.x5_types.specs.NodeView.{node_view};
 
 use std::alloc::Global;
 use x5_dapber::names::{name_node, type_node};
-use x5_dapber::parts::{many, three, two};
+use x5_dapber::parts::many;
 use x5_dapber::values::value_node;
 use x5_match::{Stored, StoredValue};
 use x5_memory::NoMemory;
@@ -27,9 +27,10 @@ fn values_node<'a>(alloc: Global, values: &'a [StoredValue]) -> Result<Node<'a>,
 fn stored_node<'a>(alloc: Global, attribute: &'a Stored) -> Result<Node<'a>, NoMemory>
     ensures { IfOk result (λ n. node_view n ≡ shadows.stored_node attribute.now) }
 {
-    let kind = type_node(alloc, &TypeRef::Known(attribute.kind))?;
-    let values = values_node(alloc, attribute.values.as_slice())?;
-    two(alloc, kind, values)
+    let mut parts = Vec::with_capacity(alloc, 2)?;
+    parts.push(type_node(alloc, &TypeRef::Known(attribute.kind))?)?;
+    parts.push(values_node(alloc, attribute.values.as_slice())?)?;
+    Ok(many(parts))
 }
 
 fn attributes_node<'a>(alloc: Global, attributes: &'a [Stored]) -> Result<Node<'a>, NoMemory>
@@ -46,9 +47,11 @@ fn attributes_node<'a>(alloc: Global, attributes: &'a [Stored]) -> Result<Node<'
 pub(crate) fn entry_node<'a>(alloc: Global, named: &'a Named) -> Result<Node<'a>, NoMemory>
     ensures { IfOk result (λ n. node_view n ≡ shadows.entry_node named.now) }
 {
-    let name = name_node(alloc, &named.name)?;
-    let attributes = attributes_node(alloc, named.entry.attributes())?;
-    three(alloc, name, Node::Flag(true), attributes)
+    let mut parts = Vec::with_capacity(alloc, 3)?;
+    parts.push(name_node(alloc, &named.name)?)?;
+    parts.push(Node::Flag(true))?;
+    parts.push(attributes_node(alloc, named.entry.attributes())?)?;
+    Ok(many(parts))
 }
 
 /// Entries: a SEQUENCE OF them.

@@ -106,9 +106,9 @@ fn known_in(alloc: Global, names: &AgentNames, node: &Node<'_>) -> Result<Specif
         unreachable!()
     };
     Ok(Specific {
-        context: Name::root(alloc),
-        pin: name_of(alloc, name)?,
         access: access_in(alloc, names, agents.parts())?,
+        pin: name_of(alloc, name)?,
+        context: Name::root(alloc),
     })
 }
 
@@ -136,9 +136,9 @@ fn other_in(alloc: Global, names: &AgentNames, node: &Node<'_>) -> Result<Nssr, 
         unreachable!()
     };
     Ok(Nssr {
-        context: Name::root(alloc),
-        at: name_of(alloc, name)?,
         agents: agents_in(alloc, names, agents.parts())?,
+        at: name_of(alloc, name)?,
+        context: Name::root(alloc),
     })
 }
 

@@ -2,17 +2,18 @@
 ghost use Rattle.std.specs.Prelude.{◌≡◌, ◌++◌, ◌∷◌, [], IfOk, OnOk, map};
 ghost use Rattle.x5_dispber.specs.ShadowViews.{agent_name, told_known, told_other, told_refresh, told_step};
 ghost use Rattle.x5_model_messages.specs.Shadows as shadows;
-ghost use Rattle.x5_model_messages.specs.Terms.{node_of};
+ghost use Rattle.x5_model_messages.specs.Terms.{name_node as name_node_of, node_of};
 ghost use Rattle.x5_types.specs.NodeView.{node_view};
 
 use crate::entries::{entries_node, entry_node};
 use crate::shadow::Refresh;
 use std::alloc::Global;
 use x5_dapber::names::name_node;
-use x5_dapber::parts::{chosen, many, three, two};
+use x5_dapber::parts::{chosen, many, two};
 use x5_know::AgentNames;
 use x5_memory::NoMemory;
-use x5_ops::{AgentId, Content, Nssr, Specific, Step};
+use x5_names::Name;
+use x5_ops::{AgentId, Content, Named, Nssr, Specific, Step};
 use x5_types::{Characters, Node};
 
 /// The name of the agent; nothing where there is no such agent.
@@ -116,6 +117,16 @@ pub(crate) fn others_node<'a>(
     Ok(many(nodes))
 }
 
+/// The name that an entry had, and what it is with its other name.
+fn renamed_node<'a>(alloc: Global, name: &'a Name, entry: &'a Named) -> Result<Node<'a>, NoMemory>
+    ensures { IfOk result (λ n. node_view n ≡ node_of (name_node_of name.now ∷ shadows.entry_node entry.now ∷ [])) }
+{
+    let mut parts = Vec::with_capacity(alloc, 2)?;
+    parts.push(name_node(alloc, name)?)?;
+    parts.push(entry_node(alloc, entry)?)?;
+    Ok(many(parts))
+}
+
 /// A change: an entry that is there now, is gone, is another, or has another name.
 fn step_node<'a>(alloc: Global, step: &'a Step) -> Result<Node<'a>, NoMemory>
     ensures { IfOk result (λ n. node_view n ≡ shadows.step_node (told_step step.now)) }
@@ -124,11 +135,7 @@ fn step_node<'a>(alloc: Global, step: &'a Step) -> Result<Node<'a>, NoMemory>
         Step::Add(entry) => chosen(alloc, 0, entry_node(alloc, entry)?),
         Step::Remove(name) => chosen(alloc, 1, name_node(alloc, name)?),
         Step::Modify(entry) => chosen(alloc, 2, entry_node(alloc, entry)?),
-        Step::Rename(name, entry) => {
-            let name = name_node(alloc, name)?;
-            let both = two(alloc, name, entry_node(alloc, entry)?)?;
-            chosen(alloc, 3, both)
-        }
+        Step::Rename(name, entry) => chosen(alloc, 3, renamed_node(alloc, name, entry)?),
     }
 }
 
@@ -152,10 +159,11 @@ fn total_node<'a>(
         ∷ node_of (map shadows.known_node (map (told_known names.now) content.now.specific))
         ∷ node_of (map shadows.non_specific_node (map (told_other names.now) content.now.nssr)) ∷ [])) }
 {
-    let entries = entries_node(alloc, content.entries.as_slice())?;
-    let known = all_known_node(alloc, names, content.specific.as_slice())?;
-    let others = others_node(alloc, names, content.nssr.as_slice())?;
-    three(alloc, entries, known, others)
+    let mut parts = Vec::with_capacity(alloc, 3)?;
+    parts.push(entries_node(alloc, content.entries.as_slice())?)?;
+    parts.push(all_known_node(alloc, names, content.specific.as_slice())?)?;
+    parts.push(others_node(alloc, names, content.nssr.as_slice())?)?;
+    Ok(many(parts))
 }
 
 /// What a refresh brings.
