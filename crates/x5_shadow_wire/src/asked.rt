@@ -4,8 +4,7 @@ ghost use Rattle.x5_dispber.specs.ShadowViews.{told_shadow};
 ghost use Rattle.x5_shadow_wire.specs.Carried.{asked_of, asking};
 
 use crate::counts;
-use crate::last::LastTotal;
-use crate::shadows::carried_shadow;
+use crate::shadows::carried_alone;
 use std::alloc::Global;
 use x5_dispber::Shadow;
 use x5_know::{AgentNames, Start};
@@ -82,9 +81,10 @@ pub fn carried_asked(
     counts::number(asked.agreement);
     counts::moment(asked.last);
     let message = opening(push, asked);
-    let mut last = LastTotal::none(alloc);
-    let taken = carried_shadow(alloc, start, names, &mut last, &message)?;
-    match asked_in(&taken) {
+    let taken = carried_alone(alloc, start, names, message)?;
+    let told = asked_in(&taken);
+    drop(taken);
+    match told {
         Some(asked) => Ok(asked),
         None => unreachable!(),
     }

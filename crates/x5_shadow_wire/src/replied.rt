@@ -7,8 +7,7 @@ ghost use Rattle.x5_ops.specs.RefreshViews.{operation_view};
 ghost use Rattle.x5_shadow_wire.specs.Carried.{code_of, problem_of, replying};
 
 use crate::counts;
-use crate::last::LastTotal;
-use crate::shadows::carried_shadow;
+use crate::shadows::carried_alone;
 use std::alloc::Global;
 use x5_dispber::Shadow;
 use x5_know::{AgentNames, Start};
@@ -97,9 +96,10 @@ pub fn carried_problem(
 {
     counted(&problem);
     let message = reply(operation, problem);
-    let mut last = LastTotal::none(alloc);
-    let taken = carried_shadow(alloc, start, names, &mut last, &message)?;
-    match problem_in(&taken) {
+    let taken = carried_alone(alloc, start, names, message)?;
+    let told = problem_in(&taken);
+    drop(taken);
+    match told {
         Some(problem) => Ok(problem),
         None => unreachable!(),
     }

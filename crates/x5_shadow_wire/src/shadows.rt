@@ -73,3 +73,19 @@ pub fn carried_shadow(
     let octets = octets_of(alloc, start, names, &mut last.written, message)?;
     read(alloc, start, names, &mut last.seen, octets.as_slice())
 }
+
+/// A message that is no update as its receiver has it: no entries of refreshes are written or seen for it.
+pub(crate) fn carried_alone(
+    alloc: Global,
+    start: &Start,
+    names: &AgentNames,
+    message: Shadow,
+) -> Result<Shadow, NoMemory>
+    requires { ShadowWithin (world start.now names.now) (told_shadow names.now message) }
+    ensures { IfOk result (λ taken. told_shadow names.now taken ≡ told_shadow names.now message) }
+{
+    let mut last = LastTotal::none(alloc);
+    let taken = carried_shadow(alloc, start, names, &mut last, &message);
+    drop(message);
+    taken
+}
