@@ -28,13 +28,40 @@ fn part(alloc: Global, names: &[&str], copy: bool) -> Result<Answer, Fail>
     })
 }
 
+fn merged(alloc: Global, first: Answer, second: Answer, third: Answer) -> Result<Answer, Fail>
+    requires first { is_list first ≡ true }
+    requires second { is_list second ≡ true }
+    requires third { is_list third ≡ true }
+{
+    let parts = vec![in alloc; first, second, third]?;
+    Ok(merge(alloc, Listed::from_vec(parts))?)
+}
+
+/// Two parts, joined with a third.
+fn with_third(alloc: Global, first: Answer, second: Answer) -> Result<Answer, Fail>
+    requires first { is_list first ≡ true }
+    requires second { is_list second ≡ true }
+{
+    match part(alloc, &["O=a", "O=D"], false) {
+        Ok(third) => merged(alloc, first, second, third),
+        Err(fault) => {
+            drop(second);
+            drop(first);
+            Err(fault)
+        }
+    }
+}
+
 /// Three parts, joined.
 fn joined(alloc: Global) -> Result<Answer, Fail> {
     let first = part(alloc, &["O=b", "O=d"], false)?;
-    let second = part(alloc, &["O=A", "O=B", "O=c"], true)?;
-    let third = part(alloc, &["O=a", "O=D"], false)?;
-    let parts = vec![in alloc; first, second, third]?;
-    Ok(merge(alloc, Listed::from_vec(parts))?)
+    match part(alloc, &["O=A", "O=B", "O=c"], true) {
+        Ok(second) => with_third(alloc, first, second),
+        Err(fault) => {
+            drop(first);
+            Err(fault)
+        }
+    }
 }
 
 /// The names of a list, each with `*` behind it where it comes from a shadow, and `...` where more was cut.
@@ -52,6 +79,15 @@ fn shown(alloc: Global, answer: &Answer) -> Result<String, Fail> {
     Ok(text)
 }
 
+/// The names of the parts, joined and cut to so many.
+fn limited(alloc: Global, count: u32) -> Result<String, Fail> {
+    let mut answer = joined(alloc)?;
+    limit(&mut answer, count);
+    let text = shown(alloc, &answer);
+    drop(answer);
+    text
+}
+
 #[test]
 fn parts_are_joined_and_then_limited(rt: HostRuntime) -> Result<(), Fail> {
     let alloc = rt.alloc();
@@ -61,9 +97,8 @@ fn parts_are_joined_and_then_limited(rt: HostRuntime) -> Result<(), Fail> {
         (3, "O=A* O=b O=c* ..."),
         (0, "..."),
     ] {
-        let mut answer = joined(alloc)?;
-        limit(&mut answer, count);
-        assert_eq!(rt; shown(alloc, &answer)?.as_str(), expected);
+        let text = limited(alloc, count)?;
+        assert_eq!(rt; text.as_str(), expected);
     }
     Ok(())
 }
