@@ -174,8 +174,10 @@ fn treated(
     let mut rdns = Vec::new(alloc);
     let own = state.own_at_depth(alloc, name, depth)?;
     add_owns(state, &own, &mut rdns)?;
+    drop(own);
     let copies = state.copies_at_depth(alloc, name, depth)?;
     add_copies(state, request, &copies, &mut rdns)?;
+    drop(copies);
     let pins = held.subordinate_at_depth(alloc, name, depth)?;
     add_pins(held.subordinate(), &pins, &mut rdns)?;
     Ok(rdns)

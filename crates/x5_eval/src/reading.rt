@@ -54,9 +54,9 @@ pub(crate) fn info_at(
     ensures shown { IfOk result (λ info. info_view info ≡ info_shown tree.now.nodes copy (selection_view selection.now) node) }
 {
     Ok(EntryInfo {
-        name: tree.name(alloc, node)?,
         copy,
         attributes: shown(alloc, selection, tree.entry(node))?,
+        name: tree.name(alloc, node)?,
     })
 }
 
@@ -73,11 +73,17 @@ fn read(
     ensures { IfOk result (λ reply. (names : List (List ℕ)) (n : Node) → node_with tree.now.nodes node ≡ Some n → n.named.entry ≡ found.now → reply_view names reply ≡ parts.reply_from (source_view names source ∷ []) (model.read (λ key. is_some source.moment) (selection_view selection.now) n.named)) }
 {
     if let Some(kind) = selection_fault(selection, found) {
+        drop(source);
         return lacking(kind);
     }
     let copy = source.moment.is_some();
-    let entry = info_at(alloc, tree, node, copy, selection)?;
-    Ok(Reply::Done(Answer::Entry { entry, source }))
+    match info_at(alloc, tree, node, copy, selection) {
+        Ok(entry) => Ok(Reply::Done(Answer::Entry { entry, source })),
+        Err(fault) => {
+            drop(source);
+            Err(fault)
+        }
+    }
 }
 
 /// What a compare is answered at an entry (X.511, section 9.2).
@@ -91,13 +97,20 @@ fn compare(
     ensures { IfOk result (λ reply. (names : List (List ℕ)) (n : Node) → n.named.entry ≡ entry.now → reply_view names reply ≡ parts.reply_from (source_view names source ∷ []) (model.compare (λ key. is_some source.moment) (assertion_of (type_view kind.now) (value_view value.now)) n.named)) }
 {
     let copy = source.moment.is_some();
-    match compares(alloc, entry, kind, value)? {
-        Some(matched) => Ok(Reply::Done(Answer::Match {
+    match compares(alloc, entry, kind, value) {
+        Ok(Some(matched)) => Ok(Reply::Done(Answer::Match {
             matched,
             copy,
             source,
         })),
-        None => lacking(kind),
+        Ok(None) => {
+            drop(source);
+            lacking(kind)
+        }
+        Err(fault) => {
+            drop(source);
+            Err(fault)
+        }
     }
 }
 

@@ -70,12 +70,12 @@ fn to_pin(
     ensures { IfOk result (λ r. reference_view names.now r ≡ needs.reference reference.now.pin model.Done model.Subordinate (usable_agents (request_view request.now) reference.now.access)) }
 {
     Ok(Reference {
-        target: reference.pin.clone()?,
         progress: Progress::Completed,
         kind: RefType::Subordinate,
         agents: usable(alloc, names, request, &reference.access)?,
         exclusions: Listed::new(alloc),
         tried: false,
+        target: reference.pin.clone()?,
     })
 }
 
@@ -256,12 +256,12 @@ fn to_agent(
     ensures { IfOk result (λ r. reference_view names.now r ≡ wide_to name.now exclusions.now agent) }
 {
     Ok(Reference {
-        target: name.clone()?,
         progress: Progress::Completed,
         kind: RefType::NonSpecific,
         agents: one(alloc, names, agent)?,
         exclusions: Listed::from_vec(Vec::from_clones(alloc, exclusions)?),
         tried: false,
+        target: name.clone()?,
     })
 }
 
