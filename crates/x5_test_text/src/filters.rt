@@ -4,13 +4,30 @@ use std::test::Fail;
 use x5_match::{
     Entry, Filter, FilterFault, Stored, StoredList, StoredValue, StoredValueList, Truth, holds,
 };
-use x5_syntax::{TypeId, TypeRef, Value, normal};
+use x5_syntax::{Normal, TypeId, TypeRef, Value, normal};
+
+/// The value that a text spells for the type.
+fn value_of(alloc: Global, kind: TypeId, text: &str) -> Result<Value, Fail> {
+    let kind = TypeRef::Known(kind);
+    let value = Value::from_text(alloc, &kind, text);
+    drop(kind);
+    Ok(value?)
+}
+
+fn normal_of(alloc: Global, kind: TypeId, value: &Value) -> Result<Normal, Fail> {
+    Ok(normal(alloc, kind, value)?)
+}
 
 /// A value of the type, as it is stored.
 fn stored(alloc: Global, kind: TypeId, text: &str) -> Result<StoredValue, Fail> {
-    let value = Value::from_text(alloc, &TypeRef::Known(kind), text)?;
-    let normal = normal(alloc, kind, &value)?;
-    Ok(StoredValue { value, normal })
+    let value = value_of(alloc, kind, text)?;
+    match normal_of(alloc, kind, &value) {
+        Ok(normal) => Ok(StoredValue { value, normal }),
+        Err(fault) => {
+            drop(value);
+            Err(fault)
+        }
+    }
 }
 
 /// An entry with one value.
@@ -29,7 +46,9 @@ fn entry_with(alloc: Global, number: u8, text: &str) -> Result<Entry, Fail> {
 /// What the filter that a text spells says of the entry.
 fn truth_of(alloc: Global, filter: &str, entry: &Entry) -> Result<Truth, Fail> {
     let filter = Filter::parse(alloc, filter)?;
-    Ok(holds(&filter, entry))
+    let truth = holds(&filter, entry);
+    drop(filter);
+    Ok(truth)
 }
 
 #[test]

@@ -9,11 +9,19 @@ fn name(alloc: Global, text: &str) -> Result<Name, Fail> {
     Ok(Name::parse(alloc, text)?)
 }
 
+fn compared_with(alloc: Global, one: &Name, other: &str) -> Result<(Ordering, bool), Fail> {
+    let other = name(alloc, other)?;
+    let compared = (one.cmp_key(&other), one.is_same(&other));
+    drop(other);
+    Ok(compared)
+}
+
 /// How the keys of two names lie, and whether they're the same.
 fn compared(alloc: Global, one: &str, other: &str) -> Result<(Ordering, bool), Fail> {
     let one = name(alloc, one)?;
-    let other = name(alloc, other)?;
-    Ok((one.cmp_key(&other), one.is_same(&other)))
+    let compared = compared_with(alloc, &one, other);
+    drop(one);
+    compared
 }
 
 #[test]
@@ -36,13 +44,18 @@ fn names_are_compared_but_for_spelling(rt: HostRuntime) -> Result<(), Fail> {
     Ok(())
 }
 
-fn printed(alloc: Global, name: &Name) -> Result<Text, Fail> {
-    Ok(name.text(alloc)?)
+/// The text of a name that nobody looks at again.
+fn printed(alloc: Global, name: Name) -> Result<Text, Fail> {
+    let text = name.text(alloc);
+    drop(name);
+    Ok(text?)
 }
 
 fn above(alloc: Global, text: &str) -> Result<Name, Fail> {
     let name = name(alloc, text)?;
-    Ok(name.parent(alloc)?)
+    let above = name.parent(alloc);
+    drop(name);
+    Ok(above?)
 }
 
 fn top(alloc: Global, text: &str) -> Result<Name, Fail> {
@@ -50,27 +63,39 @@ fn top(alloc: Global, text: &str) -> Result<Name, Fail> {
     if name.len() == 0 {
         return Ok(name);
     }
-    Ok(name.first(alloc, 1)?)
+    let top = name.first(alloc, 1);
+    drop(name);
+    Ok(top?)
 }
 
 fn rdn(alloc: Global, text: &str) -> Result<Rdn, Fail> {
     Ok(Rdn::parse(alloc, text)?)
 }
 
+fn grow(alloc: Global, name: &mut Name, last: &str) -> Result<(), Fail> {
+    name.push(alloc, rdn(alloc, last)?)?;
+    Ok(())
+}
+
 fn grown(alloc: Global, text: &str, last: &str) -> Result<Name, Fail> {
     let mut name = name(alloc, text)?;
-    name.push(alloc, rdn(alloc, last)?)?;
-    Ok(name)
+    match grow(alloc, &mut name, last) {
+        Ok(()) => Ok(name),
+        Err(fault) => {
+            drop(name);
+            Err(fault)
+        }
+    }
 }
 
 #[test]
 fn names_are_taken_apart_and_put_together(rt: HostRuntime) -> Result<(), Fail> {
     let alloc = rt.alloc();
-    let found = printed(alloc, &above(alloc, "/C=NL/O=Example/CN=a\\2fb")?)?;
+    let found = printed(alloc, above(alloc, "/C=NL/O=Example/CN=a\\2fb")?)?;
     assert_eq!(rt; found.as_str(), "/C=NL/O=Example");
-    let found = printed(alloc, &top(alloc, "/C=NL/O=Example")?)?;
+    let found = printed(alloc, top(alloc, "/C=NL/O=Example")?)?;
     assert_eq!(rt; found.as_str(), "/C=NL");
-    let found = printed(alloc, &grown(alloc, "/C=NL/O=Example", "cn=A\\2fB")?)?;
+    let found = printed(alloc, grown(alloc, "/C=NL/O=Example", "cn=A\\2fB")?)?;
     assert_eq!(rt; found.as_str(), "/C=NL/O=Example/CN=A\\2fB");
     Ok(())
 }
@@ -80,8 +105,7 @@ fn printed_behind<'a>(
     known: &mut KnownName<'a>,
     text: &'a str,
 ) -> Result<Text, Fail> {
-    let name = known.parse(alloc, text)?;
-    printed(alloc, &name)
+    printed(alloc, known.parse(alloc, text)?)
 }
 
 #[test]
@@ -104,12 +128,16 @@ fn names_in_a_row_are_read(rt: HostRuntime) -> Result<(), Fail> {
 
 fn type_printed(alloc: Global, text: &str) -> Result<Text, Fail> {
     let found = TypeRef::parse(alloc, text)?.ok_or("a type")?;
-    Ok(found.text(alloc)?)
+    let text = found.text(alloc);
+    drop(found);
+    Ok(text?)
 }
 
 fn rdn_printed(alloc: Global, text: &str) -> Result<Text, Fail> {
     let rdn = rdn(alloc, text)?;
-    Ok(rdn.text(alloc)?)
+    let text = rdn.text(alloc);
+    drop(rdn);
+    Ok(text?)
 }
 
 #[test]

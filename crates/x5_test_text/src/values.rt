@@ -16,8 +16,11 @@ fn value(alloc: Global, text: &str) -> Result<Value, Fail> {
 
 /// The normal form of a text for a type.
 fn normal_text(alloc: Global, number: u8, text: &str) -> Result<Normal, Fail> {
+    let kind = type_of(number)?;
     let value = value(alloc, text)?;
-    Ok(normal(alloc, type_of(number)?, &value)?)
+    let normal = normal(alloc, kind, &value);
+    drop(value);
+    Ok(normal?)
 }
 
 #[test]
@@ -45,8 +48,11 @@ fn normal_forms_by_kind(rt: HostRuntime) -> Result<(), Fail> {
 
 /// The normal form of a part of a common name, which may be the first one.
 fn normal_of_part(alloc: Global, text: &str, initial: bool) -> Result<Normal, Fail> {
+    let kind = type_of(3)?;
     let value = value(alloc, text)?;
-    Ok(normal_part(alloc, type_of(3)?, &value, initial, false)?)
+    let normal = normal_part(alloc, kind, &value, initial, false);
+    drop(value);
+    Ok(normal?)
 }
 
 #[test]
@@ -61,12 +67,15 @@ fn a_part_keeps_spaces_where_it_is_cut(rt: HostRuntime) -> Result<(), Fail> {
 
 /// The fault of so many letters as a value of the type.
 fn fault_of_letters(alloc: Global, number: u8, count: usize) -> Result<Option<SyntaxFault>, Fail> {
+    let kind = type_of(number)?;
     let mut text = String::new(alloc);
     for _ in 0..count {
         text.push('a')?;
     }
     let value = Value::Text(Text::from_string(text));
-    Ok(normal(alloc, type_of(number)?, &value).err())
+    let fault = normal(alloc, kind, &value).err();
+    drop(value);
+    Ok(fault)
 }
 
 #[test]
@@ -82,16 +91,28 @@ fn values_keep_to_the_limit_of_octets(rt: HostRuntime) -> Result<(), Fail> {
     Ok(())
 }
 
+/// The value that a text spells for a type.
+fn value_of(alloc: Global, number: u8, text: &str) -> Result<Value, Fail> {
+    let kind = TypeRef::Known(type_of(number)?);
+    let value = Value::from_text(alloc, &kind, text);
+    drop(kind);
+    Ok(value?)
+}
+
 /// The text of the value that a text spells for a type.
 fn value_printed(alloc: Global, number: u8, text: &str) -> Result<Text, Fail> {
-    let value = Value::from_text(alloc, &TypeRef::Known(type_of(number)?), text)?;
-    Ok(value.to_text(alloc)?)
+    let value = value_of(alloc, number, text)?;
+    let text = value.to_text(alloc);
+    drop(value);
+    Ok(text?)
 }
 
 /// The text of the name that a text spells.
 fn name_printed(alloc: Global, text: &str) -> Result<Text, Fail> {
     let name = NameValue::parse(alloc, text)?;
-    Ok(name.text(alloc)?)
+    let text = name.text(alloc);
+    drop(name);
+    Ok(text?)
 }
 
 #[test]
