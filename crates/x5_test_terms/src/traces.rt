@@ -18,14 +18,36 @@ fn item(alloc: Global, agent: &str, target: &str, next: u8, wide: bool) -> Resul
     })
 }
 
+/// Adds the item, if it isn't there.
+fn add(trace: &mut Trace, item: TraceItem) -> Result<(), Fail> {
+    if repeats(trace, &item) {
+        drop(item);
+        return Ok(());
+    }
+    push(trace, item)?;
+    Ok(())
+}
+
 /// The trace of one agent.
 fn passed(alloc: Global) -> Result<Trace, Fail> {
-    let first = item(alloc, "Beta", "/C=NL/O=Acme", 2, false)?;
     let mut trace: Trace = Listed::new(alloc);
-    if !repeats(&trace, &first) {
-        push(&mut trace, first)?;
-    }
+    add(&mut trace, item(alloc, "Beta", "/C=NL/O=Acme", 2, false)?)?;
     Ok(trace)
+}
+
+/// Whether the item stands in the trace.
+fn stands_in(
+    alloc: Global,
+    trace: &Trace,
+    agent: &str,
+    target: &str,
+    next: u8,
+    wide: bool,
+) -> Result<bool, Fail> {
+    let asked = item(alloc, agent, target, next, wide)?;
+    let stands = repeats(trace, &asked);
+    drop(asked);
+    Ok(stands)
 }
 
 #[test]
@@ -40,8 +62,8 @@ fn an_item_stands_by_agent_target_progress_and_way(rt: HostRuntime) -> Result<()
         ("Beta", "/C=NL/O=Acme", 1, false, false),
         ("Beta", "/C=NL/O=Acme", 2, true, false),
     ] {
-        let asked = item(alloc, agent, target, next, wide)?;
-        assert_eq!(rt; repeats(&trace, &asked), stands, "{agent} {target}");
+        let found = stands_in(alloc, &trace, agent, target, next, wide)?;
+        assert_eq!(rt; found, stands, "{agent} {target}");
     }
     Ok(())
 }
