@@ -43,10 +43,10 @@ fn below(
     excluded: &str,
     tried: bool,
 ) -> Result<Reference, Fail> {
-    let target = name(alloc, "/C=NL/O=Acme")?;
     let agents = access(alloc, text)?;
     let exclusions = rdns(alloc, excluded)?;
     let progress = Progress::Completed;
+    let target = name(alloc, "/C=NL/O=Acme")?;
     Ok(Reference {
         target,
         progress,
@@ -105,8 +105,8 @@ fn source(
     text: &str,
     moment: Option<Moment>,
 ) -> Result<Source, Fail> {
-    let context = name(alloc, context)?;
     let agent = agent(alloc, text)?;
+    let context = name(alloc, context)?;
     Ok(Source {
         context,
         agent,
@@ -353,12 +353,17 @@ fn removal(alloc: Global, passed: bool, fate: Fate) -> Result<Line, Fail> {
     })
 }
 
+/// The removal as the user asks it, and as it's passed on.
+fn removals(alloc: Global, fate: Fate) -> Result<Vec<Line>, Fail> {
+    let mut lines = Vec::new(alloc);
+    lines.push(removal(alloc, false, fate)?)?;
+    lines.push(removal(alloc, true, Fate::Sent)?)?;
+    Ok(lines)
+}
+
 /// What is printed of the removal where 50 octets brought it, and Beta accepted it.
 fn handed(alloc: Global, fate: Fate) -> Result<Text, Fail> {
-    let lines = vec![in alloc;
-        removal(alloc, false, fate)?,
-        removal(alloc, true, Fate::Sent)?,
-    ]?;
+    let lines = removals(alloc, fate)?;
     let beta = agent(alloc, "Beta")?;
     let journal = Journal {
         lines: Listed::from_vec(lines),
