@@ -6,7 +6,7 @@ ghost use Rattle.x5_world.specs.State.{HasRoom};
 use std::alloc::Global;
 use std::test::Fail;
 use x5_holdings::Holdings;
-use x5_know::Start;
+use x5_know::{Described, Start};
 use x5_load::load;
 use x5_names::Name;
 use x5_ops::{AgentId, Body, Controls, Request, Selection};
@@ -62,7 +62,18 @@ fn nobody(alloc: Global, line: u32) -> Result<String, Fail> {
 
 /// The start of the world.
 fn start(alloc: Global) -> Result<Start, Fail> {
-    Ok(load(alloc, file(alloc, "Smit")?.as_bytes())?.start)
+    let Described {
+        start,
+        names,
+        agents,
+        agreements,
+        network,
+    } = load(alloc, file(alloc, "Smit")?.as_bytes())?;
+    drop(network);
+    drop(agreements);
+    drop(agents);
+    drop(names);
+    Ok(start)
 }
 
 /// The network before the first line of a script, where Jan has this surname.
@@ -70,7 +81,9 @@ fn network(alloc: Global, surname: &str) -> Result<World, Fail>
     ensures { IfOk result (λ network. HasRoom network 0) }
 {
     let described = load(alloc, file(alloc, surname)?.as_bytes())?;
-    Ok(World::new(alloc, &described)?)
+    let made = World::new(alloc, &described);
+    drop(described);
+    Ok(made?)
 }
 
 /// What is printed of a read of this entry at the network's first agent, after so many lines.
@@ -99,9 +112,14 @@ fn read(
             selection: Selection::All,
         },
     };
-    let (reply, journal) = network.ask(alloc, AgentId(0), &request)?;
+    let asked = network.ask(alloc, AgentId(0), &request);
+    drop(request);
+    let (reply, journal) = asked?;
     let outcome = LineOutcome::Answered(reply);
-    Ok(block(alloc, start, before + 1, &journal, &outcome)?)
+    let text = block(alloc, start, before + 1, &journal, &outcome);
+    drop(outcome);
+    drop(journal);
+    Ok(text?)
 }
 
 /// Whether Gamma answers the read of Jan with this surname, after so many lines.
@@ -163,12 +181,27 @@ fn answers_follow(
     Ok(before && after && unknown)
 }
 
-#[test]
-fn an_agent_answers_from_what_it_holds(rt: HostRuntime) -> Result<(), Fail> {
-    let alloc = rt.alloc();
+/// The same, where the second network is made beside the first.
+fn first_follows(alloc: Global, start: &Start, first: &mut World) -> Result<bool, Fail>
+    requires { HasRoom first.old 0 }
+{
+    let mut second = network(alloc, "Blom")?;
+    let follows = answers_follow(alloc, start, first, &mut second);
+    drop(second);
+    follows
+}
+
+/// The same, of the two worlds' networks.
+fn networks_follow(alloc: Global) -> Result<bool, Fail> {
     let start = start(alloc)?;
     let mut first = network(alloc, "Smit")?;
-    let mut second = network(alloc, "Blom")?;
-    assert!(rt; answers_follow(alloc, &start, &mut first, &mut second)?);
+    let follows = first_follows(alloc, &start, &mut first);
+    drop(first);
+    follows
+}
+
+#[test]
+fn an_agent_answers_from_what_it_holds(rt: HostRuntime) -> Result<(), Fail> {
+    assert!(rt; networks_follow(rt.alloc())?);
     Ok(())
 }

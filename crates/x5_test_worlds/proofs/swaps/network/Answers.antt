@@ -5,14 +5,14 @@ use Rattle.x5_model_shadowing.proofs.Files.{files_have_utf8}
 use Rattle.x5_model_within.proofs.Files.{files_are_utf8}
 use Rattle.x5_test_worlds.proofs.swaps.network.Goals as goal
 
-pub new-requires-clause-described : goal.new-requires-clause-described
-new-requires-clause-described c =
+pub new-made-requires-clause-described : goal.new-made-requires-clause-described
+new-made-requires-clause-described c =
     let h = c.in_ok-described.ensures.loads in file_described h.value (file_view c.in_ok-described.described) h.is_found
 
-pub new-requires-clause-utf8 : goal.new-requires-clause-utf8
-new-requires-clause-utf8 c =
+pub new-made-requires-clause-utf8 : goal.new-made-requires-clause-utf8
+new-made-requires-clause-utf8 c =
     let h = c.in_ok-described.ensures.loads in files_are_utf8 h.value (file_view c.in_ok-described.described) h.is_found
 
-pub new-requires-clause-references : goal.new-requires-clause-references
-new-requires-clause-references c =
+pub new-made-requires-clause-references : goal.new-made-requires-clause-references
+new-made-requires-clause-references c =
     let h = c.in_ok-described.ensures.loads in files_have_utf8 h.value (file_view c.in_ok-described.described) h.is_found
