@@ -4,6 +4,7 @@
 use anyhow::Result;
 use std::alloc::Global;
 use std::cmp::Ordering;
+use std::mem::replace;
 use x5_names::Name;
 
 /// The name of a person in one of a hundred units.
@@ -13,17 +14,30 @@ fn name(alloc: Global, person: u32) -> Result<Name> {
     Ok(Name::parse(alloc, text.as_str())?)
 }
 
-fn main(rt: HostRuntime) -> Result<()> {
-    let alloc = rt.alloc();
-    let mut before = Name::root(alloc);
+/// Whether the person's name stands behind the one before, whose place it takes.
+fn stands_behind(alloc: Global, before: &mut Name, person: u32) -> Result<bool> {
+    let next = name(alloc, person)?;
+    let stands = next.cmp_key(before) == Ordering::Greater;
+    drop(replace(before, next));
+    Ok(stands)
+}
+
+/// How many of 100,000 names stand behind the one before.
+fn count(alloc: Global, before: &mut Name) -> Result<u32> {
     let mut behind = 0u32;
     for person in 0..100_000 {
-        let next = name(alloc, person)?;
-        if next.cmp_key(&before) == Ordering::Greater {
+        if stands_behind(alloc, before, person)? {
             behind = behind.saturating_add(1);
         }
-        before = next;
     }
+    Ok(behind)
+}
+
+fn main(rt: HostRuntime) -> Result<()> {
+    let mut before = Name::root(rt.alloc());
+    let counted = count(rt.alloc(), &mut before);
+    drop(before);
+    let behind = counted?;
     println!(rt; "{behind} of 100000 names stand behind the name before")?;
     Ok(())
 }
