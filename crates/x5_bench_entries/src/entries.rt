@@ -46,17 +46,31 @@ fn found(tree: &DseTree, names: &[Name]) -> usize {
         .count()
 }
 
-pub(crate) fn measure(rt: &HostRuntime, places: &[u32]) -> Result<()> {
+fn measure_insert(rt: &HostRuntime, tree: &mut DseTree, places: &[u32]) -> Result<()> {
     let alloc = rt.alloc();
     let named = names(alloc, places)?;
-    let mut tree = tree_of_one(alloc)?;
     let began = rt.process_cpu_time()?;
-    fill(&mut tree, named, alloc)?;
-    tell(rt, "insert each entry", began)?;
-    let named = names(alloc, places)?;
+    fill(tree, named, alloc)?;
+    tell(rt, "insert each entry", began)
+}
+
+fn measure_find(rt: &HostRuntime, tree: &DseTree, places: &[u32]) -> Result<()> {
+    let named = names(rt.alloc(), places)?;
     let began = rt.process_cpu_time()?;
-    let found = found(&tree, &named);
+    let found = found(tree, &named);
     tell(rt, "find each entry", began)?;
     println!(rt; "{found} entries found")?;
     Ok(())
+}
+
+fn measure_both(rt: &HostRuntime, tree: &mut DseTree, places: &[u32]) -> Result<()> {
+    measure_insert(rt, tree, places)?;
+    measure_find(rt, tree, places)
+}
+
+pub(crate) fn measure(rt: &HostRuntime, places: &[u32]) -> Result<()> {
+    let mut tree = tree_of_one(rt.alloc())?;
+    let measured = measure_both(rt, &mut tree, places);
+    drop(tree);
+    measured
 }

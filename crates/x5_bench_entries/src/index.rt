@@ -6,21 +6,44 @@ use std::alloc::Global;
 use std::time::CpuClock;
 use x5_index::Postings;
 use x5_match::{Entry, Filter, Stored, StoredList, StoredValue, StoredValueList};
-use x5_syntax::{TypeId, TypeRef, Value, normal};
+use x5_syntax::{Normal, TypeId, TypeRef, Value, normal};
+
+/// The value that a text spells for the type.
+fn value_of(alloc: Global, kind: TypeId, text: &str) -> Result<Value> {
+    let kind = TypeRef::Known(kind);
+    let value = Value::from_text(alloc, &kind, text);
+    drop(kind);
+    Ok(value?)
+}
+
+fn normal_of(alloc: Global, kind: TypeId, value: &Value) -> Result<Normal> {
+    Ok(normal(alloc, kind, value)?)
+}
+
+/// A value of the type, as it is stored.
+fn stored(alloc: Global, kind: TypeId, text: &str) -> Result<StoredValue> {
+    let value = value_of(alloc, kind, text)?;
+    match normal_of(alloc, kind, &value) {
+        Ok(normal) => Ok(StoredValue { value, normal }),
+        Err(fault) => {
+            drop(value);
+            Err(fault)
+        }
+    }
+}
+
+/// An entry with one value.
+fn entry_of(alloc: Global, kind: TypeId, value: StoredValue) -> Result<Entry> {
+    let values = StoredValueList::from_vec(vec![in alloc; value]?);
+    let attributes = vec![in alloc; Stored { kind, values }]?;
+    Ok(Entry::from_list(StoredList::from_vec(attributes)))
+}
 
 /// An entry with the value that a hundred places share.
 fn entry(alloc: Global, place: u32) -> Result<Entry> {
     let kind = TypeId::new(4).ok_or_else(|| anyhow!("no such type"))?;
     let text = format!(in alloc; "Family{}", place / 100)?;
-    let value = Value::from_text(alloc, &TypeRef::Known(kind), text.as_str())?;
-    let normal = normal(alloc, kind, &value)?;
-    let values = vec![in alloc; StoredValue { value, normal }]?;
-    let stored = Stored {
-        kind,
-        values: StoredValueList::from_vec(values),
-    };
-    let attributes = vec![in alloc; stored]?;
-    Ok(Entry::from_list(StoredList::from_vec(attributes)))
+    entry_of(alloc, kind, stored(alloc, kind, text.as_str())?)
 }
 
 fn entries(alloc: Global, places: &[u32]) -> Result<Vec<Entry>> {
@@ -46,13 +69,19 @@ fn matches(alloc: Global, postings: &Postings, filter: &Filter) -> Result<usize>
 }
 
 /// The same question a thousand times: how many nodes were found at last.
-fn search(alloc: Global, postings: &Postings) -> Result<usize> {
-    let filter = Filter::parse(alloc, "(SN=family7)")?;
+fn matches_at_last(alloc: Global, postings: &Postings, filter: &Filter) -> Result<usize> {
     let mut count = 0;
     for _ in 0..1000 {
-        count = matches(alloc, postings, &filter)?;
+        count = matches(alloc, postings, filter)?;
     }
     Ok(count)
+}
+
+fn search(alloc: Global, postings: &Postings) -> Result<usize> {
+    let filter = Filter::parse(alloc, "(SN=family7)")?;
+    let count = matches_at_last(alloc, postings, &filter);
+    drop(filter);
+    count
 }
 
 pub(crate) fn measure(rt: &HostRuntime, places: &[u32]) -> Result<()> {
