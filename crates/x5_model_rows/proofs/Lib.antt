@@ -32,5 +32,6 @@ pub mod Doubled
 pub mod Spellings
 pub mod Limits
 pub mod AtLimit
+pub mod HeldBack
 pub mod Accepting
 pub mod Omitted
