@@ -66,6 +66,26 @@ fn tail(alloc: Global, t: u32, target: &str, fate: &str) -> Result<String, Alloc
     format!(in alloc; " t={t} {target} {fate}\n")
 }
 
+/// The line of a message of a request, by its words and the text of its name.
+fn message_line(
+    alloc: Global,
+    from: &str,
+    to: &str,
+    operation: &str,
+    resolved: Progress,
+    t: u32,
+    target: &str,
+    fate: &str,
+) -> Result<String, NoMemory>
+    ensures { IfOk result (λ text. string_bytes text ≡ concat (codes "msg " ∷ from.now ∷ codes " " ∷ to.now ∷ codes " " ∷ operation.now ∷ codes " " ∷ print.progress_text (progress_view resolved) ∷ []) ++ concat (codes " t=" ∷ decimal t ∷ codes " " ∷ target.now ∷ codes " " ∷ fate.now ∷ codes "\n" ∷ [])) }
+{
+    let resolved = progress(alloc, resolved)?;
+    let mut text = head(alloc, from, to, operation, resolved.as_str())?;
+    let tail = tail(alloc, t, target, fate)?;
+    text.push_str(tail.as_str())?;
+    Ok(text)
+}
+
 /// The line of a message of a request; nothing of another. It takes the text of the last message's name where that's its own.
 fn message(alloc: Global, last: &mut Option<Target>, line: &Line) -> Result<String, NoMemory>
     ensures { IfOk result (λ text. string_bytes text ≡ spelled.message_text line.now) }
@@ -83,14 +103,20 @@ fn message(alloc: Global, last: &mut Option<Target>, line: &Line) -> Result<Stri
             let from = sender(from);
             let to = to.as_str();
             let operation = operation_word(*operation);
-            let resolved = progress(alloc, *resolved)?;
             let target = with_text(alloc, last.take(), name)?;
             let fate = fate_word(*fate);
-            let mut text = head(alloc, from, to, operation, resolved.as_str())?;
-            let tail = tail(alloc, *t, target.text(), fate)?;
-            text.push_str(tail.as_str())?;
+            let line = message_line(
+                alloc,
+                from,
+                to,
+                operation,
+                *resolved,
+                *t,
+                target.text(),
+                fate,
+            );
             *last = Some(target);
-            Ok(text)
+            line
         }
         Line::Dis { .. } | Line::Raw { .. } => Ok(String::new(alloc)),
     }

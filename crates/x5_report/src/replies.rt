@@ -1,6 +1,6 @@
 //! What is printed of a reply.
 
-ghost use Rattle.std.specs.Prelude.{◌≡◌, ◌++◌, ◌∷◌, [], codes, flat_map, IfOk, OnOk, string_bytes};
+ghost use Rattle.std.specs.Prelude.{◌≡◌, ◌++◌, ◌∷◌, [], codes, flat_map, length, IfOk, OnOk, string_bytes};
 ghost use Rattle.std.specs.List.{concat};
 ghost use Rattle.x5_model_output.specs.Output as print;
 ghost use Rattle.x5_ops.specs.AnswerViews.{sub_view};
@@ -219,6 +219,38 @@ fn matched(
     Ok(text)
 }
 
+/// What is printed of the answer to a list.
+fn listed(
+    alloc: Global,
+    start: &Start,
+    found: &[Sub],
+    from: &[Source],
+    ended: &Outcome,
+) -> Result<String, NoMemory>
+    ensures { IfOk result (λ text. string_bytes text ≡ concat (print.count_line (codes "listed") (length found.now) ∷ flat_map (λ s. print.sub_line (sub_view s)) found.now ∷ spelled.outcome_text start.now from.now ended.now ∷ [])) }
+{
+    let count = found.len();
+    let subs = subs(alloc, found)?;
+    let outcome = outcome(alloc, start, from, ended)?;
+    Ok(format!(in alloc; "listed {count}\n{subs}{outcome}")?)
+}
+
+/// What is printed of the answer to a search.
+fn found(
+    alloc: Global,
+    start: &Start,
+    found: &[EntryInfo],
+    from: &[Source],
+    ended: &Outcome,
+) -> Result<String, NoMemory>
+    ensures { IfOk result (λ text. string_bytes text ≡ concat (print.count_line (codes "found") (length found.now) ∷ flat_map spelled.entry_text found.now ∷ spelled.outcome_text start.now from.now ended.now ∷ [])) }
+{
+    let count = found.len();
+    let entries = entries(alloc, found)?;
+    let outcome = outcome(alloc, start, from, ended)?;
+    Ok(format!(in alloc; "found {count}\n{entries}{outcome}")?)
+}
+
 /// What is printed of an answer.
 fn answer(alloc: Global, start: &Start, answer: &Answer) -> Result<String, NoMemory>
     ensures { IfOk result (λ text. string_bytes text ≡ spelled.answer_text start.now answer.now) }
@@ -231,25 +263,21 @@ fn answer(alloc: Global, start: &Start, answer: &Answer) -> Result<String, NoMem
             source,
         } => matched(alloc, start, *equal, *copy, source),
         Answer::Listed {
-            subs: found,
+            subs,
             sources,
-            outcome: ended,
-        } => {
-            let count = found.len();
-            let subs = subs(alloc, found.as_slice())?;
-            let outcome = outcome(alloc, start, sources.as_slice(), ended)?;
-            Ok(format!(in alloc; "listed {count}\n{subs}{outcome}")?)
-        }
+            outcome,
+        } => listed(alloc, start, subs.as_slice(), sources.as_slice(), outcome),
         Answer::Found {
-            entries: found,
+            entries,
             sources,
-            outcome: ended,
-        } => {
-            let count = found.len();
-            let entries = entries(alloc, found.as_slice())?;
-            let outcome = outcome(alloc, start, sources.as_slice(), ended)?;
-            Ok(format!(in alloc; "found {count}\n{entries}{outcome}")?)
-        }
+            outcome,
+        } => found(
+            alloc,
+            start,
+            entries.as_slice(),
+            sources.as_slice(),
+            outcome,
+        ),
         Answer::Changed => Ok(String::from_str(alloc, "changed\n")?),
     }
 }
@@ -275,6 +303,20 @@ fn item_after(alloc: Global, named: &Option<TraceItem>) -> Result<String, NoMemo
         None => Ok(String::new(alloc)),
         Some(named) => item(alloc, named),
     }
+}
+
+/// The line of a service error, by the word of its problem.
+fn service_error(
+    alloc: Global,
+    problem: &str,
+    reference: &Option<Reference>,
+    item: &Option<TraceItem>,
+) -> Result<String, NoMemory>
+    ensures { IfOk result (λ text. string_bytes text ≡ concat (codes "error service " ∷ problem.now ∷ spelled.reference_after reference.now ∷ spelled.item_after item.now ∷ codes "\n" ∷ [])) }
+{
+    let reference = reference_after(alloc, reference)?;
+    let item = item_after(alloc, item)?;
+    Ok(format!(in alloc; "error service {problem}{reference}{item}\n")?)
 }
 
 /// The line of an error.
@@ -303,9 +345,7 @@ pub(crate) fn error(alloc: Global, error: &DirError) -> Result<String, NoMemory>
             item,
         } => {
             let problem = service_problem(*problem);
-            let reference = reference_after(alloc, reference)?;
-            let item = item_after(alloc, item)?;
-            Ok(format!(in alloc; "error service {problem}{reference}{item}\n")?)
+            service_error(alloc, problem, reference, item)
         }
     }
 }

@@ -70,7 +70,10 @@ pub(crate) fn with_text(
 {
     match last {
         Some(target) if target.name.is_alike(name) => Ok(target),
-        _ => Target::new(alloc, name),
+        other => {
+            drop(other);
+            Target::new(alloc, name)
+        }
     }
 }
 
@@ -88,8 +91,10 @@ pub(crate) fn name_text(
     };
     let rdn = rdn.text(alloc)?;
     let above = name.parent(alloc)?;
-    let above = with_text(alloc, last.take(), &above)?;
-    let text = above.below(alloc, rdn.as_str())?;
+    let found = with_text(alloc, last.take(), &above);
+    drop(above);
+    let above = found?;
+    let text = above.below(alloc, rdn.as_str());
     *last = Some(above);
-    Ok(text)
+    Ok(text?)
 }
