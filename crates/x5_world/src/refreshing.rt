@@ -159,6 +159,7 @@ fn taken(
     ensures only { IfOk result (λ _. OnlyHeld world.old world.new) }
 {
     if !last.arrives() {
+        drop(read);
         return Ok(0);
     }
     let Arrived {
@@ -253,7 +254,10 @@ fn opened(
     let problem = problem_of(&supplied);
     let begun = answered(alloc, start, world.names(), by, problem, first)?;
     match begun {
-        refresh::Start::Ended(became) => Ok(stopped(lines, became)),
+        refresh::Start::Ended(became) => {
+            drop(supplied);
+            Ok(stopped(lines, became))
+        }
         refresh::Start::GoesOn => updated(alloc, start, world, seen, by, lines, supplied),
     }
 }
@@ -312,7 +316,11 @@ fn by_place(
     let by = asked(alloc, start, world, own)?;
     let supplied = world.supply(alloc, &by.agreement, by.total, last_moment(&by))?;
     match opens(push, problem_of(&supplied)) {
-        refresh::Start::Ended(became) => Ok(stopped(Listed::new(alloc), became)),
+        refresh::Start::Ended(became) => {
+            drop(supplied);
+            drop(by);
+            Ok(stopped(Listed::new(alloc), became))
+        }
         refresh::Start::GoesOn => {
             let way = told(alloc, start, world, by)?;
             opened(alloc, start, world, seen, &way, supplied)

@@ -101,7 +101,9 @@ pub(crate) fn asked(alloc: Global, start: &Start, world: &World, by: Way) -> Res
     if by.push {
         return Ok(by);
     }
-    received(alloc, start, world, &by)
+    let way = received(alloc, start, world, &by);
+    drop(by);
+    way
 }
 
 /// In a push, the way as the consumer has it by what the supplier tells (coordinateShadowUpdate).
@@ -113,7 +115,9 @@ pub(crate) fn told(alloc: Global, start: &Start, world: &World, by: Way) -> Resu
     if !by.push {
         return Ok(by);
     }
-    received(alloc, start, world, &by)
+    let way = received(alloc, start, world, &by);
+    drop(by);
+    way
 }
 
 /// What whoever sent the first message reads of the reply. No memory.
@@ -225,12 +229,17 @@ fn agreed_in(world: &World, read: Update) -> Result<Arrived, NoMemory>
     requires { (g : agreements.Agreement) × (find (λ a. a.number == read.agreement) world.now.agreements ≡ Some g) }
     ensures { IfOk result (λ a. (find (λ g. g.number == read.agreement) world.now.agreements ≡ Some a.agreement) × (a.stamp ≡ read.stamp) × (a.brought ≡ read.brought)) }
 {
-    let agreement = agreed(world, read.agreement)?;
-    Ok(Arrived {
-        agreement,
-        stamp: read.stamp,
-        brought: read.brought,
-    })
+    match agreed(world, read.agreement) {
+        Ok(agreement) => Ok(Arrived {
+            agreement,
+            stamp: read.stamp,
+            brought: read.brought,
+        }),
+        Err(fault) => {
+            drop(read);
+            Err(fault)
+        }
+    }
 }
 
 /// The supplier reads in the reply that what it sent with the stamp was taken.

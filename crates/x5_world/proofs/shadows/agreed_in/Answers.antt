@@ -2,5 +2,5 @@
 use Rattle.std.proofs.Common.{refl}
 use Rattle.x5_world.proofs.shadows.agreed_in.Goals as goal
 
-pub returns : goal.returns
-returns c = (c.in_ok-agreement.ensures, refl, refl)
+pub returns-in-Ok : goal.returns-in-Ok
+returns-in-Ok c = (c.in-Ok.ensures, refl, refl)
