@@ -5,7 +5,8 @@ ghost use Rattle.std.specs.Prelude.{◌≡◌, ◌<◌, ◌++◌, ◌∷◌, [],
 ghost use Rattle.x5_model.specs.Keys.{parent};
 ghost use Rattle.x5_model.specs.Requests.{AddEntry, RemoveEntry, ModifyEntry, ModifyDn};
 ghost use Rattle.x5_model.specs.Statics.{attribute_repeats, fault_of};
-ghost use Rattle.x5_model.specs.Values.{key_of};
+ghost use Rattle.x5_model.specs.Attributes.{is_ordered};
+ghost use Rattle.x5_model.specs.Values.{key_of, name_above};
 ghost use Rattle.x5_model.specs.Words.{first_of};
 ghost use Rattle.x5_model_tree.specs.Apply as model;
 ghost use Rattle.x5_model_tree.specs.Ask.{is_update};
@@ -13,6 +14,7 @@ ghost use Rattle.x5_model_tree.specs.Tree.{has_below};
 ghost use Rattle.x5_model_run.specs.Holdings.{may_copy};
 ghost use Rattle.x5_model_run.specs.Needs.{target_of};
 ghost use Rattle.x5_dse.specs.Linked.{IsLinked, Node, entries_of, is_live, node_key, node_with};
+ghost use Rattle.x5_index.specs.Index.{terms_of};
 ghost use Rattle.x5_ops.specs.RequestViews.{attribute_view, body_view, change_view, request_view};
 ghost use Rattle.x5_holdings.specs.State.{holdings_view};
 ghost use Rattle.x5_update.specs.Judging.{ground_in, judged};
@@ -40,26 +42,53 @@ pub(crate) struct Plan {
     pub(crate) step: Step,
 }
 
-/// The entry that comes below another, with the step that tells it: its name there is spelled as that one's and then by its RDN.
-fn added_plan(
+/// What comes with an entry that comes below another: its values made ready, its name, and itself as the step tells it.
+fn addition(
     alloc: Global,
     object: &Name,
     above: &Name,
     rdn: &Rdn,
+    entry: &Entry,
+) -> Result<(Room, Name, Named), NoMemory>
+    ensures room { IfOk result (λ parts. parts.0 ≡ terms_of entry.now) }
+    ensures ordered { IfOk result (λ _. IsTrue (is_ordered entry.now)) }
+    ensures name { IfOk result (λ parts. parts.1 ≡ object.now) }
+    ensures named { IfOk result (λ parts. parts.2 ≡ record { name = above.now ++ rdn.now ∷ []; entry = entry.now }) }
+{
+    let room = Room::new(alloc, entry)?;
+    let name = copied_name(object)?;
+    let spelled = above.below(alloc, rdn)?;
+    let copy = copied(entry)?;
+    let named = Named {
+        name: spelled,
+        entry: copy,
+    };
+    Ok((room, name, named))
+}
+
+/// The entry that comes below another, with the step that tells it: its name there is spelled as that one's and then by its RDN.
+fn added_plan(
+    alloc: Global,
+    object: &Name,
+    above: Name,
+    rdn: Rdn,
     entry: Entry,
 ) -> Result<Plan, NoMemory>
-    ensures { IfOk result (λ plan. IsAddition object.now (above.now ++ rdn.now ∷ []) entry plan) }
+    ensures { IfOk result (λ plan. IsAddition object.now (above ++ rdn ∷ []) entry plan) }
 {
-    let named = Named {
-        name: above.below(alloc, rdn)?,
-        entry: copied(&entry)?,
-    };
-    let room = Room::new(alloc, &entry)?;
-    let name = copied_name(object)?;
-    Ok(Plan {
-        change: EntryChange::Add { name, entry, room },
-        step: Step::Add(named),
-    })
+    let parts = addition(alloc, object, &above, &rdn, &entry);
+    drop(above);
+    drop(rdn);
+    match parts {
+        Ok((room, name, named)) => Ok(Plan {
+            change: EntryChange::Add { name, entry, room },
+            step: Step::Add(named),
+        }),
+        Err(fault) => {
+            drop(entry);
+            Err(fault)
+        }
+    }
 }
 
 /// addEntry (X.511, section 11.1), at the node of the entry above.
@@ -81,7 +110,7 @@ fn add(
     let rdn = last_of(alloc, object)?;
     let entry = added_entry(alloc, &rdn, attributes)?;
     let above = tree_at(state, place).name(alloc, place.node)?;
-    Ok(added_plan(alloc, object, &above, &rdn, entry)?)
+    Ok(added_plan(alloc, object, above, rdn, entry)?)
 }
 
 /// Whether something stands below the node. No memory.
@@ -152,6 +181,7 @@ fn modify(
     let rdn = last_of(alloc, object)?;
     let tree = tree_at(state, place);
     let entry = change(alloc, &rdn, tree.entry(place.node), changes)?;
+    drop(rdn);
     let name = tree.name(alloc, place.node)?;
     Ok(modified_plan(alloc, place.node, name, entry)?)
 }
@@ -170,6 +200,27 @@ fn clashes(
     Ok(!name.is_same(object) && is_taken(state, request, &name))
 }
 
+/// What comes with the RDN and the entry that a node of the name has from then on: the entry's values made ready, the RDN, and the entry
+/// as the step tells it.
+fn moved(
+    alloc: Global,
+    before: &Name,
+    rdn: &Rdn,
+    entry: &Entry,
+) -> Result<(Room, Rdn, Named), NoMemory>
+    ensures room { IfOk result (λ parts. parts.0 ≡ terms_of entry.now) }
+    ensures ordered { IfOk result (λ _. IsTrue (is_ordered entry.now)) }
+    ensures rdn { IfOk result (λ parts. parts.1 ≡ rdn.now) }
+    ensures named { IfOk result (λ parts. parts.2 ≡ record { name = name_above before.now ++ rdn.now ∷ []; entry = entry.now }) }
+{
+    let room = Room::new(alloc, entry)?;
+    let last = copied_rdn(rdn)?;
+    let name = new_name(alloc, before, rdn)?;
+    let copy = copied(entry)?;
+    let named = Named { name, entry: copy };
+    Ok((room, last, named))
+}
+
 /// The name and the entry that a node has from then on, with the step that tells it.
 fn renamed_plan(
     alloc: Global,
@@ -180,21 +231,22 @@ fn renamed_plan(
 ) -> Result<Plan, NoMemory>
     ensures { IfOk result (λ plan. IsMove node before rdn.now entry plan) }
 {
-    let room = Room::new(alloc, &entry)?;
-    let named = Named {
-        name: new_name(alloc, &before, rdn)?,
-        entry: copied(&entry)?,
-    };
-    let rdn = copied_rdn(rdn)?;
-    Ok(Plan {
-        change: EntryChange::Rename {
-            node,
-            rdn,
-            entry,
-            room,
-        },
-        step: Step::Rename(before, named),
-    })
+    match moved(alloc, &before, rdn, &entry) {
+        Ok((room, rdn, named)) => Ok(Plan {
+            change: EntryChange::Rename {
+                node,
+                rdn,
+                entry,
+                room,
+            },
+            step: Step::Rename(before, named),
+        }),
+        Err(fault) => {
+            drop(entry);
+            drop(before);
+            Err(fault)
+        }
+    }
 }
 
 /// modifyDN (X.511, section 11.4), at the node of the entry.
@@ -218,7 +270,9 @@ fn rename(
     let old = last_of(alloc, object)?;
     let tree = tree_at(state, place);
     let entry = renamed(alloc, tree.entry(place.node), &old, rdn, drop_old)?;
+    drop(old);
     if clashes(alloc, state, request, object, rdn)? {
+        drop(entry);
         return Err(refused(update_problem::ENTRY_ALREADY_EXISTS));
     }
     let before = tree.name(alloc, place.node)?;

@@ -77,13 +77,17 @@ fn probe_at(
     let above = name.parent(alloc)?;
     let tree = held.tree();
     let Some(node) = tree.find(&above) else {
+        drop(above);
         return Ok(None);
     };
     let Some(nssr) = held.nssr_at(above.rdns()) else {
+        drop(above);
         return Ok(None);
     };
+    drop(above);
     let agents = others(alloc, names, state.me(), nssr.agents.as_slice())?;
     if agents.len() == 0 {
+        drop(agents);
         return Ok(None);
     }
     let _ = tree.entry(node);

@@ -71,10 +71,13 @@ pub(crate) fn renamed(
     let entry = with_rdn(alloc, entry, rdn)?;
     match doubled(&entry) {
         None => Ok(entry.shared(alloc)?),
-        Some(kind) => Err(ChangeFault::Refused(DirError::Attribute {
-            problem: attribute_problem::CONSTRAINT_VIOLATION,
-            kind: TypeRef::Known(kind),
-        })),
+        Some(kind) => {
+            drop(entry);
+            Err(ChangeFault::Refused(DirError::Attribute {
+                problem: attribute_problem::CONSTRAINT_VIOLATION,
+                kind: TypeRef::Known(kind),
+            }))
+        }
     }
 }
 
