@@ -38,9 +38,19 @@ fn check_octets<K: Sink>(alloc: Global, octets: &[u8], out: &mut K) -> Status
     ensures checks { ChecksOctets result octets.now (K.octets out.old) (K.octets out.new) (K.fault_count out.old) (K.fault_count out.new) }
 {
     match load(alloc, octets) {
-        Ok(world) => put_knowledge(alloc, &world, out),
+        Ok(world) => check_world(alloc, world, out),
         Err(fault) => refuse_world(alloc, &fault, out),
     }
+}
+
+/// Prints the line on the knowledge of a world, which isn't used again.
+fn check_world<K: Sink>(alloc: Global, world: Described, out: &mut K) -> Status
+    requires { length world.agents ≤ 256 }
+    ensures { WritesKnowledge result (world_view world) (K.octets out.old) (K.octets out.new) (K.fault_count out.old) (K.fault_count out.new) }
+{
+    let status = put_knowledge(alloc, &world, out);
+    drop(world);
+    status
 }
 
 /// Prints the line on the world's knowledge.
@@ -73,10 +83,18 @@ pub fn line_of(alloc: Global, world: &Described) -> Result<Told, NoMemory>
     ensures consistent { IfOk result (λ told. IsTrue told.is_consistent ↔ IsConsistent (world_view world.now)) }
 {
     let breach = check(alloc, world)?;
-    let line = knowledge_line(alloc, world, &breach)?;
     let is_consistent = breach.is_none();
-    Ok(Told {
-        line,
-        is_consistent,
-    })
+    match knowledge_line(alloc, world, &breach) {
+        Ok(line) => {
+            drop(breach);
+            Ok(Told {
+                line,
+                is_consistent,
+            })
+        }
+        Err(fault) => {
+            drop(breach);
+            Err(fault)
+        }
+    }
 }

@@ -63,7 +63,10 @@ fn run_made_over<K: Sink>(alloc: Global, world: Described, number: u32, out: &mu
             forget(world);
             status
         }
-        Err(NoMemory) => Status::NoMemory,
+        Err(NoMemory) => {
+            drop(world);
+            Status::NoMemory
+        }
     }
 }
 

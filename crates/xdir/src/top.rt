@@ -160,7 +160,10 @@ fn run_world<F: Files, K: Sink>(
             forget(world);
             status
         }
-        Err(NoMemory) => Status::NoMemory,
+        Err(NoMemory) => {
+            drop(world);
+            Status::NoMemory
+        }
     }
 }
 

@@ -44,13 +44,33 @@ pub fn tree_files<F: Files, K: Sink>(
 {
     match files.read_whole(alloc, world, MOST_FILE_OCTETS) {
         Ok(octets) => match load(alloc, &octets) {
-            Ok(world) => tree_script(alloc, &world, script, files, out),
+            Ok(world) => tree_over(alloc, world, script, files, out),
             Err(fault) => refuse_world(alloc, &fault, out),
         },
         Err(FileFault::Failed) => Status::ReadFault,
         Err(FileFault::TooLong) => Status::TooLong,
         Err(FileFault::NoMemory) => Status::NoMemory,
     }
+}
+
+/// Answers the script of a file on the one tree of a world, which isn't used again.
+fn tree_over<F: Files, K: Sink>(
+    alloc: Global,
+    world: Described,
+    script: &str,
+    files: &mut F,
+    out: &mut K,
+) -> Status
+    requires described { IsDescribed (world_view world) }
+    requires named { IsNamed world }
+    requires few { length world.agents ≤ 64 }
+    ensures asks { AsksOne result script.now (F.names_asked files.old) (F.names_asked files.new) }
+    ensures reads { ReadsChecked result script.now (F.contents files.old) (F.fault_count files.old) (F.fault_count files.new) (F.last_failed files.new) }
+    ensures writes { TellsFile result (F.contents files.old) script.now (file_view world) (K.octets out.old) (K.octets out.new) (K.fault_count out.old) (K.fault_count out.new) }
+{
+    let status = tree_script(alloc, &world, script, files, out);
+    drop(world);
+    status
 }
 
 /// Answers the script of a file on the one tree of a world.
@@ -187,13 +207,10 @@ fn request_block(
     ensures tree { OnOk result (tree_in tree.new ≡ tree_left (tree_in tree.old) (request_view request.now) (ask (tree_in tree.old) (request_view request.now))) }
 {
     let reply = answer(alloc, tree, request)?;
-    block(
-        alloc,
-        start,
-        line,
-        &no_messages(alloc),
-        &LineOutcome::Plain(reply),
-    )
+    let outcome = LineOutcome::Plain(reply);
+    let printed = block(alloc, start, line, &no_messages(alloc), &outcome);
+    drop(outcome);
+    printed
 }
 
 /// What the tree replies; an update that isn't refused has changed it.
@@ -212,7 +229,10 @@ fn answer(alloc: Global, tree: &mut OneTree, request: &Request) -> Result<Reply,
 fn set_block(alloc: Global, start: &Start, line: u32) -> Result<Text, NoMemory>
     ensures { IfOk result (λ text. text ≡ number_line line ++ codes "set\n") }
 {
-    block(alloc, start, line, &no_messages(alloc), &LineOutcome::Set)
+    let outcome = LineOutcome::Set;
+    let printed = block(alloc, start, line, &no_messages(alloc), &outcome);
+    drop(outcome);
+    printed
 }
 
 /// Nothing is sent, and nobody accepts an update. No memory.
