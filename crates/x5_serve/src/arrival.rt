@@ -49,6 +49,7 @@ fn early<N: Network>(
             item: Some(item),
         })));
     }
+    drop(item);
     if message.trace.len() >= MOST_ITEMS {
         return Ok(Some(limit_exceeded()));
     }

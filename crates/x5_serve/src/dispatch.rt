@@ -140,10 +140,12 @@ fn follow<N: Network>(
         Reply::Done(answer) => {
             let references = left_to_follow(alloc, &answer)?;
             if references.len() == 0 {
+                drop(references);
                 return Ok(Reply::Done(answer));
             }
             let rest = with_tried(alloc, answer)?;
             let gathered = gather(alloc, net, from, owner, message, rest, &references)?;
+            drop(references);
             Ok(finished(message, gathered))
         }
     }
@@ -231,6 +233,7 @@ fn take_in_turn<N: Network>(
         if is_heard(&heard) {
             return Ok(heard);
         }
+        drop(heard);
     }
     Ok(Heard::Unheard)
 }
@@ -308,7 +311,10 @@ fn gather<N: Network>(
             Heard::Hears(reply) => match part_of(reply) {
                 Part::Joins(answer) => take_up(&mut parts, answer)?,
                 Part::Leaves(left) => leave_out(alloc, &mut parts, left)?,
-                Part::Breaks(error) => return Ok(Gathered::Broken(error)),
+                Part::Breaks(error) => {
+                    drop(parts);
+                    return Ok(Gathered::Broken(error));
+                }
             },
         }
     }
@@ -338,11 +344,16 @@ fn update<N: Network>(
         }
         Verdict::Passed(Some(reference)) => {
             match probe(alloc, net, me, message, &reference)? {
-                Probed::Ends(error) => Ok(Reply::Failed(error)),
+                Probed::Ends(error) => {
+                    drop(reference);
+                    Ok(Reply::Failed(error))
+                }
                 Probed::Through(noted) => {
                     if noted.len() > 0 {
                         return unavailable_of(&reference, noted);
                     }
+                    drop(noted);
+                    drop(reference);
                     net.commit(alloc, me, message)?;
                     Ok(Reply::Done(Answer::Changed))
                 }

@@ -135,14 +135,14 @@ pub fn leave_out(
     ensures alike { OnOk result (are_alike parts.new.items ≡ true) }
     ensures view { OnOk result ((names : List (List ℕ)) → whole_view names parts.new.items ≡ answering.with_unexplored (answering.in_vain (reference_view names reference) ∷ []) (whole_view names parts.old.items)) }
 {
-    let Some(last) = parts.pop() else {
-        unreachable!()
-    };
     let mut left = Listed::new(alloc);
     left.push(Reference {
         tried: true,
         ..reference
     })?;
+    let Some(last) = parts.pop() else {
+        unreachable!()
+    };
     parts.push(with_references(last, left)?)?;
     Ok(())
 }

@@ -187,11 +187,11 @@ pub fn passed_on(
 {
     let item = own_item(names, owner, message)?;
     Ok(Chained {
-        target: reference.target.clone()?,
         progress: reference.progress,
         kind: reference.kind,
-        exclusions: copied_rdns(&reference.exclusions)?,
         trace: longer(&message.trace, item)?,
+        exclusions: copied_rdns(&reference.exclusions)?,
+        target: reference.target.clone()?,
         request: request_for(alloc, &message.request, reference)?,
     })
 }
