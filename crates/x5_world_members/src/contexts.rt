@@ -130,6 +130,8 @@ fn nssrs_beside(
     requires { used ≤ 100_000 }
     ensures { ReadsPart (λ n. model.with_context before.now prefix.now entries.now n used) result (parts.with_entries_read names.now (path_of place.now) before.now prefix.now entries.now used (members_view members.now.entries) (view value.now)) }
 {
+    let _ = prefix;
+    let _ = used;
     let nssr_agents = before.counts().nssr_agents();
     let found = nssrs_at(alloc, names, place, entries, nssr_agents, value)?;
     only(alloc, place, &["prefix", "entries", "nssr"], members)?;

@@ -140,6 +140,7 @@ fn agents_at(
     ensures read { ReadsPart (λ r. parts.with_nssr before.now at.now r.0 r.1) result (parts.with_agents names.now (path_of place.now) before.now at.now (members_view members.now.entries) (view value.now)) }
     ensures most { IfOk result (λ r. r.1 ≤ 4096) }
 {
+    let _ = at;
     let texts = some_at(alloc, place, "agents", value)?;
     let listed = counted(alloc, place, before.listed(), texts)?;
     let agents = agents_behind(alloc, names, &Place::Member(place, "agents"), texts)?;
