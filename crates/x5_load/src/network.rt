@@ -273,6 +273,9 @@ fn losses_at(
 ) -> Result<(NumberList, NumberList), LoadFault>
     ensures { ReadsPart (λ r. parts.network_with down.now refusing.now cut.now r.0 r.1) result (parts.losing down.now refusing.now cut.now (members_view members.now.entries) (view value.now)) }
 {
+    let _ = down;
+    let _ = refusing;
+    let _ = cut;
     let whole = Place::Whole;
     let here = Place::Member(&whole, "network");
     let messages = numbers_at(alloc, MOST_LOST_MESSAGES, "loseMessages", value)?;

@@ -94,6 +94,9 @@ fn network_beside(
 ) -> Result<NetworkState, LoadFault>
     ensures { ReadsPart (λ n. parts.file_with start.now found.now agreements.now n) result (parts.connected names.now has_network start.now (view value.now) (members_view members.now.entries) found.now agreements.now) }
 {
+    let _ = start;
+    let _ = found;
+    let _ = agreements;
     let network = network_of(alloc, names, has_network, value)?;
     match only_listed(alloc, has_network, members) {
         Ok(()) => Ok(network),
