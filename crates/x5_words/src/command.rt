@@ -97,13 +97,76 @@ fn with<'a>(above: Command<'a>, sub: Command<'a>) -> Result<Command<'a>, AllocEr
     above.subcommand(sub)
 }
 
+/// The program with `run` as one more subcommand.
+fn with_run<'a>(alloc: Global, above: Command<'a>) -> Result<Command<'a>, AllocError>
+    ensures { IfOk result (λ c. app_of c ≡ told.with_app (app_of above.entry) told.run_app) }
+{
+    match run(alloc) {
+        Ok(sub) => with(above, sub),
+        Err(fault) => {
+            drop(above);
+            Err(fault)
+        }
+    }
+}
+
+/// The program with one more subcommand, which has one argument.
+fn with_one<'a>(
+    alloc: Global,
+    above: Command<'a>,
+    name: &'a str,
+    id: &'a str,
+) -> Result<Command<'a>, AllocError>
+    ensures { IfOk result (λ c. app_of c ≡ told.with_app (app_of above.entry) (told.of_one name.entry.now id.entry.now)) }
+{
+    match of_one(alloc, name, id) {
+        Ok(sub) => with(above, sub),
+        Err(fault) => {
+            drop(above);
+            Err(fault)
+        }
+    }
+}
+
+/// The program with one more subcommand, which has two arguments.
+fn with_two<'a>(
+    alloc: Global,
+    above: Command<'a>,
+    name: &'a str,
+    first: &'a str,
+    second: &'a str,
+) -> Result<Command<'a>, AllocError>
+    ensures { IfOk result (λ c. app_of c ≡ told.with_app (app_of above.entry) (told.of_two name.entry.now first.entry.now second.entry.now)) }
+{
+    match of_two(alloc, name, first, second) {
+        Ok(sub) => with(above, sub),
+        Err(fault) => {
+            drop(above);
+            Err(fault)
+        }
+    }
+}
+
+/// The program with `gen` as one more subcommand.
+fn with_gen<'a>(alloc: Global, above: Command<'a>) -> Result<Command<'a>, AllocError>
+    ensures { IfOk result (λ c. app_of c ≡ told.with_app (app_of above.entry) told.gen_app) }
+{
+    match generate(alloc) {
+        Ok(sub) => with(above, sub),
+        Err(fault) => {
+            drop(above);
+            Err(fault)
+        }
+    }
+}
+
 /// The command line, without help and version.
 pub(crate) fn command<'a>(alloc: Global) -> Result<Command<'a>, AllocError>
     ensures { IfOk result (λ c. app_of c ≡ told.xdir_app) }
 {
-    let command = with(bare(alloc), run(alloc)?)?;
-    let command = with(command, of_one(alloc, "check", "world")?)?;
-    let command = with(command, of_two(alloc, "tree", "world", "script")?)?;
-    let command = with(command, generate(alloc)?)?;
-    with(command, of_one(alloc, "show", "file")?)
+    let command = with_run(alloc, bare(alloc))?;
+    let command = with_one(alloc, command, "check", "world")?;
+    let command = with_two(alloc, command, "tree", "world", "script")?;
+    let command = with_gen(alloc, command)?;
+    with_one(alloc, command, "show", "file")
 }
