@@ -18,20 +18,13 @@ fn item(alloc: Global, agent: &str, target: &str, next: u8, wide: bool) -> Resul
     })
 }
 
-/// Adds the item, if it isn't there.
-fn add(trace: &mut Trace, item: TraceItem) -> Result<(), Fail> {
-    if repeats(trace, &item) {
-        drop(item);
-        return Ok(());
-    }
-    push(trace, item)?;
-    Ok(())
-}
-
 /// The trace of one agent.
 fn passed(alloc: Global) -> Result<Trace, Fail> {
+    let first = item(alloc, "Beta", "/C=NL/O=Acme", 2, false)?;
     let mut trace: Trace = Listed::new(alloc);
-    add(&mut trace, item(alloc, "Beta", "/C=NL/O=Acme", 2, false)?)?;
+    if !repeats(&trace, &first) {
+        push(&mut trace, first)?;
+    }
     Ok(trace)
 }
 
