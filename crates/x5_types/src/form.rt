@@ -105,6 +105,39 @@ pub enum Named {
     Steps,
     Step,
     Renamed,
+    /// What a user of LDAP sends (RFC 4511).
+    LdapMessage,
+    /// What it is answered.
+    LdapResponse,
+    LdapOperation,
+    LdapAnswer,
+    /// Octets, of whatever length.
+    LdapString,
+    LdapStrings,
+    LdapValues,
+    LdapSomeValues,
+    LdapAttribute,
+    LdapShown,
+    LdapNewAttribute,
+    LdapNewAttributes,
+    LdapChange,
+    LdapChanges,
+    LdapAssertion,
+    LdapFilter,
+    LdapPiece,
+    LdapPieces,
+    LdapAuthentication,
+    /// A string with a context tag in place of its own, as those below.
+    LdapSuperior,
+    LdapExtension,
+    LdapExtensionValue,
+    LdapMatchingRule,
+    LdapMatchedType,
+    LdapMatchedValue,
+    /// A truth value so.
+    LdapMatchesNames,
+    LdapControl,
+    LdapControls,
 }
 
 /// Which numbers an INTEGER or ENUMERATED has.
@@ -146,6 +179,10 @@ pub enum Leaf {
     Time,
     /// A segment of a string.
     Segment,
+    /// Octets, of whatever length.
+    AnyOctets,
+    /// So, with that number before them.
+    Placed(u32),
 }
 
 /// Contents of bits.
@@ -233,6 +270,7 @@ pub enum Rule {
     Entry,
     Known,
     Masters,
+    Pieces,
 }
 
 /// A tag that a type's elements may have, with the content and the rule of the whole. Where the tag says which of

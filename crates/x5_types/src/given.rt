@@ -55,7 +55,12 @@ fn one<'a>(alloc: Global, first: Node<'a>) -> Result<Node<'a>, NoMemory>
     Ok(Node::Many(parts))
 }
 
-fn two<'a>(alloc: Global, first: Node<'a>, second: Node<'a>) -> Result<Node<'a>, NoMemory>
+/// Both, as parts of a whole.
+pub(crate) fn two<'a>(
+    alloc: Global,
+    first: Node<'a>,
+    second: Node<'a>,
+) -> Result<Node<'a>, NoMemory>
     ensures { IfOk result (λ n. node_view n ≡ nodes.Many (nodes.row (node_view first.entry ∷ node_view second.entry ∷ []))) }
 {
     let mut parts = Vec::new(alloc);

@@ -9,6 +9,7 @@ ghost use Rattle.x5_types.specs.NodeView.{bytes_view, option_view};
 
 use crate::bits::{bits_of_content, read_bits};
 use crate::form::{BitLeaf, Content, Leaf};
+use crate::given::two;
 use crate::node::{Bytes, Node};
 use crate::number::number;
 use crate::oid::{oid, short_oid};
@@ -60,6 +61,14 @@ fn time<'a>(
     }
 }
 
+/// Octets, with a number before them.
+fn placed<'a>(alloc: Global, place: u32, octets: Bytes<'a>) -> Result<Option<Node<'a>>, NoMemory>
+    ensures { IfOk result (λ n. option_view n ≡ (leaves.placed place).reads (bytes_view octets.entry)) }
+{
+    let node = two(alloc, Node::Number(i64::from(place)), Node::Octets(octets))?;
+    Ok(Some(node))
+}
+
 /// What the octets of a content say, which may have been joined from segments. None if they are outside the type
 /// (X.690, section 8).
 pub fn read_leaf<'a>(
@@ -80,7 +89,8 @@ pub fn read_leaf<'a>(
         Leaf::Text(letters) => Ok(text(surroundings, letters, octets)),
         Leaf::Universal => universal(alloc, octets.as_slice()),
         Leaf::Time => time(alloc, surroundings, octets.as_slice()),
-        Leaf::Segment => Ok(Some(Node::Octets(octets))),
+        Leaf::Segment | Leaf::AnyOctets => Ok(Some(Node::Octets(octets))),
+        Leaf::Placed(place) => placed(alloc, place, octets),
     }
 }
 

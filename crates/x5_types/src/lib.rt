@@ -1,5 +1,5 @@
-//! The types of messages as data (X.511, X.518, X.525): which elements are values of a type, in one table; and what primitive
-//! contents say (X.690, section 8).
+//! The types of messages as data (X.511, X.518, X.525, RFC 4511): which elements are values of a type, in one table; and what
+//! primitive contents say (X.690, section 8).
 #![tactic(auto)]
 
 mod alike;
@@ -8,6 +8,7 @@ mod codes;
 mod component;
 mod form;
 mod given;
+mod ldap;
 mod leaf;
 mod macros;
 mod node;

@@ -24,6 +24,42 @@ macro_rules! choice {
     };
 }
 
+macro_rules! ruled_choice {
+    ($tag:expr, $content:expr, $rule:expr) => {
+        Alternative {
+            class: 2,
+            tag: $tag,
+            marked: true,
+            content: $content,
+            rule: $rule,
+        }
+    };
+}
+
+macro_rules! context {
+    ($tag:expr, $content:expr) => {
+        Alternative {
+            class: 2,
+            tag: $tag,
+            marked: false,
+            content: $content,
+            rule: Rule::Any,
+        }
+    };
+}
+
+macro_rules! application {
+    ($marked:expr, $tag:expr, $content:expr) => {
+        Alternative {
+            class: 1,
+            tag: $tag,
+            marked: $marked,
+            content: $content,
+            rule: Rule::Any,
+        }
+    };
+}
+
 macro_rules! component {
     ($tag:expr, $form:expr, $presence:expr) => {
         Component {
@@ -34,6 +70,9 @@ macro_rules! component {
     };
 }
 
+pub(crate) use application;
 pub(crate) use choice;
 pub(crate) use component;
+pub(crate) use context;
+pub(crate) use ruled_choice;
 pub(crate) use universal;

@@ -1,5 +1,5 @@
-//! The types of messages (X.511, X.518, X.525, with numbers of this project's own where the standards' aren't used), as
-//! `docs/FORMATS.md` shows them in the notation of X.680.
+//! The types of messages (X.511, X.518, X.525, with numbers of this project's own where the standards' aren't used, and
+//! RFC 4511), as `docs/FORMATS.md` shows those of X.500 in the notation of X.680.
 ghost use Rattle.std.specs.Prelude.{◌≡◌};
 ghost use Rattle.x5_model_typed.specs.Forms as forms;
 ghost use Rattle.x5_model_typed.specs.Leaves as leaves;
@@ -12,7 +12,7 @@ use crate::form::{
 };
 use crate::macros::{choice, component, universal};
 use crate::operations::{argument, chained, outcome};
-use crate::shadow;
+use crate::{ldap, shadow};
 
 const DAP_REQUEST: &[Alternative] = &[choice!(
     1,
@@ -523,5 +523,33 @@ pub fn layout(form: Named) -> Choices
         Named::Steps => Choices::Listed(shadow::STEPS),
         Named::Step => Choices::Listed(shadow::STEP),
         Named::Renamed => Choices::Listed(shadow::RENAMED),
+        Named::LdapMessage => Choices::Listed(ldap::MESSAGE),
+        Named::LdapResponse => Choices::Listed(ldap::RESPONSE),
+        Named::LdapOperation => Choices::Listed(ldap::OPERATION),
+        Named::LdapAnswer => Choices::Listed(ldap::ANSWER),
+        Named::LdapString => Choices::Listed(ldap::STRING),
+        Named::LdapStrings => Choices::Listed(ldap::STRINGS),
+        Named::LdapValues => Choices::Listed(ldap::VALUES),
+        Named::LdapSomeValues => Choices::Listed(ldap::SOME_VALUES),
+        Named::LdapAttribute => Choices::Listed(ldap::ATTRIBUTE),
+        Named::LdapShown => Choices::Listed(ldap::SHOWN),
+        Named::LdapNewAttribute => Choices::Listed(ldap::NEW_ATTRIBUTE),
+        Named::LdapNewAttributes => Choices::Listed(ldap::NEW_ATTRIBUTES),
+        Named::LdapChange => Choices::Listed(ldap::CHANGE),
+        Named::LdapChanges => Choices::Listed(ldap::CHANGES),
+        Named::LdapAssertion => Choices::Listed(ldap::ASSERTION),
+        Named::LdapFilter => Choices::Listed(ldap::FILTER),
+        Named::LdapPiece => Choices::Listed(ldap::PIECE),
+        Named::LdapPieces => Choices::Listed(ldap::PIECES),
+        Named::LdapAuthentication => Choices::Listed(ldap::AUTHENTICATION),
+        Named::LdapSuperior => Choices::Listed(ldap::SUPERIOR),
+        Named::LdapExtension => Choices::Listed(ldap::EXTENSION),
+        Named::LdapExtensionValue => Choices::Listed(ldap::EXTENSION_VALUE),
+        Named::LdapMatchingRule => Choices::Listed(ldap::MATCHING_RULE),
+        Named::LdapMatchedType => Choices::Listed(ldap::MATCHED_TYPE),
+        Named::LdapMatchedValue => Choices::Listed(ldap::MATCHED_VALUE),
+        Named::LdapMatchesNames => Choices::Listed(ldap::MATCHES_NAMES),
+        Named::LdapControl => Choices::Listed(ldap::CONTROL),
+        Named::LdapControls => Choices::Listed(ldap::CONTROLS),
     }
 }
