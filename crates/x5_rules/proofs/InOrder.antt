@@ -1,5 +1,5 @@
 -- Pairs put in order, and parts in their places.
-use Rattle.std.proofs.Common.{◌≡◌, ◌<◌, ◌≤◌, ◌+◌, ◌&&◌, ◌++◌, ℕ, zero, suc, Bool, true, false, not, List, []}
+use Rattle.std.proofs.Common.{◌≡◌, ◌==◌, ◌<◌, ◌≤◌, ◌+◌, ◌&&◌, ◌++◌, ℕ, zero, suc, Bool, true, false, not, List, []}
 use Rattle.std.proofs.Common.{◌∷◌, length, map, take, drop, get_or, insert, refl, ap, sym, ◌∙◌, arith, one-add}
 use Rattle.std.proofs.Common.{append_assoc}
 use Rattle.std.specs.List.{position_or_len}
@@ -56,6 +56,31 @@ pub short_places : {A : Type 0} (f : A → nodes.Node) (l : List A) → length l
 short_places f [] few = refl
 short_places f (x ∷ []) few = refl
 short_places f (x ∷ y ∷ l) few = absurd (omega arith)
+
+-- The same of parts that have their places before them.
+pub line_step : {A : Type 0} (f : A → nodes.Node) (all : List A) (i j : ℕ) (p q : A) → j ≡ i + 1 → j < length all
+    → p ≡ get_or all i p → q ≡ get_or all j q
+    → rules.in_line (map f (drop i all))
+    ≡ ((not (rules.place_in (f p) == 2) && not (rules.place_in (f q) == 0)) && rules.in_line (map f (drop j all)))
+line_step {A = A} f all i j p q is less e g =
+    let second : drop j all ≡ q ∷ drop (j + 1) all = drop_more all j q less ∙ ap (λ x. x ∷ drop (j + 1) all) (sym g) in
+    let first : drop i all ≡ p ∷ drop j all = drop_more all i p (omega (arith, is))
+    ∙ ap (λ (x : A). x ∷ drop (i + 1) all) (sym e) ∙ ap (λ (k : ℕ). p ∷ drop k all) (sym is) in
+    ap (λ (l : List A). rules.in_line (map f l)) (first ∙ ap (λ (l : List A). p ∷ l) second)
+    ∙ by (not (rules.place_in (f p) == 2)) (not (rules.place_in (f q) == 0))
+    (rules.in_line (map f (q ∷ drop (j + 1) all)))
+    ∙ ap (λ (l : List A). (not (rules.place_in (f p) == 2) && not (rules.place_in (f q) == 0)) && rules.in_line
+    (map f l)) (sym second)
+  where
+    by : (a b c : Bool) → (a && b && c) ≡ ((a && b) && c)
+    by true b c = refl
+    by false b c = refl
+
+pub short_line : {A : Type 0} (f : A → nodes.Node) (l : List A) → length l ≤ 1
+    → rules.in_line (map f l) ≡ true
+short_line f [] few = refl
+short_line f (x ∷ []) few = refl
+short_line f (x ∷ y ∷ l) few = absurd (omega arith)
 
 -- The last item that is left was taken.
 pub last_taken : {A B : Type 0} (f : A → B) (below : B → B → Bool) (all old new : List A) (node : A)

@@ -2,6 +2,7 @@ mod Controls
 mod InOrder
 mod Keys
 mod Pairs
+mod Pieces
 mod TwoParts
 mod Traces
 mod Targets

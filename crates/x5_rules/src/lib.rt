@@ -1,11 +1,12 @@
 //! What values of messages' types have to be as wholes, beside the types of their parts, and as what they are kept
-//! (X.501, X.511, X.518, X.525).
+//! (X.501, X.511, X.518, X.525, RFC 4511).
 #![tactic(auto)]
 
 mod entry;
 mod known;
 mod name;
 mod pair;
+mod pieces;
 mod rule;
 mod trace;
 mod value;

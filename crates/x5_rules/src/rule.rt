@@ -10,6 +10,7 @@ ghost use Rattle.x5_types.specs.NodeView.{node_view, option_view};
 use crate::entry::entry;
 use crate::known::{has_masters, is_known};
 use crate::pair::{is_pair, rdn};
+use crate::pieces::in_line;
 use crate::trace::is_trace;
 use std::alloc::Global;
 use x5_memory::NoMemory;
@@ -56,6 +57,7 @@ fn settle_by<'a>(alloc: Global, rule: Rule, node: Node<'a>) -> Result<Option<Nod
         Rule::Entry => entry(alloc, node),
         Rule::Known => Ok(kept(is_known(&node), node)),
         Rule::Masters => Ok(kept(has_masters(&node), node)),
+        Rule::Pieces => Ok(kept(are_pieces(&node), node)),
     }
 }
 
@@ -127,6 +129,13 @@ fn are_parts(node: &Node<'_>) -> bool
     ensures { where_so result (node_view node.now) ≡ rules.parts_rule (node_view node.now) }
 {
     has_parts(node) && in_their_places(node.parts())
+}
+
+/// Parts of LDAP's substrings item (RFC 4511, 4.5.1.7.2): one or more, each in its place.
+fn are_pieces(node: &Node<'_>) -> bool
+    ensures { where_so result (node_view node.now) ≡ rules.pieces_rule (node_view node.now) }
+{
+    has_parts(node) && in_line(node.parts())
 }
 
 fn is_proceeding(node: &Node<'_>) -> bool
