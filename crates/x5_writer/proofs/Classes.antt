@@ -6,6 +6,12 @@ use Rattle.std.specs.List.{find, list_all}
 use Rattle.std.specs.declared.option.Option.TheVariants.{Some}
 use Rattle.x5_model.proofs.Lists.{of_all, of_find}
 use Rattle.x5_model_typed.specs.Named.{Named, Read, Compare, ListBelow, Search, AddEntry, RemoveEntry, ModifyEntry, ModifyDn, DapRequest, DapAnswer, DspRequest, DspAnswer, DispMessage, Argument, Chained, DapResult, DspResult, DispResult, Outcome, AnyNumber, NumberBelow, Enumeration, Boolean, Null, AnyOid, Value, Part, AgentName, Time, Options, RefType, Name, Rdn, Rdns, Pair, Attribute, Attributes, Values, TypeList, Selection, Controls, Assertion, Changes, Change, Filter, Filters, Item, Substrings, Parts, PlacedPart, Chaining, Progress, Trace, TraceItem, Agents, Agent, Reference, References, Source, Sources, EntryInfo, EntryInfos, Sub, Subs, Qualifier, AttributeError, NameError, ServiceError, UpdateError, ShadowError, Agreement, ShadowArgument, UpdateArgument, Refresh, Total, Entries, Entry, Knowns, Known, NonSpecifics, NonSpecific, WorldAgents, WorldAgent, WorldAgentName, Steps, Step, Renamed}
+use Rattle.x5_model_typed.specs.Named.{LdapMessage, LdapResponse, LdapOperation, LdapAnswer, LdapString, LdapStrings}
+use Rattle.x5_model_typed.specs.Named.{LdapValues, LdapSomeValues, LdapAttribute, LdapShown, LdapNewAttribute}
+use Rattle.x5_model_typed.specs.Named.{LdapNewAttributes, LdapChange, LdapChanges, LdapAssertion, LdapFilter, LdapPiece}
+use Rattle.x5_model_typed.specs.Named.{LdapPieces, LdapAuthentication, LdapSuperior, LdapExtension, LdapExtensionValue}
+use Rattle.x5_model_typed.specs.Named.{LdapMatchingRule, LdapMatchedType, LdapMatchedValue, LdapMatchesNames}
+use Rattle.x5_model_typed.specs.Named.{LdapControl, LdapControls}
 use Rattle.x5_model_typed.specs.Forms.{Alternative, Explicit, Never, choice}
 use Rattle.x5_model_typed.specs.Layouts.{Surroundings, layout}
 
@@ -112,6 +118,34 @@ classes w WorldAgentName = refl
 classes w Steps = refl
 classes w Step = refl
 classes w Renamed = refl
+classes w LdapMessage = refl
+classes w LdapResponse = refl
+classes w LdapOperation = refl
+classes w LdapAnswer = refl
+classes w LdapString = refl
+classes w LdapStrings = refl
+classes w LdapValues = refl
+classes w LdapSomeValues = refl
+classes w LdapAttribute = refl
+classes w LdapShown = refl
+classes w LdapNewAttribute = refl
+classes w LdapNewAttributes = refl
+classes w LdapChange = refl
+classes w LdapChanges = refl
+classes w LdapAssertion = refl
+classes w LdapFilter = refl
+classes w LdapPiece = refl
+classes w LdapPieces = refl
+classes w LdapAuthentication = refl
+classes w LdapSuperior = refl
+classes w LdapExtension = refl
+classes w LdapExtensionValue = refl
+classes w LdapMatchingRule = refl
+classes w LdapMatchedType = refl
+classes w LdapMatchedValue = refl
+classes w LdapMatchesNames = refl
+classes w LdapControl = refl
+classes w LdapControls = refl
 
 -- So is the class of one that was found.
 pub class_of_found : (w : Surroundings) (form : Named) (test : Alternative → Bool) (a : Alternative) → find test (layout w form) ≡ Some a → a.class < 4

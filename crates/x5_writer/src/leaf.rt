@@ -6,6 +6,7 @@ ghost use Rattle.x5_types.specs.FormView.{around, bit_leaf_view, content_view, l
 ghost use Rattle.x5_types.specs.NodeView.{node_view};
 ghost use Rattle.x5_model_typed.specs.Forms as forms;
 ghost use Rattle.x5_model_typed.specs.Layouts as layouts;
+ghost use Rattle.x5_model_typed.specs.Leaves as leaves;
 ghost use Rattle.x5_model_typed.specs.Nodes as nodes;
 ghost use Rattle.x5_writer.specs.Contents.{flag_of, octets_in, option_bits};
 
@@ -48,6 +49,8 @@ fn leaf_holds(surroundings: Surroundings<'_>, leaf: Leaf, node: &Node<'_>) -> bo
         }
         (Leaf::Universal, Node::Text(text)) => is_length(text.as_str().as_bytes()),
         (Leaf::Time, Node::Number(number)) => has_time(surroundings, *number),
+        (Leaf::AnyOctets, Node::Octets(_)) => true,
+        (Leaf::Placed(place), Node::Many(_)) => placed_octets(place, node).is_some(),
         _ => false,
     }
 }
@@ -59,6 +62,48 @@ fn has_time(surroundings: Surroundings<'_>, moment: i64) -> bool
     match u64::try_from(moment) {
         Ok(moment) => surroundings.has_time(moment),
         Err(_) => false,
+    }
+}
+
+/// Whether it's the number of the place.
+fn is_number(place: u32, number: i64) -> bool
+    ensures { result ≡ leaves.is_place place (nodes.Number number) }
+{
+    match u64::try_from(number) {
+        Ok(number) => number == u64::from(place),
+        Err(_) => false,
+    }
+}
+
+/// Whether the value is the number of the place.
+fn is_place(place: u32, node: &Node<'_>) -> bool
+    ensures { result ≡ leaves.is_place place (node_view node.now) }
+{
+    match node {
+        Node::Number(number) => is_number(place, *number),
+        _ => false,
+    }
+}
+
+/// The octets, if the value is octets.
+fn plain_octets<'n>(node: &'n Node<'_>) -> Option<&'n [u8]>
+    ensures { option_map (λ octets. octets.now) result ≡ leaves.octets_in (node_view node.now) }
+{
+    match node {
+        Node::Octets(octets) => Some(octets.as_slice()),
+        _ => None,
+    }
+}
+
+/// The octets behind the number of the place, if the value is both.
+fn placed_octets<'n>(place: u32, node: &'n Node<'_>) -> Option<&'n [u8]>
+    ensures { option_map (λ octets. octets.now) result ≡ (leaves.placed place).writes (node_view node.now) }
+{
+    let (number, octets) = node.two_parts()?;
+    if is_place(place, number) {
+        plain_octets(octets)
+    } else {
+        None
     }
 }
 
@@ -130,6 +175,8 @@ fn put_leaf(
         (Leaf::Text(_), Node::Text(text)) => out.put_all(text.as_str().as_bytes()),
         (Leaf::Universal, Node::Text(text)) => put_characters(alloc, out, text.as_str()),
         (Leaf::Time, Node::Number(number)) => put_time(alloc, out, surroundings, *number),
+        (Leaf::AnyOctets, Node::Octets(octets)) => out.put_all(octets.as_slice()),
+        (Leaf::Placed(place), Node::Many(_)) => put_placed(out, place, node),
         _ => Ok(()),
     }
 }
@@ -149,6 +196,16 @@ fn put_time(
     };
     match surroundings.time(alloc, moment)? {
         Some(text) => out.put_all(text.as_str().as_bytes()),
+        None => Ok(()),
+    }
+}
+
+/// The octets behind the number of the place.
+fn put_placed(out: &mut Backwards, place: u32, node: &Node<'_>) -> Result<(), NoMemory>
+    ensures { OnOk result (out.new ≡ octets_in ((leaves.placed place).writes (node_view node.now)) ++ out.old) }
+{
+    match placed_octets(place, node) {
+        Some(octets) => out.put_all(octets),
         None => Ok(()),
     }
 }

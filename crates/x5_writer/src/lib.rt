@@ -1,4 +1,4 @@
-//! Writing by type: values of the types that messages between agents are made of (X.511, X.518, X.525), as their canonical
+//! Writing by type: values of the types that messages are made of (X.511, X.518, X.525, RFC 4511), as their canonical
 //! octets (X.690), by one table of types and one writer over it. Octets are written from the last to the first, so
 //! that the length of each content is known before it's written.
 #![tactic(auto)]
