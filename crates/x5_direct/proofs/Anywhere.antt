@@ -25,6 +25,12 @@ use Rattle.x5_model_typed.specs.Named.{ServiceError, UpdateError, ShadowError, A
 use Rattle.x5_model_typed.specs.Named.{UpdateArgument, Refresh, Total, Entries, Entry, Knowns, Known}
 use Rattle.x5_model_typed.specs.Named.{NonSpecifics, NonSpecific, WorldAgents, WorldAgent, WorldAgentName, Steps}
 use Rattle.x5_model_typed.specs.Named.{Step, Renamed}
+use Rattle.x5_model_typed.specs.Named.{LdapMessage, LdapResponse, LdapOperation, LdapAnswer, LdapString, LdapStrings}
+use Rattle.x5_model_typed.specs.Named.{LdapValues, LdapSomeValues, LdapAttribute, LdapShown, LdapNewAttribute}
+use Rattle.x5_model_typed.specs.Named.{LdapNewAttributes, LdapChange, LdapChanges, LdapAssertion, LdapFilter, LdapPiece}
+use Rattle.x5_model_typed.specs.Named.{LdapPieces, LdapAuthentication, LdapSuperior, LdapExtension, LdapExtensionValue}
+use Rattle.x5_model_typed.specs.Named.{LdapMatchingRule, LdapMatchedType, LdapMatchedValue, LdapMatchesNames}
+use Rattle.x5_model_typed.specs.Named.{LdapControl, LdapControls}
 
 -- ---- one alternative
 
@@ -198,6 +204,34 @@ anywhere w WorldAgentName = record {
 anywhere w Steps = alike w Steps refl
 anywhere w Step = alike w Step refl
 anywhere w Renamed = alike w Renamed refl
+anywhere w LdapMessage = alike w LdapMessage refl
+anywhere w LdapResponse = alike w LdapResponse refl
+anywhere w LdapOperation = alike w LdapOperation refl
+anywhere w LdapAnswer = alike w LdapAnswer refl
+anywhere w LdapString = alike w LdapString refl
+anywhere w LdapStrings = alike w LdapStrings refl
+anywhere w LdapValues = alike w LdapValues refl
+anywhere w LdapSomeValues = alike w LdapSomeValues refl
+anywhere w LdapAttribute = alike w LdapAttribute refl
+anywhere w LdapShown = alike w LdapShown refl
+anywhere w LdapNewAttribute = alike w LdapNewAttribute refl
+anywhere w LdapNewAttributes = alike w LdapNewAttributes refl
+anywhere w LdapChange = alike w LdapChange refl
+anywhere w LdapChanges = alike w LdapChanges refl
+anywhere w LdapAssertion = alike w LdapAssertion refl
+anywhere w LdapFilter = alike w LdapFilter refl
+anywhere w LdapPiece = alike w LdapPiece refl
+anywhere w LdapPieces = alike w LdapPieces refl
+anywhere w LdapAuthentication = alike w LdapAuthentication refl
+anywhere w LdapSuperior = alike w LdapSuperior refl
+anywhere w LdapExtension = alike w LdapExtension refl
+anywhere w LdapExtensionValue = alike w LdapExtensionValue refl
+anywhere w LdapMatchingRule = alike w LdapMatchingRule refl
+anywhere w LdapMatchedType = alike w LdapMatchedType refl
+anywhere w LdapMatchedValue = alike w LdapMatchedValue refl
+anywhere w LdapMatchesNames = alike w LdapMatchesNames refl
+anywhere w LdapControl = alike w LdapControl refl
+anywhere w LdapControls = alike w LdapControls refl
 
 -- ---- components
 
