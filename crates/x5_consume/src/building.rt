@@ -6,6 +6,7 @@ ghost use Rattle.x5_model.specs.Values.{key_of};
 ghost use Rattle.x5_model.specs.Words.{ascending, first_of};
 ghost use Rattle.x5_model_tree.specs.Tree.{key_at, named_below};
 ghost use Rattle.x5_dse.specs.Linked.{entries_of};
+ghost use Rattle.x5_holdings.specs.State.{OnlyEntries};
 ghost use Rattle.x5_model_refreshed.specs.Doable.{AreWhole, CanAdd};
 ghost use Rattle.x5_consume.specs.Taken.{IsContent};
 ghost use Rattle.x5_consume.specs.Building.{IsExtended};
@@ -47,14 +48,29 @@ fn put_entry(alloc: Global, filling: &mut Filling, named: Named) -> Result<(), N
     Ok(())
 }
 
+/// The context, to which so many entries are to be added, with room for them and for a value of each.
+fn with_room(held: Held, count: usize) -> Result<Filling, NoMemory>
+    ensures nodes { IfOk result (λ filling. filling.nodes.nodes ≡ held.nodes.nodes) }
+    ensures others { IfOk result (λ filling. OnlyEntries held filling) }
+{
+    let mut filling = held.filling();
+    match filling.reserve(count, count) {
+        Ok(()) => Ok(filling),
+        Err(fault) => {
+            drop(filling);
+            Err(fault)
+        }
+    }
+}
+
 /// The context with these entries more. They are in the order of their keys, each behind the one above it. There is room for all
 /// of them from the start, and for a value of each; its index is put into order once, when all are there.
 fn with_entries(alloc: Global, held: Held, entries: Vec<Named>) -> Result<Held, NoMemory>
     requires { (pin : Key) × AreWhole pin (entries_of held.nodes.nodes ++ entries.items) × (option_map key_at (first_of (entries_of held.nodes.nodes)) ≡ Some pin) }
     ensures { IfOk result (λ after. IsExtended held entries.items after) }
 {
-    let mut filling = held.filling();
-    filling.reserve(entries.len(), entries.len())?;
+    let roomy = with_room(held, entries.len())?;
+    let mut filling = roomy;
     for named in entries {
         filling = with_entry(alloc, filling, named)?;
     }

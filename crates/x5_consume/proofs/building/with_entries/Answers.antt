@@ -1,19 +1,16 @@
 -- One entry more is taken each time, until none is left.
-use Rattle.std.proofs.Common.{◌≡◌, ◌∷◌, [], List, sym, ap, subst, ◌∙◌, arith}
+use Rattle.std.proofs.Common.{◌≡◌, ◌∷◌, [], List, sym, subst, arith}
 use Rattle.std.proofs.lemmas.List.{nil_from_length}
 use Rattle.std.specs.Vec.Iter.{into_iter_items}
 use Rattle.x5_model.specs.Entries.{Named}
-use Rattle.x5_dse.specs.Linked.{Nodes}
-use Rattle.x5_consume.proofs.Extending.{SoFar, all_taken, begun, finished, next_add, next_order, one_taken, still_only}
+use Rattle.x5_consume.proofs.Extending.{SoFar, all_taken, begun, finished, next_add, next_order, one_taken}
 use Rattle.x5_consume.proofs.building.with_entries.Goals as goal
 
 pub loop-named-init : goal.loop-named-init
 loop-named-init c =
-    subst (λ (left : List Named). SoFar c.args.held c.args.entries.items c.reserve.new.self left)
+    subst (λ (left : List Named). SoFar c.args.held c.args.entries.items c.in_ok-roomy.roomy left)
     (sym c.into_iter-named-iterator.ensures.into_iter_gives.0)
-    (begun c.args.held c.args.entries.items c.reserve.new.self
-    (c.in_ok-reserve.ensures.nodes ∙ ap (λ (n : Nodes). n.nodes) c.filling-filling.ensures.nodes)
-    (still_only c.args.held c.filling-filling.result c.reserve.new.self c.filling-filling.ensures.others c.in_ok-reserve.ensures.others))
+    (begun c.args.held c.args.entries.items c.in_ok-roomy.roomy c.in_ok-roomy.ensures.nodes c.in_ok-roomy.ensures.others)
 
 pub with_entry-requires : goal.with_entry-requires
 with_entry-requires c =
