@@ -14,7 +14,7 @@ ghost use Rattle.x5_types.specs.NodeView.{node_view};
 use crate::attributes::{attributes_node, changes_node};
 use crate::filters::filter_node;
 use crate::names::{name_node, rdn_node, type_node};
-use crate::parts::{five, four, many, number, one, three, two};
+use crate::parts::{four, many, number, one, three, two};
 use crate::values::assertion_node;
 use std::alloc::Global;
 use x5_match::Filter;
@@ -98,12 +98,13 @@ fn search_node<'a>(
         ∷ filter_node_of (filter_view filter.now) ∷ requests.selection_node (selection_view selection.now)
         ∷ requests.controls_node (controls_view controls) ∷ [])) }
 {
-    let base = name_node(alloc, base)?;
-    let filter = filter_node(alloc, filter)?;
-    let selection = selection_node(alloc, selection)?;
-    let controls = controls_node(alloc, controls)?;
-    let subset = number(subset_number(subset));
-    five(alloc, base, subset, filter, selection, controls)
+    let mut parts = Vec::with_capacity(alloc, 5)?;
+    parts.push(name_node(alloc, base)?)?;
+    parts.push(number(subset_number(subset)))?;
+    parts.push(filter_node(alloc, filter)?)?;
+    parts.push(selection_node(alloc, selection)?)?;
+    parts.push(controls_node(alloc, controls)?)?;
+    Ok(many(parts))
 }
 
 /// The argument of a modifyDN (X.511, section 11.4).
@@ -117,10 +118,12 @@ fn rename_node<'a>(
     ensures { IfOk result (λ n. node_view n ≡ node_of (name_node_of object.now ∷ rdn_node_of rdn.now ∷ nodes.Flag drop_old
         ∷ requests.controls_node (controls_view controls) ∷ [])) }
 {
-    let object = name_node(alloc, object)?;
-    let rdn = rdn_node(alloc, rdn)?;
-    let controls = controls_node(alloc, controls)?;
-    four(alloc, object, rdn, Node::Flag(drop_old), controls)
+    let mut parts = Vec::with_capacity(alloc, 4)?;
+    parts.push(name_node(alloc, object)?)?;
+    parts.push(rdn_node(alloc, rdn)?)?;
+    parts.push(Node::Flag(drop_old))?;
+    parts.push(controls_node(alloc, controls)?)?;
+    Ok(many(parts))
 }
 
 /// The argument of an operation that asks one thing of one entry.

@@ -70,17 +70,3 @@ pub(crate) fn text<'a>(text: &'a Text) -> Node<'a>
 {
     Node::Text(Characters::Lent(text.as_str()))
 }
-
-pub(crate) fn five<'a>(
-    alloc: Global,
-    a: Node<'a>,
-    b: Node<'a>,
-    c: Node<'a>,
-    d: Node<'a>,
-    e: Node<'a>,
-) -> Result<Node<'a>, NoMemory>
-    ensures { IfOk result (λ n. node_view n ≡ node_of (node_view a.entry ∷ node_view b.entry ∷ node_view c.entry
-        ∷ node_view d.entry ∷ node_view e.entry ∷ [])) }
-{
-    Ok(many(vec![in alloc; a, b, c, d, e]?))
-}
