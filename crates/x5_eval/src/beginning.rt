@@ -55,8 +55,8 @@ fn at_root(
     if !answers_root(state, base) {
         return Ok(Vec::new(alloc));
     }
-    let root = Name::root(alloc);
     let mut numbers = served_within(alloc, state, &message.request, base.rdns(), Some(1))?;
+    let root = Name::root(alloc);
     numbers.retain(|number| is_at_first_level(base, subset, prefix_at(state, *number, &root)));
     in_order(alloc, state, numbers)
 }
@@ -84,10 +84,10 @@ fn with_target(
 ) -> Result<Vec<usize>, NoMemory>
     ensures { IfOk result (λ numbers. (names : List (List ℕ)) → Begins (request_view message.now.request) (holdings_view state.now) (found_in (holdings_view state.now) (chained_view names message.now) (key_of pin.now)) numbers.items) }
 {
-    let root = Name::root(alloc);
     let target = &message.target;
     let depth = Some(pin.len());
     let mut numbers = served_within(alloc, state, &message.request, pin.rdns(), depth)?;
+    let root = Name::root(alloc);
     numbers.retain(|number| has_target(state, *number, pin, target, &root));
     in_order(alloc, state, numbers)
 }
@@ -190,10 +190,10 @@ fn below(
 ) -> Result<Vec<usize>, NoMemory>
     ensures { IfOk result (λ numbers. (names : List (List ℕ)) → Begins (request_view message.now.request) (holdings_view state.now) (found_below (holdings_view state.now) (chained_view names message.now) (subset_view subset)) numbers.items) }
 {
-    let root = Name::root(alloc);
     let base = &message.target;
     let exclusions = message.exclusions.as_slice();
     let mut numbers = own_within(alloc, state, base.rdns(), Some(base.len() + 1))?;
+    let root = Name::root(alloc);
     numbers.retain(|number| {
         is_asked_below(exclusions, base, subset, prefix_at(state, *number, &root))
     });
@@ -204,10 +204,10 @@ fn below(
 fn at_pin(alloc: Global, state: &Holdings, message: &Chained) -> Result<Vec<usize>, NoMemory>
     ensures { IfOk result (λ numbers. (names : List (List ℕ)) → Begins (request_view message.now.request) (holdings_view state.now) (found_at_pin (holdings_view state.now) (chained_view names message.now)) numbers.items) }
 {
-    let root = Name::root(alloc);
     let pin = &message.target;
     let depth = Some(pin.len());
     let mut numbers = served_within(alloc, state, &message.request, pin.rdns(), depth)?;
+    let root = Name::root(alloc);
     numbers.retain(|number| is_at(state, *number, pin, &root));
     in_order(alloc, state, numbers)
 }
