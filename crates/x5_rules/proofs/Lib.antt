@@ -2,7 +2,7 @@ mod Controls
 mod InOrder
 mod Keys
 mod Pairs
-mod Pieces
+mod InLine
 mod TwoParts
 mod Traces
 mod Targets

@@ -29,7 +29,7 @@ fn place(node: &Node<'_>) -> u64
 }
 
 /// The place of a part.
-#[tactic(auto, using(crate::proofs::Pieces::placed, crate::proofs::Pieces::no_place))]
+#[tactic(auto, using(crate::proofs::InLine::placed, crate::proofs::InLine::no_place))]
 fn place_in(part: &Node<'_>) -> u64
     ensures { result ≡ rules.place_in (node_view part.now) }
 {
