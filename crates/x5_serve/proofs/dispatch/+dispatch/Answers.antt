@@ -663,8 +663,8 @@ update-returns-in-Refused-clause-does g t c =
     update_refused n.scene n.most n.names n.journal c.args.net.now c.args.me c.args.message.now c.in_ok-error.field-0
     c.requires.due c.in_ok-error.ensures c.in-Refused.error c.in-Refused.is
 
-pub update-returns-in-Passed-None-clause-does : goal.update-returns-in-Passed-None-clause-does
-update-returns-in-Passed-None-clause-does g t c =
+pub update-returns-in_ok-commit-in-Passed-None-clause-does : goal.update-returns-in_ok-commit-in-Passed-None-clause-does
+update-returns-in_ok-commit-in-Passed-None-clause-does g t c =
     let n = g.N.Network in
     alone_does n.scene n.most n.names n.journal c.args.net.now c.args.me c.args.message.now c.in_ok-error.field-0
     c.requires.due c.in_ok-error.ensures c.commit.new.self c.in-Passed-None.field-0 c.in-Passed-None.is
@@ -702,8 +702,8 @@ update-commit-requires-in-Through-clause-ready g t c =
     c.in_ok-error-in-Passed-Some.ensures.does c.in-Through.noted c.in-Through.is
     c.in_ok-error-in-Passed-Some.ensures.stays
 
-pub update-returns-clause-does : goal.update-returns-clause-does
-update-returns-clause-does g t c =
+pub update-returns-in_ok-commit-in-Through-clause-does : goal.update-returns-in_ok-commit-in-Through-clause-does
+update-returns-in_ok-commit-in-Through-clause-does g t c =
     let n = g.N.Network in
     probed_does n.scene n.most n.names n.journal c.args.net.now c.args.me c.args.message.now c.in_ok-error.field-0
     c.requires.due c.in_ok-error.ensures c.in-Passed-Some.field-0 c.in-Passed-Some.reference c.in-Passed-Some.is
