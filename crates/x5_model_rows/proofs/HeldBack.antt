@@ -21,9 +21,9 @@ use Rattle.x5_model_serve.specs.Serving.{Hand, hand, Does, Sends, Heard, Hears, 
 use Rattle.x5_model_serve.specs.Serving.{limit_reply, refers, reads, holds_back, spent, lost, dropped, sends, final}
 use Rattle.x5_model_serve.specs.Serving.{referral, wide_referral, heard, none_yet, answered, none_asked}
 use Rattle.x5_model_follow.specs.Followed.{IsFollowed, follows, following_from, budget_from}
-use Rattle.x5_model_rows.proofs.BaseWorld.{world_of, base_world, alpha, beta, acme, lab}
+use Rattle.x5_model_rows.proofs.BaseWorld.{world_of, alpha, beta, acme, lab}
 use Rattle.x5_model_rows.proofs.Messages.{asks, passes, journal, did, point}
-use Rattle.x5_model_rows.proofs.Resolution.{read_acme, name_lab}
+use Rattle.x5_model_rows.proofs.Resolution.{read_acme, name_lab, beta_refuses}
 use Rattle.x5_model_rows.proofs.Limits.{after, lab_nssr}
 use Rattle.x5_model_rows.proofs.Forged.{the_lab}
 use Rattle.x5_model_rows.proofs.Refused.{no}
@@ -100,9 +100,6 @@ no_third most h d = longer (nothing_sent ring_scene most (hand 1 ring_second.mes
 -- ---- 128 items
 
 -- Beta refuses to chain, and the message that he brings it had 127 agents.
-abbrev pub beta_refuses : Point
-beta_refuses = point base_world (did (Outs (Refuse 1)) 0 ∷ [])
-
 abbrev pub long_scene : ℕ → Scene
 long_scene n = record (scene_with beta_refuses 1 (after n lab name_lab)) { follows = true }
 
