@@ -1,7 +1,7 @@
--- That an answer is complete where nothing is in the way: each line that is licensed is sent, so nobody was asked in
--- vain, and nobody may not chain; so nothing is blocked. By the cases of a right answer. That no service error but
+-- That an answer is complete where each line of the journal is sent: nobody was asked in vain, and the user's agent may
+-- chain; so nothing is blocked. By the cases of a right answer. Where nothing is in the way each line is sent. That no service error but
 -- `unavailable` comes to a user is read off the same cases.
-use Rattle.std.proofs.Common.{◌≡◌, ◌<◌, ℕ, ◌==◌, Bool, true, false, not, ◌&&◌, List, [], ◌∷◌, refl, sym, ap, ◌∙◌, Option, Some, None, inl, inr, arith}
+use Rattle.std.proofs.Common.{◌≡◌, ◌<◌, ◌≤◌, ℕ, ◌+◌, ◌==◌, Bool, true, false, not, ◌&&◌, List, [], ◌∷◌, length, refl, sym, ap, ◌∙◌, Option, Some, None, inl, inr, arith}
 use Rattle.std.specs.List.{list_all, AllByRecursion}
 use Rattle.std.specs.Result.{is_ok}
 use Rattle.std.proofs.lemmas.Bool.Decides.{Decides-eqb}
@@ -12,14 +12,14 @@ use Rattle.x5_model.specs.Requests.{Request}
 use Rattle.x5_model.specs.References.{Reference}
 use Rattle.x5_model.specs.Answers.{Reply}
 use Rattle.x5_model.specs.Problems.{unavailable, unable_to_proceed, invalid_reference, administrative_limit_exceeded, loop_detected}
-use Rattle.x5_model.proofs.Lists.{both_true, either_true, not_true, true_or_false, of_any}
+use Rattle.x5_model.proofs.Lists.{both_true, either_true, not_true, true_or_false, of_any, of_all, and_true}
 use Rattle.x5_model_tree.specs.World.{Network}
 use Rattle.x5_model_tree.specs.Ask.{Changes, unexplored_of, is_update, updated, ask}
 use Rattle.x5_model_tree.specs.Tree.{Tree}
 use Rattle.x5_model_tree.specs.Apply.{ground_of, apply}
-use Rattle.x5_model_run.specs.Network.{Sent, refuses, fate_of, is_unheard, is_sent}
+use Rattle.x5_model_run.specs.Network.{Fate, Lost, NoReply, Sent, refuses, fate_of, is_unheard, is_sent}
 use Rattle.x5_model_run.specs.Journal.{Line, Journal, some_line, opened_by, is_reached}
-use Rattle.x5_model_run.specs.History.{Point, tree_at, network_at, sent_before}
+use Rattle.x5_model_run.specs.History.{Point, tree_at, network_at}
 use Rattle.x5_model_run.specs.Chain.{Scene, opening, scene_at, AllLicensed, is_in_vain, is_asked, is_broken, is_broken_off, is_broken_line, asks_by, is_probe}
 use Rattle.x5_model_run.specs.Blocked.{Asked, by_user, is_idle, IsLost, user, asked, Blocked, untried, lost, came_back}
 use Rattle.x5_model_run.specs.Right.{Right, result, changed, error, referral, unheard, Accepts, is_accepted_right, hears_accepted, is_master_at}
@@ -31,28 +31,45 @@ use Rattle.x5_model_updates.proofs.Outcomes.{ok_or_err, accepted_over, tree_made
 use Rattle.x5_model_verdicts.proofs.Refused.{told_update}
 use Rattle.x5_model_settled.proofs.Settled.{lines_are_right, runs_are_right}
 use Rattle.x5_model_complete.specs.Complete as complete
-use Rattle.x5_model_complete.specs.Complete.{IsClear, IsComplete, LinesAreComplete, RunsAreComplete, IsSpared, LinesAreSpared, RunsAreSpared}
+use Rattle.x5_model_complete.specs.Complete.{IsClear, IsComplete, LinesAreComplete, RunsAreComplete, ClearLinesAreComplete, ClearRunsAreComplete, IsSpared, LinesAreSpared, RunsAreSpared}
 use Rattle.x5_model_complete.proofs.Errors.{told_plain, no_service}
 
 true_false : {X : Type 0} → true ≡ false → X
 true_false e = cc
 
--- ---- each message arrives, and so does each reply
+-- ---- each message arrived, and so did each reply
 
-free : (net : Network) (sent n : ℕ) (from : Option ℕ) (to : ℕ) → IsClear net sent → sent < n
-    → fate_of net n from to ≡ Sent
-free net sent n None to c h = rw (c.up to, c.carried n h, c.replied n h) refl
-free net sent n (Some a) to c h = rw (c.up a, c.up to, c.joined a to, c.carried n h, c.replied n h) refl
+is_so : (f : Fate) → is_sent f ≡ true → f ≡ Sent
+is_so Lost e = true_false (sym e)
+is_so NoReply e = true_false (sym e)
+is_so Sent e = refl
 
--- of each line of a licensed journal
+abbrev are_sent : List Line → Bool
+are_sent lines = list_all (λ l. is_sent l.fate) lines
+
 abbrev Arrived : List Line → Type 0
 Arrived lines = (l : Line) → In l lines → l.fate ≡ Sent
 
-all_arrived : (s : Scene) → IsClear s.network s.sent → (lines : List Line) → AllLicensed s lines → Arrived lines
-all_arrived s c [] a l i = elim i [ ]
-all_arrived s c (x ∷ before) a l here =
-    a.0.fate_is ∙ free s.network s.sent x.number x.sender x.receiver c (let e = a.0.number_is in omega arith)
-all_arrived s c (x ∷ before) a l (there i) = all_arrived s c before a.1 l i
+all_arrived : (lines : List Line) → are_sent lines ≡ true → Arrived lines
+all_arrived lines e l i = is_so l.fate (of_all (λ (x : Line). is_sent x.fate) l lines e i)
+
+-- where nothing is in the way of so many messages
+
+free : (net : Network) (sent count n : ℕ) (from : Option ℕ) (to : ℕ) → IsClear net sent count → sent < n
+    → n ≤ sent + count → fate_of net n from to ≡ Sent
+free net sent count n None to c h k = rw (c.up to, c.carried n h k, c.replied n h k) refl
+free net sent count n (Some a) to c h k =
+    rw (c.up a, c.up to, c.joined a to, c.carried n h k, c.replied n h k) refl
+
+licensed_sent : (s : Scene) (count : ℕ) → IsClear s.network s.sent count → (lines : List Line)
+    → length lines ≤ count → AllLicensed s lines → are_sent lines ≡ true
+licensed_sent s count c [] k a = refl
+licensed_sent s count c (x ∷ before) k a =
+    let e : x.fate ≡ Sent =
+    a.0.fate_is ∙ free s.network s.sent count x.number x.sender x.receiver c
+    (let e = a.0.number_is in omega arith) (let e = a.0.number_is in omega arith) in
+    and_true (is_sent x.fate) (are_sent before) (ap is_sent e)
+    (licensed_sent s count c before (omega arith) a.1)
 
 -- ---- nobody was asked in vain
 
@@ -111,21 +128,21 @@ not_lost s q lines r arrived (user x) =
 not_lost s q lines r arrived (asked x) =
     some_vain s lines x.line x.full r.agents arrived (both_true (not (is_empty r.agents)) _ x.listed).0 x.vain
 
-not_idle : (s : Scene) (q : Asked) → q.message.request.controls.nochain ≡ false → IsClear s.network s.sent
+not_idle : (s : Scene) (q : Asked) → q.message.request.controls.nochain ≡ false → refuses s.network q.to ≡ false
     → is_idle s q ≡ true → ⊥
 not_idle s q n c e = elim (either_true q.message.request.controls.nochain (refuses s.network q.to) e) [
   | inl x ↦ true_false (sym x ∙ n)
-  | inr x ↦ true_false (sym x ∙ c.willing q.to)
+  | inr x ↦ true_false (sym x ∙ c)
 ]
 
 not_blocked : (s : Scene) (q : Asked) (lines : List Line) (r : Reference) → q.message.request.controls.nochain ≡ false
-    → IsClear s.network s.sent → Arrived lines → Blocked s q lines r → ⊥
+    → refuses s.network q.to ≡ false → Arrived lines → Blocked s q lines r → ⊥
 not_blocked s q lines r n c arrived (untried x) = not_idle s q n c x.idle
 not_blocked s q lines r n c arrived (lost x) = not_lost s q lines r arrived x
 
 none_blocked : (s : Scene) (q : Asked) (lines : List Line) (rs : List Reference)
     → q.message.request.controls.nochain ≡ false
-    → IsClear s.network s.sent → Arrived lines → AllByRecursion (Blocked s q lines) rs → rs ≡ []
+    → refuses s.network q.to ≡ false → Arrived lines → AllByRecursion (Blocked s q lines) rs → rs ≡ []
 none_blocked s q lines [] n c arrived b = refl
 none_blocked s q lines (r ∷ rs) n c arrived b = absurd (not_blocked s q lines r n c arrived b.0)
 
@@ -171,24 +188,24 @@ changes_by t r up ok = elim (ok_or_err (apply t r)) [
 -- ---- the cases of a right answer
 
 module _ (p : Point) (first : ℕ) (r : Request) (j : Journal) (chains : r.controls.nochain ≡ false)
-    (clear : IsClear (network_at p) (sent_before p.past)) where
+    (willing : refuses (network_at p) first ≡ false) (back : are_sent j.lines ≡ true) where
   abbrev s : Scene
   s = scene_at p first r
 
   complete_by : AllLicensed s j.lines → Accepts p s j → (reply : Reply) → Right p s (by_user s) j reply
       → IsComplete p first r j reply
-  complete_by l a _ (result {a = answer} back is off none) =
+  complete_by l a _ (result {a = answer} came is off none) =
       complete.result (not_true (is_update r.body) off) is
-      (none_blocked s (by_user s) j.lines (unexplored_of answer) chains clear
-      (all_arrived s clear j.lines l) is.blocked)
-  complete_by l a _ (changed back up hears) =
+      (none_blocked s (by_user s) j.lines (unexplored_of answer) chains willing
+      (all_arrived j.lines back) is.blocked)
+  complete_by l a _ (changed came up hears) =
       let w = some_accepted s (by_user s) j hears in
       let ok = accepted_ok p s j.lines j.accepted w.0 a.right w.1 in
       complete.changed (changes_by (tree_at p) r ok.0 ok.1)
-  complete_by l a _ (error back told known none) = complete.error told
-  complete_by l a _ (referral x same none) = absurd (not_idle s (by_user s) chains clear x.idle)
+  complete_by l a _ (error came told known none) = complete.error told
+  complete_by l a _ (referral x same none) = absurd (not_idle s (by_user s) chains willing x.idle)
   complete_by l a _ (unheard {r = u} x same none) = absurd (not_lost s (by_user s) j.lines u
-      (all_arrived s clear j.lines l) x)
+      (all_arrived j.lines back) x)
 
 spared_by : (p : Point) (s : Scene) (q : Asked) (j : Journal) (reply : Reply) → Right p s q j reply → (n : ℕ)
     → is_service n reply ≡ true → n ≡ unavailable
@@ -215,15 +232,36 @@ spared reply f = record {
 -- ---- at every line
 
 pub lines_are_complete : LinesAreComplete
-lines_are_complete w past first r described consistent none agent j reply short fresh chains clear is =
+lines_are_complete w past first r described consistent none agent j reply short fresh chains willing back is =
     let x = lines_are_right w past first r described consistent none agent j reply short fresh is in
-    complete_by (record { described = w; past = past }) first r j chains clear x.0.licensed x.0.accepts reply x.0.answer
+    complete_by (record { described = w; past = past }) first r j chains willing back x.0.licensed x.0.accepts reply
+    x.0.answer
 
 pub runs_are_complete : (judge : Judge) → RunsAreComplete judge
-runs_are_complete judge w commands blocks past first r described consistent run agent j reply short fresh chains clear
-    is =
+runs_are_complete judge w commands blocks past first r described consistent run agent j reply short fresh chains willing
+    back is =
     let x = runs_are_right judge w commands blocks past first r described consistent run agent j reply short fresh is in
-    complete_by (record { described = w; past = past }) first r j chains clear x.0.licensed x.0.accepts reply x.0.answer
+    complete_by (record { described = w; past = past }) first r j chains willing back x.0.licensed x.0.accepts reply
+    x.0.answer
+
+-- so too where nothing is in the way
+
+pub clear_lines_are_complete : ClearLinesAreComplete
+clear_lines_are_complete w past first r described consistent none agent j reply short fresh chains clear is =
+    let p : Point = record { described = w; past = past } in
+    let x = lines_are_right w past first r described consistent none agent j reply short fresh is in
+    complete_by p first r j chains (clear.willing first)
+    (licensed_sent (scene_at p first r) (length j.lines) clear j.lines (omega arith) x.0.licensed) x.0.licensed
+    x.0.accepts reply x.0.answer
+
+pub clear_runs_are_complete : (judge : Judge) → ClearRunsAreComplete judge
+clear_runs_are_complete judge w commands blocks past first r described consistent run agent j reply short fresh chains
+    clear is =
+    let p : Point = record { described = w; past = past } in
+    let x = runs_are_right judge w commands blocks past first r described consistent run agent j reply short fresh is in
+    complete_by p first r j chains (clear.willing first)
+    (licensed_sent (scene_at p first r) (length j.lines) clear j.lines (omega arith) x.0.licensed) x.0.licensed
+    x.0.accepts reply x.0.answer
 
 pub lines_are_spared : LinesAreSpared
 lines_are_spared w past first r described consistent none agent j reply short fresh is =

@@ -1,4 +1,4 @@
--- With nothing in the way an answer is complete, at one line and at every line of a run; the lemma on runs is taken for
+-- Where each message arrived an answer is complete, at one line and at every line of a run; the lemma on runs is taken for
 -- both judges of messages, SendsRight and RightAndWhole.
 use Rattle.x5_model_run.specs.Right.{SendsRight}
 use Rattle.x5_model_settled.specs.Judges.{RightAndWhole}
