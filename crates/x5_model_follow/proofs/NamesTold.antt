@@ -1,6 +1,6 @@
--- The name that the tree tells where the object isn't there has no more RDNs than the object's: it is the lowest entry on
--- the way to it, or the root. By the list of all refusals, of which no other names an entry.
-use Rattle.std.proofs.Common.{◌≡◌, ◌≤◌, ℕ, Bool, true, false, not, ◌&&◌, ◌||◌, inl, inr, List, [], ◌∷◌, ◌++◌, refl, sym, subst, Option, Some, None, if◌then◌else◌, nat_lt, length, map, arith}
+-- What the tree refuses with, by the list of all refusals: no problem of a service; and the name that it tells where the
+-- object isn't there is the root, or that of the lowest entry on the way to it, which has no more RDNs than the object's.
+use Rattle.std.proofs.Common.{◌≡◌, ◌≤◌, ℕ, Bool, true, false, not, ◌&&◌, ◌||◌, inl, inr, List, [], ◌∷◌, ◌++◌, refl, sym, ap, subst, ◌∙◌, Option, Some, None, if◌then◌else◌, nat_lt, length, map, arith}
 use Rattle.std.specs.List.{list_any, flat_map}
 use Rattle.std.specs.Option.{is_none}
 use Rattle.std.specs.declared.result.Result.{Result}
@@ -14,19 +14,20 @@ use Rattle.x5_model.specs.Changes.{ChangedEntry, and_then, each_value, put_new, 
 use Rattle.x5_model.specs.Entries.{Entry, Named}
 use Rattle.x5_model.specs.Selections.{selection_fault}
 use Rattle.x5_model.specs.Requests.{Selection, Attribute, Change, AddAttribute, RemoveAttribute, AddValues, RemoveValues, Body, Read, Compare, ListBelow, Search, AddEntry, RemoveEntry, ModifyEntry, ModifyDn, Request}
-use Rattle.x5_model.specs.Answers.{DirError, NoSuchObject, AttributeProblem, UpdateProblem, ServiceProblem}
+use Rattle.x5_model.specs.Answers.{DirError, NoSuchObject, AttributeProblem, UpdateProblem}
 use Rattle.x5_model.specs.Problems.{invalid_attribute_syntax, undefined_attribute_type, constraint_violation, naming_violation, object_class_violation, object_class_modification_prohibited, no_such_attribute_or_value, entry_already_exists, attribute_or_value_already_exists}
 use Rattle.x5_model.specs.Statics.{root_refusals, name_refusals, given, is_defined, value_refusals, has_equal_values, same_type, repeated, attribute_repeats, change_repeats, names_class, repeat_refusals, entry_refusals, added_refusals, static_refusals, fault_of}
 use Rattle.x5_model.proofs.Lists.{in_first, in_either, of_flat}
 use Rattle.x5_model.proofs.Prefixes.{prefix_length}
 use Rattle.x5_model_tree.specs.Tree.{Tree, entry_at, is_there_or_root, has_below, lowest, matched, key_at, sorted_entries}
-use Rattle.x5_model_tree.specs.Apply.{Ground, UpdatedEntries, Applied, absent, above_pin, is_taken, at_entry, replace_at, respelled, update, apply_over, apply, ground_of}
+use Rattle.x5_model_tree.specs.Apply.{UpdatedEntries, Applied, absent, above_pin, is_taken, at_entry, replace_at, respelled, update, apply_over, apply, ground_of}
 use Rattle.x5_model_tree.specs.Ask.{Told, Shows, Compares, Lists, Finds, Changes, Refuses, read, compare, info_of, has_type, updated, at_object, ask_body, ask}
 use Rattle.x5_model_tree.proofs.Grown.{above_key}
 use Rattle.x5_model_tree.proofs.Longest.{IsLowest, lowest_right}
 use Rattle.x5_model_run.specs.Needs.{target_of}
 use Rattle.x5_model_theory.proofs.Stages.{key_length}
-use Rattle.x5_model_follow.specs.Alias.{ShortlyTold}
+use Rattle.x5_model_updates.proofs.Lookups.{none_found}
+use Rattle.x5_model_follow.specs.Alias.{IsTreeError, ErrorsAreTrees, ShortlyTold}
 
 -- the lowest entry on the way to a name is above it, or it
 matched_short : (es : List Named) (key : Key) → length (matched es key) ≤ length key
@@ -39,109 +40,106 @@ matched_short es key = by (lowest es key) (lowest_right es key)
         let same : length (key_of e.name) ≡ length e.name = key_length e.name in
         omega (arith, short, same)
 
-module _ (k : ℕ) where
-  -- an error tells no name of more RDNs than these
-  abbrev IsShort : DirError → Type 0
-  IsShort (NoSuchObject m) = length m ≤ k
-  IsShort (AttributeProblem n type) = Unit {0}
-  IsShort (UpdateProblem n) = Unit {0}
-  IsShort (ServiceProblem n r i) = Unit {0}
+module _ (t : Tree) (key : Key) where
+  -- an error that a tree tells of an object with this key
+  abbrev IsMeant : DirError → Type 0
+  IsMeant x = IsTreeError t key x
 
   -- ---- the request alone
 
-  abbrev AreShort : List DirError → Type 0
-  AreShort xs = (x : DirError) → In x xs → IsShort x
+  abbrev AreMeant : List DirError → Type 0
+  AreMeant xs = (x : DirError) → In x xs → IsMeant x
 
-  none : AreShort []
+  none : AreMeant []
   none x i = elim i [ ]
 
-  both : (xs ys : List DirError) → AreShort xs → AreShort ys → AreShort (xs ++ ys)
+  both : (xs ys : List DirError) → AreMeant xs → AreMeant ys → AreMeant (xs ++ ys)
   both xs ys f g x i = elim (in_either x xs ys i) [ inl j ↦ f x j | inr j ↦ g x j ]
 
-  one : (b : Bool) (y : DirError) → IsShort y → AreShort (when b y)
-  one true y f x i = elim (in_first x y [] i) [ inl e ↦ subst IsShort (sym e) f | inr j ↦ elim j [ ] ]
+  one : (b : Bool) (y : DirError) → IsMeant y → AreMeant (when b y)
+  one true y f x i = elim (in_first x y [] i) [ inl e ↦ subst IsMeant (sym e) f | inr j ↦ elim j [ ] ]
   one false y f x i = elim i [ ]
 
-  each : {X : Type 0} (f : X → List DirError) (xs : List X) → ((x : X) → AreShort (f x)) → AreShort (flat_map f xs)
+  each : {X : Type 0} (f : X → List DirError) (xs : List X) → ((x : X) → AreMeant (f x)) → AreMeant (flat_map f xs)
   each f xs g x i = (let w = of_flat f x xs i in g w.0 x w.2)
 
-  root_short : (n : Name) → AreShort (root_refusals n)
-  root_short n = one (is_empty n) (NoSuchObject []) (omega arith)
+  root_meant : (n : Name) → AreMeant (root_refusals n)
+  root_meant n = one (is_empty n) (NoSuchObject []) (inl refl)
 
-  name_short : (b : Body) → AreShort (name_refusals b)
-  name_short (Read name selection) = root_short name
-  name_short (Compare name assertion) = root_short name
-  name_short (ListBelow name) = none
-  name_short (Search base subset filter selection) = none
-  name_short (AddEntry name attributes) = one (nat_lt (length name) 2) (UpdateProblem naming_violation) tt
-  name_short (RemoveEntry name) = root_short name
-  name_short (ModifyEntry name changes) = root_short name
-  name_short (ModifyDn name rdn drops) = root_short name
+  name_meant : (b : Body) → AreMeant (name_refusals b)
+  name_meant (Read name selection) = root_meant name
+  name_meant (Compare name assertion) = root_meant name
+  name_meant (ListBelow name) = none
+  name_meant (Search base subset filter selection) = none
+  name_meant (AddEntry name attributes) = one (nat_lt (length name) 2) (UpdateProblem naming_violation) tt
+  name_meant (RemoveEntry name) = root_meant name
+  name_meant (ModifyEntry name changes) = root_meant name
+  name_meant (ModifyDn name rdn drops) = root_meant name
 
-  value_short : (a : Attribute) → AreShort (value_refusals a)
-  value_short a =
+  value_meant : (a : Attribute) → AreMeant (value_refusals a)
+  value_meant a =
       both (when (not (is_defined a.kind)) (AttributeProblem undefined_attribute_type a.kind))
       (when (list_any (λ v. is_none v.normal) a.values) (AttributeProblem invalid_attribute_syntax a.kind))
       (one (not (is_defined a.kind)) (AttributeProblem undefined_attribute_type a.kind) tt)
       (one (list_any (λ v. is_none v.normal) a.values) (AttributeProblem invalid_attribute_syntax a.kind) tt)
 
-  repeats_short : (earlier : List TypeRef) (given : List Attribute) → AreShort (attribute_repeats earlier given)
-  repeats_short earlier [] = none
-  repeats_short earlier (a ∷ more) =
+  repeats_meant : (earlier : List TypeRef) (given : List Attribute) → AreMeant (attribute_repeats earlier given)
+  repeats_meant earlier [] = none
+  repeats_meant earlier (a ∷ more) =
       both (when (has_equal_values a || has same_type earlier a.kind) (repeated a))
       (attribute_repeats (a.kind ∷ earlier) more)
-      (one (has_equal_values a || has same_type earlier a.kind) (repeated a) tt) (repeats_short (a.kind ∷ earlier) more)
+      (one (has_equal_values a || has same_type earlier a.kind) (repeated a) tt) (repeats_meant (a.kind ∷ earlier) more)
 
-  change_short : (c : Change) → AreShort (change_repeats c)
-  change_short (AddAttribute a) = one (has_equal_values a) (repeated a) tt
-  change_short (RemoveAttribute kind) = none
-  change_short (AddValues a) = one (has_equal_values a) (repeated a) tt
-  change_short (RemoveValues a) = none
+  change_meant : (c : Change) → AreMeant (change_repeats c)
+  change_meant (AddAttribute a) = one (has_equal_values a) (repeated a) tt
+  change_meant (RemoveAttribute kind) = none
+  change_meant (AddValues a) = one (has_equal_values a) (repeated a) tt
+  change_meant (RemoveValues a) = none
 
-  repeat_short : (b : Body) → AreShort (repeat_refusals b)
-  repeat_short (Read name selection) = none
-  repeat_short (Compare name assertion) = none
-  repeat_short (ListBelow name) = none
-  repeat_short (Search base subset filter selection) = none
-  repeat_short (AddEntry name attributes) = repeats_short [] attributes
-  repeat_short (RemoveEntry name) = none
-  repeat_short (ModifyEntry name changes) =
+  repeat_meant : (b : Body) → AreMeant (repeat_refusals b)
+  repeat_meant (Read name selection) = none
+  repeat_meant (Compare name assertion) = none
+  repeat_meant (ListBelow name) = none
+  repeat_meant (Search base subset filter selection) = none
+  repeat_meant (AddEntry name attributes) = repeats_meant [] attributes
+  repeat_meant (RemoveEntry name) = none
+  repeat_meant (ModifyEntry name changes) =
       both (flat_map change_repeats changes)
       (when (list_any names_class changes) (UpdateProblem object_class_modification_prohibited))
-      (each change_repeats changes change_short)
+      (each change_repeats changes change_meant)
       (one (list_any names_class changes) (UpdateProblem object_class_modification_prohibited) tt)
-  repeat_short (ModifyDn name rdn drops) = none
+  repeat_meant (ModifyDn name rdn drops) = none
 
-  doubled_short : (x : Option ℕ)
-      → AreShort (in_option [] (λ kind. AttributeProblem constraint_violation (Known kind) ∷ []) x)
-  doubled_short None = none
-  doubled_short (Some kind) = one true (AttributeProblem constraint_violation (Known kind)) tt
+  doubled_meant : (x : Option ℕ)
+      → AreMeant (in_option [] (λ kind. AttributeProblem constraint_violation (Known kind) ∷ []) x)
+  doubled_meant None = none
+  doubled_meant (Some kind) = one true (AttributeProblem constraint_violation (Known kind)) tt
 
-  added_short : (b : Body) → AreShort (added_refusals b)
-  added_short (Read name selection) = none
-  added_short (Compare name assertion) = none
-  added_short (ListBelow name) = none
-  added_short (Search base subset filter selection) = none
-  added_short (AddEntry name attributes) = entry_short (added_entry (last_rdn name) attributes)
+  added_meant : (b : Body) → AreMeant (added_refusals b)
+  added_meant (Read name selection) = none
+  added_meant (Compare name assertion) = none
+  added_meant (ListBelow name) = none
+  added_meant (Search base subset filter selection) = none
+  added_meant (AddEntry name attributes) = entry_meant (added_entry (last_rdn name) attributes)
     where
-      entry_short : (e : Entry) → AreShort (entry_refusals e)
-      entry_short e =
+      entry_meant : (e : Entry) → AreMeant (entry_refusals e)
+      entry_meant e =
           both (in_option [] (λ kind. AttributeProblem constraint_violation (Known kind) ∷ []) (doubled e))
-          (when (not (is_present e 0)) (UpdateProblem object_class_violation)) (doubled_short (doubled e))
+          (when (not (is_present e 0)) (UpdateProblem object_class_violation)) (doubled_meant (doubled e))
           (one (not (is_present e 0)) (UpdateProblem object_class_violation) tt)
-  added_short (RemoveEntry name) = none
-  added_short (ModifyEntry name changes) = none
-  added_short (ModifyDn name rdn drops) = none
+  added_meant (RemoveEntry name) = none
+  added_meant (ModifyEntry name changes) = none
+  added_meant (ModifyDn name rdn drops) = none
 
-  static_short : (b : Body) → AreShort (static_refusals b)
-  static_short b =
+  static_meant : (b : Body) → AreMeant (static_refusals b)
+  static_meant b =
       both ((name_refusals b ++ flat_map value_refusals (given b)) ++ repeat_refusals b) (added_refusals b)
       (both (name_refusals b ++ flat_map value_refusals (given b)) (repeat_refusals b)
-      (both (name_refusals b) (flat_map value_refusals (given b)) (name_short b)
-      (each value_refusals (given b) value_short)) (repeat_short b)) (added_short b)
+      (both (name_refusals b) (flat_map value_refusals (given b)) (name_meant b)
+      (each value_refusals (given b) value_meant)) (repeat_meant b)) (added_meant b)
 
-  fault_short : (b : Body) (x : DirError) → fault_of b ≡ Some x → IsShort x
-  fault_short b x e = static_short b x (first_in (static_refusals b) x e)
+  fault_meant : (b : Body) (x : DirError) → fault_of b ≡ Some x → IsMeant x
+  fault_meant b x e = static_meant b x (first_in (static_refusals b) x e)
     where
       first_in : (xs : List DirError) (y : DirError) → first_of xs ≡ Some y → In y xs
       first_in [] y f = cc
@@ -151,7 +149,7 @@ module _ (k : ℕ) where
 
   abbrev IsFine : {A : Type 0} → Result A DirError → Type 0
   IsFine (Ok a) = Unit {0}
-  IsFine (Err x) = IsShort x
+  IsFine (Err x) = IsMeant x
 
   fine_if : {A : Type 0} (b : Bool) (x y : Result A DirError) → IsFine x → IsFine y → IsFine (if b then x else y)
   fine_if true x y f g = f
@@ -225,40 +223,40 @@ module _ (k : ℕ) where
       (fine_then (changed_by cs e) (keeps_rdn rdn) (changes_fine cs e) (λ f. fine_if (has_rdn f rdn) _ _ tt tt))
       single_fine
 
-  entry_fine : (g : Ground) (key : Key) (f : Named → UpdatedEntries) → length key ≤ k
-      → ((e : Named) → IsFine (f e)) → IsFine (at_entry g key f)
-  entry_fine g key f le h = go (entry_at g.entries key)
+  entry_fine : (at : Key) (f : Named → UpdatedEntries) → at ≡ key → ((e : Named) → IsFine (f e))
+      → IsFine (at_entry (ground_of t) at f)
+  entry_fine at f same h = go (entry_at t.entries at)
     where
       by : Option Named → UpdatedEntries
-      by None = Err (absent g key)
+      by None = Err (absent (ground_of t) at)
       by (Some e) = f e
 
       go : (x : Option Named) → IsFine (by x)
-      go None = (let m = matched_short g.entries key in omega (arith, m, le))
+      go None = inr (ap (matched t.entries) same)
       go (Some e) = h e
 
-  update_fine : (g : Ground) (b : Body) → length (key_of (target_of b)) ≤ k → IsFine (update g b)
-  update_fine g (Read name selection) le = tt
-  update_fine g (Compare name assertion) le = tt
-  update_fine g (ListBelow name) le = tt
-  update_fine g (Search base subset filter selection) le = tt
-  update_fine g (AddEntry name attributes) le =
-      entry_fine g (parent (key_of name)) _ (subst (λ (key : Key). length key ≤ k) (above_key name) le)
-      (λ e. fine_if (is_taken g (key_of name)) _ _ tt tt)
-  update_fine g (RemoveEntry name) le = entry_fine g (key_of name) _ le (λ e.
-      fine_if (above_pin g (key_of name)) _ _ tt (fine_if (has_below g.entries (key_of name)) _ _ tt tt))
-  update_fine g (ModifyEntry name changes) le = entry_fine g (key_of name) _ le (λ e.
+  update_fine : (b : Body) → key_of (target_of b) ≡ key → IsFine (update (ground_of t) b)
+  update_fine (Read name selection) same = tt
+  update_fine (Compare name assertion) same = tt
+  update_fine (ListBelow name) same = tt
+  update_fine (Search base subset filter selection) same = tt
+  update_fine (AddEntry name attributes) same =
+      entry_fine (parent (key_of name)) _ (sym (above_key name) ∙ same)
+      (λ e. fine_if (is_taken (ground_of t) (key_of name)) _ _ tt tt)
+  update_fine (RemoveEntry name) same = entry_fine (key_of name) _ same (λ e.
+      fine_if (above_pin (ground_of t) (key_of name)) _ _ tt (fine_if (has_below t.entries (key_of name)) _ _ tt tt))
+  update_fine (ModifyEntry name changes) same = entry_fine (key_of name) _ same (λ e.
       put e (modified (last_rdn name) changes e.entry) (modified_fine (last_rdn name) changes e.entry))
     where
       made : Named → ChangedEntry → UpdatedEntries
-      made e (Ok new) = Ok (replace_at (key_of name) (record e { entry = new }) g.entries)
+      made e (Ok new) = Ok (replace_at (key_of name) (record e { entry = new }) t.entries)
       made e (Err x) = Err x
 
       put : (e : Named) (c : ChangedEntry) → IsFine c → IsFine (made e c)
       put e (Ok new) f = tt
       put e (Err x) f = f
-  update_fine g (ModifyDn name rdn drops) le = entry_fine g (key_of name) _ le (λ e.
-      fine_if (above_pin g (key_of name)) _ _ tt
+  update_fine (ModifyDn name rdn drops) same = entry_fine (key_of name) _ same (λ e.
+      fine_if (above_pin (ground_of t) (key_of name)) _ _ tt
       (put (single_valued (renamed (last_rdn name) rdn drops e.entry))
       (single_fine (renamed (last_rdn name) rdn drops e.entry))))
     where
@@ -277,25 +275,25 @@ module _ (k : ℕ) where
       made : ChangedEntry → UpdatedEntries
       made (Err x) = Err x
       made (Ok new) =
-          if not (same_key new_key (key_of name)) && is_taken g new_key then Err (UpdateProblem entry_already_exists)
-          else Ok (sorted_entries (map (moved new) g.entries))
+          if not (same_key new_key (key_of name)) && is_taken (ground_of t) new_key then Err (UpdateProblem entry_already_exists)
+          else Ok (sorted_entries (map (moved new) t.entries))
 
       put : (c : ChangedEntry) → IsFine c → IsFine (made c)
       put (Err x) f = f
       put (Ok new) f =
-          fine_if (not (same_key new_key (key_of name)) && is_taken g new_key)
-          (Err (UpdateProblem entry_already_exists)) (Ok (sorted_entries (map (moved new) g.entries))) tt tt
+          fine_if (not (same_key new_key (key_of name)) && is_taken (ground_of t) new_key)
+          (Err (UpdateProblem entry_already_exists)) (Ok (sorted_entries (map (moved new) t.entries))) tt tt
 
-  apply_fine : (g : Ground) (b : Body) → length (key_of (target_of b)) ≤ k → IsFine (apply_over g b)
-  apply_fine g b le = go (fault_of b) refl
+  apply_fine : (b : Body) → key_of (target_of b) ≡ key → IsFine (apply_over (ground_of t) b)
+  apply_fine b same = go (fault_of b) refl
     where
       by : Option DirError → UpdatedEntries
       by (Some x) = Err x
-      by None = update g b
+      by None = update (ground_of t) b
 
       go : (x : Option DirError) → fault_of b ≡ x → IsFine (by x)
-      go (Some x) e = fault_short b x e
-      go None e = update_fine g b le
+      go (Some x) e = fault_meant b x e
+      go None e = update_fine b same
 
   -- ---- queries
 
@@ -305,25 +303,21 @@ module _ (k : ℕ) where
   IsTold (Lists subs cut) = Unit {0}
   IsTold (Finds infos cut) = Unit {0}
   IsTold Changes = Unit {0}
-  IsTold (Refuses x) = IsShort x
+  IsTold (Refuses x) = IsMeant x
 
   told_if : (b : Bool) (x y : Told) → IsTold x → IsTold y → IsTold (if b then x else y)
   told_if true x y f g = f
   told_if false x y f g = g
 
-  absent_told : (t : Tree) (name : Name) → length (key_of name) ≤ k → length (matched t.entries (key_of name)) ≤ k
-  absent_told t name le = (let m = matched_short t.entries (key_of name) in omega (arith, m, le))
-
-  object_told : (t : Tree) (name : Name) (f : Named → Told) → length (key_of name) ≤ k
-      → ((e : Named) → IsTold (f e)) → IsTold (at_object t name f)
-  object_told t name f le h = go (entry_at t.entries (key_of name))
+  object_told : (name : Name) (f : Named → Told) → key_of name ≡ key → ((e : Named) → IsTold (f e)) → IsTold (at_object t name f)
+  object_told name f same h = go (entry_at t.entries (key_of name))
     where
       by : Option Named → Told
       by None = Refuses (NoSuchObject (matched t.entries (key_of name)))
       by (Some e) = f e
 
       go : (x : Option Named) → IsTold (by x)
-      go None = absent_told t name le
+      go None = inr (ap (matched t.entries) same)
       go (Some e) = h e
 
   read_told : (copies : Key → Bool) (selection : Selection) (e : Named) → IsTold (read copies selection e)
@@ -337,8 +331,8 @@ module _ (k : ℕ) where
       go None = tt
       go (Some kind) = tt
 
-  applied_told : (t : Tree) (r : Request) → length (key_of (target_of r.body)) ≤ k → IsTold (updated (apply t r))
-  applied_told t r le = go (apply_over (ground_of t) r.body) (apply_fine (ground_of t) r.body le)
+  applied_told : (r : Request) → key_of (target_of r.body) ≡ key → IsTold (updated (apply t r))
+  applied_told r same = go (apply_over (ground_of t) r.body) (apply_fine r.body same)
     where
       by : UpdatedEntries → Applied
       by (Ok entries) = Ok (record t { entries = entries })
@@ -348,33 +342,58 @@ module _ (k : ℕ) where
       go (Ok es) f = tt
       go (Err x) f = f
 
-  body_told : (t : Tree) (r : Request) (b : Body) → r.body ≡ b → length (key_of (target_of b)) ≤ k
-      → IsTold (ask_body (λ key. false) t r b)
-  body_told t r (Read name selection) same le =
-      object_told t name (read (λ key. false) selection) le (read_told (λ key. false) selection)
-  body_told t r (Compare name a) same le =
-      object_told t name (compare (λ key. false) a) le (λ e. told_if (has_type e.entry a.kind) _ _ tt tt)
-  body_told t r (ListBelow name) same le =
-      told_if (is_there_or_root t.entries (key_of name)) _ _ tt (absent_told t name le)
-  body_told t r (Search base subset f selection) same le =
-      told_if (is_there_or_root t.entries (key_of base)) _ _ tt (absent_told t base le)
-  body_told t r (AddEntry name attributes) same le = applied_told t r (subst (λ (b : Body). length (key_of (target_of b)) ≤ k) (sym same) le)
-  body_told t r (RemoveEntry name) same le = applied_told t r (subst (λ (b : Body). length (key_of (target_of b)) ≤ k) (sym same) le)
-  body_told t r (ModifyEntry name changes) same le = applied_told t r (subst (λ (b : Body). length (key_of (target_of b)) ≤ k) (sym same) le)
-  body_told t r (ModifyDn name rdn drops) same le = applied_told t r (subst (λ (b : Body). length (key_of (target_of b)) ≤ k) (sym same) le)
+  body_told : (r : Request) (b : Body) → r.body ≡ b → key_of (target_of b) ≡ key → IsTold (ask_body (λ key. false) t r b)
+  body_told r (Read name selection) is same =
+      object_told name (read (λ key. false) selection) same (read_told (λ key. false) selection)
+  body_told r (Compare name a) is same =
+      object_told name (compare (λ key. false) a) same (λ e. told_if (has_type e.entry a.kind) _ _ tt tt)
+  body_told r (ListBelow name) is same =
+      told_if (is_there_or_root t.entries (key_of name)) _ _ tt (inr (ap (matched t.entries) same))
+  body_told r (Search base subset f selection) is same =
+      told_if (is_there_or_root t.entries (key_of base)) _ _ tt (inr (ap (matched t.entries) same))
+  body_told r (AddEntry name attributes) is same = applied_told r (ap (λ (b : Body). key_of (target_of b)) is ∙ same)
+  body_told r (RemoveEntry name) is same = applied_told r (ap (λ (b : Body). key_of (target_of b)) is ∙ same)
+  body_told r (ModifyEntry name changes) is same = applied_told r (ap (λ (b : Body). key_of (target_of b)) is ∙ same)
+  body_told r (ModifyDn name rdn drops) is same = applied_told r (ap (λ (b : Body). key_of (target_of b)) is ∙ same)
 
-  asked_told : (t : Tree) (r : Request) → length (key_of (target_of r.body)) ≤ k → IsTold (ask t r)
-  asked_told t r le = go (fault_of r.body) refl
+  asked_told : (r : Request) → key_of (target_of r.body) ≡ key → IsTold (ask t r)
+  asked_told r same = go (fault_of r.body) refl
     where
       by : Option DirError → Told
       by (Some x) = Refuses x
       by None = ask_body (λ key. false) t r r.body
 
       go : (x : Option DirError) → fault_of r.body ≡ x → IsTold (by x)
-      go (Some x) e = fault_short r.body x e
-      go None e = body_told t r r.body refl le
+      go (Some x) e = fault_meant r.body x e
+      go None e = body_told r r.body refl same
+
+pub errors_are_trees : ErrorsAreTrees
+errors_are_trees t r x e =
+    subst (λ (y : Told). IsTold t (key_of (target_of r.body)) y) e (asked_told t (key_of (target_of r.body)) r refl)
 
 pub shortly_told : ShortlyTold
-shortly_told t r m e =
-    subst (λ (x : Told). IsTold (length (target_of r.body)) x) e (asked_told (length (target_of r.body)) t r
-    (let same : length (key_of (target_of r.body)) ≡ length (target_of r.body) = key_length (target_of r.body) in omega (arith, same)))
+shortly_told t r m e = elim (errors_are_trees t r (NoSuchObject m) e) [
+  | inl none ↦ subst (λ (n : Name). length n ≤ length (target_of r.body)) (sym none) (omega arith)
+  | inr low ↦
+      let short = matched_short t.entries (key_of (target_of r.body)) in
+      let same : length (key_of (target_of r.body)) ≡ length (target_of r.body) = key_length (target_of r.body) in
+      let long : length m ≡ length (matched t.entries (key_of (target_of r.body))) = ap length low in
+      omega (arith, short, same, long)
+]
+
+-- so it is an entry, where it isn't the root
+pub entry_is_there : (t : Tree) (r : Request) (m : Name) → ask t r ≡ Refuses (NoSuchObject m) → is_empty m ≡ false → (e : Named) × (entry_at t.entries (key_of m) ≡ Some e)
+entry_is_there t r m e full = elim (errors_are_trees t r (NoSuchObject m) e) [
+  | inl none ↦ (let z : true ≡ false = sym (ap is_empty none) ∙ full in cc)
+  | inr low ↦ by (lowest t.entries (key_of (target_of r.body))) (lowest_right t.entries (key_of (target_of r.body))) low
+]
+  where
+    found : (x : Named) → In x t.entries → (o : Option Named) → entry_at t.entries (key_at x) ≡ o → (e : Named) × (entry_at t.entries (key_at x) ≡ Some e)
+    found x i None q = absurd (none_found t.entries (key_at x) q x i refl)
+    found x i (Some y) q = (y, q)
+
+    by : (o : Option Named) → IsLowest t.entries (key_of (target_of r.body)) (length (key_of (target_of r.body))) o → m ≡ in_option [] (λ e. e.name) o
+        → (e : Named) × (entry_at t.entries (key_of m) ≡ Some e)
+    by None h same = (let z : true ≡ false = sym (ap is_empty same) ∙ full in cc)
+    by (Some x) h same =
+        subst (λ (n : Name). (e : Named) × (entry_at t.entries (key_of n) ≡ Some e)) (sym same) (found x h.0 (entry_at t.entries (key_at x)) refl)
