@@ -1,0 +1,3 @@
+pub mod Once
+pub mod Passed
+pub mod Bounded
