@@ -1,7 +1,7 @@
 -- The bounds of a request: by what stays of its messages, and by the cause of each line.
-use Rattle.std.proofs.Common.{◌≡◌, ℕ, ◌+◌, ◌≤◌, List, [], ◌∷◌, ◌++◌, length, refl, ap, ◌∙◌, arith, length-append}
+use Rattle.std.proofs.Common.{◌≡◌, ◌+◌, List, [], ◌∷◌, ◌++◌, length, ap, ◌∙◌, arith, length-append}
 use Rattle.x5_model.specs.References.{Chained, TraceItem}
-use Rattle.x5_model_run.specs.Journal.{Line, Journal, depth, item_of}
+use Rattle.x5_model_run.specs.Journal.{Line, Journal, item_of}
 use Rattle.x5_model_run.specs.Chain.{Scene}
 use Rattle.x5_model_local.specs.Sending.{IsSentFor, begins, follows, IsCaused, AllCaused}
 use Rattle.x5_model_local.proofs.Sent.{requests_are_caused}

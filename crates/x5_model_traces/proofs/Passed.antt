@@ -2,14 +2,13 @@
 -- has room in its trace, holds of each message that is sent.
 use Rattle.std.proofs.Common.{◌≡◌, ℕ, ◌≤◌, ◌<◌, nat_le, true, false, List, [], ◌∷◌, ◌++◌, length, inl, inr, refl, sym, subst, arith, length-append, Option}
 use Rattle.std.proofs.lemmas.Bool.{leb-false}
-use Rattle.x5_model.specs.Members.{In}
 use Rattle.x5_model.specs.References.{Reference, Chained, TraceItem}
 use Rattle.x5_model.specs.Answers.{Reply}
 use Rattle.x5_model.proofs.Lists.{in_first}
 use Rattle.x5_model_run.specs.Journal.{Line, Journal, item_of, same_item}
 use Rattle.x5_model_run.specs.Chain.{Scene}
 use Rattle.x5_model_serve.specs.Serving as serving
-use Rattle.x5_model_serve.specs.Serving.{Hand, hand, Arrives, is_final, is_looped, is_too_long, next_line, user_line, nothing_yet, with_line, carried_for, IsRequest, not_heard, not_told, answers, Act, loops, is_long, done_before, stuck, nowhere, refers, goes, casts, reads, reads_copy, gives_parts, asks_parts, updates, not_done, does, probes_all, misses, taken, breaks, no_probe, clear, holds_back, spent, lost, dropped, sends, final, referral, wide_referral, unexplored, none_yet, in_vain_too, none_asked, unable_too, silent_too, answered, nobody_has, some_silent, no_part, part_unheard, part_unavailable, part_answered, part_breaks}
+use Rattle.x5_model_serve.specs.Serving.{Hand, Arrives, next_line, user_line, nothing_yet, with_line, carried_for, IsRequest, not_heard, not_told, answers, Act, loops, is_long, done_before, stuck, nowhere, refers, goes, casts, reads, reads_copy, gives_parts, asks_parts, updates, not_done, does, probes_all, misses, taken, breaks, no_probe, clear, holds_back, spent, lost, dropped, sends, final, referral, wide_referral, unexplored, none_yet, in_vain_too, none_asked, unable_too, silent_too, answered, nobody_has, some_silent, no_part, part_unheard, part_unavailable, part_answered, part_breaks}
 use Rattle.x5_model_traces.specs.Traces.{IsShort, HasOnce}
 use Rattle.x5_model_traces.specs.Passing.{HasRoom, MayPass, EachMessage, GivenPassing, ToldPassing, DoesShort, DoesOnce}
 use Rattle.x5_model_traces.proofs.Once.{distinct_behind, items_turned}

@@ -1,7 +1,7 @@
 -- What agents are given and what they tell, of each thing that is done (X.518, sections 17 to 21), where something holds of
 -- messages that stays when a message is passed on: whoever passes one on looked at its trace, which has no item of its
 -- own, and room for it.
-use Rattle.std.specs.Prelude.{◌≡◌, ℕ, true, false}
+use Rattle.std.specs.Prelude.{◌≡◌, ℕ, false}
 use Rattle.x5_model.specs.Members.{In}
 use Rattle.x5_model.specs.References.{Chained}
 use Rattle.x5_model_run.specs.Journal.{Line, Journal}
