@@ -105,12 +105,9 @@ impl World {
     {
         let names = copied(alloc, &described.names)?;
         let agents = agents_of(alloc, described)?;
+        let links = Links::of(alloc, &described.network)?;
         let contexts = contexts(described.agents.as_slice());
         let pairs = pairs(described.agents.as_slice());
-        let agreements = described.agreements.clone()?;
-        let acked = none_of(alloc, described.agreements.as_slice())?;
-        let seen = nothing_seen(alloc, described.agreements.as_slice())?;
-        let links = Links::of(alloc, &described.network)?;
         Ok(World {
             names,
             agents,
@@ -118,10 +115,10 @@ impl World {
             sent: 0,
             contexts,
             pairs,
-            agreements,
-            acked,
+            agreements: described.agreements.clone()?,
+            acked: none_of(alloc, described.agreements.as_slice())?,
             line: 0,
-            seen,
+            seen: nothing_seen(alloc, described.agreements.as_slice())?,
         })
     }
 

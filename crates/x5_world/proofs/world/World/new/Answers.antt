@@ -22,34 +22,34 @@ pub invariant_of-result-2 : goal.invariant_of-result-2
 invariant_of-result-2 c =
     net_begun (world_view c.args.described.now) _ c.requires.described c.requires.utf8
     (is_begun c.args.described.now c.names.inside.names.keys c.in_ok-agents.agents.items c.in_ok-links.links
-    c.contexts-contexts.result c.pairs-pairs.result c.in_ok-agreements.agreements c.in_ok-acked.acked.items
+    c.contexts-contexts.result c.pairs-pairs.result c.in_ok-clone.field-0 c.in_ok-none_of.field-0.items
     (c.names.view_is ∙ c.in_ok-names.ensures ∙ c.requires.named) c.in_ok-agents.ensures.count c.in_ok-agents.ensures.each
     c.in_ok-agents.ensures.unnoted c.in_ok-links.ensures
     (c.contexts-contexts.ensures ∙ ap contexts_of c.as_slice.ensures)
     (c.pairs-pairs.ensures ∙ ap pairs_of_agents c.as_slice-2.ensures)
-    (each_same c.args.described.now.agreements c.in_ok-agreements.agreements c.in_ok-agreements.ensures.cases)
-    (c.in_ok-acked.ensures ∙ ap (λ (gs : List Agreement). map (λ g. None) gs) c.as_slice-3.ensures))
+    (each_same c.args.described.now.agreements c.in_ok-clone.field-0 c.in_ok-clone.ensures.cases)
+    (c.in_ok-none_of.ensures ∙ ap (λ (gs : List Agreement). map (λ g. None) gs) c.as_slice-3.ensures))
 
 pub returns-clause-stands : goal.returns-clause-stands
 returns-clause-stands c =
     stands_begun (world_view c.args.described.now) _ c.requires.described c.requires.utf8 c.requires.references
     (is_begun c.args.described.now c.names.inside.names.keys c.in_ok-agents.agents.items c.in_ok-links.links
-    c.contexts-contexts.result c.pairs-pairs.result c.in_ok-agreements.agreements c.in_ok-acked.acked.items
+    c.contexts-contexts.result c.pairs-pairs.result c.in_ok-clone.field-0 c.in_ok-none_of.field-0.items
     (c.names.view_is ∙ c.in_ok-names.ensures ∙ c.requires.named) c.in_ok-agents.ensures.count c.in_ok-agents.ensures.each
     c.in_ok-agents.ensures.unnoted c.in_ok-links.ensures
     (c.contexts-contexts.ensures ∙ ap contexts_of c.as_slice.ensures)
     (c.pairs-pairs.ensures ∙ ap pairs_of_agents c.as_slice-2.ensures)
-    (each_same c.args.described.now.agreements c.in_ok-agreements.agreements c.in_ok-agreements.ensures.cases)
-    (c.in_ok-acked.ensures ∙ ap (λ (gs : List Agreement). map (λ g. None) gs) c.as_slice-3.ensures))
+    (each_same c.args.described.now.agreements c.in_ok-clone.field-0 c.in_ok-clone.ensures.cases)
+    (c.in_ok-none_of.ensures ∙ ap (λ (gs : List Agreement). map (λ g. None) gs) c.as_slice-3.ensures))
 
 pub returns-clause-room : goal.returns-clause-room
 returns-clause-room c =
     room_begun (world_view c.args.described.now) _ c.requires.described
     (is_begun c.args.described.now c.names.inside.names.keys c.in_ok-agents.agents.items c.in_ok-links.links
-    c.contexts-contexts.result c.pairs-pairs.result c.in_ok-agreements.agreements c.in_ok-acked.acked.items
+    c.contexts-contexts.result c.pairs-pairs.result c.in_ok-clone.field-0 c.in_ok-none_of.field-0.items
     (c.names.view_is ∙ c.in_ok-names.ensures ∙ c.requires.named) c.in_ok-agents.ensures.count c.in_ok-agents.ensures.each
     c.in_ok-agents.ensures.unnoted c.in_ok-links.ensures
     (c.contexts-contexts.ensures ∙ ap contexts_of c.as_slice.ensures)
     (c.pairs-pairs.ensures ∙ ap pairs_of_agents c.as_slice-2.ensures)
-    (each_same c.args.described.now.agreements c.in_ok-agreements.agreements c.in_ok-agreements.ensures.cases)
-    (c.in_ok-acked.ensures ∙ ap (λ (gs : List Agreement). map (λ g. None) gs) c.as_slice-3.ensures))
+    (each_same c.args.described.now.agreements c.in_ok-clone.field-0 c.in_ok-clone.ensures.cases)
+    (c.in_ok-none_of.ensures ∙ ap (λ (gs : List Agreement). map (λ g. None) gs) c.as_slice-3.ensures))
