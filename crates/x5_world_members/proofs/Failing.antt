@@ -71,6 +71,29 @@ entry_fails path prefix before d ms own named fault members read new made fails 
     ∙ ap (λ (r : Read Named). r >>= λ n. only path entry_members ms (before ++ n ∷ [])) made))
     (only_fails fault path entry_members ms (before ++ named ∷ []) fails)
 
+-- what fails in a first step fails the same, whatever would follow
+step_fails : {X Y : Type 0} (fault : LoadFault) (read : Read X) (more : X → Read Y) → Fails fault read
+    → Fails fault (read >>= more)
+step_fails {X} {Y} fault (Err b) more e = same_breach X Y fault b e
+step_fails NotJson (Ok x) more e = e
+step_fails (BadShape p) (Ok x) more e = cc
+step_fails (BadName p) (Ok x) more e = cc
+step_fails (OverLimit p most) (Ok x) more e = cc
+step_fails (RepeatedAgent p) (Ok x) more e = cc
+step_fails (UnknownAgent p) (Ok x) more e = cc
+step_fails NoMemory (Ok x) more e = e
+
+-- an entry of this own name, which isn't read
+pub named_fails : (path : Text) (prefix : Name) (before : List Named) (d : Data) (ms : Members) (own : Name)
+    (fault : LoadFault)
+    → members_at path d ≡ Ok ms → entry_name_at path (codes "name") d ≡ Ok own
+    → has_key (map key_at before) (key_of own) ≡ false
+    → Fails fault (named_at path prefix before own d)
+    → Fails fault (entry_behind path prefix before d)
+named_fails path prefix before d ms own fault members read new fails =
+    subst (Fails fault) (sym (entry_by_parts path prefix before d ms own members read new))
+    (step_fails fault (named_at path prefix before own d) (λ n. only path entry_members ms (before ++ n ∷ [])) fails)
+
 only_read : (X : Type 0) (path : Text) (names : List Text) (ms : Members) (u : Unit {0}) (x : X)
     → only path names ms (tt {0}) ≡ Ok u → only path names ms x ≡ Ok x
 only_read X path names ms u x = by (first_other names ms)
